@@ -1,0 +1,11 @@
+-- What was read is in `bytes`, no read failed, and each was counted.
+use Rattle.std.specs.Io.KnownBytes.{Consumes}
+use Rattle.cg_engine.specs.Counted.{KeepsCounts, CountsCalls}
+use Rattle.cg_engine.proofs.transfer.read_all.Given as goal
+
+abbrev pub invariant-loop : goal.invariant-loop
+invariant-loop g l = record {
+  read : Consumes (g.R.Read.remaining l.initial.reader.link) (g.R.Read.remaining l.reader.link) l.bytes.items;
+  kept : KeepsCounts l.initial.reader l.reader;
+  counted : CountsCalls l.initial.reader l.reader l.counter;
+}

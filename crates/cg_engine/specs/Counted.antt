@@ -1,0 +1,65 @@
+-- What a clause reads of a counted link.
+use Rattle.std.specs.Prelude.{◌≡◌, ℕ, ◌+◌, ◌-◌, ◌^◌, ◌<◌, ◌⊎◌, min, List, length, MatchResult, Result}
+use Rattle.cg_engine.specs.declared.counted.Counted.{Counted}
+
+-- the link
+abbrev pub link_of : {L : Type 0} → Counted L → L
+link_of c = c.link
+
+-- how many calls it had
+abbrev pub calls_of : {L : Type 0} → Counted L → ℕ
+calls_of c = c.calls
+
+-- how many of its calls failed
+abbrev pub failed_of : {L : Type 0} → Counted L → ℕ
+failed_of c = c.failed
+
+-- how many of its writes took none of their bytes
+abbrev pub idle_of : {L : Type 0} → Counted L → ℕ
+idle_of c = c.idle
+
+-- no call was counted
+pub record IsNew {L : Type 0} (c : Counted L) : Type 0 where
+  pub calls : calls_of c ≡ 0
+  pub failed : failed_of c ≡ 0
+  pub idle : idle_of c ≡ 0
+
+-- a count that is k more, or at its greatest value
+abbrev pub more_by : ℕ → ℕ → ℕ
+more_by k n = min (n + k) (2 ^ 64 - 1)
+
+abbrev pub one_more : ℕ → ℕ
+one_more n = more_by 1 n
+
+-- so many calls were made
+pub record CountsCalls {L : Type 0} (old new : Counted L) (k : ℕ) : Type 0 where
+  pub calls : calls_of new ≡ more_by k (calls_of old)
+
+-- no call failed, and no write took none of its bytes
+pub record KeepsCounts {L : Type 0} (old new : Counted L) : Type 0 where
+  pub failed : failed_of new ≡ failed_of old
+  pub idle : idle_of new ≡ idle_of old
+
+-- one more call failed
+pub record CountsFailed {L : Type 0} (old new : Counted L) : Type 0 where
+  pub failed : failed_of new ≡ one_more (failed_of old)
+  pub idle : idle_of new ≡ idle_of old
+
+-- one more write took none of its bytes
+pub record CountsIdle {L : Type 0} (old new : Counted L) : Type 0 where
+  pub failed : failed_of new ≡ failed_of old
+  pub idle : idle_of new ≡ one_more (idle_of old)
+
+-- what a read counts
+abbrev pub CountsRead : {L E : Type 0} → Counted L → Counted L → Result ℕ E → Type 0
+CountsRead old new r = MatchResult r (λ _. KeepsCounts old new) (λ _. CountsFailed old new)
+
+-- what a write counts
+abbrev pub CountsWrite : {L E : Type 0} → Counted L → Counted L → Result ℕ E → List ℕ → Type 0
+CountsWrite old new r buf = MatchResult r
+    (λ n. ((0 < n ⊎ length buf ≡ 0) → KeepsCounts old new) × (n ≡ 0 → 0 < length buf → CountsIdle old new))
+    (λ _. CountsFailed old new)
+
+-- what a flush counts
+abbrev pub CountsFlush : {L T E : Type 0} → Counted L → Counted L → Result T E → Type 0
+CountsFlush old new r = MatchResult r (λ _. KeepsCounts old new) (λ _. CountsFailed old new)

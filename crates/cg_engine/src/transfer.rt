@@ -1,0 +1,55 @@
+//! Reading a link to its end, and writing all of some bytes to one.
+
+ghost use Rattle.std.specs.Prelude.{◌≡◌, ℕ, List, ◌⊎◌, take, OnOk, OnErr, IfOk, IfErr, Err};
+ghost use Rattle.std.specs.Io.KnownBytes.{Appends, Consumes, IsAtEnd};
+ghost use Rattle.cg_engine.specs.Counted.{link_of, KeepsCounts, CountsCalls, CountsFailed, CountsIdle};
+ghost use Rattle.cg_types.specs.declared.fault.Fault.TheVariants as fault;
+
+use crate::counted::Counted;
+use cg_types::Fault;
+use std::alloc::Global;
+use std::io::{Read, Write};
+
+/// Writes all of the bytes. WriteFault where the writer failed or took none of what was left, and then
+/// a front of the bytes was written.
+pub fn write_bytes<W: Write>(writer: &mut Counted<W>, bytes: &[u8]) -> Result<(), Fault>
+    ensures ok { OnOk result (Appends (W.contents (link_of writer.old)) (W.contents (link_of writer.new)) bytes.now) }
+    ensures kept { OnOk result (KeepsCounts writer.old writer.new) }
+    ensures front { OnErr result ((n : ℕ) × Appends (W.contents (link_of writer.old)) (W.contents (link_of writer.new)) (take n bytes.now)) }
+    ensures fault { IfErr result (λ f. f ≡ fault.WriteFault) }
+    ensures caused { OnErr result (CountsFailed writer.old writer.new ⊎ CountsIdle writer.old writer.new) }
+{
+    let mut rest = bytes;
+    while !rest.is_empty() {
+        match writer.write(rest) {
+            Ok(0) => return Err(Fault::WriteFault),
+            Ok(n) => rest = &rest[n..],
+            Err(_) => return Err(Fault::WriteFault),
+        }
+    }
+    Ok(())
+}
+
+/// How many reads are made at most to reach a link's end.
+pub const MOST_READS: u32 = u32::MAX;
+
+/// Reads all that the link has left. OutOfMemory where the bytes find no room; ReadFault where a read
+/// failed, or where the end was not met by `MOST_READS` reads.
+pub fn read_all<R: Read>(alloc: Global, reader: &mut Counted<R>) -> Result<Vec<u8>, Fault>
+    ensures ok { IfOk result (λ v. Consumes (R.remaining (link_of reader.old)) (R.remaining (link_of reader.new)) v.items) }
+    ensures end { OnOk result (IsAtEnd (R.remaining (link_of reader.new))) }
+    ensures kept { OnOk result (KeepsCounts reader.old reader.new) }
+    ensures fault { IfErr result (λ f. (f ≡ fault.OutOfMemory) ⊎ (f ≡ fault.ReadFault)) }
+    ensures caused { (result ≡ Err fault.ReadFault) → CountsFailed reader.old reader.new ⊎ CountsCalls reader.old reader.new MOST_READS }
+{
+    let mut bytes = Vec::new(alloc);
+    let mut chunk = [0u8; 4096];
+    for _ in 0..MOST_READS {
+        match reader.read(&mut chunk) {
+            Ok(0) => return Ok(bytes),
+            Ok(n) => bytes.extend_from_slice(&chunk[..n])?,
+            Err(_) => return Err(Fault::ReadFault),
+        }
+    }
+    Err(Fault::ReadFault)
+}

@@ -1,0 +1,4 @@
+pub mod RisingLemmas
+pub mod WordLemmas
+pub mod EndpointLaws
+pub mod PlainLemmas

@@ -1,0 +1,13 @@
+-- What is no UTF-8 is no plain text.
+use Rattle.std.proofs.Common.{◌≡◌, ℕ, true, false, List, refl}
+use Rattle.std.specs.Prelude.{◌&&◌}
+use Rattle.std.specs.Str.{IsUtf8, is_utf8}
+use Rattle.std.proofs.lemmas.Str.{IsUtf8-from_is_utf8}
+use Rattle.cg_types.specs.Text.{plain, printable}
+
+pub not_plain : (bytes : List ℕ) → (IsUtf8 bytes → ⊥) → plain bytes ≡ false
+not_plain bytes refused =
+    elim (is_utf8 bytes) as (λ b. is_utf8 bytes ≡ b → (b && printable bytes) ≡ false) [
+      | true ↦ λ e. absurd (refused (IsUtf8-from_is_utf8 bytes e))
+      | false ↦ λ e. refl
+    ] refl

@@ -1,0 +1,9 @@
+pub mod Numbers
+pub mod Parts
+pub mod Text
+pub mod Rising
+pub mod Answer
+pub mod Fault
+pub mod Words
+pub mod EndpointText
+pub mod Key

@@ -1,0 +1,45 @@
+-- Plain text, and what texts of states and clusters are.
+use Rattle.std.specs.Prelude.{ℕ, ◌<◌, ◌≤◌, ◌≡◌, Bool, true, ◌&&◌, not, nat_le, nat_lt, ◌==◌, List, length, Result, Ok, Err, if◌then◌else◌}
+use Rattle.cg_types.specs.declared.fault.Fault.{Fault}
+use Rattle.cg_types.specs.declared.fault.Fault.TheVariants.{TooLong, BadText}
+use Rattle.std.specs.List.{list_all}
+use Rattle.std.specs.Str.{is_utf8}
+use Rattle.cg_types.specs.declared.limits.TheConstants.{TEXT_LIMIT, NAME_LIMIT}
+
+abbrev pub printable : List ℕ → Bool
+printable text = list_all (λ b. nat_le 32 b && not (b == 127)) text
+
+-- UTF-8 with no control characters
+abbrev pub plain : List ℕ → Bool
+plain text = is_utf8 text && printable text
+
+pub record IsStateText (text : List ℕ) : Type 0 where
+  pub is_plain : plain text ≡ true
+  pub fits : length text ≤ TEXT_LIMIT
+
+pub record IsClusterName (name : List ℕ) : Type 0 where
+  pub is_plain : plain name ≡ true
+  pub some : 0 < length name
+  pub fits : length name ≤ NAME_LIMIT
+
+-- a cluster's name, and the number of its partitioner
+pub record ClusterValue : Type 0 where
+  pub name : List ℕ
+  pub partitioner : ℕ
+
+pub record IsCluster (c : ClusterValue) : Type 0 where
+  pub is_named : IsClusterName c.name
+  pub is_byte : c.partitioner < 256
+
+-- what a text of a state is due: itself, or why it is refused
+abbrev pub state_text_of : List ℕ → Result (List ℕ) Fault
+state_text_of text =
+    if nat_lt TEXT_LIMIT (length text) then Err TooLong
+    else if plain text then Ok text else Err BadText
+
+-- what a cluster's name and partitioner are due
+abbrev pub cluster_of : List ℕ → ℕ → Result ClusterValue Fault
+cluster_of name partitioner =
+    if nat_lt NAME_LIMIT (length name) then Err TooLong
+    else if length name == 0 then Err BadText
+    else if plain name then Ok (record { name = name; partitioner = partitioner }) else Err BadText

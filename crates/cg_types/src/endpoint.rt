@@ -1,0 +1,181 @@
+//! Where a member is reached.
+
+ghost use Rattle.std.specs.Prelude.{◌≡◌, ◌≢◌, ◌↔◌, ◌<◌, ℕ, IsSome, IfSome, IfOk, IfErr, OnErr, MatchResult, Some, None, nat_eq, option_map};
+ghost use Rattle.std.specs.Ordering.{nat_cmp};
+ghost use Rattle.std.specs.Cmp.{nat_eq_equiv, nat_cmp_total, unsigned_po, partial_equiv_from_equiv};
+ghost use Rattle.std.specs.Cmp.Rules.{comparing};
+ghost use Rattle.std.proofs.Common.{rules};
+ghost use Rattle.std.specs.Int.{w32, to_be_bytes, from_be_bytes};
+ghost use Rattle.cg_types.specs.Numbers.{IsEndpoint, endpoint_of, address_of, port_of};
+ghost use Rattle.cg_types.specs.EndpointText.{endpoint_text, endpoint_in, octet_before as text_octet_before, port_in as text_port_in};
+ghost use Rattle.cg_types.specs.declared.fault.Fault.TheVariants.{BadText};
+
+use crate::fault::Fault;
+use crate::words::{cut, number};
+use std::cmp::Ordering;
+use std::fmt;
+use std::marker::Model;
+
+/// An IPv4 address and a port from 1 on. Endpoints are ordered by the address's four bytes, then the port.
+#[derive(Clone, Copy, Debug)]
+pub struct Endpoint {
+    address: u32,
+    port: u16,
+}
+
+/// A contract sees an endpoint as the number that its six bytes spell.
+impl Model for Endpoint {
+    ghost use Rattle.std.specs.Prelude.{ℕ, ◌≡◌, ◌<◌, ◌^◌};
+    ghost use Rattle.cg_types.specs.Numbers.{endpoint_of, address_of, port_of};
+    ghost use Rattle.cg_types.specs.Parts.{address-endpoint, port-endpoint};
+
+    ghost Value = { ℕ };
+
+    ghost view = { λ e. endpoint_of e.address e.port };
+
+    ghost invariant = { λ e. (e.address < 2 ^ 32) × (0 < e.port) × (e.port < 2 ^ 16) };
+
+    ghost inverse = { λ n. record { address = address_of n; port = port_of n } };
+
+    ghost inverse_ok = { λ a h i. record { address = address-endpoint a.address a.port h.2 i; port = port-endpoint a.address a.port h.2 i } };
+}
+
+impl PartialEq for Endpoint {
+    ghost eq = { nat_eq };
+
+    ghost laws = { partial_equiv_from_equiv nat_eq_equiv };
+
+    fn eq(&self, other: &Endpoint) -> bool {
+        self.number() == other.number()
+    }
+}
+
+impl Eq for Endpoint {
+    ghost laws = { nat_eq_equiv };
+}
+
+impl PartialOrd for Endpoint {
+    ghost partial_cmp = { λ x y. Some (nat_cmp x y) };
+
+    ghost laws = { unsigned_po };
+
+    fn partial_cmp(&self, other: &Endpoint) -> Option<Ordering> {
+        Some(self.cmp(other))
+    }
+}
+
+impl Ord for Endpoint {
+    ghost cmp = { nat_cmp };
+
+    ghost total = { nat_cmp_total };
+
+    ghost matches_partial_cmp = { Prim.search (comparing, rules) };
+
+    ghost matches_eq = { Prim.search (comparing, rules) };
+
+    fn cmp(&self, other: &Endpoint) -> Ordering {
+        self.number().cmp(&other.number())
+    }
+}
+
+/// Written as `10.0.0.1:7000`: the address's bytes with dots, a colon and the port.
+impl fmt::Display for Endpoint {
+    ghost output = { λ e. Some (endpoint_text e) };
+
+    #[tactic(auto, unfolding(crate::specs::EndpointText::endpoint_text))]
+    fn fmt<W: fmt::Write>(&self, f: &mut fmt::Formatter<W>) -> fmt::Result {
+        let [a, b, c, d] = self.address.to_be_bytes();
+        let port = self.port;
+        write!(f, "{a}.{b}.{c}.{d}:{port}")
+    }
+}
+
+impl Endpoint {
+    // The number that the six bytes spell.
+    fn number(self) -> u64
+        ensures { result ≡ self }
+    {
+        u64::from(self.address) * 65536 + u64::from(self.port)
+    }
+
+    /// None where the port is 0.
+    pub fn new(address: [u8; 4], port: u16) -> Option<Endpoint>
+        ensures valid { IsSome result ↔ (0 < port) }
+        ensures value { IfSome result (λ e. e ≡ endpoint_of (from_be_bytes w32 address) port) }
+    {
+        if port == 0 {
+            return None;
+        }
+        Some(Endpoint {
+            address: u32::from_be_bytes(address),
+            port,
+        })
+    }
+
+    /// The endpoint that a text is, as `10.0.0.1:7000`: four numbers from 0 to 255 and a port from 1 to
+    /// 65,535, with no leading zeros. Any other text is BadText. It takes no memory.
+    pub fn read(text: &str) -> Result<Endpoint, Fault>
+        ensures value { MatchResult result (λ e. endpoint_in text.now ≡ Some e) (λ _. endpoint_in text.now ≡ None) }
+        // The text is the one that the endpoint writes.
+        ensures ok { IfOk result (λ e. text.now ≡ endpoint_text e) }
+        // A text that is refused is no endpoint's.
+        ensures err { OnErr result ((e : ℕ) → IsEndpoint e → text.now ≢ endpoint_text e) }
+        ensures fault { IfErr result (λ f. f ≡ BadText) }
+    {
+        match Endpoint::from_bytes(text.as_bytes()) {
+            Some(endpoint) => Ok(endpoint),
+            None => Err(Fault::BadText),
+        }
+    }
+
+    /// The endpoint that some bytes are the text of, as `read` reads it.
+    #[tactic(auto, unfolding(crate::specs::EndpointText::endpoint_in))]
+    pub fn from_bytes(text: &[u8]) -> Option<Endpoint>
+        ensures { result ≡ endpoint_in text.now }
+    {
+        let (a, rest) = octet_before(text, b'.')?;
+        let (b, rest) = octet_before(rest, b'.')?;
+        let (c, rest) = octet_before(rest, b'.')?;
+        let (d, rest) = octet_before(rest, b':')?;
+        let port = port_in(rest)?;
+        Some(Endpoint {
+            address: u32::from_be_bytes([a, b, c, d]),
+            port,
+        })
+    }
+
+    /// The address's four bytes.
+    pub fn address(self) -> [u8; 4]
+        ensures { result ≡ to_be_bytes w32 (address_of self) }
+    {
+        self.address.to_be_bytes()
+    }
+
+    /// The port, 1 to 65,535.
+    pub fn port(self) -> u16
+        ensures value { result ≡ port_of self }
+        ensures range { IsEndpoint self }
+    {
+        self.port
+    }
+}
+
+// A number of at most 255 before the first byte `at`, and what stands behind that.
+#[tactic(auto, unfolding(crate::specs::EndpointText::octet_before))]
+fn octet_before(text: &[u8], at: u8) -> Option<(u8, &[u8])>
+    ensures { option_map (λ p. (p.0, p.1.now)) result ≡ text_octet_before at text.now }
+{
+    let (part, rest) = cut(text, at)?;
+    let octet = number(part, 255)?;
+    Some((octet as u8, rest))
+}
+
+// A port, 1 to 65,535.
+#[tactic(auto, unfolding(crate::specs::EndpointText::port_in))]
+fn port_in(text: &[u8]) -> Option<u16>
+    ensures value { result ≡ text_port_in text.now }
+    ensures range { IfSome result (λ port. 0 < port) }
+{
+    let port = number(text, 65535)?;
+    if port > 0 { Some(port as u16) } else { None }
+}

@@ -1,0 +1,22 @@
+//! The limits of this version, each in one place.
+
+/// Endpoints in a table, and members of a list in a message.
+pub const MEMBER_LIMIT: usize = 256;
+
+/// Bytes of a state's text.
+pub const TEXT_LIMIT: usize = 1024;
+
+/// Bytes of a cluster's name.
+pub const NAME_LIMIT: usize = 48;
+
+/// State keys are 1 to this.
+pub const STATE_LIMIT: u8 = 16;
+
+/// Generations and versions are below this.
+pub const NUMBER_LIMIT: u32 = 2147483648;
+
+/// Bytes of a frame after its length.
+pub const LENGTH_LIMIT: usize = 5000000;
+
+/// The only partitioner in use: MD5 tokens, as Cassandra's RandomPartitioner has them.
+pub const PARTITIONER: u8 = 1;

@@ -1,0 +1,285 @@
+//! What no clause says: the texts of faults and keys, and each call once with ample memory.
+
+use super::*;
+use std::alloc::{AllocError, Global};
+use std::test::Fail;
+
+fn is_endpoint(text: &str) -> bool {
+    Endpoint::read(text).is_ok()
+}
+
+#[test]
+fn endpoints_are_read(rt: HostRuntime) -> Result<(), Fail> {
+    let endpoint = Endpoint::read("10.0.0.1:7000")?;
+    assert_eq!(rt; endpoint.address(), [10, 0, 0, 1]);
+    assert_eq!(rt; endpoint.port(), 7000);
+    assert_eq!(rt; Endpoint::new([10, 0, 0, 1], 7000), Some(endpoint));
+    assert_eq!(rt; Endpoint::from_bytes(b"10.0.0.1:7000"), Some(endpoint));
+    let text = format!(in rt.alloc(); "{endpoint}")?;
+    assert_eq!(rt; text.as_str(), "10.0.0.1:7000");
+    Ok(())
+}
+
+#[test]
+fn other_texts_are_no_endpoints(rt: HostRuntime) {
+    for text in ["0.0.0.0:1", "255.255.255.255:65535"] {
+        assert!(rt; is_endpoint(text), "{text}");
+    }
+    for text in [
+        "",
+        "10.0.0.1",
+        "10.0.0.1:",
+        "10.0.0.1:0",
+        "10.0.0.1:65536",
+        "10.0.0.1:07000",
+        "10.0.0.01:7000",
+        "10.0.0.256:7000",
+        "10.0.0:7000",
+        "10.0.0.1.1:7000",
+        " 10.0.0.1:7000",
+        "10.0.0.1:7000 ",
+        "+10.0.0.1:7000",
+        "a.0.0.1:7000",
+    ] {
+        assert!(rt; !is_endpoint(text), "{text}");
+    }
+    assert_eq!(rt; Endpoint::read("10.0.0.1").err(), Some(Fault::BadText));
+}
+
+#[test]
+fn endpoints_are_ordered(rt: HostRuntime) -> Result<(), Fail> {
+    let least = Endpoint::read("9.255.0.1:65535")?;
+    let middle = Endpoint::read("10.0.0.1:7000")?;
+    let greatest = Endpoint::read("10.0.0.1:7001")?;
+    assert!(rt; least < middle);
+    assert!(rt; middle < greatest);
+    assert!(rt; middle != greatest);
+    Ok(())
+}
+
+#[test]
+fn ports_are_bounded(rt: HostRuntime) {
+    assert!(rt; Endpoint::new([10, 0, 0, 1], 0).is_none());
+    assert!(rt; Endpoint::new([10, 0, 0, 1], 1).is_some());
+    assert!(rt; Endpoint::new([10, 0, 0, 1], 65535).is_some());
+}
+
+#[test]
+fn numbers_are_bounded(rt: HostRuntime) {
+    for (number, is_in) in [
+        (0, false),
+        (1, true),
+        (2147483647, true),
+        (2147483648, false),
+    ] {
+        assert_eq!(rt;
+            Generation::new(number).map(|g| g.get()),
+            is_in.then_some(number)
+        );
+        assert_eq!(rt;
+            Version::new(number).map(|v| v.get()),
+            is_in.then_some(number)
+        );
+    }
+    assert_eq!(rt; Version::first().get(), 1);
+}
+
+#[test]
+fn keys_are_bounded(rt: HostRuntime) {
+    for (number, is_in) in [(0, false), (1, true), (16, true), (17, false)] {
+        assert_eq!(rt;
+            StateKey::new(number).map(|k| k.get()),
+            is_in.then_some(number)
+        );
+    }
+}
+
+fn key_name(number: u8) -> Option<&'static str> {
+    StateKey::new(number).map(|key| key.name())
+}
+
+#[test]
+fn keys_have_names(rt: HostRuntime) {
+    for (number, name) in [
+        (1, "STATUS"),
+        (2, "TOKENS"),
+        (3, "LOAD"),
+        (4, "SCHEMA"),
+        (5, "DC"),
+        (6, "RACK"),
+        (7, "RELEASE_VERSION"),
+        (8, "RPC_ADDRESS"),
+        (9, "HOST_ID"),
+        (10, "INTERNAL_IP"),
+        (11, "NET_VERSION"),
+        (12, "SEVERITY"),
+        (13, "RPC_READY"),
+        (14, "X1"),
+        (15, "X2"),
+        (16, "X3"),
+    ] {
+        assert_eq!(rt; key_name(number), Some(name));
+    }
+}
+
+// A text of so many bytes.
+fn text_of(alloc: Global, count: usize) -> Result<String, AllocError> {
+    let mut text = String::new(alloc);
+    for _ in 0..count {
+        text.push('x')?;
+    }
+    Ok(text)
+}
+
+fn refusal_of_text(alloc: Global, count: usize) -> Result<Option<Fault>, AllocError> {
+    let text = text_of(alloc, count)?;
+    Ok(StateText::new(alloc, text.as_str()).err())
+}
+
+#[test]
+fn texts_are_bounded(rt: HostRuntime) -> Result<(), Fail> {
+    assert_eq!(rt; refusal_of_text(rt.alloc(), 0)?, None);
+    assert_eq!(rt; refusal_of_text(rt.alloc(), 1024)?, None);
+    assert_eq!(rt; refusal_of_text(rt.alloc(), 1025)?, Some(Fault::TooLong));
+    Ok(())
+}
+
+#[test]
+fn texts_are_plain(rt: HostRuntime) -> Result<(), Fail> {
+    assert!(rt; is_plain("NORMAL,t\u{f6}ken"));
+    for text in ["a\nb", "\u{1f}", "\u{7f}", "\u{0}"] {
+        assert!(rt; !is_plain(text));
+        assert_eq!(rt;
+            StateText::new(rt.alloc(), text).err(),
+            Some(Fault::BadText)
+        );
+    }
+    let mut long = text_of(rt.alloc(), 1025)?;
+    long.push('\n')?;
+    assert_eq!(rt;
+        StateText::new(rt.alloc(), long.as_str()).err(),
+        Some(Fault::TooLong)
+    );
+    Ok(())
+}
+
+#[test]
+fn texts_are_copied(rt: HostRuntime) -> Result<(), Fail> {
+    let text = StateText::new(rt.alloc(), "NORMAL")?;
+    assert_eq!(rt; text.as_str(), "NORMAL");
+    let same = text.copy()?;
+    assert!(rt; same == text);
+    let other = StateText::new(rt.alloc(), "LEAVING")?;
+    assert!(rt; other != text);
+    Ok(())
+}
+
+fn refusal_of_name(alloc: Global, count: usize) -> Result<Option<Fault>, AllocError> {
+    let name = text_of(alloc, count)?;
+    Ok(Cluster::new(alloc, name.as_str()).err())
+}
+
+#[test]
+fn names_are_bounded(rt: HostRuntime) -> Result<(), Fail> {
+    assert_eq!(rt; refusal_of_name(rt.alloc(), 0)?, Some(Fault::BadText));
+    assert_eq!(rt; refusal_of_name(rt.alloc(), 1)?, None);
+    assert_eq!(rt; refusal_of_name(rt.alloc(), 48)?, None);
+    assert_eq!(rt; refusal_of_name(rt.alloc(), 49)?, Some(Fault::TooLong));
+    assert_eq!(rt;
+        Cluster::new(rt.alloc(), "c\u{7f}").err(),
+        Some(Fault::BadText)
+    );
+    Ok(())
+}
+
+#[test]
+fn clusters_are_copied(rt: HostRuntime) -> Result<(), Fail> {
+    let cluster = Cluster::new(rt.alloc(), "c1")?;
+    assert_eq!(rt; cluster.name(), "c1");
+    assert_eq!(rt; cluster.partitioner(), 1);
+    let same = cluster.copy()?;
+    assert!(rt; same == cluster);
+    let other = Cluster::with(rt.alloc(), "c1", 2)?;
+    assert_eq!(rt; other.partitioner(), 2);
+    assert!(rt; other != cluster);
+    Ok(())
+}
+
+// The line that a fault's number, name and details make, as people are shown them.
+fn shown(alloc: Global, fault: Fault) -> Result<String, AllocError> {
+    format!(in alloc; "fault {fault}\n")
+}
+
+#[test]
+fn faults_have_lines(rt: HostRuntime) -> Result<(), Fail> {
+    for (fault, number, line) in [
+        (Fault::OutOfMemory, 1, "fault 1 OutOfMemory\n"),
+        (Fault::BadText, 2, "fault 2 BadText\n"),
+        (Fault::TooLong, 3, "fault 3 TooLong\n"),
+        (Fault::VersionsSpent, 4, "fault 4 VersionsSpent\n"),
+        (Fault::TableFull, 8, "fault 8 TableFull\n"),
+        (Fault::OtherCluster, 9, "fault 9 OtherCluster\n"),
+        (Fault::NoSuchMessage, 10, "fault 10 NoSuchMessage\n"),
+        (Fault::NotRising, 11, "fault 11 NotRising\n"),
+        (Fault::Truncated, 13, "fault 13 Truncated\n"),
+        (Fault::ReadFault, 14, "fault 14 ReadFault\n"),
+        (Fault::WriteFault, 15, "fault 15 WriteFault\n"),
+        (Fault::Stranger, 16, "fault 16 Stranger\n"),
+        (Fault::Stuck, 17, "fault 17 Stuck\n"),
+        (Fault::Folded, 18, "fault 18 Folded\n"),
+        (Fault::NoSuchNode, 19, "fault 19 NoSuchNode\n"),
+    ] {
+        assert_eq!(rt; fault.number(), number);
+        assert_eq!(rt; fault.line(rt.alloc())?.as_str(), line);
+        assert_eq!(rt; shown(rt.alloc(), fault)?.as_str(), line);
+    }
+    Ok(())
+}
+
+#[test]
+fn bad_frames_have_lines(rt: HostRuntime) -> Result<(), Fail> {
+    for (cause, line) in [
+        (Cause::Length, "fault 12 BadFrame 22 Length\n"),
+        (Cause::Short, "fault 12 BadFrame 22 Short\n"),
+        (Cause::Layout, "fault 12 BadFrame 22 Layout\n"),
+        (Cause::Kind, "fault 12 BadFrame 22 Kind\n"),
+        (Cause::Name, "fault 12 BadFrame 22 Name\n"),
+        (Cause::Count, "fault 12 BadFrame 22 Count\n"),
+        (Cause::Endpoint, "fault 12 BadFrame 22 Endpoint\n"),
+        (Cause::Order, "fault 12 BadFrame 22 Order\n"),
+        (Cause::Generation, "fault 12 BadFrame 22 Generation\n"),
+        (Cause::Version, "fault 12 BadFrame 22 Version\n"),
+        (Cause::Above, "fault 12 BadFrame 22 Above\n"),
+        (Cause::Heartbeat, "fault 12 BadFrame 22 Heartbeat\n"),
+        (Cause::Key, "fault 12 BadFrame 22 Key\n"),
+        (Cause::Text, "fault 12 BadFrame 22 Text\n"),
+        (Cause::Empty, "fault 12 BadFrame 22 Empty\n"),
+        (Cause::Rest, "fault 12 BadFrame 22 Rest\n"),
+        (Cause::Unexpected, "fault 12 BadFrame 22 Unexpected\n"),
+    ] {
+        let fault = Fault::BadFrame { place: 22, cause };
+        assert_eq!(rt; fault.line(rt.alloc())?.as_str(), line);
+        assert_eq!(rt; shown(rt.alloc(), fault)?.as_str(), line);
+    }
+    Ok(())
+}
+
+#[test]
+fn words_are_read(rt: HostRuntime) {
+    assert_eq!(rt; cut(b"a b", b' '), Some((b"a".as_slice(), b"b".as_slice())));
+    assert_eq!(rt; cut(b"ab", b' '), None);
+    assert_eq!(rt; number(b"0", 9), Some(0));
+    assert_eq!(rt; number(b"18446744073709551615", u64::MAX), Some(u64::MAX));
+    for text in [
+        "",
+        "01",
+        "00",
+        "+1",
+        "1 ",
+        "a",
+        "10",
+        "18446744073709551616",
+    ] {
+        assert_eq!(rt; number(text.as_bytes(), 9), None, "{text}");
+    }
+}

@@ -1,0 +1,149 @@
+//! Plain texts: of states, and of clusters' names.
+
+ghost use Rattle.std.specs.Prelude.{◌≡◌, IfOk};
+ghost use Rattle.cg_types.specs.Answer.{Answers};
+ghost use Rattle.cg_types.specs.Text.{printable, plain, IsStateText, IsCluster, state_text_of, cluster_of};
+ghost use Rattle.cg_types.specs.declared.limits.TheConstants.{PARTITIONER};
+
+use crate::fault::Fault;
+use crate::limits::{NAME_LIMIT, PARTITIONER, TEXT_LIMIT};
+use bytes::ByteStr;
+use std::alloc::{AllocError, Global};
+use std::marker::Model;
+
+// Whether the bytes have no control character: none below 32, and no 127.
+fn is_printable(bytes: &[u8]) -> bool
+    ensures { result ≡ printable bytes.now }
+{
+    bytes.iter().all(|b| *b >= 32 && *b != 127)
+}
+
+/// Whether a text is plain: with none of the bytes 0 to 31 and 127.
+pub fn is_plain(text: &str) -> bool
+    ensures { result ≡ plain text.now }
+{
+    is_printable(text.as_bytes())
+}
+
+/// The text of a state, plain and of 0 to 1,024 bytes. Copies share its bytes.
+#[derive(Debug, Drop, PartialEq, Eq)]
+pub struct StateText {
+    text: ByteStr,
+}
+
+impl Model for StateText {
+    ghost use Rattle.std.specs.Prelude.{ℕ, List};
+    ghost use Rattle.cg_types.specs.Text.{IsStateText};
+
+    ghost Value = { List ℕ };
+
+    ghost view = { λ t. t.text };
+
+    ghost invariant = { λ t. IsStateText t.text };
+
+    ghost inverse = { λ bytes. record { text = bytes } };
+}
+
+impl StateText {
+    /// TooLong over 1,024 bytes, else BadText where it is not plain, else at most OutOfMemory.
+    pub fn new(alloc: Global, text: &str) -> Result<StateText, Fault>
+        ensures { Answers (λ t. t) (state_text_of text.now) result }
+    {
+        if text.len() > TEXT_LIMIT {
+            return Err(Fault::TooLong);
+        }
+        if !is_plain(text) {
+            return Err(Fault::BadText);
+        }
+        Ok(StateText {
+            text: ByteStr::copy_from_str(alloc, text)?,
+        })
+    }
+
+    /// The text.
+    pub fn as_str(&self) -> &str
+        ensures value { result.now ≡ self.now }
+        ensures valid { IsStateText self.now }
+    {
+        self.text.as_str()
+    }
+
+    /// The same text. It copies no byte and takes no memory; only a count of owners that is at its
+    /// greatest, 2^63 - 1, could refuse it.
+    pub fn copy(&self) -> Result<StateText, AllocError>
+        ensures { IfOk result (λ t. t ≡ self.now) }
+    {
+        Ok(StateText {
+            text: self.text.clone()?,
+        })
+    }
+}
+
+/// A cluster: its name, plain and of 1 to 48 bytes, and the number of its partitioner. Copies share the name.
+#[derive(Debug, Drop, PartialEq, Eq)]
+pub struct Cluster {
+    name: ByteStr,
+    partitioner: u8,
+}
+
+impl Model for Cluster {
+    ghost use Rattle.cg_types.specs.Text.{ClusterValue, IsCluster};
+
+    ghost Value = { ClusterValue };
+
+    ghost view = { λ c. record { name = c.name; partitioner = c.partitioner } };
+
+    ghost invariant = { λ c. IsCluster (record { name = c.name; partitioner = c.partitioner }) };
+
+    ghost inverse = { λ c. record { name = c.name; partitioner = c.partitioner } };
+}
+
+impl Cluster {
+    /// A cluster with the partitioner in use, 1. Refusals are those of `with`.
+    pub fn new(alloc: Global, name: &str) -> Result<Cluster, Fault>
+        ensures { Answers (λ c. c) (cluster_of name.now PARTITIONER) result }
+    {
+        Cluster::with(alloc, name, PARTITIONER)
+    }
+
+    /// TooLong over 48 bytes, else BadText where the name is empty or not plain, else at most OutOfMemory.
+    pub fn with(alloc: Global, name: &str, partitioner: u8) -> Result<Cluster, Fault>
+        ensures { Answers (λ c. c) (cluster_of name.now partitioner) result }
+    {
+        if name.len() > NAME_LIMIT {
+            return Err(Fault::TooLong);
+        }
+        if name.is_empty() || !is_plain(name) {
+            return Err(Fault::BadText);
+        }
+        Ok(Cluster {
+            name: ByteStr::copy_from_str(alloc, name)?,
+            partitioner,
+        })
+    }
+
+    /// The name, 1 to 48 bytes.
+    pub fn name(&self) -> &str
+        ensures value { result.now ≡ self.now.name }
+        ensures valid { IsCluster self.now }
+    {
+        self.name.as_str()
+    }
+
+    /// The partitioner's number; 1 is the one in use.
+    pub fn partitioner(&self) -> u8
+        ensures { result ≡ self.now.partitioner }
+    {
+        self.partitioner
+    }
+
+    /// The same cluster. It copies no byte and takes no memory, as `StateText::copy`.
+    pub fn copy(&self) -> Result<Cluster, AllocError>
+        ensures { IfOk result (λ c. c ≡ self.now) }
+    {
+        Ok(Cluster {
+            name: self.name.clone()?,
+            partitioner: self.partitioner,
+        })
+    }
+}
