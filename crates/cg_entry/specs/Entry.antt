@@ -1,0 +1,38 @@
+-- What is held of an endpoint.
+use Rattle.std.specs.Prelude.{ℕ, ◌≡◌, ◌<◌, List, [], ◌∷◌, nat_lt, nat_le, max, Option, Some, None, if◌then◌else◌}
+use Rattle.std.specs.List.{filter}
+use Rattle.std.specs.FinMap as map
+use Rattle.cg_entry.specs.Values.{EntryValue, DeltaValue}
+use Rattle.cg_entry.specs.Versioned.{Versioned, States}
+
+-- the greatest of n and the versions
+abbrev pub greatest_of : ℕ → List (ℕ × Versioned) → ℕ
+greatest_of n [] = n
+greatest_of n (s ∷ ss) = greatest_of (max n s.1.version) ss
+
+-- the greatest of a heartbeat version and the versions of states
+abbrev pub greatest : ℕ → States → ℕ
+greatest heartbeat states = greatest_of heartbeat (map.entries states)
+
+-- the states with a version greater than v
+abbrev pub newer_than : ℕ → States → States
+newer_than v states = map.from_sorted (filter (λ s. nat_lt v s.1.version) (map.entries states))
+
+-- the entry of an endpoint that starts
+abbrev pub started : ℕ → EntryValue
+started generation = record { generation = generation; heartbeat = 1; states = map.empty }
+
+-- the greatest version in an entry
+abbrev pub newest : EntryValue → ℕ
+newest e = greatest e.heartbeat e.states
+
+-- what a holder at v lacks of an entry
+abbrev pub delta_above : ℕ → EntryValue → Option DeltaValue
+delta_above v e =
+    if nat_le (newest e) v then None
+    else Some (record { generation = e.generation; above = v; heartbeat = e.heartbeat; states = newer_than v e.states })
+
+-- Each state is newer, and something is.
+pub record IsDelta (above heartbeat : ℕ) (states : States) : Type 0 where
+  pub newer : newer_than above states ≡ states
+  pub something : above < greatest heartbeat states

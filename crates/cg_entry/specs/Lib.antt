@@ -1,0 +1,4 @@
+pub mod Versioned
+pub mod State
+pub mod Values
+pub mod Entry

@@ -1,0 +1,34 @@
+-- States in a list, as a finite map.
+use Rattle.std.specs.Prelude.{ℕ, Bool, ◌&&◌, ◌||◌, not, ◌==◌, List, length, map, nat_lt, None}
+use Rattle.std.specs.List.{list_all}
+use Rattle.cg_types.specs.Rising.{Rises, rise_past}
+use Rattle.cg_entry.specs.declared.state.State.{State}
+use Rattle.cg_entry.specs.Versioned.{Versioned}
+
+-- what is held at a state's key
+abbrev pub versioned : State → Versioned
+versioned s = record { text = s.text; version = s.version }
+
+-- a state as its key and what is held at it
+abbrev pub pair : State → ℕ × Versioned
+pair s = (s.key, versioned s)
+
+-- a list of states as the entries of a finite map
+abbrev pub pairs : List State → List (ℕ × Versioned)
+pairs items = map pair items
+
+-- the keys rise strictly
+abbrev pub KeysRise : List State → Type 0
+KeysRise items = Rises (map (λ s. s.key) items)
+
+-- whether the keys rise strictly
+abbrev pub keys_rise : List State → Bool
+keys_rise items = rise_past None (map (λ s. s.key) items)
+
+-- whether each version is greater than above
+abbrev pub all_newer : ℕ → List State → Bool
+all_newer above items = list_all (λ s. nat_lt above s.version) items
+
+-- whether a delta can be made of these
+abbrev pub makes_delta : ℕ → ℕ → List State → Bool
+makes_delta above heartbeat items = (nat_lt above heartbeat || not (length items == 0)) && (all_newer above items && keys_rise items)

@@ -1,0 +1,134 @@
+//! What a message carries of one endpoint.
+
+ghost use Rattle.std.specs.Prelude.{◌≡◌, IfSome, IfOk, is_some};
+ghost use Rattle.std.specs.FinMap as map;
+ghost use Rattle.cg_types.specs.Numbers.{IsVersionHeld};
+ghost use Rattle.cg_entry.specs.State.{KeysRise, pairs, all_newer as all_newer_of, makes_delta};
+ghost use Rattle.cg_entry.specs.Entry.{greatest, IsDelta};
+
+use crate::state::State;
+use crate::states::{States, keys_rise};
+use cg_types::{Generation, Version};
+use std::alloc::{AllocError, Global};
+use std::marker::Model;
+
+/// What stands above a version in an entry: its generation, its heartbeat version, and the states with a greater
+/// version. It is whole where that version is 0.
+#[derive(Debug, Drop)]
+pub struct Delta {
+    generation: Generation,
+    above: u32,
+    heartbeat: Version,
+    states: States,
+}
+
+impl Model for Delta {
+    ghost use Rattle.cg_types.specs.Numbers.{IsVersionHeld};
+    ghost use Rattle.cg_entry.specs.Values.{DeltaValue, delta_code};
+    ghost use Rattle.cg_entry.specs.Entry.{IsDelta};
+
+    ghost Value = { DeltaValue };
+
+    ghost coded = { delta_code };
+
+    ghost view = { λ d. record { generation = d.generation; above = d.above; heartbeat = d.heartbeat; states = d.states } };
+
+    ghost invariant = { λ d. IsVersionHeld d.above × IsDelta d.above d.heartbeat d.states };
+}
+
+fn all_newer(above: u32, items: &[State]) -> bool
+    ensures { result ≡ all_newer_of above items.now }
+{
+    items.iter().all(|state| state.version.get() > above)
+}
+
+impl Delta {
+    /// `None` unless the keys rise strictly, each state's version is greater than `above`, and there is a state or
+    /// the heartbeat version is greater than `above`.
+    pub fn new(
+        generation: Generation,
+        above: u32,
+        heartbeat: Version,
+        states: Vec<State>,
+    ) -> Option<Delta>
+        ensures when { is_some result ≡ makes_delta above heartbeat states.items }
+        ensures value { IfSome result (λ d. d ≡ record { generation = generation; above = above; heartbeat = heartbeat; states = map.from_sorted (pairs states.items) }) }
+    {
+        if !all_newer(above, &states) || !keys_rise(&states) {
+            return None;
+        }
+        let states = States::from_rising(states);
+        if states.greatest(heartbeat).get() <= above {
+            return None;
+        }
+        Some(Delta::of_parts(generation, above, heartbeat, states))
+    }
+
+    pub(crate) fn of_parts(
+        generation: Generation,
+        above: u32,
+        heartbeat: Version,
+        states: States,
+    ) -> Delta
+        requires range { IsVersionHeld above }
+        requires valid { IsDelta above heartbeat states }
+        ensures { result ≡ record { generation = generation; above = above; heartbeat = heartbeat; states = states } }
+    {
+        Delta {
+            generation,
+            above,
+            heartbeat,
+            states,
+        }
+    }
+
+    /// The generation of the entry that it is a part of.
+    pub fn generation(&self) -> Generation
+        ensures { result ≡ self.now.generation }
+    {
+        self.generation
+    }
+
+    /// The version that its receiver has to hold already, or 0 where it carries the whole entry.
+    pub fn above(&self) -> u32
+        ensures value { result ≡ self.now.above }
+        ensures range { IsVersionHeld result }
+        ensures valid { IsDelta self.now.above self.now.heartbeat self.now.states }
+    {
+        self.above
+    }
+
+    /// The heartbeat version of the entry.
+    pub fn heartbeat(&self) -> Version
+        ensures { result ≡ self.now.heartbeat }
+    {
+        self.heartbeat
+    }
+
+    /// The greatest version that the delta carries.
+    pub fn newest(&self) -> Version
+        ensures { result ≡ greatest self.now.heartbeat self.now.states }
+    {
+        self.states.greatest(self.heartbeat)
+    }
+
+    /// The states, rising by key.
+    pub fn states(&self) -> &[State]
+        ensures value { pairs result.now ≡ map.entries self.now.states }
+        ensures rise { KeysRise result.now }
+    {
+        self.states.as_slice()
+    }
+
+    /// The same delta, which shares the texts of its states.
+    pub fn copy(&self, alloc: Global) -> Result<Delta, AllocError>
+        ensures { IfOk result (λ d. d ≡ self.now) }
+    {
+        Ok(Delta {
+            generation: self.generation,
+            above: self.above,
+            heartbeat: self.heartbeat,
+            states: self.states.copy(alloc)?,
+        })
+    }
+}

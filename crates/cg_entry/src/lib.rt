@@ -1,0 +1,18 @@
+//! What a member holds of one endpoint, and what a message carries of it.
+//!
+//! An entry is what Apache Cassandra's gossip calls an `EndpointState`: the generation and the heartbeat version of
+//! its `HeartBeatState`, and application states, each with the version that set it. A delta is the part of an entry
+//! above a version, as in van Renesse et al., "Efficient Reconciliation and Flow Control for Anti-Entropy
+//! Protocols" (2008).
+#![tactic(auto)]
+
+mod delta;
+mod entry;
+mod state;
+mod states;
+#[cfg(test)]
+mod tests;
+
+pub use delta::Delta;
+pub use entry::Entry;
+pub use state::State;

@@ -1,0 +1,84 @@
+-- Answers, member by member.
+use Rattle.std.proofs.Common.{◌≡◌, ℕ, suc, ◌+◌, ◌<◌, ◌≤◌, Bool, true, false, cond, List, [], ◌∷◌, ◌++◌, map, length, take, get_or, Option, Some, None, refl, sym, ap, subst, ◌∙◌, arith, nat_lt}
+use Rattle.std.specs.List.{filter_map}
+use Rattle.std.specs.Option.{option_to_list}
+use Rattle.std.proofs.lemmas.List.{take_more, length-map}
+use Rattle.std.proofs.lemmas.List.Elements.{filter_map-append}
+use Rattle.std.specs.Prelude.{◌&&◌, ◌==◌, find}
+use Rattle.std.specs.Option.{option_map}
+use Rattle.std.specs.FinMap as table
+use Rattle.cg_types.specs.declared.limits.TheConstants.{MEMBER_LIMIT}
+use Rattle.cg_entry.specs.Values.{EntryValue, DeltaValue}
+use Rattle.cg_entry.specs.Entry.{newest}
+use Rattle.cg_table.specs.declared.digest.Digest.{Digest}
+use Rattle.cg_shared.specs.Rows.{keys_of}
+use Rattle.cg_table.specs.Values.{Entries}
+use Rattle.cg_exchange.specs.declared.owner_delta.OwnerDelta.{OwnerDelta}
+use Rattle.cg_exchange.specs.Values.{RequestValue}
+use Rattle.cg_exchange.specs.Answering.{asked, requests_for, sent, delta_for}
+use Rattle.std.specs.List.{cons_option}
+use Rattle.cg_exchange.specs.Members.{AreListed, endpoints_of_digests, endpoints_of_requests, endpoints_of_deltas}
+use Rattle.cg_types.specs.Rising.{is_past, rise_past, Rises}
+use Rattle.cg_types.proofs.RisingLemmas.{both, first_of, second_of, rise_earlier}
+
+module _ {X Y : Type 0} (f : X → Option Y) where
+  one_mapped : (x : X) → filter_map f (x ∷ []) ≡ option_to_list (f x)
+  one_mapped x = elim (f x) as (λ o. cons_option o [] ≡ option_to_list o) [ Some y ↦ refl | None ↦ refl ]
+
+  pub filter_map_more : (xs : List X) (i : ℕ) (x : X) → i < length xs → x ≡ get_or xs i x → filter_map f (take (i + 1) xs) ≡ filter_map f (take i xs) ++ option_to_list (f x)
+  filter_map_more xs i x lt is =
+      ap (filter_map f) (take_more xs i x lt) ∙ filter_map-append f (take i xs) (get_or xs i x ∷ [])
+      ∙ ap (λ y. filter_map f (take i xs) ++ filter_map f (y ∷ [])) (sym is) ∙ ap (λ ys. filter_map f (take i xs) ++ ys) (one_mapped x)
+
+  -- Keys that the mapped items keep rise where those of the items do, and are no more.
+  rise_mapped : (key : X → ℕ) (kept : Y → ℕ) → ((x : X) (y : Y) → f x ≡ Some y → kept y ≡ key x) → (last : Option ℕ) (xs : List X) → rise_past last (map key xs) ≡ true → rise_past last (map kept (filter_map f xs)) ≡ true
+  rise_mapped key kept same last [] h = refl
+  rise_mapped key kept same last (x ∷ xs) h =
+      let here = first_of (is_past last (key x)) (rise_past (Some (key x)) (map key xs)) h in
+      let rest = second_of (is_past last (key x)) (rise_past (Some (key x)) (map key xs)) h in
+      elim (f x) as (λ o. f x ≡ o → rise_past last (map kept (cons_option o (filter_map f xs))) ≡ true) [
+        | Some y ↦ λ e. subst (λ k. (is_past last k && rise_past (Some k) (map kept (filter_map f xs))) ≡ true) (sym (same x y e)) (both _ _ here (rise_mapped key kept same (Some (key x)) xs rest))
+        | None ↦ λ e. rise_mapped key kept same last xs (rise_earlier last (key x) (map key xs) here rest)
+      ] refl
+
+  few_mapped : (key : X → ℕ) (kept : Y → ℕ) (xs : List X) → length (map kept (filter_map f xs)) ≤ length (map key xs)
+  few_mapped key kept [] = omega arith
+  few_mapped key kept (x ∷ xs) =
+      elim (f x) as (λ o. length (map kept (cons_option o (filter_map f xs))) ≤ suc (length (map key xs))) [
+        | Some y ↦ omega (arith, few_mapped key kept xs)
+        | None ↦ omega (arith, few_mapped key kept xs)
+      ]
+
+  pub listed_mapped : (key : X → ℕ) (kept : Y → ℕ) → ((x : X) (y : Y) → f x ≡ Some y → kept y ≡ key x) → (xs : List X) → AreListed (map key xs) → AreListed (map kept (filter_map f xs))
+  listed_mapped key kept same xs h = record { rise = rise_mapped key kept same None xs h.rise; few = omega (arith, few_mapped key kept xs, h.few) }
+
+-- ---- the two lists of an answer to a SYN
+
+some_is : {A : Type 0} (x y : A) → Some x ≡ Some y → x ≡ y
+some_is x y e = cc
+
+-- what holds of both items of a choice holds of the one that is chosen
+chosen : {A : Type 0} (P : A → Type 0) (b c : Bool) (x y z : A) → P x → P y → cond b (Some x) (cond c (Some y) None) ≡ Some z → P z
+chosen P true c x y z px py e = subst P (some_is x z e) px
+chosen P false true x y z px py e = subst P (some_is y z e) py
+chosen P false false x y z px py e = absurd cc
+
+asked_endpoint : (d : Digest) (held : Option EntryValue) (r : RequestValue) → asked d held ≡ Some r → r.endpoint ≡ d.endpoint
+asked_endpoint d None r e = ap (λ (r : RequestValue). r.endpoint) (sym (some_is _ _ e))
+asked_endpoint d (Some x) r e = chosen (λ (r : RequestValue). r.endpoint ≡ d.endpoint) (nat_lt x.generation d.generation) (x.generation == d.generation && nat_lt (newest x) d.newest) _ _ r refl refl e
+
+mapped_endpoint : (o : ℕ) (sent : Option DeltaValue) (d : OwnerDelta) → option_map (λ x. record { endpoint = o; delta = x }) sent ≡ Some d → d.endpoint ≡ o
+mapped_endpoint o None d e = absurd cc
+mapped_endpoint o (Some x) d e = ap (λ (d : OwnerDelta). d.endpoint) (sym (some_is _ _ e))
+
+asked_same : (entries : Entries) (d : Digest) (r : RequestValue) → asked d (table.get entries d.endpoint) ≡ Some r → r.endpoint ≡ d.endpoint
+asked_same entries d r e = asked_endpoint d (table.get entries d.endpoint) r e
+
+pub requests_listed : (entries : Entries) (digests : List Digest) → AreListed (endpoints_of_digests digests) → AreListed (endpoints_of_requests (requests_for entries digests))
+requests_listed entries digests h = listed_mapped (λ d. asked d (table.get entries d.endpoint)) (λ d. d.endpoint) (λ r. r.endpoint) (asked_same entries) digests h
+
+delta_same : (digests : List Digest) (held : ℕ × EntryValue) (d : OwnerDelta) → delta_for digests held ≡ Some d → d.endpoint ≡ held.0
+delta_same digests held d e = mapped_endpoint held.0 (sent held.1 (find (λ d. d.endpoint == held.0) digests)) d e
+
+pub deltas_listed : (owners : List (ℕ × EntryValue)) (digests : List Digest) → Rises (keys_of owners) → length owners ≤ MEMBER_LIMIT → AreListed (endpoints_of_deltas (filter_map (delta_for digests) owners))
+deltas_listed owners digests rise few = listed_mapped (delta_for digests) (λ e. e.0) (λ d. d.endpoint) (delta_same digests) owners (record { rise = rise; few = omega (arith, few, length-map {A = ℕ × EntryValue} {B = ℕ}) })

@@ -1,0 +1,56 @@
+-- The answers to messages, by what the receiver holds.
+use Rattle.std.specs.Prelude.{ℕ, Bool, ◌&&◌, ◌==◌, nat_lt, List, find, Option, Some, None, Result, Ok, Err, if◌then◌else◌}
+use Rattle.std.specs.List.{filter_map}
+use Rattle.std.specs.Str.{bytes_eq}
+use Rattle.std.specs.Option.{option_map}
+use Rattle.std.specs.FinMap as table
+use Rattle.cg_types.specs.declared.fault.Fault.{Fault}
+use Rattle.cg_types.specs.declared.fault.Fault.TheVariants.{OtherCluster}
+use Rattle.cg_types.specs.Text.{ClusterValue}
+use Rattle.cg_entry.specs.Values.{EntryValue, DeltaValue}
+use Rattle.cg_entry.specs.Entry.{newest, delta_above}
+use Rattle.cg_table.specs.declared.digest.Digest.{Digest}
+use Rattle.cg_table.specs.Values.{TableValue, Entries}
+use Rattle.cg_exchange.specs.declared.owner_delta.OwnerDelta.{OwnerDelta}
+use Rattle.cg_exchange.specs.Values.{RequestValue, SynValue, AckValue}
+
+-- the same name and the same partitioner
+abbrev pub same_cluster : ClusterValue → ClusterValue → Bool
+same_cluster c d = bytes_eq c.name d.name && (c.partitioner == d.partitioner)
+
+-- what is asked of the sender of a digest, by what is held of its endpoint
+abbrev pub asked : Digest → Option EntryValue → Option RequestValue
+asked d None = Some (record { endpoint = d.endpoint; generation = d.generation; version = 0 })
+asked d (Some e) =
+    if nat_lt e.generation d.generation then Some (record { endpoint = d.endpoint; generation = d.generation; version = 0 })
+    else if e.generation == d.generation && nat_lt (newest e) d.newest
+    then Some (record { endpoint = d.endpoint; generation = d.generation; version = newest e })
+    else None
+
+-- what is asked of the sender of these digests
+abbrev pub requests_for : Entries → List Digest → List RequestValue
+requests_for entries digests = filter_map (λ d. asked d (table.get entries d.endpoint)) digests
+
+-- what is sent of an entry, by the digest that names its endpoint, if there is one
+abbrev pub sent : EntryValue → Option Digest → Option DeltaValue
+sent e None = delta_above 0 e
+sent e (Some d) =
+    if nat_lt d.generation e.generation then delta_above 0 e
+    else if e.generation == d.generation then delta_above d.newest e
+    else None
+
+-- what is sent of an endpoint's entry, by the sender's digests
+abbrev pub delta_for : List Digest → ℕ × EntryValue → Option OwnerDelta
+delta_for digests held =
+    option_map (λ d. record { endpoint = held.0; delta = d }) (sent held.1 (find (λ d. d.endpoint == held.0) digests))
+
+-- what is sent of all entries; one that no digest names is sent whole
+abbrev pub deltas_for : Entries → List Digest → List OwnerDelta
+deltas_for entries digests = filter_map (delta_for digests) (table.entries entries)
+
+-- requests and deltas within one cluster, and no answer to another
+abbrev pub answer_to_syn : TableValue → ClusterValue → SynValue → Result AckValue Fault
+answer_to_syn t cluster syn =
+    if same_cluster cluster syn.cluster
+    then Ok (record { requests = requests_for t.entries syn.digests; deltas = deltas_for t.entries syn.digests })
+    else Err OtherCluster

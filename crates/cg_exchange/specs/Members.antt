@@ -1,0 +1,26 @@
+-- Lists of members in messages: they rise strictly by endpoint, and are few.
+use Rattle.std.specs.Prelude.{ℕ, Bool, ◌≤◌, ◌&&◌, nat_le, None, List, map, length}
+use Rattle.cg_types.specs.declared.limits.TheConstants.{MEMBER_LIMIT}
+use Rattle.cg_types.specs.Rising.{Rises, rise_past}
+use Rattle.cg_table.specs.declared.digest.Digest.{Digest}
+use Rattle.cg_exchange.specs.declared.owner_delta.OwnerDelta.{OwnerDelta}
+use Rattle.cg_exchange.specs.Values.{RequestValue}
+
+-- These endpoints can stand in one list of a message.
+pub record AreListed (endpoints : List ℕ) : Type 0 where
+  pub rise : Rises endpoints
+  pub few : length endpoints ≤ MEMBER_LIMIT
+
+-- whether these endpoints can stand in one list of a message
+abbrev pub listed : List ℕ → Bool
+listed endpoints = nat_le (length endpoints) MEMBER_LIMIT && rise_past None endpoints
+
+-- whom each member is about
+abbrev pub endpoints_of_digests : List Digest → List ℕ
+endpoints_of_digests digests = map (λ d. d.endpoint) digests
+
+abbrev pub endpoints_of_requests : List RequestValue → List ℕ
+endpoints_of_requests requests = map (λ r. r.endpoint) requests
+
+abbrev pub endpoints_of_deltas : List OwnerDelta → List ℕ
+endpoints_of_deltas deltas = map (λ d. d.endpoint) deltas

@@ -1,0 +1,33 @@
+-- What contracts see of messages.
+use Rattle.std.specs.Prelude.{ℕ, List, refl}
+use Rattle.std.specs.Coded.{Coded, code_by, coded×, coded_ℕ, coded_list}
+use Rattle.cg_entry.specs.Values.{DeltaValue, delta_code}
+use Rattle.cg_types.specs.Text.{ClusterValue}
+use Rattle.cg_exchange.specs.declared.owner_delta.OwnerDelta.{OwnerDelta}
+use Rattle.cg_table.specs.declared.digest.Digest.{Digest}
+
+-- whose entry is asked for, of which generation, and above which version
+pub record RequestValue : Type 0 where
+  pub endpoint : ℕ
+  pub generation : ℕ
+  pub version : ℕ
+
+-- the sender's cluster and digests
+pub record SynValue : Type 0 where
+  pub cluster : ClusterValue
+  pub digests : List Digest
+
+-- what the sender of a SYN is asked for, and what it is sent
+pub record AckValue : Type 0 where
+  pub requests : List RequestValue
+  pub deltas : List OwnerDelta
+
+-- the codes that models of such values ask for
+abbrev pub request_code : Coded RequestValue
+request_code = code_by (ℕ × (ℕ × ℕ)) (coded× coded_ℕ (coded× coded_ℕ coded_ℕ)) (λ r. (r.endpoint, (r.generation, r.version))) (λ p. record { endpoint = p.0; generation = p.1.0; version = p.1.1 }) (λ _. refl)
+
+abbrev pub owner_delta_code : Coded OwnerDelta
+owner_delta_code = code_by (ℕ × DeltaValue) (coded× coded_ℕ delta_code) (λ d. (d.endpoint, d.delta)) (λ p. record { endpoint = p.0; delta = p.1 }) (λ _. refl)
+
+abbrev pub ack_code : Coded AckValue
+ack_code = code_by (List RequestValue × List OwnerDelta) (coded× (coded_list request_code) (coded_list owner_delta_code)) (λ a. (a.requests, a.deltas)) (λ p. record { requests = p.0; deltas = p.1 }) (λ _. refl)

@@ -1,0 +1,66 @@
+//! The answer to a SYN.
+
+ghost use Rattle.std.specs.Prelude.{◌≡◌, ◌&&◌, IfSome, is_some};
+ghost use Rattle.cg_exchange.specs.Members.{AreListed, listed, endpoints_of_requests, endpoints_of_deltas};
+
+use crate::owned::are_listed;
+use crate::owner_delta::OwnerDelta;
+use crate::request::Request;
+use std::marker::Model;
+
+/// What the sender of a SYN is asked for, and what it is sent.
+#[derive(Debug, Drop)]
+pub struct Ack {
+    requests: Vec<Request>,
+    deltas: Vec<OwnerDelta>,
+}
+
+impl Model for Ack {
+    ghost use Rattle.cg_exchange.specs.Values.{AckValue, ack_code};
+    ghost use Rattle.cg_exchange.specs.Members.{AreListed, endpoints_of_requests, endpoints_of_deltas};
+
+    ghost Value = { AckValue };
+
+    ghost coded = { ack_code };
+
+    ghost view = { λ a. record { requests = a.requests.items; deltas = a.deltas.items } };
+
+    ghost invariant = { λ a. AreListed (endpoints_of_requests a.requests.items) × AreListed (endpoints_of_deltas a.deltas.items) };
+}
+
+impl Ack {
+    /// `None` unless each list rises strictly by endpoint and has at most `MEMBER_LIMIT` members.
+    pub fn new(requests: Vec<Request>, deltas: Vec<OwnerDelta>) -> Option<Ack>
+        ensures when { is_some result ≡ (listed (endpoints_of_requests requests.items) && listed (endpoints_of_deltas deltas.items)) }
+        ensures value { IfSome result (λ a. a ≡ record { requests = requests.items; deltas = deltas.items }) }
+    {
+        if !are_listed(&requests) || !are_listed(&deltas) {
+            return None;
+        }
+        Some(Ack { requests, deltas })
+    }
+
+    pub(crate) fn of_parts(requests: Vec<Request>, deltas: Vec<OwnerDelta>) -> Ack
+        requires requests { AreListed (endpoints_of_requests requests.items) }
+        requires deltas { AreListed (endpoints_of_deltas deltas.items) }
+        ensures { result ≡ record { requests = requests.items; deltas = deltas.items } }
+    {
+        Ack { requests, deltas }
+    }
+
+    /// What the sender of the SYN is asked for, rising by endpoint.
+    pub fn requests(&self) -> &[Request]
+        ensures value { result.now ≡ self.now.requests }
+        ensures listed { AreListed (endpoints_of_requests self.now.requests) }
+    {
+        &self.requests
+    }
+
+    /// What it is sent, rising by endpoint.
+    pub fn deltas(&self) -> &[OwnerDelta]
+        ensures value { result.now ≡ self.now.deltas }
+        ensures listed { AreListed (endpoints_of_deltas self.now.deltas) }
+    {
+        &self.deltas
+    }
+}

@@ -1,0 +1,180 @@
+-- Laws of whole messages: what is spelled so is read, is short, and is no other message's spelling.
+use Rattle.std.proofs.Common.{◌≡◌, ℕ, ◌+◌, ◌*◌, ◌^◌, ◌<◌, ◌≤◌, Bool, true, false, cond, List, [], ◌∷◌, ◌++◌, length, map, take, drop, Option, Some, None, Result, Ok, Err, refl, sym, ap, subst, ◌∙◌, append_assoc, arith, length-append}
+use Rattle.std.specs.Prelude.{◌==◌}
+use Rattle.std.specs.Int.{w8, w32, from_be_bytes, to_be_bytes}
+use Rattle.std.specs.List.{flat_map, AllByRecursion}
+use Rattle.std.specs.FinMap.{entries, entries_sorted}
+use Rattle.std.proofs.lemmas.Bool.{eq-eqb}
+use Rattle.std.proofs.lemmas.List.{take_at, drop_at, append-nil, length-map}
+use Rattle.std.proofs.lemmas.List.Concat.{flat_map-cons}
+use Rattle.std.proofs.lemmas.Nat.{from_be_bytes-to_be_bytes_4}
+use Rattle.cg_types.specs.declared.limits.TheConstants.{TEXT_LIMIT, MEMBER_LIMIT, STATE_LIMIT}
+use Rattle.cg_types.specs.declared.fault.Cause.TheVariants as causes
+use Rattle.cg_types.specs.Answer.{Answers}
+use Rattle.cg_types.specs.declared.fault.Fault.{Fault}
+use Rattle.cg_types.proofs.RisingLemmas.{rise_sorted}
+use Rattle.cg_entry.specs.Versioned.{Versioned}
+use Rattle.cg_table.specs.declared.digest.Digest.{Digest}
+use Rattle.cg_exchange.specs.declared.owner_delta.OwnerDelta.{OwnerDelta}
+use Rattle.cg_exchange.specs.declared.message.Message.{Message}
+use Rattle.cg_exchange.specs.declared.message.Message.TheVariants.{Syn, Ack}
+use Rattle.cg_exchange.specs.Values.{RequestValue, SynValue, AckValue}
+use Rattle.cg_frames.specs.declared.layout.Layout.{Layout}
+use Rattle.cg_frames.specs.declared.layout.TheConstants.{LAYOUT_1}
+use Rattle.cg_frames.specs.declared.misread.Misread.{Misread}
+use Rattle.cg_frames.specs.Reading.{◌>>=◌, Field, number_at, ended, told, of_kind, syn_at, inside_at, frame_at}
+use Rattle.cg_frames.specs.Spelling.{two_bytes, four_bytes, endpoint, digest, request, text, state, delta, members, cluster, kind, body, message, inside, frame}
+use Rattle.cg_frames.specs.Fits.{FitsState, FitsDelta, FitsMembers, FitsSyn, FitsAck, Fits}
+use Rattle.cg_frames.specs.Lengths.{state_most, delta_most, deltas_most, greatest_length}
+use Rattle.cg_frames.specs.Laws.{GivesEachSpelled, NoSpellingBeginsAnother, EachIsShort}
+use Rattle.cg_frames.proofs.AckReading.{ack_at}
+use Rattle.cg_frames.proofs.AgainLemmas.{byte_again, length_keys, syn_again}
+use Rattle.cg_frames.proofs.SpelledDeltas.{states_few}
+use Rattle.cg_frames.proofs.SpelledLists.{ack_again}
+use Rattle.cg_frames.proofs.LengthLemmas.{length-endpoint, length-two_bytes, length-four_bytes, length-digests, length-requests}
+use Rattle.cg_frames.proofs.FrameLemmas.{frame_again}
+use Rattle.cg_frames.proofs.TakenLemmas.{ok_is}
+
+-- ---- lengths
+
+state_short : (above : ℕ) (s : ℕ × Versioned) → FitsState LAYOUT_1 above s → length (state s) ≤ state_most
+state_short above s fits =
+    omega (arith, length-append (four_bytes s.1.version) (text s.1.text), length-append (two_bytes (length s.1.text)) s.1.text, length-four_bytes s.1.version, length-two_bytes (length s.1.text), fits.short)
+
+-- members of which each is short
+short_members : {X : Type 0} (spell : X → List ℕ) (Fits : X → Type 0) (most : ℕ) → ((x : X) → Fits x → length (spell x) ≤ most) → (xs : List X) → AllByRecursion Fits xs → length (flat_map spell xs) ≤ length xs * most
+short_members spell Fits most short [] all = omega arith
+short_members spell Fits most short (x ∷ xs) all =
+    rw (flat_map-cons spell x xs) (omega (arith, length-append (spell x) (flat_map spell xs), short x all.0, short_members spell Fits most short xs all.1))
+
+delta_short : (d : OwnerDelta) → FitsDelta LAYOUT_1 d → length (delta d) ≤ delta_most
+delta_short d fits =
+    let es = entries d.delta.states in
+    let few = states_few LAYOUT_1 d.delta.above es fits.states (rise_sorted es (entries_sorted d.delta.states)) in
+    let states = short_members state (FitsState LAYOUT_1 d.delta.above) state_most (state_short d.delta.above) es fits.states in
+    let counted : List ℕ = length es ∷ flat_map state es in
+    let from_heartbeat = four_bytes d.delta.heartbeat ++ counted in
+    let from_above = four_bytes d.delta.above ++ from_heartbeat in
+    let from_generation = four_bytes d.delta.generation ++ from_above in
+    omega (
+      arith,
+      few,
+      states,
+      length-append (endpoint d.endpoint) from_generation,
+      length-append (four_bytes d.delta.generation) from_above,
+      length-append (four_bytes d.delta.above) from_heartbeat,
+      length-append (four_bytes d.delta.heartbeat) counted,
+      length-endpoint d.endpoint,
+      length-four_bytes d.delta.generation,
+      length-four_bytes d.delta.above,
+      length-four_bytes d.delta.heartbeat,
+    )
+
+syn_short : (m : SynValue) → FitsSyn LAYOUT_1 m → length (inside LAYOUT_1 (Syn m)) ≤ greatest_length
+syn_short m fits =
+    let few : length m.digests ≤ MEMBER_LIMIT = omega (arith, fits.listed.few, length_keys (λ (d : Digest). d.endpoint) m.digests) in
+    omega (
+      arith,
+      few,
+      fits.name.fits,
+      length-append (cluster m.cluster) (members digest m.digests),
+      length-append m.cluster.name (m.cluster.partitioner ∷ []),
+      length-append (two_bytes (length m.digests)) (flat_map digest m.digests),
+      length-two_bytes (length m.digests),
+      length-digests m.digests,
+    )
+
+ack_short : (m : AckValue) → FitsAck LAYOUT_1 m → length (inside LAYOUT_1 (Ack m)) ≤ greatest_length
+ack_short m fits =
+    let asked : length m.requests ≤ MEMBER_LIMIT = omega (arith, fits.asked.few, length_keys (λ (r : RequestValue). r.endpoint) m.requests) in
+    let few : length m.deltas ≤ MEMBER_LIMIT = omega (arith, fits.listed.few, length_keys (λ (d : OwnerDelta). d.endpoint) m.deltas) in
+    let deltas = short_members delta (FitsDelta LAYOUT_1) delta_most delta_short m.deltas fits.deltas in
+    omega (
+      arith,
+      asked,
+      few,
+      deltas,
+      length-append (members request m.requests) (members delta m.deltas),
+      length-append (two_bytes (length m.requests)) (flat_map request m.requests),
+      length-two_bytes (length m.requests),
+      length-requests m.requests,
+      length-append (two_bytes (length m.deltas)) (flat_map delta m.deltas),
+      length-two_bytes (length m.deltas),
+    )
+
+inside_short : (m : Message) → Fits LAYOUT_1 m → length (inside LAYOUT_1 m) ≤ greatest_length
+inside_short (Syn m) fits = syn_short m fits
+inside_short (Ack m) fits = ack_short m fits
+
+pub each_is_short : EachIsShort LAYOUT_1
+each_is_short m fits = (inside_short m fits, omega arith)
+
+-- ---- what is spelled so is read
+
+inside_again : (layout : Layout) (m : SynValue) → layout.members < 2 ^ 16 → FitsSyn layout m → inside_at layout (inside layout (Syn m)) ≡ Ok (Syn m)
+unfolding inside_at
+inside_again layout m wide fits =
+    let fault : Misread = record { cause = causes.Layout; left = length (inside layout (Syn m)) } in
+    let read : syn_at layout (body (Syn m)) ≡ Ok (m, []) = ap (syn_at layout) (sym (append-nil (body (Syn m)))) ∙ syn_again layout m [] wide fits in
+    ap (λ (r : Field ℕ). r >>= λ byte. cond (byte.0 == layout.byte) (number_at w8 byte.1) (Err fault) >>= λ kind. of_kind layout kind.0 byte.1 kind.1) (byte_again layout.byte (message (Syn m)))
+    ∙ ap (λ (b : Bool). cond b (number_at w8 (message (Syn m))) (Err fault) >>= λ kind. of_kind layout kind.0 (message (Syn m)) kind.1) (eq-eqb layout.byte layout.byte refl)
+    ∙ ap (λ (r : Field ℕ). r >>= λ kind. of_kind layout kind.0 (message (Syn m)) kind.1) (byte_again 1 (body (Syn m)))
+    ∙ ap (λ (r : Field SynValue). told Syn (ended r)) read
+
+syn_frame_again : (m : SynValue) (rest : List ℕ) → FitsSyn LAYOUT_1 m → frame_at LAYOUT_1 (frame LAYOUT_1 (Syn m) ++ rest) ≡ Ok (Some (Syn m, length (frame LAYOUT_1 (Syn m))))
+syn_frame_again m rest fits =
+    let spelled = inside LAYOUT_1 (Syn m) in
+    let short : length spelled ≤ LAYOUT_1.length = omega (arith, syn_short m fits) in
+    let long : 4 + length spelled ≡ length (frame LAYOUT_1 (Syn m)) = omega (arith, length-append (four_bytes (length spelled)) spelled, length-four_bytes (length spelled)) in
+    frame_again LAYOUT_1 spelled rest (Syn m) short (omega arith) (inside_again LAYOUT_1 m (omega arith) fits)
+    ∙ ap (λ (n : ℕ). Ok (Some (Syn m, n))) long
+
+pub each_spelled_is_read : (bytes : List ℕ) (result : Result (Option (Message × ℕ)) Fault) → Answers (λ (x : Option (Message × ℕ)). x) (frame_at LAYOUT_1 bytes) result → GivesEachSpelled LAYOUT_1 bytes result
+each_spelled_is_read bytes result answers m rest fits is =
+    subst (λ (due : Result (Option (Message × ℕ)) Fault). Answers (λ (x : Option (Message × ℕ)). x) due result) (ap (frame_at LAYOUT_1) is ∙ syn_frame_again m rest fits) answers
+
+-- ---- no two messages have one spelling
+
+no_more : (rest : List ℕ) → length rest ≡ 0 → rest ≡ []
+no_more [] e = refl
+no_more (b ∷ rest) e = absurd (omega arith)
+
+-- Bytes with their length before them begin with no others.
+same_inside : (a b rest : List ℕ) → length a < 2 ^ 32 → length b < 2 ^ 32 → (four_bytes (length a) ++ a) ++ rest ≡ four_bytes (length b) ++ b → (a ≡ b) × (rest ≡ [])
+unfolding four_bytes
+same_inside a b rest short few e =
+    let front = to_be_bytes w32 (length a) in
+    let other = to_be_bytes w32 (length b) in
+    let grouped : front ++ (a ++ rest) ≡ other ++ b = sym (append_assoc front a rest) ∙ e in
+    let fronts : front ≡ other = sym (take_at front (a ++ rest) 4 refl) ∙ ap (take 4) grouped ∙ take_at other b 4 refl in
+    let behind : a ++ rest ≡ b = sym (drop_at front (a ++ rest) 4 refl) ∙ ap (drop 4) grouped ∙ drop_at other b 4 refl in
+    let sizes : length a ≡ length b = sym (from_be_bytes-to_be_bytes_4 (length a) short) ∙ ap (from_be_bytes w32) fronts ∙ from_be_bytes-to_be_bytes_4 (length b) few in
+    let none : rest ≡ [] = no_more rest (omega (arith, ap length behind, length-append a rest, sizes)) in
+    (sym (append-nil a) ∙ ap (λ (ys : List ℕ). a ++ ys) (sym none) ∙ behind, none)
+
+-- two values that are read of the same bytes are the same
+read_once : {X : Type 0} (at : List ℕ → Field X) (x y : X) (a b : List ℕ) → at (a ++ []) ≡ Ok (x, []) → at (b ++ []) ≡ Ok (y, []) → a ≡ b → x ≡ y
+read_once {X = X} at x y a b first second same =
+    let e : ◌≡◌ {A = Field X} (Ok (x, [])) (Ok (y, [])) = sym first ∙ ap (λ (bytes : List ℕ). at (bytes ++ [])) same ∙ second in
+    ap (λ (p : X × List ℕ). p.0) (ok_is (x, []) (y, []) e)
+
+same_rest : (x y : ℕ) (xs ys : List ℕ) → x ∷ xs ≡ y ∷ ys → xs ≡ ys
+same_rest x y xs ys e = cc
+
+same_head : (x y : ℕ) (xs ys : List ℕ) → x ∷ xs ≡ y ∷ ys → x ≡ y
+same_head x y xs ys e = cc
+
+same_message : (m n : Message) → Fits LAYOUT_1 m → Fits LAYOUT_1 n → message m ≡ message n → m ≡ n
+same_message (Syn m) (Syn n) fits other e =
+    ap (λ (x : SynValue). Syn x) (read_once (syn_at LAYOUT_1) m n (body (Syn m)) (body (Syn n)) (syn_again LAYOUT_1 m [] (omega arith) fits) (syn_again LAYOUT_1 n [] (omega arith) other) (same_rest 1 1 (body (Syn m)) (body (Syn n)) e))
+same_message (Ack m) (Ack n) fits other e =
+    ap (λ (x : AckValue). Ack x) (read_once (ack_at LAYOUT_1) m n (body (Ack m)) (body (Ack n)) (ack_again LAYOUT_1 m [] (omega arith) (omega arith) fits) (ack_again LAYOUT_1 n [] (omega arith) (omega arith) other) (same_rest 2 2 (body (Ack m)) (body (Ack n)) e))
+same_message (Syn m) (Ack n) fits other e = absurd (omega (arith, same_head 1 2 (body (Syn m)) (body (Ack n)) e))
+same_message (Ack m) (Syn n) fits other e = absurd (omega (arith, same_head 2 1 (body (Ack m)) (body (Syn n)) e))
+
+pub no_spelling_begins_another : NoSpellingBeginsAnother LAYOUT_1
+no_spelling_begins_another m n rest fits other e =
+    let short = inside_short m fits in
+    let few = inside_short n other in
+    let same = same_inside (inside LAYOUT_1 m) (inside LAYOUT_1 n) rest (omega (arith, short)) (omega (arith, few)) e in
+    (same_message m n fits other (same_rest 1 1 (message m) (message n) same.0), same.1)

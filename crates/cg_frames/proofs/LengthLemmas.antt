@@ -1,0 +1,69 @@
+-- How long spellings are.
+use Rattle.std.proofs.Common.{◌≡◌, ℕ, ◌+◌, ◌*◌, ◌≤◌, ◌<◌, List, [], ◌∷◌, ◌++◌, length, refl, sym, ap, ◌∙◌, true, Option, Some, None, take, arith, length-append}
+use Rattle.std.proofs.lemmas.Bool.{ltb-true}
+use Rattle.std.proofs.lemmas.List.{take_all}
+use Rattle.cg_types.specs.declared.limits.TheConstants.{STATE_LIMIT}
+use Rattle.cg_types.specs.Rising.{is_past}
+use Rattle.cg_entry.specs.declared.state.State.{State}
+use Rattle.cg_entry.specs.State.{pair, pairs}
+use Rattle.std.specs.List.{flat_map}
+use Rattle.std.proofs.lemmas.List.Concat.{flat_map-cons}
+use Rattle.cg_table.specs.declared.digest.Digest.{Digest}
+use Rattle.cg_frames.specs.Spelling.{two_bytes, four_bytes, endpoint, digest, request, state, text}
+use Rattle.cg_exchange.specs.Values.{RequestValue}
+
+pub length-two_bytes : (n : ℕ) → length (two_bytes n) ≡ 2
+unfolding two_bytes
+length-two_bytes n = refl
+
+pub length-four_bytes : (n : ℕ) → length (four_bytes n) ≡ 4
+unfolding four_bytes
+length-four_bytes n = refl
+
+pub length-endpoint : (e : ℕ) → length (endpoint e) ≡ 6
+unfolding two_bytes four_bytes
+length-endpoint e = refl
+
+pub length-digest : (d : Digest) → length (digest d) ≡ 14
+unfolding two_bytes four_bytes
+length-digest d = refl
+
+pub length-digests : (ds : List Digest) → length (flat_map digest ds) ≡ 14 * length ds
+length-digests [] = refl
+length-digests (d ∷ ds) = rw (flat_map-cons digest d ds) (omega (arith, length-append (digest d) (flat_map digest ds), length-digest d, length-digests ds))
+
+pub length-request : (r : RequestValue) → length (request r) ≡ 14
+unfolding two_bytes four_bytes
+length-request r = refl
+
+pub length-requests : (rs : List RequestValue) → length (flat_map request rs) ≡ 14 * length rs
+length-requests [] = refl
+length-requests (r ∷ rs) = rw (flat_map-cons request r rs) (omega (arith, length-append (request r) (flat_map request rs), length-request r, length-requests rs))
+
+-- ---- states: no more than there are keys
+
+-- so many keys were met, and this one last
+abbrev pub is_counted : Option ℕ → ℕ → Type 0
+is_counted None n = n ≡ 0
+is_counted (Some last) n = (n ≤ last) × (last ≤ STATE_LIMIT)
+
+pub spelled_pairs : (ss : List State) → flat_map (λ (s : State). state (pair s)) ss ≡ flat_map state (pairs ss)
+spelled_pairs [] = refl
+spelled_pairs (s ∷ ss) = flat_map-cons (λ (t : State). state (pair t)) s ss ∙ ap (λ (ys : List ℕ). state (pair s) ++ ys) (spelled_pairs ss) ∙ sym (flat_map-cons state (pair s) (pairs ss))
+
+pub all_spelled : (i : ℕ) (ss : List State) → length ss ≤ i → flat_map (λ (s : State). state (pair s)) (take i ss) ≡ flat_map state (pairs ss)
+all_spelled i ss le = ap (flat_map (λ (s : State). state (pair s))) (take_all i ss le) ∙ spelled_pairs ss
+
+-- ---- how much a write adds
+
+pub two_more : (a b : List ℕ) (n : ℕ) → a ≡ b ++ two_bytes n → length a ≡ length b + 2
+two_more a b n e = omega (arith, ap length e, length-append b (two_bytes n), length-two_bytes n)
+
+pub four_more : (a b : List ℕ) (n : ℕ) → a ≡ b ++ four_bytes n → length a ≡ length b + 4
+four_more a b n e = omega (arith, ap length e, length-append b (four_bytes n), length-four_bytes n)
+
+pub endpoint_more : (a b : List ℕ) (n : ℕ) → a ≡ b ++ endpoint n → length a ≡ length b + 6
+endpoint_more a b n e = omega (arith, ap length e, length-append b (endpoint n), length-endpoint n)
+
+pub text_more : (a b t : List ℕ) → a ≡ b ++ text t → length a ≡ length b + 2 + length t
+text_more a b t e = omega (arith, ap length e, length-append b (text t), length-append (two_bytes (length t)) t, length-two_bytes (length t))

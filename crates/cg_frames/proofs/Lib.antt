@@ -1,0 +1,11 @@
+pub mod ListLemmas
+pub mod LengthLemmas
+pub mod TakenLemmas
+pub mod AckReading
+pub mod AgainLemmas
+pub mod SpelledLemmas
+pub mod SpelledDeltas
+pub mod SpelledLists
+pub mod FrameLemmas
+pub mod FoundLemmas
+pub mod LawLemmas

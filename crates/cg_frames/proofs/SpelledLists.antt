@@ -1,0 +1,29 @@
+-- An ACK that is spelled so is read, whatever follows.
+use Rattle.std.proofs.Common.{◌≡◌, ℕ, suc, ◌^◌, ◌<◌, ◌≤◌, Bool, true, false, cond, List, [], ◌∷◌, ◌++◌, length, map, Option, Some, None, Result, Ok, Err, refl, ap, ◌∙◌, append_assoc, arith}
+use Rattle.std.specs.Prelude.{nat_lt}
+use Rattle.std.specs.Int.{w16}
+use Rattle.std.specs.List.{flat_map, AllByRecursion}
+use Rattle.std.proofs.lemmas.Bool.{le-ltb}
+use Rattle.cg_types.specs.declared.fault.Cause.TheVariants as causes
+use Rattle.cg_types.specs.Rising.{is_past, rise_past}
+use Rattle.cg_exchange.specs.declared.owner_delta.OwnerDelta.{OwnerDelta}
+use Rattle.cg_exchange.specs.Values.{RequestValue, AckValue}
+use Rattle.cg_frames.specs.declared.layout.Layout.{Layout}
+use Rattle.cg_frames.specs.Reading.{◌>>=◌, Field, count_at, rising_at}
+use Rattle.cg_frames.proofs.AckReading.{request_at, delta_at, listed_requests_at, listed_deltas_at, ack_at}
+use Rattle.cg_frames.specs.Spelling.{two_bytes, members, request, delta}
+use Rattle.cg_frames.specs.Fits.{FitsRequest, FitsDelta, FitsAck}
+use Rattle.cg_frames.proofs.AgainLemmas.{counted_again, length_keys}
+use Rattle.cg_frames.proofs.SpelledLemmas.{request_again}
+use Rattle.cg_frames.proofs.SpelledDeltas.{delta_again}
+
+pub ack_again : (layout : Layout) (m : AckValue) (rest : List ℕ) → layout.text < 2 ^ 16 → layout.members < 2 ^ 16 → FitsAck layout m → ack_at layout ((members request m.requests ++ members delta m.deltas) ++ rest) ≡ Ok (m, rest)
+unfolding ack_at
+ack_again layout m rest text wide fits =
+    let few : length m.deltas ≤ layout.members = omega (arith, fits.listed.few, length_keys (λ (d : OwnerDelta). d.endpoint) m.deltas) in
+    let asked : length m.requests ≤ layout.members = omega (arith, fits.asked.few, length_keys (λ (r : RequestValue). r.endpoint) m.requests) in
+    ap (ack_at layout) (append_assoc (members request m.requests) (members delta m.deltas) rest)
+    ∙ ap (λ (r : Field (List RequestValue)). r >>= λ requests. listed_deltas_at layout requests.1 >>= λ deltas. Ok (record { requests = requests.0; deltas = deltas.0 }, deltas.1))
+    (counted_again (λ (r : RequestValue). r.endpoint) request request_at FitsRequest request_again layout m.requests (members delta m.deltas ++ rest) wide asked fits.requests fits.asked.rise)
+    ∙ ap (λ (r : Field (List OwnerDelta)). r >>= λ deltas. Ok (record { requests = m.requests; deltas = deltas.0 }, deltas.1))
+    (counted_again (λ (d : OwnerDelta). d.endpoint) delta (delta_at layout) (FitsDelta layout) (delta_again layout text) layout m.deltas rest wide few fits.deltas fits.listed.rise)

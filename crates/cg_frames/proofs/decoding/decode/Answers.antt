@@ -1,0 +1,10 @@
+use Rattle.std.proofs.Common.{arith}
+use Rattle.cg_frames.proofs.FoundLemmas.{all_found}
+use Rattle.cg_frames.proofs.LawLemmas.{each_spelled_is_read}
+use Rattle.cg_frames.proofs.decoding.decode.Goals as goal
+
+pub returns-clause-found : goal.returns-clause-found
+returns-clause-found c = all_found c.args.bytes.now c.decode_in.result (λ i. omega (arith, c.type_inv.bytes i)) c.decode_in.ensures.exact
+
+pub returns-clause-only : goal.returns-clause-only
+returns-clause-only c = each_spelled_is_read c.args.bytes.now c.decode_in.result c.decode_in.ensures.exact

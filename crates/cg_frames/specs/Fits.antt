@@ -1,0 +1,65 @@
+-- Messages that a layout can spell: the premise of what is said of spelling and reading.
+use Rattle.std.specs.Prelude.{ℕ, ◌≡◌, ◌<◌, ◌≤◌, ◌^◌, true, List, length}
+use Rattle.std.specs.List.{AllByRecursion}
+use Rattle.std.specs.FinMap as map
+use Rattle.cg_types.specs.Numbers.{IsEndpoint, IsGeneration, IsVersion, IsVersionHeld, IsKey}
+use Rattle.cg_types.specs.Rising.{Rises}
+use Rattle.cg_types.specs.Text.{plain, IsClusterName}
+use Rattle.cg_entry.specs.Versioned.{Versioned}
+use Rattle.cg_entry.specs.Entry.{greatest}
+use Rattle.cg_table.specs.declared.digest.Digest.{Digest}
+use Rattle.cg_exchange.specs.declared.owner_delta.OwnerDelta.{OwnerDelta}
+use Rattle.cg_exchange.specs.declared.message.Message.{Message}
+use Rattle.cg_exchange.specs.declared.message.Message.TheVariants.{Syn, Ack}
+use Rattle.cg_exchange.specs.Values.{RequestValue, SynValue, AckValue}
+use Rattle.cg_exchange.specs.Members.{endpoints_of_digests, endpoints_of_requests, endpoints_of_deltas}
+use Rattle.cg_frames.specs.declared.layout.Layout.{Layout}
+
+pub record FitsDigest (d : Digest) : Type 0 where
+  pub endpoint : IsEndpoint d.endpoint
+  pub generation : IsGeneration d.generation
+  pub newest : IsVersion d.newest
+
+pub record FitsRequest (r : RequestValue) : Type 0 where
+  pub endpoint : IsEndpoint r.endpoint
+  pub generation : IsGeneration r.generation
+  pub version : IsVersionHeld r.version
+
+-- a state of a delta above a version
+pub record FitsState (layout : Layout) (above : ℕ) (s : ℕ × Versioned) : Type 0 where
+  pub key : IsKey s.0
+  pub version : IsVersion s.1.version
+  pub newer : above < s.1.version
+  pub is_plain : plain s.1.text ≡ true
+  pub short : length s.1.text ≤ layout.text
+
+-- The keys of a finite map rise; with their range there are no more states than keys.
+pub record FitsDelta (layout : Layout) (d : OwnerDelta) : Type 0 where
+  pub endpoint : IsEndpoint d.endpoint
+  pub generation : IsGeneration d.delta.generation
+  pub above : IsVersionHeld d.delta.above
+  pub heartbeat : IsVersion d.delta.heartbeat
+  pub states : AllByRecursion (FitsState layout d.delta.above) (map.entries d.delta.states)
+  pub something : d.delta.above < greatest d.delta.heartbeat d.delta.states
+
+-- members of a list
+pub record FitsMembers (layout : Layout) (endpoints : List ℕ) : Type 0 where
+  pub rise : Rises endpoints
+  pub few : length endpoints ≤ layout.members
+
+pub record FitsSyn (layout : Layout) (m : SynValue) : Type 0 where
+  pub name : IsClusterName m.cluster.name
+  pub partitioner : m.cluster.partitioner < 2 ^ 8
+  pub listed : FitsMembers layout (endpoints_of_digests m.digests)
+  pub digests : AllByRecursion FitsDigest m.digests
+
+pub record FitsAck (layout : Layout) (m : AckValue) : Type 0 where
+  pub asked : FitsMembers layout (endpoints_of_requests m.requests)
+  pub requests : AllByRecursion FitsRequest m.requests
+  pub listed : FitsMembers layout (endpoints_of_deltas m.deltas)
+  pub deltas : AllByRecursion (FitsDelta layout) m.deltas
+
+-- The layout can spell the message.
+abbrev pub Fits : Layout → Message → Type 0
+Fits layout (Syn m) = FitsSyn layout m
+Fits layout (Ack m) = FitsAck layout m

@@ -1,0 +1,5 @@
+pub mod Reading
+pub mod Spelling
+pub mod Fits
+pub mod Lengths
+pub mod Laws

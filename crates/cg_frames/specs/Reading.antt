@@ -1,0 +1,203 @@
+-- Reading from left to right, with the first fault that is met.
+use Rattle.std.specs.Prelude.{◌≡◌, ℕ, zero, suc, ◌+◌, Bool, true, false, ◌&&◌, ◌||◌, not, List, [], ◌∷◌, length, take, drop, Option, Some, None, Result, Ok, Err, IsOk, ◌-◌, nat_lt, ◌==◌, if◌then◌else◌}
+use Rattle.std.specs.Int.{Width, w8, w16, w32, byte_len, from_be_bytes}
+use Rattle.cg_types.specs.declared.fault.Cause.{Cause}
+use Rattle.cg_types.specs.declared.fault.Cause.TheVariants as causes
+use Rattle.cg_types.specs.declared.fault.Fault.{Fault}
+use Rattle.cg_types.specs.declared.fault.Fault.TheVariants as faults
+use Rattle.cg_types.specs.declared.limits.TheConstants.{NUMBER_LIMIT, NAME_LIMIT}
+use Rattle.cg_types.specs.Numbers.{endpoint_of}
+use Rattle.cg_types.specs.Rising.{is_past}
+use Rattle.cg_types.specs.Text.{plain}
+use Rattle.cg_table.specs.declared.digest.Digest.{Digest}
+use Rattle.cg_exchange.specs.declared.message.Message.{Message}
+use Rattle.cg_exchange.specs.declared.message.Message.TheVariants as messages
+use Rattle.cg_exchange.specs.Values.{SynValue}
+use Rattle.cg_frames.specs.declared.layout.Layout.{Layout}
+use Rattle.cg_frames.specs.declared.misread.Misread.{Misread}
+use Rattle.cg_frames.specs.declared.misread.ReadError.{ReadError}
+use Rattle.cg_frames.specs.declared.misread.ReadError.TheVariants as errors
+
+infixl 10 ◌>>=◌
+abbrev pub ◌>>=◌ : {A B F : Type 0} → Result A F → (A → Result B F) → Result B F
+(Ok x) >>= f = f x
+(Err e) >>= f = Err e
+
+-- A field is a value and the bytes after it.
+abbrev pub Field : Type 0 → Type 0
+Field A = Result (A × List ℕ) Misread
+
+-- The fault stands where these bytes begin.
+abbrev pub wrong : {A : Type 0} → Cause → List ℕ → Result A Misread
+wrong cause bytes = Err (record { cause = cause; left = length bytes })
+
+-- A reader gives exactly what reading gives, and stands behind it.
+abbrev pub Reads : {X Y : Type 0} → (X → Y) → Result X Misread → List ℕ → Field Y → Type 0
+Reads view (Ok x) rest read = read ≡ Ok (view x, rest)
+Reads view (Err m) rest read = read ≡ Err m
+
+-- so many bytes, as one field
+abbrev pub bytes_at : ℕ → List ℕ → Field (List ℕ)
+bytes_at count bytes = if nat_lt (length bytes) count then wrong causes.Short bytes else Ok (take count bytes, drop count bytes)
+
+abbrev pub number_at : Width → List ℕ → Field ℕ
+number_at w bytes = do
+  front ← bytes_at (byte_len w) bytes
+  Ok (from_be_bytes w front.0, front.1)
+
+-- how many members a list has
+abbrev pub count_at : Layout → List ℕ → Field ℕ
+count_at layout bytes = do
+  n ← number_at w16 bytes
+  if nat_lt layout.members n.0 then wrong causes.Count bytes else Ok n
+
+-- an endpoint's six bytes, as one field
+abbrev pub endpoint_from : Option ℕ → List ℕ → ℕ → ℕ → List ℕ → Field ℕ
+endpoint_from last bytes address port rest =
+    if port == 0 then wrong causes.Endpoint bytes
+    else if is_past last (endpoint_of address port) then Ok (endpoint_of address port, rest)
+    else wrong causes.Order bytes
+
+abbrev pub endpoint_at : Option ℕ → List ℕ → Field ℕ
+endpoint_at last bytes = do
+  front ← bytes_at 6 bytes
+  endpoint_from last bytes (from_be_bytes w32 (take 4 front.0)) (from_be_bytes w16 (drop 4 front.0)) front.1
+
+-- a number from `least` to the greatest
+abbrev pub ranged_at : Cause → ℕ → List ℕ → Field ℕ
+ranged_at cause least bytes = do
+  n ← number_at w32 bytes
+  if not (nat_lt n.0 least) && nat_lt n.0 NUMBER_LIMIT then Ok n else wrong cause bytes
+
+abbrev pub generation_at : List ℕ → Field ℕ
+generation_at = ranged_at causes.Generation 1
+
+abbrev pub version_at : List ℕ → Field ℕ
+version_at = ranged_at causes.Version 1
+
+unfoldable pub digest_at : Option ℕ → List ℕ → Field Digest
+digest_at last bytes = do
+  endpoint ← endpoint_at last bytes
+  generation ← generation_at endpoint.1
+  newest ← version_at generation.1
+  Ok (record { endpoint = endpoint.0; generation = generation.0; newest = newest.0 }, newest.1)
+
+-- so many bytes of plain text
+abbrev pub plain_at : ℕ → Cause → List ℕ → Field (List ℕ)
+plain_at count cause bytes = do
+  front ← bytes_at count bytes
+  if plain front.0 then Ok front else wrong cause bytes
+
+unfoldable pub name_at : List ℕ → Field (List ℕ)
+name_at bytes = do
+  len ← number_at w8 bytes
+  if len.0 == 0 || nat_lt NAME_LIMIT len.0 then wrong causes.Name bytes else plain_at len.0 causes.Name len.1
+
+-- ---- lists
+
+-- So many members, each of which comes after the one before it.
+unfoldable pub rising_at : {X : Type 0} → (X → ℕ) → (Option ℕ → List ℕ → Field X) → ℕ → Option ℕ → List ℕ → Field (List X)
+rising_at key one zero last bytes = Ok ([], bytes)
+rising_at key one (suc n) last bytes = do
+  first ← one last bytes
+  others ← rising_at key one n (Some (key first.0)) first.1
+  Ok (first.0 ∷ others.0, others.1)
+
+abbrev pub digests_at : ℕ → Option ℕ → List ℕ → Field (List Digest)
+digests_at = rising_at (λ d. d.endpoint) digest_at
+
+-- where reading stands behind a field
+abbrev pub behind : {A : Type 0} → Field A → Result (List ℕ) Misread
+behind (Ok x) = Ok x.1
+behind (Err m) = Err m
+
+-- A reader that keeps nothing goes where reading goes.
+abbrev pub Passes : {X Y : Type 0} → Result X Misread → List ℕ → Field Y → Type 0
+Passes (Ok x) rest read = behind read ≡ Ok rest
+Passes (Err m) rest read = behind read ≡ Err m
+
+-- A reader that needs memory gives what reading gives, unless memory ran out.
+abbrev pub Fails : {Y : Type 0} → ReadError → Field Y → Type 0
+Fails errors.Memory read = Unit {0}
+Fails (errors.Misread m) read = read ≡ Err m
+
+abbrev pub Gives : {X Y : Type 0} → (X → Y) → Result X ReadError → List ℕ → Field Y → Type 0
+Gives view (Ok x) rest read = read ≡ Ok (view x, rest)
+Gives view (Err e) rest read = Fails e read
+
+-- ---- messages
+
+unfoldable pub syn_at : Layout → List ℕ → Field SynValue
+syn_at layout bytes = do
+  name ← name_at bytes
+  partitioner ← number_at w8 name.1
+  count ← count_at layout partitioner.1
+  digests ← digests_at count.0 None count.1
+  Ok (record { cluster = record { name = name.0; partitioner = partitioner.0 }; digests = digests.0 }, digests.1)
+
+-- Nothing is left.
+abbrev pub Ends : {X : Type 0} → Result X Misread → List ℕ → Type 0
+Ends (Ok x) bytes = (length bytes == 0) ≡ true
+Ends (Err m) bytes = ((length bytes == 0) ≡ false) × (m ≡ record { cause = causes.Rest; left = length bytes })
+
+-- nothing is left behind the last field
+abbrev pub ended : {A : Type 0} → Field A → Result A Misread
+ended (Ok x) = if length x.1 == 0 then Ok x.0 else wrong causes.Rest x.1
+ended (Err m) = Err m
+
+abbrev pub told : {A : Type 0} → (A → Message) → Result A Misread → Result Message Misread
+told message (Ok x) = Ok (message x)
+told message (Err m) = Err m
+
+-- The body of a message, by its kind, which stands at `place`. Only a SYN is due.
+abbrev pub of_kind : Layout → ℕ → List ℕ → List ℕ → Result Message Misread
+of_kind layout kind place bytes =
+    if kind == 1 then told messages.Syn (ended (syn_at layout bytes))
+    else if kind == 2 || kind == 3 then wrong causes.Unexpected place
+    else wrong causes.Kind place
+
+-- all that stands behind the length of a frame
+unfoldable pub inside_at : Layout → List ℕ → Result Message Misread
+inside_at layout bytes = do
+  byte ← number_at w8 bytes
+  kind ← (if byte.0 == layout.byte then number_at w8 byte.1 else wrong causes.Layout bytes)
+  of_kind layout kind.0 byte.1 kind.1
+
+-- What is checked is read, or has this fault.
+abbrev pub Checks : {X Y : Type 0} → Result X Misread → Result Y Misread → Type 0
+Checks (Ok x) read = IsOk read
+Checks (Err m) read = read ≡ Err m
+
+abbrev pub FailsWhole : {Y : Type 0} → ReadError → Result Y Misread → Type 0
+FailsWhole errors.Memory read = Unit {0}
+FailsWhole (errors.Misread m) read = read ≡ Err m
+
+abbrev pub GivesWhole : {X Y : Type 0} → (X → Y) → Result X ReadError → Result Y Misread → Type 0
+GivesWhole view (Ok x) read = read ≡ Ok (view x)
+GivesWhole view (Err e) read = FailsWhole e read
+
+-- ---- frames
+
+-- the fault of a frame with so many bytes behind its length
+abbrev pub fault_at : ℕ → Misread → Fault
+fault_at size m = faults.BadFrame (4 + size - m.left) m.cause
+
+abbrev pub located : {A : Type 0} → ℕ → Result A Misread → Result A Fault
+located size (Ok x) = Ok x
+located size (Err m) = Err (fault_at size m)
+
+abbrev pub with_size : {A : Type 0} → ℕ → Result A Fault → Result (Option (A × ℕ)) Fault
+with_size size (Ok x) = Ok (Some (x, 4 + size))
+with_size size (Err f) = Err f
+
+abbrev pub sized_at : Layout → ℕ → List ℕ → Result (Option (Message × ℕ)) Fault
+sized_at layout size rest =
+    if nat_lt layout.length size then Err (faults.BadFrame 0 causes.Length)
+    else if nat_lt (length rest) size then Ok None
+    else with_size size (located size (inside_at layout (take size rest)))
+
+-- The frame at the front of the bytes, and how long it is; None where more bytes are needed.
+abbrev pub frame_at : Layout → List ℕ → Result (Option (Message × ℕ)) Fault
+frame_at layout bytes =
+    if nat_lt (length bytes) 4 then Ok None
+    else sized_at layout (from_be_bytes w32 (take 4 bytes)) (drop 4 bytes)

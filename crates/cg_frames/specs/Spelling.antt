@@ -1,0 +1,70 @@
+-- The one spelling of each message in a layout.
+use Rattle.std.specs.Prelude.{ℕ, List, [], ◌∷◌, ◌++◌, length}
+use Rattle.std.specs.List.{flat_map}
+use Rattle.std.specs.Int.{w16, w32, to_be_bytes}
+use Rattle.std.specs.FinMap as map
+use Rattle.cg_types.specs.Numbers.{address_of, port_of}
+use Rattle.cg_types.specs.Text.{ClusterValue}
+use Rattle.cg_entry.specs.Versioned.{Versioned}
+use Rattle.cg_entry.specs.Values.{DeltaValue}
+use Rattle.cg_table.specs.declared.digest.Digest.{Digest}
+use Rattle.cg_exchange.specs.declared.owner_delta.OwnerDelta.{OwnerDelta}
+use Rattle.cg_exchange.specs.declared.message.Message.{Message}
+use Rattle.cg_exchange.specs.declared.message.Message.TheVariants.{Syn, Ack}
+use Rattle.cg_exchange.specs.Values.{RequestValue, SynValue, AckValue}
+use Rattle.cg_frames.specs.declared.layout.Layout.{Layout}
+
+-- Numbers, the greatest byte first. They stay closed, so that goals name the number and not its bytes.
+unfoldable pub two_bytes : ℕ → List ℕ
+two_bytes n = to_be_bytes w16 n
+
+unfoldable pub four_bytes : ℕ → List ℕ
+four_bytes n = to_be_bytes w32 n
+
+-- six bytes
+abbrev pub endpoint : ℕ → List ℕ
+endpoint e = four_bytes (address_of e) ++ two_bytes (port_of e)
+
+abbrev pub digest : Digest → List ℕ
+digest d = endpoint d.endpoint ++ four_bytes d.generation ++ four_bytes d.newest
+
+abbrev pub request : RequestValue → List ℕ
+request r = endpoint r.endpoint ++ four_bytes r.generation ++ four_bytes r.version
+
+-- two bytes of length, and that many bytes
+abbrev pub text : List ℕ → List ℕ
+text bytes = two_bytes (length bytes) ++ bytes
+
+abbrev pub state : ℕ × Versioned → List ℕ
+state s = s.0 ∷ (four_bytes s.1.version ++ text s.1.text)
+
+abbrev pub delta : OwnerDelta → List ℕ
+delta d =
+    endpoint d.endpoint ++ (four_bytes d.delta.generation ++ (four_bytes d.delta.above ++ (four_bytes d.delta.heartbeat
+    ++ (length (map.entries d.delta.states) ∷ flat_map state (map.entries d.delta.states)))))
+
+-- two bytes of count, and the members
+abbrev pub members : {X : Type 0} → (X → List ℕ) → List X → List ℕ
+members one xs = two_bytes (length xs) ++ flat_map one xs
+
+abbrev pub cluster : ClusterValue → List ℕ
+cluster c = length c.name ∷ (c.name ++ (c.partitioner ∷ []))
+
+abbrev pub kind : Message → ℕ
+kind (Syn m) = 1
+kind (Ack m) = 2
+
+abbrev pub body : Message → List ℕ
+body (Syn m) = cluster m.cluster ++ members digest m.digests
+body (Ack m) = members request m.requests ++ members delta m.deltas
+
+-- the kind, and the body
+abbrev pub message : Message → List ℕ
+message m = kind m ∷ body m
+
+abbrev pub inside : Layout → Message → List ℕ
+inside layout m = layout.byte ∷ message m
+
+-- the length of what follows, and then that
+abbrev pub frame : Layout → Message → List ℕ
+frame layout m = four_bytes (length (inside layout m)) ++ inside layout m

@@ -1,0 +1,81 @@
+//! Frames at the front of bytes.
+
+ghost use Rattle.std.specs.Prelude.{◌≡◌, ◌<◌, ◌≤◌, ◌^◌, length, Ok, None, IfOk, IfSome};
+ghost use Rattle.cg_types.specs.declared.limits.TheConstants.{MEMBER_LIMIT};
+ghost use Rattle.cg_frames.specs.declared.layout.TheConstants.{LAYOUT_1};
+ghost use Rattle.cg_types.specs.Answer.{Answers};
+ghost use Rattle.cg_frames.specs.Reading as spec;
+ghost use Rattle.cg_frames.specs.Laws.{IsSpelledIn, GivesEachSpelled};
+
+use crate::layout::{LAYOUT_1, Layout};
+use crate::messages::{check, read};
+use crate::misread::{Misread, ReadError};
+use cg_exchange::Message;
+use cg_types::{Cause, Fault};
+use std::alloc::Global;
+
+// The fault of a frame with so many bytes behind its length.
+fn fault_at(size: usize, misread: Misread) -> Fault
+    requires { size < 2 ^ 62 }
+    ensures { result ≡ spec.fault_at size misread }
+{
+    Fault::BadFrame {
+        place: (4 + size).saturating_sub(misread.left),
+        cause: misread.cause,
+    }
+}
+
+// What stands behind the length. Faults are found before memory is asked for.
+fn read_inside(alloc: Global, layout: &Layout, inside: &[u8]) -> Result<Message, Fault>
+    requires short { length inside.now < 2 ^ 62 }
+    requires members { layout.now.members ≤ MEMBER_LIMIT }
+    ensures { Answers (λ m. m) (spec.located (length inside.now) (spec.inside_at layout.now inside.now)) result }
+{
+    if let Err(misread) = check(layout, inside) {
+        return Err(fault_at(inside.len(), misread));
+    }
+    match read(alloc, layout, inside) {
+        Ok(message) => Ok(message),
+        Err(ReadError::Memory) => Err(Fault::OutOfMemory),
+        Err(ReadError::Misread(misread)) => Err(fault_at(inside.len(), misread)),
+    }
+}
+
+fn decode_in(
+    alloc: Global,
+    layout: &Layout,
+    bytes: &[u8],
+) -> Result<Option<(Message, usize)>, Fault>
+    requires short { layout.now.length < 2 ^ 62 }
+    requires members { layout.now.members ≤ MEMBER_LIMIT }
+    ensures exact { Answers (λ x. x) (spec.frame_at layout.now bytes.now) result }
+    ensures more { spec.frame_at layout.now bytes.now ≡ Ok None → result ≡ Ok None }
+{
+    if bytes.len() < 4 {
+        return Ok(None);
+    }
+    let (front, rest) = bytes.split_at(4);
+    let size = u32::from_be_bytes([front[0], front[1], front[2], front[3]]) as usize;
+    if size > layout.length {
+        return Err(Fault::BadFrame {
+            place: 0,
+            cause: Cause::Length,
+        });
+    }
+    if rest.len() < size {
+        return Ok(None);
+    }
+    let (inside, _) = rest.split_at(size);
+    let message = read_inside(alloc, layout, inside)?;
+    Ok(Some((message, 4 + size)))
+}
+
+/// The frame at the front of the bytes, and how long it is; None where more bytes are needed.
+pub fn decode(alloc: Global, bytes: &[u8]) -> Result<Option<(Message, usize)>, Fault>
+    ensures exact { Answers (λ x. x) (spec.frame_at LAYOUT_1 bytes.now) result }
+    ensures more { spec.frame_at LAYOUT_1 bytes.now ≡ Ok None → result ≡ Ok None }
+    ensures found { IfOk result (λ found. IfSome found (λ f. IsSpelledIn LAYOUT_1 bytes.now f.0 f.1)) }
+    ensures only { GivesEachSpelled LAYOUT_1 bytes.now result }
+{
+    decode_in(alloc, &LAYOUT_1, bytes)
+}

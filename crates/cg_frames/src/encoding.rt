@@ -1,0 +1,226 @@
+//! Messages written as frames.
+
+ghost use Rattle.std.specs.Prelude.{◌≡◌, ◌++◌, ◌∷◌, [], ◌+◌, ◌<◌, ◌≤◌, ◌^◌, length, IfOk, OnOk};
+ghost use Rattle.cg_types.specs.declared.limits.TheConstants.{TEXT_LIMIT, MEMBER_LIMIT, NAME_LIMIT, STATE_LIMIT};
+ghost use Rattle.cg_entry.specs.State.{KeysRise, pair, pairs};
+ghost use Rattle.std.specs.Int.{w32, to_be_bytes};
+ghost use Rattle.std.specs.List.{flat_map};
+ghost use Rattle.cg_exchange.specs.declared.message.Message.TheVariants as messages;
+ghost use Rattle.cg_types.specs.Numbers.{address_of};
+ghost use Rattle.cg_frames.specs.declared.layout.TheConstants.{LAYOUT_1};
+ghost use Rattle.cg_frames.specs.Spelling as spelling;
+ghost use Rattle.cg_frames.specs.Lengths as lengths;
+
+use crate::layout::{LAYOUT_1, Layout};
+use bytes::{BufMut, Bytes, BytesMut};
+use cg_entry::State;
+use cg_exchange::{Ack, Message, OwnerDelta, Request, Syn};
+use cg_table::Digest;
+use cg_types::{Cluster, Endpoint, StateKey, StateText};
+use std::alloc::{AllocError, Global};
+
+#[tactic(auto, unfolding(crate::specs::Spelling::two_bytes))]
+fn put_two(out: &mut BytesMut, n: u16) -> Result<(), AllocError>
+    ensures { OnOk result (out.new.items ≡ out.old.items ++ spelling.two_bytes n) }
+{
+    out.put_u16(n)
+}
+
+#[tactic(auto, unfolding(crate::specs::Spelling::four_bytes))]
+fn put_four(out: &mut BytesMut, n: u32) -> Result<(), AllocError>
+    ensures { OnOk result (out.new.items ≡ out.old.items ++ spelling.four_bytes n) }
+{
+    out.put_u32(n)
+}
+
+#[tactic(auto, unfolding(crate::specs::Spelling::four_bytes))]
+fn put_address(out: &mut BytesMut, endpoint: Endpoint) -> Result<(), AllocError>
+    ensures { OnOk result (out.new.items ≡ out.old.items ++ spelling.four_bytes (address_of endpoint)) }
+{
+    out.put_slice(&endpoint.address())
+}
+
+fn put_endpoint(out: &mut BytesMut, endpoint: Endpoint) -> Result<(), AllocError>
+    ensures { OnOk result (out.new.items ≡ out.old.items ++ spelling.endpoint endpoint) }
+{
+    put_address(out, endpoint)?;
+    put_two(out, endpoint.port())?;
+    Ok(())
+}
+
+fn put_digest(out: &mut BytesMut, digest: &Digest) -> Result<(), AllocError>
+    ensures { OnOk result (out.new.items ≡ out.old.items ++ spelling.digest digest.now) }
+{
+    put_endpoint(out, digest.endpoint)?;
+    put_four(out, digest.generation.get())?;
+    put_four(out, digest.newest.get())?;
+    Ok(())
+}
+
+fn put_request(out: &mut BytesMut, request: Request) -> Result<(), AllocError>
+    ensures { OnOk result (out.new.items ≡ out.old.items ++ spelling.request request) }
+{
+    put_endpoint(out, request.endpoint())?;
+    put_four(out, request.generation().get())?;
+    put_four(out, request.version())?;
+    Ok(())
+}
+
+fn put_cluster(out: &mut BytesMut, cluster: &Cluster) -> Result<(), AllocError>
+    ensures written { OnOk result (out.new.items ≡ out.old.items ++ spelling.cluster cluster.now) }
+    ensures short { length cluster.now.name ≤ NAME_LIMIT }
+{
+    out.put_u8(cluster.name().len() as u8)?;
+    out.put_slice(cluster.name().as_bytes())?;
+    out.put_u8(cluster.partitioner())?;
+    Ok(())
+}
+
+fn put_digests(out: &mut BytesMut, digests: &[Digest]) -> Result<(), AllocError>
+    requires { length digests.now < 2 ^ 16 }
+    ensures { OnOk result (out.new.items ≡ out.old.items ++ spelling.members spelling.digest digests.now) }
+{
+    put_two(out, digests.len() as u16)?;
+    for digest in digests {
+        put_digest(out, digest)?;
+    }
+    Ok(())
+}
+
+fn put_requests(out: &mut BytesMut, requests: &[Request]) -> Result<(), AllocError>
+    requires { length requests.now < 2 ^ 16 }
+    ensures { OnOk result (out.new.items ≡ out.old.items ++ spelling.members spelling.request requests.now) }
+{
+    put_two(out, requests.len() as u16)?;
+    for request in requests {
+        put_request(out, *request)?;
+    }
+    Ok(())
+}
+
+fn put_text(out: &mut BytesMut, text: &StateText) -> Result<(), AllocError>
+    ensures written { OnOk result (out.new.items ≡ out.old.items ++ spelling.text text.now) }
+    ensures short { length text.now ≤ TEXT_LIMIT }
+{
+    put_two(out, text.as_str().len() as u16)?;
+    out.put_slice(text.as_str().as_bytes())?;
+    Ok(())
+}
+
+fn put_state(out: &mut BytesMut, state: &State) -> Result<(), AllocError>
+    ensures written { OnOk result (out.new.items ≡ out.old.items ++ spelling.state (pair state.now)) }
+    ensures short { OnOk result (length out.new.items ≤ length out.old.items + lengths.state_most) }
+{
+    out.put_u8(state.key.get())?;
+    put_four(out, state.version.get())?;
+    put_text(out, &state.text)?;
+    Ok(())
+}
+
+// How many states there are: no more than there are keys.
+fn count_of(states: &[State]) -> u8
+    requires { KeysRise states.now }
+    ensures value { result ≡ length states.now }
+    ensures few { length states.now ≤ STATE_LIMIT }
+{
+    let mut last: Option<StateKey> = None;
+    let mut count: u8 = 0;
+    for state in states {
+        if let Some(before) = last
+            && state.key <= before
+        {
+            unreachable!();
+        }
+        let _key = state.key.get();
+        last = Some(state.key);
+        count += 1;
+    }
+    count
+}
+
+fn put_states(out: &mut BytesMut, states: &[State]) -> Result<(), AllocError>
+    requires { KeysRise states.now }
+    ensures written { OnOk result (out.new.items ≡ out.old.items ++ (length states.now ∷ flat_map spelling.state (pairs states.now))) }
+    ensures short { OnOk result (length out.new.items ≤ length out.old.items + lengths.states_most) }
+{
+    out.put_u8(count_of(states))?;
+    for state in states {
+        put_state(out, state)?;
+    }
+    Ok(())
+}
+
+fn put_delta(out: &mut BytesMut, delta: &OwnerDelta) -> Result<(), AllocError>
+    ensures written { OnOk result (out.new.items ≡ out.old.items ++ spelling.delta delta.now) }
+    ensures short { OnOk result (length out.new.items ≤ length out.old.items + lengths.delta_most) }
+{
+    put_endpoint(out, delta.endpoint)?;
+    put_four(out, delta.delta.generation().get())?;
+    put_four(out, delta.delta.above())?;
+    put_four(out, delta.delta.heartbeat().get())?;
+    put_states(out, delta.delta.states())?;
+    Ok(())
+}
+
+fn put_deltas(out: &mut BytesMut, deltas: &[OwnerDelta]) -> Result<(), AllocError>
+    requires { length deltas.now ≤ MEMBER_LIMIT }
+    ensures written { OnOk result (out.new.items ≡ out.old.items ++ spelling.members spelling.delta deltas.now) }
+    ensures short { OnOk result (length out.new.items ≤ length out.old.items + lengths.deltas_most) }
+{
+    put_two(out, deltas.len() as u16)?;
+    for delta in deltas {
+        put_delta(out, delta)?;
+    }
+    Ok(())
+}
+
+// The kind and the body of a SYN.
+fn put_syn(out: &mut BytesMut, syn: &Syn) -> Result<(), AllocError>
+    ensures written { OnOk result (out.new.items ≡ out.old.items ++ spelling.message (messages.Syn syn.now)) }
+    ensures short { OnOk result (length out.new.items ≤ length out.old.items + lengths.message_most) }
+{
+    out.put_u8(1)?;
+    put_cluster(out, syn.cluster())?;
+    put_digests(out, syn.digests())?;
+    Ok(())
+}
+
+fn put_ack(out: &mut BytesMut, ack: &Ack) -> Result<(), AllocError>
+    ensures written { OnOk result (out.new.items ≡ out.old.items ++ spelling.message (messages.Ack ack.now)) }
+    ensures short { OnOk result (length out.new.items ≤ length out.old.items + lengths.message_most) }
+{
+    out.put_u8(2)?;
+    put_requests(out, ack.requests())?;
+    put_deltas(out, ack.deltas())?;
+    Ok(())
+}
+
+fn put_message(out: &mut BytesMut, message: &Message) -> Result<(), AllocError>
+    ensures written { OnOk result (out.new.items ≡ out.old.items ++ spelling.message message.now) }
+    ensures short { OnOk result (length out.new.items ≤ length out.old.items + lengths.message_most) }
+{
+    match message {
+        Message::Syn(syn) => put_syn(out, syn)?,
+        Message::Ack(ack) => put_ack(out, ack)?,
+    }
+    Ok(())
+}
+
+fn encode_in(alloc: Global, layout: &Layout, message: &Message) -> Result<Bytes, AllocError>
+    ensures { IfOk result (λ b. b ≡ spelling.frame layout.now message.now) }
+{
+    let mut inside = BytesMut::new(alloc);
+    inside.put_u8(layout.byte)?;
+    put_message(&mut inside, message)?;
+    let mut frame = BytesMut::new(alloc);
+    put_four(&mut frame, inside.len() as u32)?;
+    frame.put_slice(&inside)?;
+    Ok(frame.freeze()?)
+}
+
+/// The message as a frame.
+pub fn encode(alloc: Global, message: &Message) -> Result<Bytes, AllocError>
+    ensures { IfOk result (λ b. b ≡ spelling.frame LAYOUT_1 message.now) }
+{
+    encode_in(alloc, &LAYOUT_1, message)
+}

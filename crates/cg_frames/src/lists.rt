@@ -1,0 +1,38 @@
+//! Lists of digests, which rise: checked with no memory, and read.
+
+ghost use Rattle.std.specs.Prelude.{◌≡◌, None};
+ghost use Rattle.cg_frames.specs.Reading as spec;
+
+use crate::misread::{Misread, ReadError};
+use crate::reader::Reader;
+use cg_table::Digest;
+use cg_types::Endpoint;
+use std::alloc::Global;
+
+pub fn check_digests(reader: &mut Reader<'_>, count: u16) -> Result<(), Misread>
+    ensures { spec.Passes result reader.new (spec.digests_at count None reader.old) }
+{
+    let mut last: Option<Endpoint> = None;
+    for _ in 0..count {
+        let digest = reader.digest(last)?;
+        last = Some(digest.endpoint);
+    }
+    Ok(())
+}
+
+pub fn digests_of(
+    alloc: Global,
+    reader: &mut Reader<'_>,
+    count: u16,
+) -> Result<Vec<Digest>, ReadError>
+    ensures { spec.Gives (λ v. v.items) result reader.new (spec.digests_at count None reader.old) }
+{
+    let mut digests = Vec::new(alloc);
+    let mut last: Option<Endpoint> = None;
+    for _ in 0..count {
+        let digest = reader.digest(last)?;
+        last = Some(digest.endpoint);
+        digests.push(digest)?;
+    }
+    Ok(digests)
+}

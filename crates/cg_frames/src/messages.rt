@@ -1,0 +1,124 @@
+//! What stands behind the length of a frame: checked with no memory, and read.
+
+ghost use Rattle.std.specs.Prelude.{◌≡◌, ◌≤◌, Ok};
+ghost use Rattle.cg_types.specs.declared.limits.TheConstants.{MEMBER_LIMIT};
+ghost use Rattle.cg_types.specs.Text.{cluster_of as cluster_due};
+ghost use Rattle.cg_exchange.specs.declared.message.Message.TheVariants as kinds;
+ghost use Rattle.cg_frames.specs.Reading as spec;
+
+use crate::layout::Layout;
+use crate::lists::{check_digests, digests_of};
+use crate::misread::{Misread, ReadError};
+use crate::reader::Reader;
+use cg_exchange::{Message, Syn};
+use cg_types::{Cause, Cluster, Fault};
+use std::alloc::Global;
+
+#[tactic(auto, unfolding(crate::specs::Reading::syn_at))]
+fn check_syn(layout: &Layout, reader: &mut Reader<'_>) -> Result<(), Misread>
+    ensures { spec.Passes result reader.new (spec.syn_at layout.now reader.old) }
+{
+    reader.name()?;
+    reader.byte()?;
+    let count = reader.count(layout)?;
+    check_digests(reader, count)
+}
+
+fn check_whole_syn(layout: &Layout, reader: &mut Reader<'_>) -> Result<(), Misread>
+    ensures { spec.Checks result (spec.told kinds.Syn (spec.ended (spec.syn_at layout.now reader.old))) }
+{
+    check_syn(layout, reader)?;
+    reader.end()?;
+    Ok(())
+}
+
+/// Whether what stands behind the length is a message.
+#[tactic(auto, unfolding(crate::specs::Reading::inside_at))]
+pub fn check(layout: &Layout, inside: &[u8]) -> Result<(), Misread>
+    ensures { spec.Checks result (spec.inside_at layout.now inside.now) }
+{
+    let mut reader = Reader::new(inside);
+    let left = reader.left();
+    if reader.byte()? != layout.byte {
+        return Err(Misread {
+            cause: Cause::Layout,
+            left,
+        });
+    }
+    let left = reader.left();
+    match reader.byte()? {
+        1 => check_whole_syn(layout, &mut reader),
+        2 | 3 => Err(Misread {
+            cause: Cause::Unexpected,
+            left,
+        }),
+        _ => Err(Misread {
+            cause: Cause::Kind,
+            left,
+        }),
+    }
+}
+
+fn cluster_of(alloc: Global, name: &str, partitioner: u8) -> Result<Cluster, ReadError>
+    requires { cluster_due name.now partitioner ≡ Ok (record { name = name.now; partitioner = partitioner }) }
+    ensures { spec.GivesWhole (λ c. c) result (Ok (record { name = name.now; partitioner = partitioner })) }
+{
+    match Cluster::with(alloc, name, partitioner) {
+        Ok(cluster) => Ok(cluster),
+        Err(Fault::OutOfMemory) => Err(ReadError::Memory),
+        Err(_) => unreachable!(),
+    }
+}
+
+#[tactic(auto, unfolding(crate::specs::Reading::syn_at))]
+fn syn_of(alloc: Global, layout: &Layout, reader: &mut Reader<'_>) -> Result<Syn, ReadError>
+    requires { layout.now.members ≤ MEMBER_LIMIT }
+    ensures { spec.Gives (λ s. s) result reader.new (spec.syn_at layout.now reader.old) }
+{
+    let name = reader.name()?;
+    let partitioner = reader.byte()?;
+    let count = reader.count(layout)?;
+    let digests = digests_of(alloc, reader, count)?;
+    let cluster = cluster_of(alloc, name, partitioner)?;
+    match Syn::new(cluster, digests) {
+        Some(syn) => Ok(syn),
+        None => unreachable!(),
+    }
+}
+
+fn whole_syn_of(alloc: Global, layout: &Layout, reader: &mut Reader<'_>) -> Result<Syn, ReadError>
+    requires { layout.now.members ≤ MEMBER_LIMIT }
+    ensures { spec.GivesWhole (λ s. s) result (spec.ended (spec.syn_at layout.now reader.old)) }
+{
+    let syn = syn_of(alloc, layout, reader)?;
+    reader.end()?;
+    Ok(syn)
+}
+
+/// The message that stands behind the length.
+#[tactic(auto, unfolding(crate::specs::Reading::inside_at))]
+pub fn read(alloc: Global, layout: &Layout, inside: &[u8]) -> Result<Message, ReadError>
+    requires { layout.now.members ≤ MEMBER_LIMIT }
+    ensures { spec.GivesWhole (λ m. m) result (spec.inside_at layout.now inside.now) }
+{
+    let mut reader = Reader::new(inside);
+    let left = reader.left();
+    if reader.byte()? != layout.byte {
+        return Err(ReadError::Misread(Misread {
+            cause: Cause::Layout,
+            left,
+        }));
+    }
+    let left = reader.left();
+    match reader.byte()? {
+        1 => Ok(Message::Syn(whole_syn_of(alloc, layout, &mut reader)?)),
+        2 | 3 => Err(ReadError::Misread(Misread {
+            cause: Cause::Unexpected,
+            left,
+        })),
+        _ => Err(ReadError::Misread(Misread {
+            cause: Cause::Kind,
+            left,
+        })),
+    }
+}

@@ -1,0 +1,202 @@
+//! Fields at the front of what is left of a frame, read with no memory.
+
+ghost use Rattle.std.specs.Prelude.{◌≡◌, ◌<◌, ◌≤◌, true, length, IfOk};
+ghost use Rattle.cg_types.specs.Text.{plain};
+ghost use Rattle.cg_types.specs.declared.limits.TheConstants.{NAME_LIMIT};
+ghost use Rattle.std.specs.Int.{w8, w16, w32};
+ghost use Rattle.cg_frames.specs.Reading as spec;
+
+use crate::layout::Layout;
+use crate::misread::Misread;
+use cg_table::Digest;
+use cg_types::{Cause, Endpoint, Generation, NAME_LIMIT, Version, is_plain};
+use std::marker::Model;
+
+/// What is left of a frame.
+#[derive(Drop)]
+pub struct Reader<'a> {
+    rest: &'a [u8],
+}
+
+impl<'a> Model for Reader<'a> {
+    ghost use Rattle.std.specs.Prelude.{ℕ, List};
+
+    ghost Value = { List ℕ };
+
+    ghost view = { λ r. r.rest.now };
+}
+
+impl<'a> Reader<'a> {
+    pub fn new(rest: &'a [u8]) -> Reader<'a>
+        ensures { result ≡ rest.now }
+    {
+        Reader { rest }
+    }
+
+    pub fn left(&self) -> usize
+        ensures { result ≡ length self.now }
+    {
+        self.rest.len()
+    }
+
+    /// Nothing is left.
+    pub fn end(&self) -> Result<(), Misread>
+        ensures { spec.Ends result self.now }
+    {
+        if self.rest.len() != 0 {
+            return Err(Misread {
+                cause: Cause::Rest,
+                left: self.rest.len(),
+            });
+        }
+        Ok(())
+    }
+
+    // So many bytes, as one field.
+    fn bytes(&mut self, count: usize) -> Result<&'a [u8], Misread>
+        ensures value { spec.Reads (λ x. x.now) result self.new (spec.bytes_at count self.old) }
+        ensures whole { IfOk result (λ x. length x.now ≡ count) }
+    {
+        if self.rest.len() < count {
+            return Err(Misread {
+                cause: Cause::Short,
+                left: self.rest.len(),
+            });
+        }
+        let (front, rest) = self.rest.split_at(count);
+        self.rest = rest;
+        Ok(front)
+    }
+
+    pub fn byte(&mut self) -> Result<u8, Misread>
+        ensures { spec.Reads (λ x. x) result self.new (spec.number_at w8 self.old) }
+    {
+        let front = self.bytes(1)?;
+        Ok(u8::from_be_bytes([front[0]]))
+    }
+
+    /// How many members a list has.
+    pub fn count(&mut self, layout: &Layout) -> Result<u16, Misread>
+        ensures { spec.Reads (λ x. x) result self.new (spec.count_at layout.now self.old) }
+    {
+        let left = self.left();
+        let front = self.bytes(2)?;
+        let count = u16::from_be_bytes([front[0], front[1]]);
+        if count as usize > layout.members {
+            return Err(Misread {
+                cause: Cause::Count,
+                left,
+            });
+        }
+        Ok(count)
+    }
+
+    fn number(&mut self) -> Result<u32, Misread>
+        ensures { spec.Reads (λ x. x) result self.new (spec.number_at w32 self.old) }
+    {
+        let front = self.bytes(4)?;
+        Ok(u32::from_be_bytes([front[0], front[1], front[2], front[3]]))
+    }
+
+    /// An endpoint, which has to come after the last one of its list.
+    pub fn endpoint(&mut self, last: Option<Endpoint>) -> Result<Endpoint, Misread>
+        ensures { spec.Reads (λ x. x) result self.new (spec.endpoint_at last self.old) }
+    {
+        let left = self.left();
+        let front = self.bytes(6)?;
+        let port = u16::from_be_bytes([front[4], front[5]]);
+        let Some(endpoint) = Endpoint::new([front[0], front[1], front[2], front[3]], port) else {
+            return Err(Misread {
+                cause: Cause::Endpoint,
+                left,
+            });
+        };
+        if let Some(before) = last
+            && endpoint <= before
+        {
+            return Err(Misread {
+                cause: Cause::Order,
+                left,
+            });
+        }
+        Ok(endpoint)
+    }
+
+    pub fn generation(&mut self) -> Result<Generation, Misread>
+        ensures { spec.Reads (λ x. x) result self.new (spec.generation_at self.old) }
+    {
+        let left = self.left();
+        let number = self.number()?;
+        match Generation::new(number) {
+            Some(generation) => Ok(generation),
+            None => Err(Misread {
+                cause: Cause::Generation,
+                left,
+            }),
+        }
+    }
+
+    pub fn version(&mut self) -> Result<Version, Misread>
+        ensures { spec.Reads (λ x. x) result self.new (spec.version_at self.old) }
+    {
+        let left = self.left();
+        let number = self.number()?;
+        match Version::new(number) {
+            Some(version) => Ok(version),
+            None => Err(Misread {
+                cause: Cause::Version,
+                left,
+            }),
+        }
+    }
+
+    #[tactic(auto, unfolding(crate::specs::Reading::digest_at))]
+    pub fn digest(&mut self, last: Option<Endpoint>) -> Result<Digest, Misread>
+        ensures { spec.Reads (λ x. x) result self.new (spec.digest_at last self.old) }
+    {
+        let endpoint = self.endpoint(last)?;
+        let generation = self.generation()?;
+        let newest = self.version()?;
+        Ok(Digest {
+            endpoint,
+            generation,
+            newest,
+        })
+    }
+
+    // So many bytes of plain text.
+    fn plain(&mut self, count: usize, cause: Cause) -> Result<&'a str, Misread>
+        ensures value { spec.Reads (λ x. x.now) result self.new (spec.plain_at count cause self.old) }
+        ensures whole { IfOk result (λ x. length x.now ≡ count) }
+        ensures plain { IfOk result (λ x. plain x.now ≡ true) }
+    {
+        let left = self.left();
+        let front = self.bytes(count)?;
+        let Ok(text) = std::str::from_utf8(front) else {
+            return Err(Misread { cause, left });
+        };
+        if !is_plain(text) {
+            return Err(Misread { cause, left });
+        }
+        Ok(text)
+    }
+
+    /// The name of a cluster, with its length before it.
+    #[tactic(auto, unfolding(crate::specs::Reading::name_at))]
+    pub fn name(&mut self) -> Result<&'a str, Misread>
+        ensures value { spec.Reads (λ x. x.now) result self.new (spec.name_at self.old) }
+        ensures some { IfOk result (λ x. 0 < length x.now) }
+        ensures short { IfOk result (λ x. length x.now ≤ NAME_LIMIT) }
+        ensures plain { IfOk result (λ x. plain x.now ≡ true) }
+    {
+        let left = self.left();
+        let len = self.byte()? as usize;
+        if len == 0 || len > NAME_LIMIT {
+            return Err(Misread {
+                cause: Cause::Name,
+                left,
+            });
+        }
+        self.plain(len, Cause::Name)
+    }
+}

@@ -1,0 +1,188 @@
+use super::*;
+use cg_entry::{Delta, State};
+use cg_exchange::{Ack, Message, OwnerDelta, Request, Syn};
+use cg_table::Digest;
+use cg_types::{Cause, Cluster, Endpoint, Fault, Generation, StateKey, StateText, Version};
+use std::alloc::Global;
+use std::test::Fail;
+
+// A SYN of the cluster c1 with one digest: of 10.0.0.1:7000, generation 9, newest 1.
+const ROW: [u8; 26] =
+    *b"\0\0\0\x16\x01\x01\x02c1\x01\0\x01\x0a\0\0\x01\x1b\x58\0\0\0\x09\0\0\0\x01";
+
+fn fault_of(alloc: Global, bytes: &[u8]) -> Option<(usize, Cause)> {
+    match decode(alloc, bytes) {
+        Err(Fault::BadFrame { place, cause }) => Some((place, cause)),
+        _ => None,
+    }
+}
+
+// How many bytes the frame at the front has.
+fn size_of(alloc: Global, bytes: &[u8]) -> Result<Option<usize>, Fault> {
+    Ok(decode(alloc, bytes)?.map(|found| found.1))
+}
+
+// The row, with other bytes at a place.
+fn row_with(place: u8, part: [u8; 4]) -> [u8; 26] {
+    let mut row = ROW;
+    for i in 0..4 {
+        if let Some(byte) = row.get_mut(place as usize + i) {
+            *byte = part[i];
+        }
+    }
+    row
+}
+
+#[test]
+fn reads_and_writes_a_syn(rt: HostRuntime) -> Result<(), Fail> {
+    for row in [
+        ROW.as_slice(),
+        b"\0\0\0\x08\x01\x01\x02c1\x01\0\0",
+        b"\0\0\0\x07\x01\x01\x01c\xff\0\0",
+        b"\0\0\0\x36\x01\x01\x30012345678901234567890123456789012345678901234567\x01\0\0",
+    ] {
+        let (message, size) = decode(rt.alloc(), row)?.ok_or("a whole frame")?;
+        assert_eq!(rt; size, row.len());
+        assert_eq!(rt; encode(rt.alloc(), &message)?.as_slice(), row);
+    }
+    Ok(())
+}
+
+#[test]
+fn wants_more(rt: HostRuntime) -> Result<(), Fail> {
+    let longer = b"\0\0\0\x08\x01\x01\x02c1\x01\0\0\0\0\0\x08";
+    assert_eq!(rt; size_of(rt.alloc(), &ROW[..25])?, None);
+    assert_eq!(rt; size_of(rt.alloc(), b"\0\0\0")?, None);
+    assert_eq!(rt; size_of(rt.alloc(), b"\0\x4c\x4b\x40")?, None);
+    assert_eq!(rt; size_of(rt.alloc(), longer)?, Some(12));
+    Ok(())
+}
+
+#[test]
+fn first_faults(rt: HostRuntime) {
+    for (bytes, place, cause) in [
+        (b"\0\x4c\x4b\x41".as_slice(), 0, Cause::Length),
+        (b"\xff\xff\xff\xff", 0, Cause::Length),
+        (b"\0\0\0\0", 4, Cause::Short),
+        (b"\0\0\0\x01\x01", 5, Cause::Short),
+        (b"\0\0\0\x01\x07", 4, Cause::Layout),
+        (b"\0\0\0\x02\x01\x04", 5, Cause::Kind),
+        (b"\0\0\0\x02\x01\0", 5, Cause::Kind),
+        (b"\0\0\0\x04\x01\x02\0\0", 5, Cause::Unexpected),
+        (b"\0\0\0\x04\x01\x03\0\0", 5, Cause::Unexpected),
+        (b"\0\0\0\x02\x01\x02", 5, Cause::Unexpected),
+        (b"\0\0\0\x02\x01\x01", 6, Cause::Short),
+        (b"\0\0\0\x03\x01\x01\0", 6, Cause::Name),
+        (b"\0\0\0\x03\x01\x01\x31", 6, Cause::Name),
+        (b"\0\0\0\x03\x01\x01\x30", 7, Cause::Short),
+        (b"\0\0\0\x08\x01\x01\x02c\x1f\x01\0\0", 7, Cause::Name),
+        (b"\0\0\0\x08\x01\x01\x02c\xff\x01\0\0", 7, Cause::Name),
+        (b"\0\0\0\x08\x01\x01\x02c1\x01\x01\x01", 10, Cause::Count),
+        (b"\0\0\0\x08\x01\x01\x02c1\x01\x01\0", 12, Cause::Short),
+        (b"\0\0\0\x08\x01\x01\x02c1\x01\0\x01", 12, Cause::Short),
+        (b"\0\0\0\x09\x01\x01\x02c1\x01\0\0\0", 12, Cause::Rest),
+    ] {
+        assert_eq!(rt; fault_of(rt.alloc(), bytes), Some((place, cause)));
+    }
+}
+
+#[test]
+fn faults_of_a_digest(rt: HostRuntime) {
+    for (at, part, fault) in [
+        (14, [0, 1, 0, 0], Some((12, Cause::Endpoint))),
+        (18, [0, 0, 0, 0], Some((18, Cause::Generation))),
+        (18, [0x80, 0, 0, 0], Some((18, Cause::Generation))),
+        (18, [0x7f, 0xff, 0xff, 0xff], None),
+        (22, [0, 0, 0, 0], Some((22, Cause::Version))),
+        (22, [0x80, 0, 0, 0], Some((22, Cause::Version))),
+        (22, [0x7f, 0xff, 0xff, 0xff], None),
+    ] {
+        assert_eq!(rt; fault_of(rt.alloc(), &row_with(at, part)), fault);
+    }
+}
+
+#[test]
+fn endpoints_rise(rt: HostRuntime) {
+    let twice =
+        b"\0\0\0\x24\x01\x01\x02c1\x01\0\x02\x0a\0\0\x01\x1b\x58\0\0\0\x09\0\0\0\x01\x0a\0\0\x01\x1b\x58\0\0\0\x09\0\0\0\x01";
+    let falling =
+        b"\0\0\0\x24\x01\x01\x02c1\x01\0\x02\x0a\0\0\x02\x1b\x58\0\0\0\x09\0\0\0\x01\x0a\0\0\x01\x1b\x59\0\0\0\x09\0\0\0\x01";
+    let nameless =
+        b"\0\0\0\x24\x01\x01\x02c1\x01\0\x02\x0a\0\0\x02\x1b\x58\0\0\0\x09\0\0\0\x01\x0a\0\0\x01\0\0\0\0\0\x09\0\0\0\x01";
+    let rising =
+        b"\0\0\0\x24\x01\x01\x02c1\x01\0\x02\x0a\0\0\x01\x1b\x58\0\0\0\x09\0\0\0\x01\x0a\0\0\x01\x1b\x59\0\0\0\x09\0\0\0\x01";
+    assert_eq!(rt; fault_of(rt.alloc(), twice), Some((26, Cause::Order)));
+    assert_eq!(rt; fault_of(rt.alloc(), falling), Some((26, Cause::Order)));
+    assert_eq!(rt; fault_of(rt.alloc(), nameless), Some((26, Cause::Endpoint)));
+    assert_eq!(rt; fault_of(rt.alloc(), rising), None);
+}
+
+fn endpoint(last: u8) -> Result<Endpoint, Fail> {
+    Ok(Endpoint::new([10, 0, 0, last], 7000).ok_or("an endpoint")?)
+}
+
+fn generation(number: u32) -> Result<Generation, Fail> {
+    Ok(Generation::new(number).ok_or("a generation")?)
+}
+
+fn version(number: u32) -> Result<Version, Fail> {
+    Ok(Version::new(number).ok_or("a version")?)
+}
+
+#[test]
+fn reads_as_many_as_it_writes(rt: HostRuntime) -> Result<(), Fail> {
+    let mut digests = Vec::new(rt.alloc());
+    for last in 0..=255 {
+        digests.push(Digest {
+            endpoint: endpoint(last)?,
+            generation: generation(9)?,
+            newest: version(1)?,
+        })?;
+    }
+    let cluster = Cluster::with(rt.alloc(), "c1", 1)?;
+    let syn = Syn::new(cluster, digests).ok_or("a SYN")?;
+    let frame = encode(rt.alloc(), &Message::Syn(syn))?;
+    assert_eq!(rt; frame.len(), 12 + 256 * 14);
+    assert_eq!(rt; size_of(rt.alloc(), &frame)?, Some(12 + 256 * 14));
+    Ok(())
+}
+
+#[test]
+fn writes_an_ack(rt: HostRuntime) -> Result<(), Fail> {
+    let delta = Delta::new(generation(5)?, 0, version(1)?, Vec::new(rt.alloc())).ok_or("a delta")?;
+    let deltas = vec![in rt.alloc();
+        OwnerDelta {
+            endpoint: endpoint(2)?,
+            delta
+        },
+    ]?;
+    let ack = Ack::new(Vec::new(rt.alloc()), deltas).ok_or("an ACK")?;
+    let frame = encode(rt.alloc(), &Message::Ack(ack))?;
+    let bytes = b"\0\0\0\x19\x01\x02\0\0\0\x01\x0a\0\0\x02\x1b\x58\0\0\0\x05\0\0\0\0\0\0\0\x01\0";
+    assert_eq!(rt; frame.as_slice(), bytes.as_slice());
+    Ok(())
+}
+
+#[test]
+fn writes_a_request_and_a_state(rt: HostRuntime) -> Result<(), Fail> {
+    let state = State {
+        key: StateKey::new(1).ok_or("a key")?,
+        version: version(2)?,
+        text: StateText::new(rt.alloc(), "NORMAL")?,
+    };
+    let states = vec![in rt.alloc(); state]?;
+    let delta = Delta::new(generation(5)?, 0, version(1)?, states).ok_or("a delta")?;
+    let deltas = vec![in rt.alloc();
+        OwnerDelta {
+            endpoint: endpoint(2)?,
+            delta
+        },
+    ]?;
+    let request = Request::new(endpoint(1)?, generation(9)?, 0).ok_or("a request")?;
+    let ack = Ack::new(vec![in rt.alloc(); request]?, deltas).ok_or("an ACK")?;
+    let frame = encode(rt.alloc(), &Message::Ack(ack))?;
+    let bytes =
+        b"\0\0\0\x34\x01\x02\0\x01\x0a\0\0\x01\x1b\x58\0\0\0\x09\0\0\0\0\0\x01\x0a\0\0\x02\x1b\x58\0\0\0\x05\0\0\0\0\0\0\0\x01\x01\x01\0\0\0\x02\0\x06NORMAL";
+    assert_eq!(rt; frame.as_slice(), bytes.as_slice());
+    Ok(())
+}

@@ -1,0 +1,101 @@
+//! A finite map from endpoints to shared values.
+
+ghost use Rattle.std.specs.Prelude.{◌≡◌, IfOk, option_copied};
+ghost use Rattle.std.specs.FinMap as map;
+ghost use Rattle.cg_types.specs.Rising.{Rises};
+ghost use Rattle.cg_shared.specs.Rows.{keys_of};
+ghost use Rattle.cg_shared.specs.Map.{put_each};
+
+use crate::rows::{Row, around, search, share_all, walk_rows};
+use cg_types::Endpoint;
+use std::alloc::{AllocError, Global};
+use std::marker::Model;
+
+/// Values by their endpoints, in the order of the endpoints. Maps that are made from one another share the values
+/// that did not change, so that a copy is a list of rows.
+#[derive(Drop)]
+pub struct SharedMap<T> {
+    rows: Vec<Row<T>>,
+}
+
+/// A contract sees a finite map from endpoints to values.
+impl<T> Model for SharedMap<T> {
+    ghost use Rattle.std.specs.Ordering.{nat_cmp};
+    ghost use Rattle.std.specs.FinMap as map;
+    ghost use Rattle.std.specs.Coded.{coded_ℕ};
+    ghost use Rattle.cg_types.specs.Rising.{Rises};
+    ghost use Rattle.cg_shared.specs.Rows.{keys_of};
+
+    ghost Value = { map.FinMap nat_cmp T };
+
+    ghost coded = { map.code coded_ℕ T.code };
+
+    ghost view = { λ m. map.from_sorted m.rows.items };
+
+    ghost invariant = { λ m. Rises (keys_of m.rows.items) };
+}
+
+impl<T: Drop> SharedMap<T> {
+    /// The map with no rows. It takes no memory.
+    pub fn new(alloc: Global) -> SharedMap<T>
+        ensures { result ≡ map.empty }
+    {
+        SharedMap {
+            rows: Vec::new(alloc),
+        }
+    }
+
+    /// The value that is held for an endpoint, if there is one.
+    pub fn get(&self, endpoint: Endpoint) -> Option<&T>
+        ensures { option_copied result ≡ map.get self.now endpoint }
+    {
+        match search(&self.rows, endpoint) {
+            Ok(at) => Some(self.rows[at].value()),
+            Err(_) => None,
+        }
+    }
+
+    /// All rows, rising by endpoint.
+    pub fn rows(&self) -> &[Row<T>]
+        ensures value { result.now ≡ map.entries self.now }
+        ensures rise { Rises (keys_of result.now) }
+    {
+        &self.rows
+    }
+
+    /// A map with one value put, which shares all others.
+    pub fn put(
+        &self,
+        alloc: Global,
+        endpoint: Endpoint,
+        value: T,
+    ) -> Result<SharedMap<T>, AllocError>
+        ensures { IfOk result (λ m. m ≡ map.insert self.now endpoint value) }
+    {
+        let (before, after) = around(&self.rows, endpoint);
+        let mut rows = Vec::with_capacity(alloc, self.rows.len())?;
+        share_all(&mut rows, before)?;
+        rows.push(Row::new(alloc, endpoint, value)?)?;
+        share_all(&mut rows, after)?;
+        Ok(SharedMap { rows })
+    }
+
+    /// A map with each of the rows put, in one walk. It shares all values.
+    pub fn with_rows(&self, alloc: Global, changes: &[Row<T>]) -> Result<SharedMap<T>, AllocError>
+        requires { Rises (keys_of changes.now) }
+        ensures { IfOk result (λ m. m ≡ put_each changes.now self.now) }
+    {
+        Ok(SharedMap {
+            rows: walk_rows(alloc, &self.rows, changes)?,
+        })
+    }
+
+    /// The same map, which shares its values.
+    pub fn copy(&self, alloc: Global) -> Result<SharedMap<T>, AllocError>
+        ensures { IfOk result (λ m. m ≡ self.now) }
+    {
+        let mut rows = Vec::with_capacity(alloc, self.rows.len())?;
+        share_all(&mut rows, &self.rows)?;
+        Ok(SharedMap { rows })
+    }
+}

@@ -1,0 +1,125 @@
+//! The rows of a map, which share their values.
+
+ghost use Rattle.std.specs.Prelude.{◌≡◌, ◌++◌, IfOk, IfErr, OnOk};
+ghost use Rattle.cg_types.specs.Rising.{Rises};
+ghost use Rattle.cg_shared.specs.Rows.{keys_of, before, after, walked, IsRowAt, IsGapAt};
+
+use cg_types::Endpoint;
+use std::alloc::{AllocError, Global};
+use std::marker::Model;
+use std::ops::Deref;
+use std::sync::Arc;
+
+/// An endpoint with a value. Rows that are shared have one value in memory, which none of them changes.
+#[derive(Drop)]
+pub struct Row<T> {
+    endpoint: Endpoint,
+    value: Arc<T, Global>,
+}
+
+/// A contract sees the endpoint and the value.
+impl<T> Model for Row<T> {
+    ghost use Rattle.std.specs.Prelude.{ℕ};
+    ghost use Rattle.std.specs.Coded.{coded×, coded_ℕ};
+    ghost use Rattle.std.specs.Arc.{arc_value};
+
+    ghost Value = { ℕ × T };
+
+    ghost coded = { coded× coded_ℕ T.code };
+
+    ghost view = { λ r. (r.endpoint, arc_value r.value) };
+}
+
+impl<T> Row<T> {
+    /// A row of its own, in one block of memory.
+    pub fn new(alloc: Global, endpoint: Endpoint, value: T) -> Result<Row<T>, AllocError>
+    where
+        T: Drop,
+        ensures { IfOk result (λ r. r ≡ (endpoint, value)) }
+    {
+        Ok(Row {
+            endpoint,
+            value: Arc::new(alloc, value)?,
+        })
+    }
+
+    /// The endpoint that the value is held for.
+    pub fn endpoint(&self) -> Endpoint
+        ensures { result ≡ self.now.0 }
+    {
+        self.endpoint
+    }
+
+    /// The value, which other rows may share.
+    pub fn value(&self) -> &T
+        ensures { result.now ≡ self.now.1 }
+    {
+        self.value.deref()
+    }
+
+    /// The same row. It copies nothing of the value and takes no memory; `AllocError` stands for a count of
+    /// owners that is full, which no memory can hold.
+    pub fn share(&self) -> Result<Row<T>, AllocError>
+        ensures { IfOk result (λ r. r ≡ self.now) }
+    {
+        Ok(Row {
+            endpoint: self.endpoint,
+            value: Arc::try_clone(&self.value)?,
+        })
+    }
+}
+
+// Where the endpoint's row is, or where it would go.
+pub(crate) fn search<T>(rows: &[Row<T>], endpoint: Endpoint) -> Result<usize, usize>
+    requires { Rises (keys_of rows.now) }
+    ensures found { IfOk result (λ at. IsRowAt rows.now endpoint at) }
+    ensures absent { IfErr result (λ at. IsGapAt rows.now endpoint at) }
+{
+    rows.binary_search_by_key(&endpoint, |row| row.endpoint())
+}
+
+// The rows before an endpoint, and those after it.
+pub(crate) fn around<T>(rows: &[Row<T>], endpoint: Endpoint) -> (&[Row<T>], &[Row<T>])
+    requires { Rises (keys_of rows.now) }
+    ensures before { result.0.now ≡ before endpoint rows.now }
+    ensures after { result.1.now ≡ after endpoint rows.now }
+{
+    match search(rows, endpoint) {
+        Ok(at) => (&rows[..at], &rows[at + 1..]),
+        Err(at) => (&rows[..at], &rows[at..]),
+    }
+}
+
+// Adds the same rows, with no copy of a value.
+pub(crate) fn share_all<T: Drop>(
+    shared: &mut Vec<Row<T>>,
+    rows: &[Row<T>],
+) -> Result<(), AllocError>
+    ensures { OnOk result (shared.new.items ≡ shared.old.items ++ rows.now) }
+{
+    for row in rows {
+        shared.push(row.share()?)?;
+    }
+    Ok(())
+}
+
+// The rows with the changed rows, in one walk over both. It takes memory for the list alone.
+pub(crate) fn walk_rows<T: Drop>(
+    alloc: Global,
+    rows: &[Row<T>],
+    changes: &[Row<T>],
+) -> Result<Vec<Row<T>>, AllocError>
+    requires { Rises (keys_of rows.now) }
+    ensures { IfOk result (λ made. made.items ≡ walked changes.now rows.now) }
+{
+    let mut made = Vec::with_capacity(alloc, rows.len())?;
+    let mut rest = rows;
+    for row in changes {
+        let (before, after) = around(rest, row.endpoint());
+        share_all(&mut made, before)?;
+        made.push(row.share()?)?;
+        rest = after;
+    }
+    share_all(&mut made, rest)?;
+    Ok(made)
+}

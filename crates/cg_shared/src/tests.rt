@@ -1,0 +1,41 @@
+use crate::{Row, SharedMap};
+use cg_types::Endpoint;
+use std::alloc::Global;
+use std::test::Fail;
+
+// 10.0.0.LAST:7000
+fn endpoint(last: u8) -> Result<Endpoint, Fail> {
+    Ok(Endpoint::new([10, 0, 0, last], 7000).ok_or("an endpoint")?)
+}
+
+// 20 at endpoint 2 and 30 at endpoint 3
+fn two_values(alloc: Global) -> Result<SharedMap<u32>, Fail> {
+    let none = SharedMap::new(alloc);
+    Ok(
+        none.put(alloc, endpoint(3)?, 30)?
+            .put(alloc, endpoint(2)?, 20)?,
+    )
+}
+
+#[test]
+fn what_is_put_is_got(rt: HostRuntime) -> Result<(), Fail> {
+    let map = two_values(rt.alloc())?.copy(rt.alloc())?;
+    assert_eq!(rt; map.get(endpoint(1)?).copied(), None);
+    assert_eq!(rt; map.get(endpoint(2)?).copied(), Some(20));
+    assert_eq!(rt; map.get(endpoint(3)?).copied(), Some(30));
+    Ok(())
+}
+
+#[test]
+fn a_row_is_put_in_place_of_one_with_its_endpoint(rt: HostRuntime) -> Result<(), Fail> {
+    let alloc = rt.alloc();
+    let changed = Row::new(alloc, endpoint(2)?, 21)?;
+    let map = two_values(alloc)?.with_rows(alloc, &vec![in alloc; changed.share()?]?)?;
+    let wanted = [(2, 21), (3, 30)];
+    assert_eq!(rt; map.rows().len(), wanted.len());
+    for (row, (last, value)) in map.rows().iter().zip(wanted) {
+        assert_eq!(rt; row.endpoint(), endpoint(last)?);
+        assert_eq!(rt; *row.value(), value);
+    }
+    Ok(())
+}

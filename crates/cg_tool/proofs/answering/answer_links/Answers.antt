@@ -1,0 +1,15 @@
+use Rattle.std.proofs.Common.{◌≡◌, ℕ, codes, refl, inl, inr, ◌∙◌, ap, Err}
+use Rattle.cg_types.specs.declared.fault.Fault.TheVariants as fault
+use Rattle.cg_tool.proofs.Lines.{out_of_memory_line, read_fault_line}
+use Rattle.cg_tool.proofs.answering.answer_links.Goals as goal
+
+pub returns-in-Ok : goal.returns-in-Ok
+returns-in-Ok g c = (codes "fault 1 OutOfMemory\n", 1, inr (inl (record { text_is = out_of_memory_line; status_is = refl })), c.written-in-Err-text_due.ensures)
+
+pub returns-in-Err-ReadFault : goal.returns-in-Err-ReadFault
+returns-in-Err-ReadFault g c =
+    let failed : c.read_all.result ≡ Err fault.ReadFault = c.in-Err-ReadFault.is ∙ ap Err c.in-Err-ReadFault.field-0-is in
+    (codes "fault 14 ReadFault\n", 1, inr (inr (record { caused = c.read_all.ensures.caused failed; text_is = read_fault_line; status_is = refl })), c.written-in-Err-ReadFault.ensures)
+
+pub returns : goal.returns
+returns g c = (codes "fault 1 OutOfMemory\n", 1, inr (inl (record { text_is = out_of_memory_line; status_is = refl })), c.written-in-Err.ensures)

@@ -1,0 +1,90 @@
+-- What `answer` writes for what it reads.
+use Rattle.std.specs.Prelude.{◌≡◌, ℕ, ◌+◌, ◌⊎◌, ◌&&◌, Bool, true, false, nat_lt, if◌then◌else◌, List, [], ◌∷◌, ◌++◌, length, take, Option, Some, None, Result, Ok, Err, MatchResult}
+use Rattle.std.specs.Int.{w32, from_be_bytes}
+use Rattle.hex.specs.Hex.{encode_lower}
+use Rattle.cg_types.specs.declared.fault.Cause.{Cause}
+use Rattle.cg_types.specs.declared.fault.Cause.TheVariants as cause
+use Rattle.cg_types.specs.declared.fault.Fault.{Fault}
+use Rattle.cg_types.specs.declared.fault.Fault.TheVariants as fault
+use Rattle.cg_types.specs.Fault.{fault_text}
+use Rattle.cg_entry.specs.Entry.{started}
+use Rattle.cg_table.specs.Values.{TableValue}
+use Rattle.cg_table.specs.Table.{alone}
+use Rattle.cg_exchange.specs.declared.message.Message.{Message}
+use Rattle.cg_exchange.specs.declared.message.Message.TheVariants as messages
+use Rattle.cg_exchange.specs.Values.{SynValue, AckValue}
+use Rattle.cg_exchange.specs.Answering.{answer_to_syn}
+use Rattle.cg_frames.specs.declared.layout.TheConstants.{LAYOUT_1}
+use Rattle.cg_frames.specs.Reading.{frame_at}
+use Rattle.cg_frames.specs.Spelling.{frame}
+use Rattle.cg_tool.specs.declared.request.Header.{Header}
+use Rattle.cg_tool.specs.Request.{request_in}
+
+-- where the bytes behind the frame begin, if there are any
+abbrev pub rest_at : List ℕ → ℕ → Option ℕ
+rest_at bytes size = if nat_lt size (length bytes) then Some size else None
+
+abbrev pub rest_place : List ℕ → Option ℕ
+rest_place bytes = if nat_lt (length bytes) 4 then None else rest_at bytes (4 + from_be_bytes w32 (take 4 bytes))
+
+abbrev pub is_unexpected : Fault → Bool
+is_unexpected (fault.BadFrame place cause.Unexpected) = true
+is_unexpected f = false
+
+-- Bytes behind a frame of another kind come before its kind.
+abbrev pub unexpected_or_rest : Option ℕ → Fault → Fault
+unexpected_or_rest None f = f
+unexpected_or_rest (Some place) f = if is_unexpected f then fault.BadFrame place cause.Rest else f
+
+abbrev pub syn_of : Message → Result SynValue Fault
+syn_of (messages.Syn m) = Ok m
+syn_of (messages.Ack m) = Err (fault.BadFrame 5 cause.Unexpected)
+
+-- the message at the front of the bytes, where nothing stands behind it
+abbrev pub alone_in : List ℕ → Result (Option (Message × ℕ)) Fault → Result SynValue Fault
+alone_in bytes (Ok None) = Err fault.Truncated
+alone_in bytes (Ok (Some m)) = if nat_lt m.1 (length bytes) then Err (fault.BadFrame m.1 cause.Rest) else syn_of m.0
+alone_in bytes (Err f) = Err (unexpected_or_rest (rest_place bytes) f)
+
+-- the SYN that the bytes are the frame of
+unfoldable pub syn_in : List ℕ → Result SynValue Fault
+syn_in bytes = alone_in bytes (frame_at LAYOUT_1 bytes)
+
+-- the table of a node that has just started
+abbrev pub started_table : Header → TableValue
+started_table h = alone h.endpoint (started h.generation)
+
+-- what follows a step that did not fail
+infixl 10 ◌>>=◌
+abbrev pub ◌>>=◌ : {A B : Type 0} → Result A Fault → (A → Result B Fault) → Result B Fault
+(Ok x) >>= f = f x
+(Err f) >>= g = Err f
+
+-- the frame of the ACK that the node answers a frame with
+unfoldable pub answer_to_frame : Header → List ℕ → Result (List ℕ) Fault
+answer_to_frame h bytes = do
+  syn ← syn_in bytes
+  ack ← answer_to_syn (started_table h) h.cluster syn
+  Ok (frame LAYOUT_1 (messages.Ack ack))
+
+abbrev pub answer_to_request : Option (Header × List ℕ) → Result (List ℕ) Fault
+answer_to_request None = Err fault.BadText
+answer_to_request (Some r) = answer_to_frame r.0 r.1
+
+-- the answer to an input: the frame of an ACK, or a fault
+unfoldable pub answer_to : List ℕ → Result (List ℕ) Fault
+answer_to input = answer_to_request (request_in input)
+
+-- a frame in hexadecimal digits, or the fault's line
+abbrev pub text_of : Result (List ℕ) Fault → List ℕ
+text_of (Ok bytes) = encode_lower bytes ++ 10 ∷ []
+text_of (Err f) = fault_text f
+
+-- 0 after an ACK
+abbrev pub status_of : Result (List ℕ) Fault → ℕ
+status_of (Ok bytes) = 0
+status_of (Err f) = 1
+
+-- What a call gave is what is due, unless memory ran out before.
+abbrev pub Gives : {X Y : Type 0} → (X → Y) → Result X Fault → Result Y Fault → Type 0
+Gives view r due = MatchResult r (λ x. due ≡ Ok (view x)) (λ f. (f ≡ fault.OutOfMemory) ⊎ (due ≡ Err f))

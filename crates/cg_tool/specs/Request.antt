@@ -1,0 +1,54 @@
+-- What the input of `answer` asks: a line with the node, and a line with a frame in hexadecimal digits.
+use Rattle.std.specs.Prelude.{◌≡◌, ℕ, ◌-◌, ◌⊎◌, nat_lt, ◌==◌, if◌then◌else◌, List, length, Option, Some, None, Result, Ok, Err, MatchResult}
+use Rattle.hex.specs.Hex.{decode_of}
+use Rattle.hex.specs.declared.error.FromHexError.{FromHexError}
+use Rattle.cg_types.specs.declared.fault.Fault.{Fault}
+use Rattle.cg_types.specs.declared.fault.Fault.TheVariants as fault
+use Rattle.cg_types.specs.declared.limits.TheConstants.{NUMBER_LIMIT, PARTITIONER}
+use Rattle.cg_types.specs.Words.{cut_at, number_of}
+use Rattle.cg_types.specs.EndpointText.{endpoint_in, ◌>>=◌}
+use Rattle.cg_types.specs.Text.{ClusterValue, cluster_of}
+use Rattle.cg_tool.specs.declared.request.Header.{Header}
+
+-- a generation, in decimal digits
+unfoldable pub generation_in : List ℕ → Option ℕ
+generation_in text = do
+  n ← number_of (NUMBER_LIMIT - 1) text
+  if nat_lt 0 n then Some n else None
+
+-- a value, or nothing where it is refused
+abbrev pub readable : {A E : Type 0} → Result A E → Option A
+readable (Ok x) = Some x
+readable (Err e) = None
+
+-- a node's endpoint, its generation and the name of its cluster, with single spaces
+unfoldable pub header_in : List ℕ → Option Header
+header_in line = do
+  first ← cut_at 32 line
+  endpoint ← endpoint_in first.0
+  second ← cut_at 32 first.1
+  generation ← generation_in second.0
+  cluster ← readable (cluster_of second.1 PARTITIONER)
+  Some (record { endpoint = endpoint; generation = generation; cluster = cluster })
+
+-- all of the text, or the part before a line feed that ends it
+abbrev pub last_part : List ℕ → Option (List ℕ × List ℕ) → Option (List ℕ)
+last_part all None = Some all
+last_part all (Some p) = if length p.1 == 0 then Some p.0 else None
+
+-- a last line, whose line feed may be missing
+unfoldable pub last_line : List ℕ → Option (List ℕ)
+last_line text = if length text == 0 then None else last_part text (cut_at 10 text)
+
+-- the header, and the bytes of the second line's digits
+unfoldable pub request_in : List ℕ → Option (Header × List ℕ)
+request_in input = do
+  lines ← cut_at 10 input
+  header ← header_in lines.0
+  digits ← last_line lines.1
+  frame ← readable (decode_of digits)
+  Some (header, frame)
+
+-- It is read where it can be, and else refused as BadText; memory may run out before that.
+abbrev pub Finds : {X Y : Type 0} → (X → Y) → Result X Fault → Option Y → Type 0
+Finds view r due = MatchResult r (λ x. due ≡ Some (view x)) (λ f. (f ≡ fault.OutOfMemory) ⊎ ((f ≡ fault.BadText) × (due ≡ None)))

@@ -1,0 +1,22 @@
+-- Versions and generations that rise.
+use Rattle.std.specs.Prelude.{ℕ, ◌+◌, nat_lt, max, Option, Some, None, Result, Ok, Err, if◌then◌else◌}
+use Rattle.cg_types.specs.declared.fault.Fault.{Fault}
+use Rattle.cg_types.specs.declared.fault.Fault.TheVariants.{VersionsSpent}
+use Rattle.cg_types.specs.declared.limits.TheConstants.{NUMBER_LIMIT}
+
+-- a number, where it is below the limit
+abbrev pub unspent : ℕ → Result ℕ Fault
+unspent n = if nat_lt n NUMBER_LIMIT then Ok n else Err VersionsSpent
+
+-- the version after the last one
+abbrev pub next_version : ℕ → Result ℕ Fault
+next_version last = unspent (last + 1)
+
+-- one more than the stored generation, or 1 where none is stored
+abbrev pub generation_after : Option ℕ → ℕ
+generation_after None = 1
+generation_after (Some stored) = stored + 1
+
+-- the generation of a start at so many seconds since 1970
+abbrev pub generation_at_start : Option ℕ → ℕ → Result ℕ Fault
+generation_at_start stored seconds = unspent (max (generation_after stored) seconds)

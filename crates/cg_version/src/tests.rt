@@ -1,0 +1,47 @@
+//! The worked rows, and each call once.
+
+use super::*;
+use cg_types::{Fault, Generation, Version};
+
+#[test]
+fn versions_rise(rt: HostRuntime) {
+    let mut versions = Versions::new();
+    assert_eq!(rt; versions.last(), 0);
+    assert_eq!(rt; versions.next().ok(), Version::new(1));
+    assert_eq!(rt; versions.next().ok(), Version::new(2));
+    assert_eq!(rt; versions.last(), 2);
+}
+
+#[test]
+fn versions_spent(rt: HostRuntime) {
+    for (last, next) in [(2147483646, Version::new(2147483647)), (2147483647, None)] {
+        let mut versions = Version::new(last).map_or(Versions::new(), Versions::after);
+        assert_eq!(rt; versions.last(), last);
+        let given = versions.next();
+        assert_eq!(rt; given.ok(), next);
+        assert_eq!(rt; versions.last(), 2147483647);
+        assert_eq!(rt; versions.next().err(), Some(Fault::VersionsSpent));
+    }
+}
+
+// The generation of a start, as numbers.
+fn started(stored: Option<u32>, now_secs: u64) -> Result<u32, Fault> {
+    next_generation(stored.and_then(Generation::new), now_secs).map(|g| g.get())
+}
+
+#[test]
+fn generations_rise(rt: HostRuntime) {
+    for (stored, now_secs, next) in [
+        (Some(9), 1700000000, Ok(1700000000)),
+        (Some(1700000005), 1700000000, Ok(1700000006)),
+        (None, 0, Ok(1)),
+        (None, 2, Ok(2)),
+        (Some(2147483646), 5, Ok(2147483647)),
+        (Some(2147483647), 5, Err(Fault::VersionsSpent)),
+        (Some(5), 2147483647, Ok(2147483647)),
+        (Some(5), 2147483648, Err(Fault::VersionsSpent)),
+        (None, 18446744073709551615, Err(Fault::VersionsSpent)),
+    ] {
+        assert_eq!(rt; started(stored, now_secs), next);
+    }
+}

@@ -1,0 +1,68 @@
+//! The one generator of a node's versions, as Cassandra's VersionGenerator.
+
+ghost use Rattle.std.specs.Prelude.{◌≡◌, ◌<◌, IfOk, IfErr, OnOk, OnErr, MatchResult, Ok, Err};
+ghost use Rattle.cg_types.specs.declared.limits.TheConstants.{NUMBER_LIMIT};
+ghost use Rattle.cg_version.specs.Version.{next_version};
+
+use cg_types::{Fault, NUMBER_LIMIT, Version};
+use std::marker::Model;
+
+/// Versions from 1 on, each given once. A contract sees the last one given, 0 before the first.
+#[derive(Clone, Copy, Debug, PartialEq, Eq)]
+pub struct Versions {
+    last: u32,
+}
+
+impl Model for Versions {
+    ghost use Rattle.std.specs.Prelude.{ℕ, ◌<◌};
+    ghost use Rattle.cg_types.specs.declared.limits.TheConstants.{NUMBER_LIMIT};
+
+    ghost Value = { ℕ };
+
+    ghost view = { λ v. v.last };
+
+    ghost invariant = { λ v. v.last < NUMBER_LIMIT };
+
+    ghost inverse = { λ n. record { last = n } };
+}
+
+impl Versions {
+    /// None given yet.
+    pub fn new() -> Versions
+        ensures { result ≡ 0 }
+    {
+        Versions { last: 0 }
+    }
+
+    /// Those after a version.
+    pub fn after(version: Version) -> Versions
+        ensures { result ≡ version }
+    {
+        Versions {
+            last: version.get(),
+        }
+    }
+
+    /// The last version given, or 0.
+    pub fn last(self) -> u32
+        ensures value { result ≡ self }
+        ensures range { result < NUMBER_LIMIT }
+    {
+        self.last
+    }
+
+    /// The version after the last one, which is then the last. VersionsSpent after 2,147,483,647, which stays.
+    pub fn next(&mut self) -> Result<Version, Fault>
+        ensures value { MatchResult result (λ v. next_version self.old ≡ Ok v) (λ f. next_version self.old ≡ Err f) }
+        ensures ok { IfOk result (λ v. self.new ≡ v) }
+        ensures err { OnErr result (self.new ≡ self.old) }
+    {
+        match Version::new(self.last + 1) {
+            Some(version) => {
+                self.last = version.get();
+                Ok(version)
+            }
+            None => Err(Fault::VersionsSpent),
+        }
+    }
+}
