@@ -1,5 +1,6 @@
 -- What a clause reads of a counted link.
-use Rattle.std.specs.Prelude.{◌≡◌, ℕ, ◌+◌, ◌-◌, ◌^◌, ◌<◌, ◌⊎◌, min, List, length, MatchResult, Result}
+use Rattle.std.specs.Prelude.{◌≡◌, ℕ, ◌<◌, ◌⊎◌, List, length, MatchResult, Result}
+use Rattle.cg_engine.specs.Counts.{more_by, one_more}
 use Rattle.cg_engine.specs.declared.counted.Counted.{Counted}
 
 -- the link
@@ -23,13 +24,6 @@ pub record IsNew {L : Type 0} (c : Counted L) : Type 0 where
   pub calls : calls_of c ≡ 0
   pub failed : failed_of c ≡ 0
   pub idle : idle_of c ≡ 0
-
--- a count that is k more, or at its greatest value
-abbrev pub more_by : ℕ → ℕ → ℕ
-more_by k n = min (n + k) (2 ^ 64 - 1)
-
-abbrev pub one_more : ℕ → ℕ
-one_more n = more_by 1 n
 
 -- so many calls were made
 pub record CountsCalls {L : Type 0} (old new : Counted L) (k : ℕ) : Type 0 where

@@ -2,6 +2,7 @@
 
 ghost use Rattle.std.specs.Prelude.{◌≡◌, ℕ, List, Some};
 ghost use Rattle.std.specs.Io.{ReadsAtMost, WritesAtMost};
+ghost use Rattle.cg_engine.specs.Counts.{one_more};
 ghost use Rattle.std.specs.Io.KnownBytes.{Keeps, ReadConsumes, WriteAppends};
 
 use std::io;
@@ -15,6 +16,13 @@ pub struct Counted<L> {
     calls: u64,
     failed: u64,
     idle: u64,
+}
+
+// One more, up to the greatest value.
+fn count(counter: &mut u64)
+    ensures { counter.new ≡ one_more counter.old }
+{
+    *counter = counter.saturating_add(1);
 }
 
 impl<L> Counted<L> {
@@ -63,7 +71,7 @@ impl<L> Counted<L> {
 }
 
 impl<R: Read> Read for Counted<R> {
-    ghost use Rattle.cg_engine.specs.Counted.{link_of, calls_of, one_more, CountsRead};
+    ghost use Rattle.cg_engine.specs.Counted.{link_of, calls_of, CountsRead};
 
     ghost remaining = { λ c. R.remaining (link_of c) };
 
@@ -74,16 +82,16 @@ impl<R: Read> Read for Counted<R> {
         ensures counts { CountsRead self.old self.new result }
     {
         let result = self.link.read(buf);
-        self.calls = self.calls.saturating_add(1);
+        count(&mut self.calls);
         if result.is_err() {
-            self.failed = self.failed.saturating_add(1);
+            count(&mut self.failed);
         }
         result
     }
 }
 
 impl<W: Write> Write for Counted<W> {
-    ghost use Rattle.cg_engine.specs.Counted.{link_of, calls_of, one_more, CountsWrite, CountsFlush};
+    ghost use Rattle.cg_engine.specs.Counted.{link_of, calls_of, CountsWrite, CountsFlush};
 
     ghost contents = { λ c. W.contents (link_of c) };
 
@@ -94,15 +102,15 @@ impl<W: Write> Write for Counted<W> {
         ensures counts { CountsWrite self.old self.new result buf.now }
     {
         let result = self.link.write(buf);
-        self.calls = self.calls.saturating_add(1);
+        count(&mut self.calls);
         match &result {
             Ok(0) => {
                 if !buf.is_empty() {
-                    self.idle = self.idle.saturating_add(1);
+                    count(&mut self.idle);
                 }
             }
             Ok(_) => {}
-            Err(_) => self.failed = self.failed.saturating_add(1),
+            Err(_) => count(&mut self.failed),
         }
         result
     }
@@ -113,9 +121,9 @@ impl<W: Write> Write for Counted<W> {
         ensures counts { CountsFlush self.old self.new result }
     {
         let result = self.link.flush();
-        self.calls = self.calls.saturating_add(1);
+        count(&mut self.calls);
         if result.is_err() {
-            self.failed = self.failed.saturating_add(1);
+            count(&mut self.failed);
         }
         result
     }

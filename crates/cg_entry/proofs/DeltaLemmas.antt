@@ -56,7 +56,7 @@ all_kept v [] h = refl
 all_kept v (s ∷ ss) h =
     ap (λ b. cond b (s ∷ newer v ss) (newer v ss)) (first_of (nat_lt v s.version) (all_newer v ss) h) ∙ ap (λ (xs : List State). s ∷ xs) (all_kept v ss (second_of (nat_lt v s.version) (all_newer v ss) h))
 
-greatest_over : (n : ℕ) (es : List (ℕ × Versioned)) → n ≤ greatest_of n es
+pub greatest_over : (n : ℕ) (es : List (ℕ × Versioned)) → n ≤ greatest_of n es
 greatest_over n [] = omega arith
 greatest_over n (e ∷ es) = omega (arith, greatest_over (max n e.1.version) es)
 

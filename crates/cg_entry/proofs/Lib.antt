@@ -1,2 +1,12 @@
 pub mod StateLemmas
 pub mod DeltaLemmas
+pub mod PutLemmas
+pub mod PlaceLemmas
+pub mod KeyLemmas
+pub mod VersionLemmas
+pub mod HistoryLemmas
+pub mod HistoryLaws
+pub mod TakingLemmas
+pub mod SpellingLemmas
+pub mod SpellingLaws
+pub mod StandingLemmas

@@ -1,18 +1,18 @@
 -- States in a list, and their map.
-use Rattle.std.proofs.Common.{◌≡◌, ℕ, ◌≤◌, true, false, cond, List, [], ◌∷◌, map, length, take, drop, None, refl, sym, ap, ◌∙◌, nat_lt}
+use Rattle.std.proofs.Common.{◌≡◌, ℕ, ◌≤◌, ◌==◌, Bool, true, false, find, Some, arith, cond, List, [], ◌∷◌, map, length, take, drop, None, refl, sym, ap, ◌∙◌, nat_lt}
 use Rattle.std.specs.List.{filter}
-use Rattle.std.specs.Ordering.{nat_cmp}
-use Rattle.std.specs.FinMap.{empty, entries, from_sorted, empty_of_len, len-entries, entries-from_sorted}
+use Rattle.std.specs.Ordering.{nat_cmp, eq_by_cmp}
+use Rattle.std.specs.Option.{option_map}
+use Rattle.std.specs.FinMap.Entries.{find as find_entry}
+use Rattle.std.proofs.lemmas.Bool.Decides.{nat_tests}
+use Rattle.std.specs.FinMap.{get, entries, from_sorted}
 use Rattle.std.proofs.lemmas.List.{take_all, drop_all}
 use Rattle.cg_types.specs.Rising.{Rises}
-use Rattle.cg_types.proofs.RisingLemmas.{keys_of, entries_rising, filter_rising, rise_filter}
+use Rattle.cg_types.proofs.RisingLemmas.{keys_of, entries_rising, get_rising, filter_rising, rise_filter}
 use Rattle.cg_entry.specs.declared.state.State.{State}
 use Rattle.cg_entry.specs.Versioned.{Versioned, States}
-use Rattle.cg_entry.specs.State.{pair, pairs, KeysRise}
+use Rattle.cg_entry.specs.State.{pair, pairs, versioned, KeysRise}
 use Rattle.cg_entry.specs.Entry.{greatest_of, greatest, newer_than}
-
-pub map_of_none : from_sorted {R = nat_cmp} (pairs []) ≡ empty {X = Versioned} {R = nat_cmp}
-map_of_none = empty_of_len (from_sorted {R = nat_cmp} []) (len-entries _ ∙ ap length (entries-from_sorted nat_cmp [] tt))
 
 pub keys-pairs : (items : List State) → keys_of (pairs items) ≡ map (λ s. s.key) items
 keys-pairs [] = refl
@@ -54,3 +54,46 @@ pub greatest_whole : (n most i : ℕ) (xs all : List State) (states : States) �
 greatest_whole n most i xs all states le so_far same rise is =
     let nothing : most ≡ greatest_of most (pairs (drop i xs)) = ap (λ (ys : List State). greatest_of most (pairs ys)) (sym (drop_all i xs le)) in
     nothing ∙ so_far ∙ ap (λ (ys : List State). greatest_of n (pairs ys)) same ∙ greatest-pairs n all rise ∙ ap (greatest n) is
+
+-- ---- the state of a key
+
+same_keys : (q k : ℕ) → eq_by_cmp nat_cmp q k ≡ (k == q)
+same_keys q k = grind (arith, nat_tests)
+
+found_by : (b : Bool) (s : State) (ss : List State) (q : ℕ) → option_map versioned (find (λ (t : State). t.key == q) ss) ≡ find_entry nat_cmp q (pairs ss)
+    → option_map versioned (cond b (Some s) (find (λ (t : State). t.key == q) ss)) ≡ cond b (Some (versioned s)) (find_entry nat_cmp q (pairs ss))
+found_by true s ss q h = refl
+found_by false s ss q h = h
+
+find-pairs : (q : ℕ) (ss : List State) → option_map versioned (find (λ (t : State). t.key == q) ss) ≡ find_entry nat_cmp q (pairs ss)
+find-pairs q [] = refl
+find-pairs q (s ∷ ss) = found_by (s.key == q) s ss q (find-pairs q ss) ∙ ap (λ (b : Bool). cond b (Some (versioned s)) (find_entry nat_cmp q (pairs ss))) (sym (same_keys q s.key))
+
+-- what a list has at a key, its map has
+pub get-pairs : (q : ℕ) (given items : List State) (states : States) → given ≡ items → KeysRise items → from_sorted {R = nat_cmp} (pairs items) ≡ states
+    → option_map versioned (find (λ (t : State). t.key == q) given) ≡ get states q
+get-pairs q given items states same rise seen =
+    ap (λ (ss : List State). option_map versioned (find (λ (t : State). t.key == q) ss)) same ∙ find-pairs q items ∙ sym (get_rising (pairs items) q (pairs_rise items rise)) ∙ ap (λ (m : States). get m q) seen
+
+-- ---- lists with the same map
+
+pair_is : (a b : State) → pair a ≡ pair b → a ≡ b
+pair_is a b e = ap (λ (p : ℕ × Versioned). record { key = p.0; version = p.1.version; text = p.1.text }) e
+
+front_is : {X : Type 0} (x y : X) (xs ys : List X) → (x ∷ xs) ≡ (y ∷ ys) → (x ≡ y) × (xs ≡ ys)
+front_is x y xs ys e = (cc, cc)
+
+none_is : {X : Type 0} (x : X) (xs : List X) → (x ∷ xs) ≡ [] → ⊥
+none_is x xs e = cc
+
+pairs_is : (xs ys : List State) → pairs xs ≡ pairs ys → xs ≡ ys
+pairs_is [] [] e = refl
+pairs_is [] (y ∷ ys) e = absurd (none_is (pair y) (pairs ys) (sym e))
+pairs_is (x ∷ xs) [] e = absurd (none_is (pair x) (pairs xs) e)
+pairs_is (x ∷ xs) (y ∷ ys) e =
+    let parts = front_is (pair x) (pair y) (pairs xs) (pairs ys) e in
+    (λ i. pair_is x y parts.0 i ∷ pairs_is xs ys parts.1 i)
+
+-- what has one map is one list, where the keys rise
+pub same_items : (xs ys : List State) (m n : States) → KeysRise xs → KeysRise ys → from_sorted {R = nat_cmp} (pairs xs) ≡ m → from_sorted {R = nat_cmp} (pairs ys) ≡ n → m ≡ n → xs ≡ ys
+same_items xs ys m n rx ry mx my e = pairs_is xs ys (sym (entries-pairs xs rx) ∙ ap entries (mx ∙ e ∙ sym my) ∙ entries-pairs ys ry)

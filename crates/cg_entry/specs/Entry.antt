@@ -1,5 +1,5 @@
 -- What is held of an endpoint.
-use Rattle.std.specs.Prelude.{ℕ, ◌≡◌, ◌<◌, List, [], ◌∷◌, nat_lt, nat_le, max, Option, Some, None, if◌then◌else◌}
+use Rattle.std.specs.Prelude.{ℕ, ◌+◌, ◌≡◌, ◌<◌, Bool, ◌&&◌, ◌||◌, ◌==◌, ◌++◌, List, [], ◌∷◌, nat_lt, nat_le, max, Option, Some, None, if◌then◌else◌}
 use Rattle.std.specs.List.{filter}
 use Rattle.std.specs.FinMap as map
 use Rattle.cg_entry.specs.Values.{EntryValue, DeltaValue}
@@ -18,6 +18,10 @@ greatest heartbeat states = greatest_of heartbeat (map.entries states)
 abbrev pub newer_than : ℕ → States → States
 newer_than v states = map.from_sorted (filter (λ s. nat_lt v s.1.version) (map.entries states))
 
+-- the new states, and at every other key the old ones
+abbrev pub overlay : States → States → States
+overlay old new = map.from_entries (map.entries new ++ map.entries old)
+
 -- the entry of an endpoint that starts
 abbrev pub started : ℕ → EntryValue
 started generation = record { generation = generation; heartbeat = 1; states = map.empty }
@@ -25,6 +29,22 @@ started generation = record { generation = generation; heartbeat = 1; states = m
 -- the greatest version in an entry
 abbrev pub newest : EntryValue → ℕ
 newest e = greatest e.heartbeat e.states
+
+-- the entry after a heartbeat
+abbrev pub beaten : EntryValue → EntryValue
+beaten e = record { generation = e.generation; heartbeat = newest e + 1; states = e.states }
+
+-- the entry after a key is given a text
+abbrev pub with_state : ℕ → List ℕ → EntryValue → EntryValue
+with_state key text e = record {
+  generation = e.generation;
+  heartbeat = e.heartbeat;
+  states = map.insert e.states key (record { text = text; version = newest e + 1 });
+}
+
+-- Entry x is later than y: a greater generation, or in the same one a greater version.
+abbrev pub is_later : EntryValue → EntryValue → Bool
+is_later x y = nat_lt y.generation x.generation || (x.generation == y.generation && nat_lt (newest y) (newest x))
 
 -- what a holder at v lacks of an entry
 abbrev pub delta_above : ℕ → EntryValue → Option DeltaValue

@@ -2,3 +2,8 @@ pub mod Versioned
 pub mod State
 pub mod Values
 pub mod Entry
+pub mod Taking
+pub mod History
+pub mod Place
+pub mod Spelling
+pub mod Laws

@@ -1,5 +1,5 @@
 -- States in a list, as a finite map.
-use Rattle.std.specs.Prelude.{ℕ, Bool, ◌&&◌, ◌||◌, not, ◌==◌, List, length, map, nat_lt, None}
+use Rattle.std.specs.Prelude.{ℕ, suc, Bool, ◌&&◌, ◌||◌, not, ◌==◌, List, [], ◌∷◌, length, map, nat_lt, None, if◌then◌else◌}
 use Rattle.std.specs.List.{list_all}
 use Rattle.cg_types.specs.Rising.{Rises, rise_past}
 use Rattle.cg_entry.specs.declared.state.State.{State}
@@ -32,3 +32,8 @@ all_newer above items = list_all (λ s. nat_lt above s.version) items
 -- whether a delta can be made of these
 abbrev pub makes_delta : ℕ → ℕ → List State → Bool
 makes_delta above heartbeat items = (nat_lt above heartbeat || not (length items == 0)) && (all_newer above items && keys_rise items)
+
+-- how many entries stand before the first key that is not below k
+abbrev pub place : ℕ → List (ℕ × Versioned) → ℕ
+place k [] = 0
+place k (e ∷ es) = if nat_lt e.0 k then suc (place k es) else 0

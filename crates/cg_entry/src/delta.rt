@@ -112,6 +112,12 @@ impl Delta {
         self.states.greatest(self.heartbeat)
     }
 
+    pub(crate) fn held(&self) -> &States
+        ensures { result.now ≡ self.now.states }
+    {
+        &self.states
+    }
+
     /// The states, rising by key.
     pub fn states(&self) -> &[State]
         ensures value { pairs result.now ≡ map.entries self.now.states }

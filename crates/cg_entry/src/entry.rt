@@ -1,11 +1,18 @@
 //! What is held of one endpoint.
 
-ghost use Rattle.std.specs.Prelude.{◌≡◌, IfOk};
-ghost use Rattle.cg_entry.specs.Entry.{newest, delta_above, started};
+ghost use Rattle.std.specs.Prelude.{◌≡◌, ◌↔◌, IsTrue, IfOk, OnOk, OnErr, None, Ok};
+ghost use Rattle.std.specs.FinMap as map;
+ghost use Rattle.std.specs.Option.{option_map};
+ghost use Rattle.cg_types.specs.Answer.{Answers, AnswersExactly};
+ghost use Rattle.cg_version.specs.Version.{next_version};
+ghost use Rattle.cg_entry.specs.Entry.{newest, delta_above, started, beaten, with_state, is_later as is_later_of};
+ghost use Rattle.cg_entry.specs.Taking.{whole_entry, absorbed};
 
 use crate::delta::Delta;
+use crate::state::State;
 use crate::states::States;
-use cg_types::{Generation, Version};
+use cg_types::{Fault, Generation, StateKey, StateText, Version};
+use cg_version::Versions;
 use std::alloc::{AllocError, Global};
 use std::marker::Model;
 
@@ -28,6 +35,15 @@ impl Model for Entry {
     ghost view = { λ e. record { generation = e.generation; heartbeat = e.heartbeat; states = e.states } };
 }
 
+/// What became of a delta: the entry that it led to, or why it was not taken. `Old` brings nothing new; at a `Gap`
+/// the holder lacks something below it.
+#[derive(Debug, Drop)]
+pub enum Absorbed {
+    Taken(Entry),
+    Old,
+    Gap,
+}
+
 impl Entry {
     /// The entry of an endpoint that starts. It takes no memory: `alloc` is kept for what is held later.
     pub fn start(alloc: Global, generation: Generation) -> Entry
@@ -38,6 +54,96 @@ impl Entry {
             heartbeat: Version::first(),
             states: States::empty(alloc),
         }
+    }
+
+    /// The entry that a whole delta carries; `None` where the delta stands above a version.
+    pub fn of_delta(alloc: Global, delta: &Delta) -> Result<Option<Entry>, AllocError>
+        ensures value { IfOk result (λ e. e ≡ whole_entry delta.now) }
+        ensures none { whole_entry delta.now ≡ None → result ≡ Ok None }
+    {
+        if delta.above() != 0 {
+            return Ok(None);
+        }
+        Ok(Some(Entry {
+            generation: delta.generation(),
+            heartbeat: delta.heartbeat(),
+            states: delta.held().copy(alloc)?,
+        }))
+    }
+
+    /// Sets the heartbeat version to the next version. It takes no memory. `VersionsSpent` where there is none; the
+    /// entry and the versions are then as before.
+    pub fn beat(&mut self, versions: &mut Versions) -> Result<Version, Fault>
+        requires { versions.old ≡ newest self.old }
+        ensures version { AnswersExactly (λ v. v) (next_version (newest self.old)) result }
+        ensures ok { OnOk result (self.new ≡ beaten self.old) }
+        ensures given { IfOk result (λ v. versions.new ≡ v) }
+        ensures stands { versions.new ≡ newest self.new }
+        ensures err { OnErr result (self.new ≡ self.old) }
+        ensures kept { OnErr result (versions.new ≡ versions.old) }
+    {
+        let version = versions.next()?;
+        self.heartbeat = version;
+        Ok(version)
+    }
+
+    /// Gives a key a text with the next version. `VersionsSpent` where there is none, else at most `OutOfMemory`; the
+    /// entry and the versions are then as before.
+    pub fn set(
+        &mut self,
+        versions: &mut Versions,
+        key: StateKey,
+        text: StateText,
+    ) -> Result<Version, Fault>
+        requires { versions.old ≡ newest self.old }
+        ensures version { Answers (λ v. v) (next_version (newest self.old)) result }
+        ensures ok { OnOk result (self.new ≡ with_state key text self.old) }
+        ensures given { IfOk result (λ v. versions.new ≡ v) }
+        ensures stands { versions.new ≡ newest self.new }
+        ensures err { OnErr result (self.new ≡ self.old) }
+        ensures kept { OnErr result (versions.new ≡ versions.old) }
+    {
+        let mut after = *versions;
+        let version = after.next()?;
+        self.states.put(State { key, version, text })?;
+        *versions = after;
+        Ok(version)
+    }
+
+    /// The text of a key and the version that set it, if it was set.
+    pub fn get(&self, key: StateKey) -> Option<(&StateText, Version)>
+        ensures { option_map (λ s. record { text = s.0.now; version = s.1 }) result ≡ map.get self.now.states key }
+    {
+        match self.states.get(key) {
+            Some(state) => Some((&state.text, state.version)),
+            None => None,
+        }
+    }
+
+    /// What taking a delta about this endpoint makes of the entry, which stays as it is.
+    pub fn absorb(&self, alloc: Global, delta: &Delta) -> Result<Absorbed, AllocError>
+        ensures { IfOk result (λ a. a ≡ absorbed self.now delta.now) }
+    {
+        if delta.generation() < self.generation {
+            return Ok(Absorbed::Old);
+        }
+        if self.generation < delta.generation() {
+            return match Entry::of_delta(alloc, delta)? {
+                Some(entry) => Ok(Absorbed::Taken(entry)),
+                None => Ok(Absorbed::Gap),
+            };
+        }
+        if delta.newest() <= self.newest() {
+            return Ok(Absorbed::Old);
+        }
+        if self.newest().get() < delta.above() {
+            return Ok(Absorbed::Gap);
+        }
+        Ok(Absorbed::Taken(Entry {
+            generation: self.generation,
+            heartbeat: delta.heartbeat(),
+            states: self.states.overlaid(alloc, delta.held())?,
+        }))
     }
 
     /// Which start of the endpoint the entry tells of.
@@ -61,10 +167,29 @@ impl Entry {
         self.states.greatest(self.heartbeat)
     }
 
+    /// Whether it is the same entry: generation, heartbeat version and states.
+    pub fn is_same(&self, other: &Entry) -> bool
+        ensures { IsTrue result ↔ (self.now ≡ other.now) }
+    {
+        other.generation == self.generation
+            && self.heartbeat == other.heartbeat
+            && self.states.is_same(&other.states)
+    }
+
+    /// Whether it is later than another entry of this endpoint: of a greater generation, or in the same one with a
+    /// greater newest version.
+    pub fn is_later(&self, other: &Entry) -> bool
+        ensures { result ≡ is_later_of self.now other.now }
+    {
+        other.generation < self.generation
+            || (self.generation == other.generation && other.newest() < self.newest())
+    }
+
     /// What a holder of this generation at version `above` lacks; 0 stands for a holder of nothing. `None` where
     /// it lacks nothing.
     pub fn above(&self, alloc: Global, above: u32) -> Result<Option<Delta>, AllocError>
-        ensures { IfOk result (λ d. d ≡ delta_above above self.now) }
+        ensures value { IfOk result (λ d. d ≡ delta_above above self.now) }
+        ensures none { delta_above above self.now ≡ None → result ≡ Ok None }
     {
         if self.newest().get() <= above {
             return Ok(None);

@@ -8,11 +8,12 @@
 
 mod delta;
 mod entry;
+pub mod laws;
 mod state;
 mod states;
 #[cfg(test)]
 mod tests;
 
 pub use delta::Delta;
-pub use entry::Entry;
+pub use entry::{Absorbed, Entry};
 pub use state::State;

@@ -6,7 +6,7 @@ use cg_types::{StateKey, StateText, Version};
 use std::alloc::AllocError;
 
 /// A key's text, and the version that set it (Apache Cassandra's `VersionedValue` at its `ApplicationState`).
-#[derive(Debug, Drop)]
+#[derive(Debug, Drop, PartialEq, Eq)]
 pub struct State {
     pub key: StateKey,
     pub version: Version,

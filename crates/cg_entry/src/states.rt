@@ -1,9 +1,12 @@
 //! A finite map from keys to texts with their versions, kept in the order of the keys.
 
-ghost use Rattle.std.specs.Prelude.{◌≡◌, IfOk};
+ghost use Rattle.std.specs.Prelude.{◌≡◌, ◌==◌, ◌↔◌, IsTrue, IfOk, OnOk, OnErr, find, option_copied};
 ghost use Rattle.std.specs.FinMap as map;
-ghost use Rattle.cg_entry.specs.Entry.{greatest, newer_than};
-ghost use Rattle.cg_entry.specs.State.{KeysRise, keys_rise as keys_rise_of, pairs};
+ghost use Rattle.std.specs.FinMap.Entries.{put};
+ghost use Rattle.std.specs.Option.{option_map};
+ghost use Rattle.std.specs.Ordering.{nat_cmp};
+ghost use Rattle.cg_entry.specs.Entry.{greatest, newer_than, overlay};
+ghost use Rattle.cg_entry.specs.State.{KeysRise, keys_rise as keys_rise_of, pairs, place, versioned};
 
 use crate::state::State;
 use cg_types::{StateKey, Version};
@@ -45,6 +48,41 @@ pub(crate) fn keys_rise(items: &[State]) -> bool
         last = Some(state.key);
     }
     true
+}
+
+// The state of a key, if there is one.
+fn state_of(items: &[State], key: StateKey) -> Option<&State>
+    ensures { option_copied result ≡ find (λ s. s.key == key) items.now }
+{
+    items.iter().find(|state| state.key == key)
+}
+
+// The first place whose key is not below the key.
+fn place_of(items: &[State], key: StateKey) -> usize
+    ensures { result ≡ place key (pairs items.now) }
+{
+    let mut at = 0;
+    for state in items {
+        if state.key >= key {
+            return at;
+        }
+        at += 1;
+    }
+    at
+}
+
+// Puts a state in its place, in place of one with its key.
+fn put_state(items: &mut Vec<State>, state: State) -> Result<(), AllocError>
+    ensures ok { OnOk result (pairs items.new.items ≡ put nat_cmp state.key (versioned state) (pairs items.old.items)) }
+    ensures err { OnErr result (items.new.items ≡ items.old.items) }
+{
+    let at = place_of(items, state.key);
+    if at < items.len() && items[at].key == state.key {
+        items[at] = state;
+    } else {
+        items.insert(at, state)?;
+    }
+    Ok(())
 }
 
 fn copies(alloc: Global, items: &[State]) -> Result<Vec<State>, AllocError>
@@ -103,6 +141,40 @@ impl States {
         Ok(States {
             items: copies(alloc, &self.items)?,
         })
+    }
+
+    // The state of a key, if there is one.
+    pub(crate) fn get(&self, key: StateKey) -> Option<&State>
+        ensures { option_map versioned (option_copied result) ≡ map.get self.now key }
+    {
+        state_of(&self.items, key)
+    }
+
+    // Puts a state, in place of one with its key.
+    pub(crate) fn put(&mut self, state: State) -> Result<(), AllocError>
+        ensures ok { OnOk result (self.new ≡ map.insert self.old state.key (versioned state)) }
+        ensures err { OnErr result (self.new ≡ self.old) }
+    {
+        put_state(&mut self.items, state)?;
+        Ok(())
+    }
+
+    // Those of `newer`, and at every other key these.
+    pub(crate) fn overlaid(&self, alloc: Global, newer: &States) -> Result<States, AllocError>
+        ensures { IfOk result (λ s. s ≡ overlay self.now newer.now) }
+    {
+        let mut items = copies(alloc, &self.items)?;
+        for state in &newer.items {
+            put_state(&mut items, state.copy()?)?;
+        }
+        Ok(States { items })
+    }
+
+    // Whether both are the same map.
+    pub(crate) fn is_same(&self, other: &States) -> bool
+        ensures { IsTrue result ↔ (self.now ≡ other.now) }
+    {
+        self.items.as_slice() == other.items.as_slice()
     }
 
     // In the order of the keys.

@@ -59,25 +59,45 @@ fn answer_to(alloc: Global, digests: Vec<Digest>) -> Result<Ack, Fail> {
     Ok(answer_of_b(alloc, &syn(alloc, "c1", 1, digests)?)??)
 }
 
-// What a SYN names, the request that it is answered with, and whether B is sent.
+// What the answer asks for: the owner, the generation and the version of its only request.
+fn asked(ack: &Ack) -> Option<(Endpoint, u32, u32)> {
+    match ack.requests() {
+        [one] => Some((one.endpoint(), one.generation().get(), one.version())),
+        _ => None,
+    }
+}
+
+// B's answer where a SYN of its cluster names one endpoint.
+fn answer_to_one(alloc: Global, owner: u16, at: u32, newest: u32) -> Result<Ack, Fail> {
+    answer_to(alloc, vec![in alloc; digest(owner, at, newest)?]?)
+}
+
 #[test]
-fn one_digest_is_answered(rt: HostRuntime) -> Result<(), Fail> {
+fn what_is_not_held_is_asked_for(rt: HostRuntime) -> Result<(), Fail> {
+    let ack = answer_to_one(rt.alloc(), A, 9, 1)?;
+    assert_eq!(rt; asked(&ack), Some((endpoint(A)?, 9, 0)));
+    assert_eq!(rt; ack.deltas().len(), 1);
+    Ok(())
+}
+
+// Of B: the generation and the newest version that a SYN names, the generation and the version that are asked for,
+// and how many deltas are sent.
+#[test]
+fn what_is_held_is_answered_by_how_far_it_came(rt: HostRuntime) -> Result<(), Fail> {
     let rows = [
-        (digest(A, 9, 1)?, Some(request(A, 9, 0)?), 1),
-        (digest(B, 5, 1)?, None, 0),
-        (digest(B, 5, 4)?, Some(request(B, 5, 1)?), 0),
-        (digest(B, 6, 2)?, Some(request(B, 6, 0)?), 0),
-        (digest(B, 4, 9)?, None, 1),
+        (5, 1, None, 0),
+        (5, 4, Some((5, 1)), 0),
+        (6, 2, Some((6, 0)), 0),
+        (4, 9, None, 1),
     ];
-    for (named, asked, sent) in rows {
-        let ack = answer_to(rt.alloc(), vec![in rt.alloc(); named]?)?;
-        assert!(rt; ack.requests().len() <= 1);
+    let owner = endpoint(B)?;
+    for (at, newest, wanted, sent) in rows {
+        let ack = answer_to_one(rt.alloc(), B, at, newest)?;
         assert_eq!(rt;
-            ack.requests().first().copied(),
-            asked,
-            "requests at {named:?}"
+            asked(&ack),
+            wanted.map(|(at, version)| (owner, at, version))
         );
-        assert_eq!(rt; ack.deltas().len(), sent, "deltas at {named:?}");
+        assert_eq!(rt; ack.deltas().len(), sent);
     }
     Ok(())
 }
@@ -107,12 +127,17 @@ fn another_cluster_is_not_answered(rt: HostRuntime) -> Result<(), Fail> {
     Ok(())
 }
 
+// Whether a SYN can name two endpoints in this order.
+fn makes_a_syn(alloc: Global, first: u16, second: u16) -> Result<bool, Fail> {
+    let digests = vec![in alloc; digest(first, 9, 1)?, digest(second, 9, 1)?]?;
+    let cluster = Cluster::with(alloc, "c1", 1)?;
+    Ok(Syn::new(cluster, digests).is_some())
+}
+
 #[test]
 fn digests_of_a_syn_rise(rt: HostRuntime) -> Result<(), Fail> {
     for (first, second, rise) in [(A, B, true), (B, A, false), (A, A, false)] {
-        let digests = vec![in rt.alloc(); digest(first, 9, 1)?, digest(second, 9, 1)?]?;
-        let cluster = Cluster::with(rt.alloc(), "c1", 1)?;
-        assert_eq!(rt; Syn::new(cluster, digests).is_some(), rise);
+        assert_eq!(rt; makes_a_syn(rt.alloc(), first, second)?, rise);
     }
     Ok(())
 }
@@ -132,13 +157,17 @@ fn digests_of_a_syn_are_few(rt: HostRuntime) -> Result<(), Fail> {
     Ok(())
 }
 
+// Whether an ACK can ask A and then another endpoint, and send A and then another one.
+fn makes_an_ack(alloc: Global, asked: u16, sent: u16) -> Result<bool, Fail> {
+    let requests = vec![in alloc; request(A, 9, 0)?, request(asked, 9, 0)?]?;
+    let deltas = vec![in alloc; whole(alloc, A)?, whole(alloc, sent)?]?;
+    Ok(Ack::new(requests, deltas).is_some())
+}
+
 #[test]
 fn both_lists_of_an_ack_rise(rt: HostRuntime) -> Result<(), Fail> {
-    let alloc = rt.alloc();
-    for (second_asked, second_sent, rise) in [(B, B, true), (A, B, false), (B, A, false)] {
-        let requests = vec![in alloc; request(A, 9, 0)?, request(second_asked, 9, 0)?]?;
-        let deltas = vec![in alloc; whole(alloc, A)?, whole(alloc, second_sent)?]?;
-        assert_eq!(rt; Ack::new(requests, deltas).is_some(), rise);
+    for (asked, sent, rise) in [(B, B, true), (A, B, false), (B, A, false)] {
+        assert_eq!(rt; makes_an_ack(rt.alloc(), asked, sent)?, rise);
     }
     Ok(())
 }

@@ -1,25 +1,24 @@
 -- What is spelled so is read, whatever follows.
-use Rattle.std.proofs.Common.{◌≡◌, ℕ, suc, ◌+◌, ◌*◌, ◌^◌, ◌<◌, ◌≤◌, Bool, true, false, cond, ltb, List, [], ◌∷◌, ◌++◌, length, map, take, drop, Option, Some, None, Result, Ok, Err, refl, sym, ap, subst, ◌∙◌, append_assoc, arith, length-append}
-use Rattle.std.specs.Prelude.{nat_lt, ◌==◌, not, ◌&&◌, ◌||◌}
-use Rattle.std.specs.Int.{w8, w16, w32, byte_len, from_be_bytes, to_be_bytes}
+use Rattle.std.proofs.Common.{◌≡◌, ℕ, suc, ◌^◌, ◌<◌, ◌≤◌, true, false, cond, List, [], ◌∷◌, ◌++◌, length, map, take, drop, Option, Some, None, Ok, Err, refl, ap, ◌∙◌, append_assoc, arith, length-append}
+use Rattle.std.specs.Prelude.{nat_lt, ◌==◌, ◌||◌}
+use Rattle.std.specs.Int.{w8, w16, w32, from_be_bytes, to_be_bytes}
 use Rattle.std.specs.List.{flat_map, AllByRecursion}
-use Rattle.std.proofs.lemmas.Bool.{ltb-false, ltb-true, le-ltb, lt-ltb, ne_eqb}
+use Rattle.std.proofs.lemmas.Bool.{le-ltb, lt-ltb, ne_eqb}
 use Rattle.std.proofs.lemmas.List.{take_at, drop_at}
 use Rattle.std.proofs.lemmas.List.Concat.{flat_map-cons}
 use Rattle.std.proofs.lemmas.Nat.{from_be_bytes-to_be_bytes_2, from_be_bytes-to_be_bytes_4}
 use Rattle.cg_types.specs.declared.fault.Cause.{Cause}
 use Rattle.cg_types.specs.declared.fault.Cause.TheVariants as causes
 use Rattle.cg_types.specs.declared.limits.TheConstants.{NUMBER_LIMIT, NAME_LIMIT}
-use Rattle.cg_types.specs.Text.{plain, IsClusterName}
+use Rattle.cg_types.specs.Text.{IsClusterName}
 use Rattle.cg_exchange.specs.declared.message.Message.TheVariants.{Syn}
 use Rattle.cg_exchange.specs.Values.{SynValue}
 use Rattle.cg_frames.specs.declared.layout.Layout.{Layout}
-use Rattle.cg_types.specs.Numbers.{IsEndpoint, IsGeneration, IsVersion, address_of, port_of, endpoint_of}
+use Rattle.cg_types.specs.Numbers.{IsEndpoint, address_of, port_of, endpoint_of}
 use Rattle.cg_types.specs.Rising.{is_past, rise_past}
 use Rattle.cg_types.proofs.RisingLemmas.{first_of, second_of}
 use Rattle.cg_table.specs.declared.digest.Digest.{Digest}
-use Rattle.cg_frames.specs.declared.misread.Misread.{Misread}
-use Rattle.cg_frames.specs.Reading.{◌>>=◌, Field, bytes_at, number_at, endpoint_from, endpoint_at, ranged_at, digest_at, rising_at, digests_at, count_at, plain_at, name_at, syn_at}
+use Rattle.cg_frames.specs.Reading.{◌>>=◌, Field, bytes_at, number_at, endpoint_from, endpoint_at, ranged_at, digest_at, rising_at, count_at, plain_at, name_at, syn_at}
 use Rattle.cg_frames.specs.Fits.{FitsDigest, FitsSyn}
 use Rattle.cg_frames.proofs.TakenLemmas.{syn_made, after_count, after_partitioner, after_name}
 use Rattle.cg_frames.specs.Spelling.{two_bytes, four_bytes, endpoint, digest, members, body}

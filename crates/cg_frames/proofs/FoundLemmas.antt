@@ -16,17 +16,16 @@ use Rattle.cg_types.proofs.RisingLemmas.{first_of, second_of}
 use Rattle.cg_table.specs.declared.digest.Digest.{Digest}
 use Rattle.cg_types.specs.Answer.{Answers}
 use Rattle.cg_types.specs.declared.fault.Fault.{Fault}
-use Rattle.std.specs.Prelude.{IfOk, IfSome}
 use Rattle.cg_frames.specs.declared.layout.Layout.{Layout}
 use Rattle.cg_frames.specs.declared.layout.TheConstants.{LAYOUT_1}
 use Rattle.cg_frames.specs.declared.misread.Misread.{Misread}
-use Rattle.cg_frames.specs.Reading.{◌>>=◌, Field, bytes_at, number_at, endpoint_at, ranged_at, digest_at, rising_at, plain_at, name_at, count_at, digests_at, syn_at, ended, told, of_kind, inside_at, frame_at}
+use Rattle.cg_frames.specs.Reading.{◌>>=◌, Field, bytes_at, number_at, endpoint_at, ranged_at, digest_at, rising_at, plain_at, name_at, syn_at, ended, told, of_kind, inside_at, frame_at}
 use Rattle.cg_frames.specs.Spelling.{two_bytes, four_bytes, endpoint, digest, cluster, members, body, inside, frame}
 use Rattle.cg_exchange.specs.Values.{SynValue}
 use Rattle.cg_exchange.specs.declared.message.Message.{Message}
-use Rattle.cg_exchange.specs.declared.message.Message.TheVariants.{Syn, Ack}
+use Rattle.cg_exchange.specs.declared.message.Message.TheVariants.{Syn}
 use Rattle.cg_frames.specs.Fits.{Fits, FitsDigest, FitsSyn}
-use Rattle.cg_frames.specs.Laws.{IsSyn, IsSpelledIn}
+use Rattle.cg_frames.specs.Laws.{IsSyn, IsSpelledIn, TakesOnlySpelled}
 use Rattle.cg_frames.proofs.TakenLemmas.{bind_ok, ok_is, goes_by, goes_on_by, endpoint_parts, digest_parts, rising_parts, none_read, rising_taken, digest_past, count_within, syn_parts}
 use Rattle.cg_frames.proofs.FrameLemmas.{frame_parts}
 
@@ -283,6 +282,9 @@ kind_found layout kind place behind m small h =
       | false ↦ λ other h. absurd (no_value (kind == 2 || kind == 3) (record { cause = causes.Unexpected; left = length place }) (record { cause = causes.Kind; left = length place }) m h)
     ] refl h
 
+two_before : (bytes from_second behind body : List ℕ) (first byte second kind : ℕ) → bytes ≡ first ∷ from_second → from_second ≡ second ∷ behind → first ≡ byte → second ≡ kind → behind ≡ body → bytes ≡ byte ∷ (kind ∷ body)
+two_before bytes from_second behind body first byte second kind e f b k r = e ∙ ap (λ (ys : List ℕ). first ∷ ys) f ∙ (λ i. b i ∷ (k i ∷ r i))
+
 pub inside_found : (layout : Layout) (bytes : List ℕ) (m : Message) → AreBytes bytes → inside_at layout bytes ≡ Ok m → InsideFound layout bytes m
 unfolding inside_at
 inside_found layout bytes m small h =
@@ -294,9 +296,8 @@ inside_found layout bytes m small h =
     let second = byte_found a.0.1 b.0.0 b.0.1 first.0.bytes_behind g.1 in
     let k = kind_found layout b.0.0 a.0.1 b.0.1 m second.0.bytes_behind b.2 in
     let is : a.0.0 ≡ layout.byte = eqb-true a.0.0 layout.byte g.0 in
-    let spelled : bytes ≡ inside layout (Syn k.1.0) =
-    first.0.whole ∙ ap (λ (ys : List ℕ). a.0.0 ∷ ys) second.0.whole ∙ (λ i. is i ∷ (k.0 i ∷ k.1.2 i)) in
-    subst (λ (m : Message). InsideFound layout bytes m) k.1.1 (record { spelled = spelled; fits = k.1.3; is_syn = tt })
+    let spelled = two_before bytes a.0.1 b.0.1 (body (Syn k.1.0)) a.0.0 layout.byte b.0.0 1 first.0.whole second.0.whole is k.0 k.1.2 in
+    subst (λ (m : Message). InsideFound layout bytes m) {x = Syn k.1.0} k.1.1 (record { spelled = spelled; fits = k.1.3; is_syn = tt })
 
 -- ---- a frame
 
@@ -324,7 +325,7 @@ frame_found layout bytes m n small h =
     ∙ sym (append_assoc (four_bytes (length (inside layout m))) (inside layout m) (drop size behind)) in
     record { within = p.within; spelled = ap (take n) whole ∙ take_at (frame layout m) (drop size behind) n long; fits = f.fits; is_syn = f.is_syn }
 
-pub all_found : (bytes : List ℕ) (result : Result (Option (Message × ℕ)) Fault) → AreBytes bytes → Answers (λ (x : Option (Message × ℕ)). x) (frame_at LAYOUT_1 bytes) result → IfOk result (λ found. IfSome found (λ f. IsSpelledIn LAYOUT_1 bytes f.0 f.1))
+pub all_found : (bytes : List ℕ) (result : Result (Option (Message × ℕ)) Fault) → AreBytes bytes → Answers (λ (x : Option (Message × ℕ)). x) (frame_at LAYOUT_1 bytes) result → TakesOnlySpelled LAYOUT_1 bytes result
 all_found bytes (Ok (Some f)) small answers = frame_found LAYOUT_1 bytes f.0 f.1 small answers
 all_found bytes (Ok None) small answers = tt
 all_found bytes (Err fault) small answers = tt

@@ -1,14 +1,14 @@
 -- Laws of whole messages: what is spelled so is read, is short, and is no other message's spelling.
-use Rattle.std.proofs.Common.{◌≡◌, ℕ, ◌+◌, ◌*◌, ◌^◌, ◌<◌, ◌≤◌, Bool, true, false, cond, List, [], ◌∷◌, ◌++◌, length, map, take, drop, Option, Some, None, Result, Ok, Err, refl, sym, ap, subst, ◌∙◌, append_assoc, arith, length-append}
+use Rattle.std.proofs.Common.{◌≡◌, ℕ, ◌+◌, ◌*◌, ◌^◌, ◌<◌, ◌≤◌, Bool, cond, List, [], ◌∷◌, ◌++◌, length, take, drop, Option, Some, Result, Ok, Err, refl, sym, ap, subst, ◌∙◌, append_assoc, arith, length-append}
 use Rattle.std.specs.Prelude.{◌==◌}
 use Rattle.std.specs.Int.{w8, w32, from_be_bytes, to_be_bytes}
 use Rattle.std.specs.List.{flat_map, AllByRecursion}
 use Rattle.std.specs.FinMap.{entries, entries_sorted}
 use Rattle.std.proofs.lemmas.Bool.{eq-eqb}
-use Rattle.std.proofs.lemmas.List.{take_at, drop_at, append-nil, length-map}
+use Rattle.std.proofs.lemmas.List.{take_at, drop_at, append-nil}
 use Rattle.std.proofs.lemmas.List.Concat.{flat_map-cons}
 use Rattle.std.proofs.lemmas.Nat.{from_be_bytes-to_be_bytes_4}
-use Rattle.cg_types.specs.declared.limits.TheConstants.{TEXT_LIMIT, MEMBER_LIMIT, STATE_LIMIT}
+use Rattle.cg_types.specs.declared.limits.TheConstants.{MEMBER_LIMIT}
 use Rattle.cg_types.specs.declared.fault.Cause.TheVariants as causes
 use Rattle.cg_types.specs.Answer.{Answers}
 use Rattle.cg_types.specs.declared.fault.Fault.{Fault}
@@ -23,9 +23,9 @@ use Rattle.cg_frames.specs.declared.layout.Layout.{Layout}
 use Rattle.cg_frames.specs.declared.layout.TheConstants.{LAYOUT_1}
 use Rattle.cg_frames.specs.declared.misread.Misread.{Misread}
 use Rattle.cg_frames.specs.Reading.{◌>>=◌, Field, number_at, ended, told, of_kind, syn_at, inside_at, frame_at}
-use Rattle.cg_frames.specs.Spelling.{two_bytes, four_bytes, endpoint, digest, request, text, state, delta, members, cluster, kind, body, message, inside, frame}
-use Rattle.cg_frames.specs.Fits.{FitsState, FitsDelta, FitsMembers, FitsSyn, FitsAck, Fits}
-use Rattle.cg_frames.specs.Lengths.{state_most, delta_most, deltas_most, greatest_length}
+use Rattle.cg_frames.specs.Spelling.{two_bytes, four_bytes, endpoint, digest, request, text, state, delta, members, cluster, body, message, inside, frame}
+use Rattle.cg_frames.specs.Fits.{FitsState, FitsDelta, FitsSyn, FitsAck, Fits}
+use Rattle.cg_frames.specs.Lengths.{state_most, delta_most, greatest_length}
 use Rattle.cg_frames.specs.Laws.{GivesEachSpelled, NoSpellingBeginsAnother, EachIsShort}
 use Rattle.cg_frames.proofs.AckReading.{ack_at}
 use Rattle.cg_frames.proofs.AgainLemmas.{byte_again, length_keys, syn_again}

@@ -9,3 +9,4 @@ pub mod SpelledLists
 pub mod FrameLemmas
 pub mod FoundLemmas
 pub mod LawLemmas
+pub mod AllLemmas

@@ -1,7 +1,6 @@
 -- A delta that is spelled so is read, whatever follows.
-use Rattle.std.proofs.Common.{◌≡◌, ℕ, suc, ◌+◌, ◌^◌, ◌<◌, ◌≤◌, Bool, true, false, cond, List, [], ◌∷◌, ◌++◌, length, map, Option, Some, None, Result, Ok, Err, refl, sym, ap, subst, ◌∙◌, append_assoc, arith}
+use Rattle.std.proofs.Common.{◌≡◌, ℕ, suc, ◌+◌, ◌^◌, ◌<◌, ◌≤◌, Bool, true, false, cond, List, [], ◌∷◌, ◌++◌, length, map, Option, Some, None, Ok, Err, refl, sym, ap, ◌∙◌, append_assoc, arith}
 use Rattle.std.specs.Prelude.{nat_lt, ◌==◌, not, ◌||◌}
-use Rattle.std.specs.Int.{w8}
 use Rattle.std.specs.List.{flat_map, AllByRecursion}
 use Rattle.std.specs.FinMap.{entries, entries_sorted, from_sorted, entries-from_sorted, same_entries_map}
 use Rattle.std.specs.Ordering.{nat_cmp}
@@ -16,7 +15,7 @@ use Rattle.cg_entry.specs.Entry.{greatest_of}
 use Rattle.cg_exchange.specs.declared.owner_delta.OwnerDelta.{OwnerDelta}
 use Rattle.cg_frames.specs.declared.layout.Layout.{Layout}
 use Rattle.cg_types.specs.declared.limits.TheConstants.{STATE_LIMIT}
-use Rattle.cg_frames.specs.Reading.{◌>>=◌, Field, number_at, rising_at}
+use Rattle.cg_frames.specs.Reading.{◌>>=◌, Field}
 use Rattle.cg_frames.proofs.AckReading.{state_count_at, state_at, states_at, carries, delta_from, delta_at}
 use Rattle.cg_frames.specs.Spelling.{four_bytes, endpoint, state, delta}
 use Rattle.cg_frames.specs.Fits.{FitsState, FitsDelta}

@@ -1,9 +1,7 @@
 -- A request and a state that are spelled so are read, whatever follows.
-use Rattle.std.proofs.Common.{◌≡◌, ℕ, ◌+◌, ◌^◌, ◌<◌, ◌≤◌, Bool, true, false, cond, List, [], ◌∷◌, ◌++◌, length, take, drop, Option, Some, None, Result, Ok, Err, refl, sym, ap, ◌∙◌, append_assoc, arith}
-use Rattle.std.specs.Prelude.{nat_lt, ◌==◌, not, ◌&&◌, ◌||◌}
-use Rattle.std.specs.Int.{w8, w16, w32, from_be_bytes, to_be_bytes}
+use Rattle.std.proofs.Common.{◌≡◌, ℕ, ◌^◌, ◌<◌, ◌≤◌, true, false, List, ◌∷◌, ◌++◌, length, Option, Ok, refl, ap, ◌∙◌, append_assoc, arith}
+use Rattle.std.specs.Prelude.{nat_lt, ◌==◌}
 use Rattle.std.proofs.lemmas.Bool.{le-ltb, lt-ltb, ne_eqb}
-use Rattle.std.proofs.lemmas.Nat.{from_be_bytes-to_be_bytes_2}
 use Rattle.cg_types.specs.declared.fault.Cause.{Cause}
 use Rattle.cg_types.specs.declared.limits.TheConstants.{STATE_LIMIT, NUMBER_LIMIT}
 use Rattle.cg_types.specs.Rising.{is_past}
@@ -12,7 +10,7 @@ use Rattle.cg_entry.specs.declared.state.State.{State}
 use Rattle.cg_entry.specs.State.{pair}
 use Rattle.cg_exchange.specs.Values.{RequestValue}
 use Rattle.cg_frames.specs.declared.layout.Layout.{Layout}
-use Rattle.cg_frames.specs.Reading.{◌>>=◌, Field, bytes_at, number_at, endpoint_at, generation_at, version_at, ranged_at}
+use Rattle.cg_frames.specs.Reading.{◌>>=◌, Field}
 use Rattle.cg_frames.proofs.AckReading.{held_at, request_at, key_from, key_at, version_above_at, text_at, state_at}
 use Rattle.cg_frames.specs.Spelling.{two_bytes, four_bytes, endpoint, request, text, state}
 use Rattle.cg_frames.specs.Fits.{FitsRequest, FitsState}

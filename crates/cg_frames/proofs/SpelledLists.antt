@@ -1,17 +1,11 @@
 -- An ACK that is spelled so is read, whatever follows.
-use Rattle.std.proofs.Common.{◌≡◌, ℕ, suc, ◌^◌, ◌<◌, ◌≤◌, Bool, true, false, cond, List, [], ◌∷◌, ◌++◌, length, map, Option, Some, None, Result, Ok, Err, refl, ap, ◌∙◌, append_assoc, arith}
-use Rattle.std.specs.Prelude.{nat_lt}
-use Rattle.std.specs.Int.{w16}
-use Rattle.std.specs.List.{flat_map, AllByRecursion}
-use Rattle.std.proofs.lemmas.Bool.{le-ltb}
-use Rattle.cg_types.specs.declared.fault.Cause.TheVariants as causes
-use Rattle.cg_types.specs.Rising.{is_past, rise_past}
+use Rattle.std.proofs.Common.{◌≡◌, ℕ, ◌^◌, ◌<◌, ◌≤◌, List, ◌++◌, length, Ok, ap, ◌∙◌, append_assoc, arith}
 use Rattle.cg_exchange.specs.declared.owner_delta.OwnerDelta.{OwnerDelta}
 use Rattle.cg_exchange.specs.Values.{RequestValue, AckValue}
 use Rattle.cg_frames.specs.declared.layout.Layout.{Layout}
-use Rattle.cg_frames.specs.Reading.{◌>>=◌, Field, count_at, rising_at}
-use Rattle.cg_frames.proofs.AckReading.{request_at, delta_at, listed_requests_at, listed_deltas_at, ack_at}
-use Rattle.cg_frames.specs.Spelling.{two_bytes, members, request, delta}
+use Rattle.cg_frames.specs.Reading.{◌>>=◌, Field}
+use Rattle.cg_frames.proofs.AckReading.{request_at, delta_at, listed_deltas_at, ack_at}
+use Rattle.cg_frames.specs.Spelling.{members, request, delta}
 use Rattle.cg_frames.specs.Fits.{FitsRequest, FitsDelta, FitsAck}
 use Rattle.cg_frames.proofs.AgainLemmas.{counted_again, length_keys}
 use Rattle.cg_frames.proofs.SpelledLemmas.{request_again}

@@ -52,7 +52,7 @@ endpoint_parts last bytes e after h =
     let some = goes_by (port == 0) (record { cause = causes.Endpoint; left = length bytes }) (cond (is_past last (endpoint_of address port)) made (Err (record { cause = causes.Order; left = length bytes }))) (e, after) f.2 in
     let past = goes_on_by (is_past last (endpoint_of address port)) (record { cause = causes.Order; left = length bytes }) made (e, after) some.1 in
     let is = ok_is (endpoint_of address port, f.0.1) (e, after) past.1 in
-    subst (λ (p : ℕ × List ℕ). EndpointParts last bytes p.0 p.1) is (record { front = f.0.0; read = f.1; some = some.0; value = refl; past = past.0 })
+    subst (λ (p : ℕ × List ℕ). EndpointParts last bytes p.0 p.1) {x = (endpoint_of address port, f.0.1)} is (record { front = f.0.0; read = f.1; some = some.0; value = refl; past = past.0 })
 
 pub record DigestParts (last : Option ℕ) (bytes : List ℕ) (d : Digest) (after : List ℕ) : Type 0 where
   pub from_generation : List ℕ
@@ -77,7 +77,7 @@ digest_parts last bytes d after h =
     let g = bind_ok (generation_at e.0.1) (after_generation e.0.0) (d, after) e.2 in
     let v = bind_ok (version_at g.0.1) (digest_of e.0.0 g.0.0) (d, after) g.2 in
     let made : Digest = record { endpoint = e.0.0; generation = g.0.0; newest = v.0.0 } in
-    subst (λ (p : Digest × List ℕ). DigestParts last bytes p.0 p.1) (ok_is (made, v.0.1) (d, after) v.2)
+    subst (λ (p : Digest × List ℕ). DigestParts last bytes p.0 p.1) {x = (made, v.0.1)} (ok_is (made, v.0.1) (d, after) v.2)
     (record { from_generation = e.0.1; from_newest = g.0.1; endpoint = e.1; generation = g.1; newest = v.1 })
 
 pub digest_past : (last : Option ℕ) (bytes : List ℕ) (d : Digest) (after : List ℕ) → digest_at last bytes ≡ Ok (d, after) → is_past last d.endpoint ≡ true
@@ -169,5 +169,5 @@ syn_parts layout bytes m after h =
     let c = bind_ok (count_at layout p.0.1) (after_count n.0.0 p.0.0) (m, after) p.2 in
     let d = bind_ok (digests_at c.0.0 None c.0.1) (syn_made n.0.0 p.0.0) (m, after) c.2 in
     let made : SynValue = record { cluster = record { name = n.0.0; partitioner = p.0.0 }; digests = d.0.0 } in
-    subst (λ (q : SynValue × List ℕ). SynParts layout bytes q.0 q.1) (ok_is (made, d.0.1) (m, after) d.2)
+    subst (λ (q : SynValue × List ℕ). SynParts layout bytes q.0 q.1) {x = (made, d.0.1)} (ok_is (made, d.0.1) (m, after) d.2)
     (record { count = c.0.0; from_partitioner = n.0.1; from_count = p.0.1; from_digests = c.0.1; name = n.1; partitioner = p.1; counted = c.1; digests = d.1 })

@@ -1,5 +1,5 @@
 -- What is said of spelling and reading as a whole.
-use Rattle.std.specs.Prelude.{◌≡◌, ℕ, ◌≤◌, List, [], ◌++◌, length, take, Some, Result, Ok, Option}
+use Rattle.std.specs.Prelude.{◌≡◌, ℕ, ◌≤◌, List, [], ◌++◌, length, take, Some, Result, Ok, Option, IfOk, IfSome}
 use Rattle.cg_types.specs.declared.fault.Fault.{Fault}
 use Rattle.cg_types.specs.Answer.{Answers}
 use Rattle.cg_exchange.specs.declared.message.Message.{Message}
@@ -20,6 +20,10 @@ pub record IsSpelledIn (layout : Layout) (bytes : List ℕ) (message : Message) 
   pub spelled : take size bytes ≡ frame layout message
   pub fits : Fits layout message
   pub is_syn : IsSyn message
+
+-- What is read stands spelled so in the bytes.
+abbrev pub TakesOnlySpelled : Layout → List ℕ → Result (Option (Message × ℕ)) Fault → Type 0
+TakesOnlySpelled layout bytes result = IfOk result (λ found. IfSome found (λ f. IsSpelledIn layout bytes f.0 f.1))
 
 -- A SYN that the layout can spell, and whose frame the bytes begin with, is the answer.
 abbrev pub GivesEachSpelled : Layout → List ℕ → Result (Option (Message × ℕ)) Fault → Type 0

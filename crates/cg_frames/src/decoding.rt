@@ -1,11 +1,11 @@
 //! Frames at the front of bytes.
 
-ghost use Rattle.std.specs.Prelude.{◌≡◌, ◌<◌, ◌≤◌, ◌^◌, length, Ok, None, IfOk, IfSome};
+ghost use Rattle.std.specs.Prelude.{◌≡◌, ◌<◌, ◌≤◌, ◌^◌, length, Ok, None};
 ghost use Rattle.cg_types.specs.declared.limits.TheConstants.{MEMBER_LIMIT};
 ghost use Rattle.cg_frames.specs.declared.layout.TheConstants.{LAYOUT_1};
 ghost use Rattle.cg_types.specs.Answer.{Answers};
 ghost use Rattle.cg_frames.specs.Reading as spec;
-ghost use Rattle.cg_frames.specs.Laws.{IsSpelledIn, GivesEachSpelled};
+ghost use Rattle.cg_frames.specs.Laws.{TakesOnlySpelled, GivesEachSpelled};
 
 use crate::layout::{LAYOUT_1, Layout};
 use crate::messages::{check, read};
@@ -29,7 +29,8 @@ fn fault_at(size: usize, misread: Misread) -> Fault
 fn read_inside(alloc: Global, layout: &Layout, inside: &[u8]) -> Result<Message, Fault>
     requires short { length inside.now < 2 ^ 62 }
     requires members { layout.now.members ≤ MEMBER_LIMIT }
-    ensures { Answers (λ m. m) (spec.located (length inside.now) (spec.inside_at layout.now inside.now)) result }
+    ensures { Answers (λ m. m)
+        (spec.located (length inside.now) (spec.inside_at layout.now inside.now)) result }
 {
     if let Err(misread) = check(layout, inside) {
         return Err(fault_at(inside.len(), misread));
@@ -70,11 +71,16 @@ fn decode_in(
     Ok(Some((message, 4 + size)))
 }
 
-/// The frame at the front of the bytes, and how long it is; None where more bytes are needed.
+/// The SYN whose frame stands at the front of the bytes, and how many bytes that frame has.
+///
+/// None where more bytes are needed: fewer than 4, or fewer than the length says. What follows the
+/// frame is not looked at. `BadFrame` has the first cause that is met, and its place, in bytes from
+/// the first byte of the length; a frame of another kind than SYN is `Unexpected`. `OutOfMemory`
+/// comes only where the frame reads.
 pub fn decode(alloc: Global, bytes: &[u8]) -> Result<Option<(Message, usize)>, Fault>
     ensures exact { Answers (λ x. x) (spec.frame_at LAYOUT_1 bytes.now) result }
     ensures more { spec.frame_at LAYOUT_1 bytes.now ≡ Ok None → result ≡ Ok None }
-    ensures found { IfOk result (λ found. IfSome found (λ f. IsSpelledIn LAYOUT_1 bytes.now f.0 f.1)) }
+    ensures found { TakesOnlySpelled LAYOUT_1 bytes.now result }
     ensures only { GivesEachSpelled LAYOUT_1 bytes.now result }
 {
     decode_in(alloc, &LAYOUT_1, bytes)

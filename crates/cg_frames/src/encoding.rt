@@ -1,12 +1,14 @@
 //! Messages written as frames.
 
 ghost use Rattle.std.specs.Prelude.{◌≡◌, ◌++◌, ◌∷◌, [], ◌+◌, ◌<◌, ◌≤◌, ◌^◌, length, IfOk, OnOk};
-ghost use Rattle.cg_types.specs.declared.limits.TheConstants.{TEXT_LIMIT, MEMBER_LIMIT, NAME_LIMIT, STATE_LIMIT};
+ghost use Rattle.cg_types.specs.declared.limits.TheConstants.{MEMBER_LIMIT, STATE_LIMIT};
 ghost use Rattle.cg_entry.specs.State.{KeysRise, pair, pairs};
 ghost use Rattle.std.specs.Int.{w32, to_be_bytes};
-ghost use Rattle.std.specs.List.{flat_map};
+ghost use Rattle.std.specs.List.{flat_map, AllByRecursion};
 ghost use Rattle.cg_exchange.specs.declared.message.Message.TheVariants as messages;
-ghost use Rattle.cg_types.specs.Numbers.{address_of};
+ghost use Rattle.cg_types.specs.Numbers.{address_of, IsEndpoint};
+ghost use Rattle.cg_types.specs.Text.{IsClusterName, IsStateText};
+ghost use Rattle.cg_frames.specs.Fits.{FitsDigest, FitsRequest, FitsState, FitsDelta, FitsSyn, FitsAck, Fits};
 ghost use Rattle.cg_frames.specs.declared.layout.TheConstants.{LAYOUT_1};
 ghost use Rattle.cg_frames.specs.Spelling as spelling;
 ghost use Rattle.cg_frames.specs.Lengths as lengths;
@@ -41,7 +43,8 @@ fn put_address(out: &mut BytesMut, endpoint: Endpoint) -> Result<(), AllocError>
 }
 
 fn put_endpoint(out: &mut BytesMut, endpoint: Endpoint) -> Result<(), AllocError>
-    ensures { OnOk result (out.new.items ≡ out.old.items ++ spelling.endpoint endpoint) }
+    ensures written { OnOk result (out.new.items ≡ out.old.items ++ spelling.endpoint endpoint) }
+    ensures fits { OnOk result (IsEndpoint endpoint) }
 {
     put_address(out, endpoint)?;
     put_two(out, endpoint.port())?;
@@ -49,7 +52,8 @@ fn put_endpoint(out: &mut BytesMut, endpoint: Endpoint) -> Result<(), AllocError
 }
 
 fn put_digest(out: &mut BytesMut, digest: &Digest) -> Result<(), AllocError>
-    ensures { OnOk result (out.new.items ≡ out.old.items ++ spelling.digest digest.now) }
+    ensures written { OnOk result (out.new.items ≡ out.old.items ++ spelling.digest digest.now) }
+    ensures fits { OnOk result (FitsDigest digest.now) }
 {
     put_endpoint(out, digest.endpoint)?;
     put_four(out, digest.generation.get())?;
@@ -58,7 +62,8 @@ fn put_digest(out: &mut BytesMut, digest: &Digest) -> Result<(), AllocError>
 }
 
 fn put_request(out: &mut BytesMut, request: Request) -> Result<(), AllocError>
-    ensures { OnOk result (out.new.items ≡ out.old.items ++ spelling.request request) }
+    ensures written { OnOk result (out.new.items ≡ out.old.items ++ spelling.request request) }
+    ensures fits { OnOk result (FitsRequest request) }
 {
     put_endpoint(out, request.endpoint())?;
     put_four(out, request.generation().get())?;
@@ -68,7 +73,8 @@ fn put_request(out: &mut BytesMut, request: Request) -> Result<(), AllocError>
 
 fn put_cluster(out: &mut BytesMut, cluster: &Cluster) -> Result<(), AllocError>
     ensures written { OnOk result (out.new.items ≡ out.old.items ++ spelling.cluster cluster.now) }
-    ensures short { length cluster.now.name ≤ NAME_LIMIT }
+    ensures name { IsClusterName cluster.now.name }
+    ensures partitioner { OnOk result (cluster.now.partitioner < 2 ^ 8) }
 {
     out.put_u8(cluster.name().len() as u8)?;
     out.put_slice(cluster.name().as_bytes())?;
@@ -78,7 +84,8 @@ fn put_cluster(out: &mut BytesMut, cluster: &Cluster) -> Result<(), AllocError>
 
 fn put_digests(out: &mut BytesMut, digests: &[Digest]) -> Result<(), AllocError>
     requires { length digests.now < 2 ^ 16 }
-    ensures { OnOk result (out.new.items ≡ out.old.items ++ spelling.members spelling.digest digests.now) }
+    ensures written { OnOk result (out.new.items ≡ out.old.items ++ spelling.members spelling.digest digests.now) }
+    ensures fit { OnOk result (AllByRecursion FitsDigest digests.now) }
 {
     put_two(out, digests.len() as u16)?;
     for digest in digests {
@@ -89,7 +96,8 @@ fn put_digests(out: &mut BytesMut, digests: &[Digest]) -> Result<(), AllocError>
 
 fn put_requests(out: &mut BytesMut, requests: &[Request]) -> Result<(), AllocError>
     requires { length requests.now < 2 ^ 16 }
-    ensures { OnOk result (out.new.items ≡ out.old.items ++ spelling.members spelling.request requests.now) }
+    ensures written { OnOk result (out.new.items ≡ out.old.items ++ spelling.members spelling.request requests.now) }
+    ensures fit { OnOk result (AllByRecursion FitsRequest requests.now) }
 {
     put_two(out, requests.len() as u16)?;
     for request in requests {
@@ -100,7 +108,7 @@ fn put_requests(out: &mut BytesMut, requests: &[Request]) -> Result<(), AllocErr
 
 fn put_text(out: &mut BytesMut, text: &StateText) -> Result<(), AllocError>
     ensures written { OnOk result (out.new.items ≡ out.old.items ++ spelling.text text.now) }
-    ensures short { length text.now ≤ TEXT_LIMIT }
+    ensures fits { IsStateText text.now }
 {
     put_two(out, text.as_str().len() as u16)?;
     out.put_slice(text.as_str().as_bytes())?;
@@ -110,6 +118,7 @@ fn put_text(out: &mut BytesMut, text: &StateText) -> Result<(), AllocError>
 fn put_state(out: &mut BytesMut, state: &State) -> Result<(), AllocError>
     ensures written { OnOk result (out.new.items ≡ out.old.items ++ spelling.state (pair state.now)) }
     ensures short { OnOk result (length out.new.items ≤ length out.old.items + lengths.state_most) }
+    ensures fits { OnOk result (FitsState LAYOUT_1 0 (pair state.now)) }
 {
     out.put_u8(state.key.get())?;
     put_four(out, state.version.get())?;
@@ -140,8 +149,10 @@ fn count_of(states: &[State]) -> u8
 
 fn put_states(out: &mut BytesMut, states: &[State]) -> Result<(), AllocError>
     requires { KeysRise states.now }
-    ensures written { OnOk result (out.new.items ≡ out.old.items ++ (length states.now ∷ flat_map spelling.state (pairs states.now))) }
+    ensures written { OnOk result (out.new.items ≡ out.old.items
+        ++ (length states.now ∷ flat_map spelling.state (pairs states.now))) }
     ensures short { OnOk result (length out.new.items ≤ length out.old.items + lengths.states_most) }
+    ensures fit { OnOk result (AllByRecursion (FitsState LAYOUT_1 0) (pairs states.now)) }
 {
     out.put_u8(count_of(states))?;
     for state in states {
@@ -153,6 +164,7 @@ fn put_states(out: &mut BytesMut, states: &[State]) -> Result<(), AllocError>
 fn put_delta(out: &mut BytesMut, delta: &OwnerDelta) -> Result<(), AllocError>
     ensures written { OnOk result (out.new.items ≡ out.old.items ++ spelling.delta delta.now) }
     ensures short { OnOk result (length out.new.items ≤ length out.old.items + lengths.delta_most) }
+    ensures fits { OnOk result (FitsDelta LAYOUT_1 delta.now) }
 {
     put_endpoint(out, delta.endpoint)?;
     put_four(out, delta.delta.generation().get())?;
@@ -166,6 +178,7 @@ fn put_deltas(out: &mut BytesMut, deltas: &[OwnerDelta]) -> Result<(), AllocErro
     requires { length deltas.now ≤ MEMBER_LIMIT }
     ensures written { OnOk result (out.new.items ≡ out.old.items ++ spelling.members spelling.delta deltas.now) }
     ensures short { OnOk result (length out.new.items ≤ length out.old.items + lengths.deltas_most) }
+    ensures fit { OnOk result (AllByRecursion (FitsDelta LAYOUT_1) deltas.now) }
 {
     put_two(out, deltas.len() as u16)?;
     for delta in deltas {
@@ -178,6 +191,7 @@ fn put_deltas(out: &mut BytesMut, deltas: &[OwnerDelta]) -> Result<(), AllocErro
 fn put_syn(out: &mut BytesMut, syn: &Syn) -> Result<(), AllocError>
     ensures written { OnOk result (out.new.items ≡ out.old.items ++ spelling.message (messages.Syn syn.now)) }
     ensures short { OnOk result (length out.new.items ≤ length out.old.items + lengths.message_most) }
+    ensures fits { OnOk result (FitsSyn LAYOUT_1 syn.now) }
 {
     out.put_u8(1)?;
     put_cluster(out, syn.cluster())?;
@@ -188,6 +202,7 @@ fn put_syn(out: &mut BytesMut, syn: &Syn) -> Result<(), AllocError>
 fn put_ack(out: &mut BytesMut, ack: &Ack) -> Result<(), AllocError>
     ensures written { OnOk result (out.new.items ≡ out.old.items ++ spelling.message (messages.Ack ack.now)) }
     ensures short { OnOk result (length out.new.items ≤ length out.old.items + lengths.message_most) }
+    ensures fits { OnOk result (FitsAck LAYOUT_1 ack.now) }
 {
     out.put_u8(2)?;
     put_requests(out, ack.requests())?;
@@ -198,6 +213,7 @@ fn put_ack(out: &mut BytesMut, ack: &Ack) -> Result<(), AllocError>
 fn put_message(out: &mut BytesMut, message: &Message) -> Result<(), AllocError>
     ensures written { OnOk result (out.new.items ≡ out.old.items ++ spelling.message message.now) }
     ensures short { OnOk result (length out.new.items ≤ length out.old.items + lengths.message_most) }
+    ensures fits { OnOk result (Fits LAYOUT_1 message.now) }
 {
     match message {
         Message::Syn(syn) => put_syn(out, syn)?,
@@ -207,7 +223,8 @@ fn put_message(out: &mut BytesMut, message: &Message) -> Result<(), AllocError>
 }
 
 fn encode_in(alloc: Global, layout: &Layout, message: &Message) -> Result<Bytes, AllocError>
-    ensures { IfOk result (λ b. b ≡ spelling.frame layout.now message.now) }
+    ensures written { IfOk result (λ b. b ≡ spelling.frame layout.now message.now) }
+    ensures fits { OnOk result (Fits LAYOUT_1 message.now) }
 {
     let mut inside = BytesMut::new(alloc);
     inside.put_u8(layout.byte)?;
@@ -218,9 +235,13 @@ fn encode_in(alloc: Global, layout: &Layout, message: &Message) -> Result<Bytes,
     Ok(frame.freeze()?)
 }
 
-/// The message as a frame.
+/// The message as a frame: its length in four bytes, and what stands behind it.
+///
+/// Refused for want of memory alone, since each message is short enough for its length.
 pub fn encode(alloc: Global, message: &Message) -> Result<Bytes, AllocError>
-    ensures { IfOk result (λ b. b ≡ spelling.frame LAYOUT_1 message.now) }
+    ensures written { IfOk result (λ b. b ≡ spelling.frame LAYOUT_1 message.now) }
+    // So what is written is read again.
+    ensures fits { OnOk result (Fits LAYOUT_1 message.now) }
 {
     encode_in(alloc, &LAYOUT_1, message)
 }

@@ -1,4 +1,4 @@
-//! What tells one layout of frames from another.
+//! The layouts of frames.
 
 use cg_types::{LENGTH_LIMIT, MEMBER_LIMIT, TEXT_LIMIT};
 

@@ -1,6 +1,6 @@
 //! What stands behind the length of a frame: checked with no memory, and read.
 
-ghost use Rattle.std.specs.Prelude.{◌≡◌, ◌≤◌, Ok};
+ghost use Rattle.std.specs.Prelude.{◌≡◌, ◌≤◌, Ok, IfOk};
 ghost use Rattle.cg_types.specs.declared.limits.TheConstants.{MEMBER_LIMIT};
 ghost use Rattle.cg_types.specs.Text.{cluster_of as cluster_due};
 ghost use Rattle.cg_exchange.specs.declared.message.Message.TheVariants as kinds;

@@ -1,8 +1,8 @@
 -- The rows of a map, and the finite map that contracts see.
-use Rattle.std.proofs.Common.{◌≡◌, ℕ, List, [], ◌∷◌, ◌++◌, length, get_or, Some, None, refl, sym, ap, ◌∙◌}
+use Rattle.std.proofs.Common.{◌≡◌, ℕ, List, [], ◌∷◌, ◌++◌, get_or, Some, None, refl, sym, ap, ◌∙◌}
 use Rattle.std.specs.Ordering.{nat_cmp}
 use Rattle.std.specs.Cmp.{nat_cmp_total}
-use Rattle.std.specs.FinMap.{FinMap, empty, entries, entries_sorted, insert, get, from_sorted, same_entries_map, entries-from_sorted, entries-insert, len-entries, empty_of_len}
+use Rattle.std.specs.FinMap.{FinMap, entries, entries_sorted, insert, get, from_sorted, same_entries_map, entries-from_sorted, entries-insert}
 use Rattle.cg_types.specs.Rising.{Rises}
 use Rattle.cg_types.proofs.RisingLemmas.{entries_rising, get_rising, rise_sorted}
 use Rattle.cg_shared.specs.Rows.{keys_of, before, after, walked, IsRowAt, IsGapAt}
@@ -28,9 +28,6 @@ module _ {X : Type 0} where
 
     pub walked_valid : Rises (keys_of (walked cs rows))
     walked_valid = rw walked_entries (rise_sorted (entries (put_each cs m)) (entries_sorted (put_each cs m)))
-
-  pub map_of_none : from_sorted {R = nat_cmp} [] ≡ empty {X = X} {R = nat_cmp}
-  map_of_none = empty_of_len (from_sorted {R = nat_cmp} []) (len-entries _ ∙ ap length (entries-from_sorted nat_cmp [] tt))
 
   pub listed : (rows given : List (ℕ × X)) (m : FinMap nat_cmp X) → given ≡ rows → Rises (keys_of rows) → from_sorted {R = nat_cmp} rows ≡ m → given ≡ entries m
   listed rows given m same valid seen = same ∙ sym (entries_rising rows valid) ∙ ap (λ (n : FinMap nat_cmp X). entries n) seen

@@ -1,15 +1,21 @@
 //! A finite map from endpoints to entries.
 
-ghost use Rattle.std.specs.Prelude.{◌≡◌, ◌≤◌, true, IfOk, is_some, length, option_copied};
+ghost use Rattle.std.specs.Prelude.{◌≡◌, ◌≤◌, ◌↔◌, ℕ, true, false, IsTrue, IfOk, is_some, length, option_copied};
+ghost use Rattle.cg_types.specs.Answer.{Answers};
+ghost use Rattle.cg_entry.specs.Taking.{met as met_of};
+ghost use Rattle.cg_table.specs.Merge.{is_ahead as is_ahead_of, later_of, later_entries as later_entries_of, owners_together as owners_together_of, merging};
+ghost use Rattle.cg_table.specs.Taking.{entries_after, taken, take_one as take_one_of, needs_room as needs_room_for, is_full_for, putting_delta};
 ghost use Rattle.std.specs.FinMap as table;
 ghost use Rattle.cg_types.specs.Rising.{Rises};
 ghost use Rattle.cg_shared.specs.Rows.{keys_of};
+ghost use Rattle.cg_shared.specs.Map.{put_each};
 ghost use Rattle.cg_table.specs.Table.{alone, digest_of, digests_of};
 
 use crate::digest::Digest;
-use cg_entry::Entry;
+use crate::took::Took;
+use cg_entry::{Absorbed, Delta, Entry};
 use cg_shared::{Row, SharedMap};
-use cg_types::{Endpoint, MEMBER_LIMIT};
+use cg_types::{Endpoint, Fault, MEMBER_LIMIT};
 use std::alloc::{AllocError, Global};
 use std::marker::Model;
 
@@ -40,6 +46,50 @@ fn digest_of_row(row: &Row<Entry>) -> Digest
         generation: row.value().generation(),
         newest: row.value().newest(),
     }
+}
+
+// What a delta makes of what is held of its endpoint, if anything is.
+fn met(alloc: Global, held: Option<&Entry>, delta: &Delta) -> Result<Absorbed, AllocError>
+    ensures { IfOk result (λ a. a ≡ met_of (option_copied held.entry) delta.now) }
+{
+    if let Some(entry) = held {
+        return entry.absorb(alloc, delta);
+    }
+    match Entry::of_delta(alloc, delta)? {
+        Some(entry) => Ok(Absorbed::Taken(entry)),
+        None => Ok(Absorbed::Gap),
+    }
+}
+
+// Whether an entry is later than what is held of its endpoint.
+fn is_ahead(held: Option<&Entry>, theirs: &Entry) -> bool
+    ensures { result ≡ is_ahead_of (option_copied held.entry) theirs.now }
+{
+    match held {
+        None => true,
+        Some(ours) => theirs.is_later(ours),
+    }
+}
+
+// Whether both are the same rows.
+fn are_same_rows(ours: &[Row<Entry>], theirs: &[Row<Entry>]) -> bool
+    ensures { IsTrue result ↔ (ours.now ≡ theirs.now) }
+{
+    if ours.len() != theirs.len() {
+        return false;
+    }
+    for i in 0..ours.len() {
+        if !is_same_row(&ours[i], &theirs[i]) {
+            return false;
+        }
+    }
+    true
+}
+
+fn is_same_row(ours: &Row<Entry>, theirs: &Row<Entry>) -> bool
+    ensures { IsTrue result ↔ (ours.now ≡ theirs.now) }
+{
+    ours.endpoint() == theirs.endpoint() && ours.value().is_same(theirs.value())
 }
 
 impl Table {
@@ -98,5 +148,155 @@ impl Table {
             own: self.own,
             entries: self.entries.copy(alloc)?,
         })
+    }
+
+    // How many endpoints are held.
+    fn len(&self) -> usize
+        ensures value { result ≡ table.len self.now.entries }
+        ensures few { result ≤ MEMBER_LIMIT }
+    {
+        let owners = self.owners();
+        owners.len()
+    }
+
+    /// Whether both tables hold the same entries. Their own endpoints may differ.
+    pub fn same_entries(&self, other: &Table) -> bool
+        ensures { IsTrue result ↔ (self.now.entries ≡ other.now.entries) }
+    {
+        are_same_rows(self.owners(), other.owners())
+    }
+
+    // Whether a delta needs room for one more endpoint: it is whole, and about one that is not held.
+    fn needs_room(&self, endpoint: Endpoint, delta: &Delta) -> bool
+        ensures { result ≡ needs_room_for self.now.entries endpoint delta.now }
+    {
+        delta.above() == 0 && self.get(endpoint).is_none()
+    }
+
+    // A table with one entry put, which shares all others.
+    fn with_entry(
+        &self,
+        alloc: Global,
+        endpoint: Endpoint,
+        entry: Entry,
+    ) -> Result<Table, AllocError>
+        requires { table.len (table.insert self.now.entries endpoint entry) ≤ MEMBER_LIMIT }
+        ensures { IfOk result (λ t. t ≡ record { own = self.now.own; entries = table.insert self.now.entries endpoint entry }) }
+    {
+        Ok(Table {
+            own: self.own,
+            entries: self.entries.put(alloc, endpoint, entry)?,
+        })
+    }
+
+    // The table where a delta about an endpoint came to this.
+    fn after(
+        &self,
+        alloc: Global,
+        endpoint: Endpoint,
+        met: Absorbed,
+    ) -> Result<(Table, Took), AllocError>
+        requires { table.len (entries_after self.now.entries endpoint met) ≤ MEMBER_LIMIT }
+        ensures { IfOk result (λ x. x ≡ taken self.now endpoint met) }
+    {
+        match met {
+            Absorbed::Taken(entry) => Ok((self.with_entry(alloc, endpoint, entry)?, Took::Taken)),
+            Absorbed::Old => Ok((self.copy(alloc)?, Took::Old)),
+            Absorbed::Gap => Ok((self.copy(alloc)?, Took::Gap)),
+        }
+    }
+
+    // The table after a delta about an endpoint, for which there is room.
+    fn take_one(
+        &self,
+        alloc: Global,
+        endpoint: Endpoint,
+        delta: &Delta,
+    ) -> Result<(Table, Took), AllocError>
+        requires { is_full_for self.now.entries endpoint delta.now ≡ false }
+        ensures { IfOk result (λ x. x ≡ take_one_of self.now endpoint delta.now) }
+    {
+        if endpoint == self.own {
+            return Ok((self.copy(alloc)?, Took::Own));
+        }
+        let met = met(alloc, self.get(endpoint), delta)?;
+        self.after(alloc, endpoint, met)
+    }
+
+    // Whether a delta finds no room.
+    fn is_full_for(&self, endpoint: Endpoint, delta: &Delta) -> bool
+        ensures { result ≡ is_full_for self.now.entries endpoint delta.now }
+    {
+        self.needs_room(endpoint, delta) && MEMBER_LIMIT < self.len() + 1
+    }
+
+    /// The table after a delta about an endpoint, and what became of the delta. No other owner's entry changes.
+    /// `TableFull` where a whole delta about an endpoint that is not held finds `MEMBER_LIMIT` held; that is decided
+    /// before any memory is taken.
+    pub fn put_delta(
+        &self,
+        alloc: Global,
+        endpoint: Endpoint,
+        delta: &Delta,
+    ) -> Result<(Table, Took), Fault>
+        ensures { Answers (λ x. x) (putting_delta self.now endpoint delta.now) result }
+    {
+        if self.is_full_for(endpoint, delta) {
+            return Err(Fault::TableFull);
+        }
+        Ok(self.take_one(alloc, endpoint, delta)?)
+    }
+
+    // How many endpoints both tables hold together.
+    fn owners_together(&self, other: &Table) -> usize
+        ensures { result ≡ owners_together_of self.now.entries other.now.entries }
+    {
+        let mut count = self.len();
+        for row in other.owners() {
+            if self.get(row.endpoint()).is_none() {
+                count += 1;
+            }
+        }
+        count
+    }
+
+    // The other table's rows that are later than what is held of their owners.
+    fn later_entries(&self, alloc: Global, other: &Table) -> Result<Vec<Row<Entry>>, AllocError>
+        ensures { IfOk result (λ v. v.items ≡ later_entries_of self.now.entries other.now.entries) }
+    {
+        let owners = other.owners();
+        let mut later = Vec::new(alloc);
+        for row in owners {
+            if is_ahead(self.get(row.endpoint()), row.value()) {
+                later.push(row.share()?)?;
+            }
+        }
+        Ok(later)
+    }
+
+    /// A table with each of the rows put, in one walk over both lists. All entries are shared, the new ones too.
+    pub fn with_rows(&self, alloc: Global, changes: &[Row<Entry>]) -> Result<Table, AllocError>
+        requires rise { Rises (keys_of changes.now) }
+        requires room { table.len (put_each changes.now self.now.entries) ≤ MEMBER_LIMIT }
+        ensures { IfOk result (λ t. t ≡ record { own = self.now.own; entries = put_each changes.now self.now.entries }) }
+    {
+        Ok(Table {
+            own: self.own,
+            entries: self.entries.with_rows(alloc, changes)?,
+        })
+    }
+
+    /// Owner by owner the later entry of the two tables, this table's where neither is later; `own` stays. Entries are
+    /// shared, not copied. `TableFull` where both together hold more than `MEMBER_LIMIT` endpoints; that is decided
+    /// before any memory is taken.
+    pub fn merge(&self, alloc: Global, other: &Table) -> Result<Table, Fault>
+        ensures due { Answers (λ t. t) (merging self.now other.now) result }
+        ensures each { IfOk result (λ t. (owner : ℕ) → table.get t.entries owner ≡ later_of (table.get self.now.entries owner) (table.get other.now.entries owner)) }
+    {
+        if self.owners_together(other) > MEMBER_LIMIT {
+            return Err(Fault::TableFull);
+        }
+        let later = self.later_entries(alloc, other)?;
+        Ok(self.with_rows(alloc, &later)?)
     }
 }

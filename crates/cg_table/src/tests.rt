@@ -1,6 +1,6 @@
-use crate::{Digest, Table};
-use cg_entry::Entry;
-use cg_types::{Endpoint, Generation, Version};
+use crate::{Digest, Table, Took};
+use cg_entry::{Delta, Entry};
+use cg_types::{Endpoint, Fault, Generation, Version};
 use std::alloc::Global;
 use std::test::Fail;
 
@@ -50,6 +50,154 @@ fn the_digests_of_a_new_table(rt: HostRuntime) -> Result<(), Fail> {
     };
     assert_eq!(rt; digests.len(), 1);
     assert_eq!(rt; digests.first().copied(), Some(wanted));
+    Ok(())
+}
+
+// A delta with no states.
+fn delta(of: u32, above: u32, heartbeat: u32, alloc: Global) -> Result<Delta, Fail> {
+    let heartbeat = Version::new(heartbeat).ok_or("a version")?;
+    let none = Vec::new(alloc);
+    Ok(Delta::new(generation(of)?, above, heartbeat, none).ok_or("a delta")?)
+}
+
+// The table of endpoint 2 with endpoint 1 at generation 9 and this heartbeat.
+fn table_with(alloc: Global, heartbeat: u32) -> Result<Table, Fail> {
+    let whole = delta(9, 0, heartbeat, alloc)?;
+    let (table, took) = table(alloc)?.put_delta(alloc, endpoint(1)?, &whole)?;
+    if took != Took::Taken {
+        return Err(Fail::from("not taken"));
+    }
+    Ok(table)
+}
+
+// The newest version that is held of an endpoint, or 0.
+fn newest_of(table: &Table, last: u8) -> Result<u32, Fail> {
+    Ok(
+        table
+            .get(endpoint(last)?)
+            .map_or(0, |entry| entry.newest().get()),
+    )
+}
+
+#[test]
+fn a_delta_changes_its_owner_alone(rt: HostRuntime) -> Result<(), Fail> {
+    let table = table_with(rt.alloc(), 1)?;
+    let part = delta(9, 1, 3, rt.alloc())?;
+    let (after, took) = table.put_delta(rt.alloc(), endpoint(1)?, &part)?;
+    assert_eq!(rt; took, Took::Taken);
+    assert_eq!(rt; newest_of(&after, 1)?, 3);
+    assert_eq!(rt; newest_of(&after, 2)?, 1);
+    assert_eq!(rt; newest_of(&table, 1)?, 1);
+    Ok(())
+}
+
+#[test]
+fn what_becomes_of_deltas(rt: HostRuntime) -> Result<(), Fail> {
+    let table = table_with(rt.alloc(), 3)?;
+    for (last, of, above, heartbeat, took) in [
+        (1, 9, 0, 3, Took::Old),
+        (1, 9, 4, 5, Took::Gap),
+        (1, 10, 1, 2, Took::Gap),
+        (1, 10, 0, 1, Took::Taken),
+        (3, 9, 1, 2, Took::Gap),
+        (3, 9, 0, 2, Took::Taken),
+        (2, 6, 0, 1, Took::Own),
+    ] {
+        let delta = delta(of, above, heartbeat, rt.alloc())?;
+        let (_, became) = table.put_delta(rt.alloc(), endpoint(last)?, &delta)?;
+        assert_eq!(rt; became, took);
+    }
+    Ok(())
+}
+
+// A restarted holder lacks what a delta stands above.
+#[test]
+fn gap_after_restart(rt: HostRuntime) -> Result<(), Fail> {
+    let part = delta(9, 2, 5, rt.alloc())?;
+    let (after, took) = table(rt.alloc())?.put_delta(rt.alloc(), endpoint(1)?, &part)?;
+    assert_eq!(rt; took, Took::Gap);
+    assert_eq!(rt; after.owners().len(), 1);
+    Ok(())
+}
+
+#[test]
+fn own_delta(rt: HostRuntime) -> Result<(), Fail> {
+    let before = table(rt.alloc())?;
+    let theirs = delta(9, 0, 7, rt.alloc())?;
+    let (after, took) = before.put_delta(rt.alloc(), endpoint(2)?, &theirs)?;
+    assert_eq!(rt; took, Took::Own);
+    assert!(rt; after.same_entries(&before));
+    Ok(())
+}
+
+// The table of endpoint 2 with this many others.
+fn crowded(alloc: Global, others: u16) -> Result<Table, Fail> {
+    let whole = delta(9, 0, 1, alloc)?;
+    let mut table = table(alloc)?;
+    for number in 0..others {
+        let [high, low] = number.to_be_bytes();
+        let other = Endpoint::new([10, 1, high, low], 7000).ok_or("an endpoint")?;
+        let (after, _) = table.put_delta(alloc, other, &whole)?;
+        table = after;
+    }
+    Ok(table)
+}
+
+#[test]
+fn table_full(rt: HostRuntime) -> Result<(), Fail> {
+    let table = crowded(rt.alloc(), 255)?;
+    assert_eq!(rt; table.owners().len(), 256);
+    let whole = delta(9, 0, 1, rt.alloc())?;
+    let refusal = table.put_delta(rt.alloc(), endpoint(1)?, &whole).err();
+    assert_eq!(rt; refusal, Some(Fault::TableFull));
+    let part = delta(9, 1, 2, rt.alloc())?;
+    let (_, took) = table.put_delta(rt.alloc(), endpoint(1)?, &part)?;
+    assert_eq!(rt; took, Took::Gap);
+    Ok(())
+}
+
+#[test]
+fn a_merge_that_is_full(rt: HostRuntime) -> Result<(), Fail> {
+    let many = crowded(rt.alloc(), 255)?;
+    let other = table_with(rt.alloc(), 1)?;
+    assert_eq!(rt;
+        many.merge(rt.alloc(), &other).err(),
+        Some(Fault::TableFull)
+    );
+    let alone = table(rt.alloc())?;
+    let merged = many.merge(rt.alloc(), &alone)?;
+    assert_eq!(rt; merged.owners().len(), 256);
+    Ok(())
+}
+
+// The table of endpoint 1 at generation 9, beaten to version 3, with endpoint 2 at generation 5.
+fn table_of_1(alloc: Global) -> Result<Table, Fail> {
+    let own = Entry::of_delta(alloc, &delta(9, 0, 3, alloc)?)?.ok_or("an entry")?;
+    let table = Table::new(alloc, endpoint(1)?, own)?;
+    let (after, _) = table.put_delta(alloc, endpoint(2)?, &delta(5, 0, 1, alloc)?)?;
+    Ok(after)
+}
+
+// The table of endpoint 2 at generation 5, beaten to version 2, with endpoint 1 at generation 9, version 1.
+fn table_of_2(alloc: Global) -> Result<Table, Fail> {
+    let own = Entry::of_delta(alloc, &delta(5, 0, 2, alloc)?)?.ok_or("an entry")?;
+    let table = Table::new(alloc, endpoint(2)?, own)?;
+    let (after, _) = table.put_delta(alloc, endpoint(1)?, &delta(9, 0, 1, alloc)?)?;
+    Ok(after)
+}
+
+#[test]
+fn merged_tables_hold_the_later_entries(rt: HostRuntime) -> Result<(), Fail> {
+    let one = table_of_1(rt.alloc())?;
+    let two = table_of_2(rt.alloc())?;
+    assert!(rt; !one.same_entries(&two));
+    let here = one.merge(rt.alloc(), &two)?;
+    assert_eq!(rt; here.own(), endpoint(1)?);
+    assert_eq!(rt; newest_of(&here, 1)?, 3);
+    assert_eq!(rt; newest_of(&here, 2)?, 2);
+    let there = two.merge(rt.alloc(), &one)?;
+    assert_eq!(rt; there.own(), endpoint(2)?);
+    assert!(rt; here.same_entries(&there));
     Ok(())
 }
 

@@ -3,7 +3,7 @@ use Rattle.std.proofs.Common.{◌≡◌, ℕ, ◌+◌, ◌^◌, ◌-◌, ◌<◌
 use Rattle.std.specs.Io.KnownBytes.{Appends, Consumes, IsAtEnd}
 use Rattle.std.proofs.lemmas.List.{length-append}
 use Rattle.cg_engine.specs.declared.counted.Counted.{Counted}
-use Rattle.cg_engine.specs.Counted.{calls_of, failed_of, idle_of, KeepsCounts, CountsCalls, CountsFailed, CountsIdle, one_more}
+use Rattle.cg_engine.specs.Counted.{calls_of, failed_of, idle_of, KeepsCounts, CountsCalls, CountsFailed, CountsIdle}
 use Rattle.cg_engine.specs.declared.transfer.TheConstants.{MOST_READS}
 use Rattle.cg_tool.specs.Answer.{answer_to, text_of, status_of}
 use Rattle.cg_tool.specs.Answered.{IsDue, AnswersInput, OutOfMemoryDue, ReadFaultDue, Wrote, WroteAll, WroteFront, AnswersAll, SaysOutOfMemory}

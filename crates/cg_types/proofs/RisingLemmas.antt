@@ -1,10 +1,10 @@
 -- Rising keys, of a list of pairs and of a finite map.
-use Rattle.std.proofs.Common.{◌≡◌, ℕ, ◌<◌, Bool, true, false, cond, List, [], ◌∷◌, ◌++◌, map, Option, Some, None, refl, sym, ap, subst, arith, nat_lt, T}
+use Rattle.std.proofs.Common.{◌≡◌, ℕ, ◌<◌, Bool, true, false, cond, List, [], ◌∷◌, length, ◌++◌, map, Option, Some, None, refl, sym, ap, subst, ◌∙◌, arith, nat_lt, T}
 use Rattle.std.specs.Prelude.{◌&&◌}
 use Rattle.std.specs.List.{filter}
 use Rattle.std.specs.Ordering.{nat_cmp, is_lt, is_eq, eq_by_cmp}
 use Rattle.std.specs.FinMap.Entries.{is_sorted, below_all, find}
-use Rattle.std.specs.FinMap.{entries, get, from_sorted, entries-from_sorted, get-from_sorted}
+use Rattle.std.specs.FinMap.{empty, empty_of_len, len-entries, entries, get, from_sorted, entries-from_sorted, get-from_sorted}
 use Rattle.std.specs.Cmp.{nat_cmp_is, ranked}
 use Rattle.std.specs.Option.{option_or}
 use Rattle.std.specs.declared.cmp.Ordering.{Ordering}
@@ -170,3 +170,7 @@ rise_ordered ks s = rise_listed None ks (all_past ks) s
 pub find_looked_up : {X : Type 0} (es : List (ℕ × X)) (q : ℕ) → find nat_cmp q es ≡ lookup (is_at (nat_cmp q)) es
 find_looked_up [] q = refl
 find_looked_up (e ∷ es) q = ap (cond (is_at (nat_cmp q) e.0) (Some e.1)) (find_looked_up es q)
+
+-- the map of no entries
+pub from_sorted-none : {X : Type 0} → from_sorted {R = nat_cmp} [] ≡ empty {X = X} {R = nat_cmp}
+from_sorted-none = empty_of_len (from_sorted {R = nat_cmp} []) (len-entries _ ∙ ap length (entries-from_sorted nat_cmp [] tt))

@@ -3,20 +3,22 @@
 
 mod endpoint;
 mod fault;
+mod generation;
 mod limits;
-mod numbers;
 mod state_key;
 mod text;
+mod version;
 mod words;
 
 pub use endpoint::Endpoint;
 pub use fault::{Cause, Fault};
+pub use generation::Generation;
 pub use limits::{
     LENGTH_LIMIT, MEMBER_LIMIT, NAME_LIMIT, NUMBER_LIMIT, PARTITIONER, STATE_LIMIT, TEXT_LIMIT,
 };
-pub use numbers::{Generation, Version};
 pub use state_key::StateKey;
 pub use text::{Cluster, StateText, is_plain};
+pub use version::Version;
 pub use words::{cut, number};
 
 #[cfg(test)]

@@ -59,7 +59,7 @@ impl Versions {
     {
         match Version::new(self.last + 1) {
             Some(version) => {
-                self.last = version.get();
+                *self = Versions::after(version);
                 Ok(version)
             }
             None => Err(Fault::VersionsSpent),

@@ -1,0 +1,28 @@
+-- How the entries of one owner follow one another.
+use Rattle.std.specs.Prelude.{◌≡◌, ℕ, zero, suc, ◌<◌, List, slice_get, Option, Some, None}
+use Rattle.cg_entry.specs.Values.{EntryValue}
+use Rattle.cg_entry.specs.Entry.{started, beaten, with_state}
+
+-- Entry y may come next after x: the owner starts again, beats, or gives a key a text.
+pub data Follows (x y : EntryValue) : Type 0 where
+  Starts : (generation : ℕ) → x.generation < generation → y ≡ started generation → Follows x y
+  Beats : y ≡ beaten x → Follows x y
+  Sets : (key : ℕ) (text : List ℕ) → y ≡ with_state key text x → Follows x y
+
+-- what stands at a place of a list, counted from one: nothing stands at 0
+abbrev pub at_place : {A : Type 0} → List A → ℕ → Option A
+at_place xs zero = None
+at_place xs (suc place) = slice_get xs place
+
+-- The entries of one owner, oldest first: the first is a start, and each other follows the one before.
+pub record IsHistory (history : List EntryValue) : Type 0 where
+  pub begins : (x : EntryValue) → at_place history 1 ≡ Some x → (generation : ℕ) × (x ≡ started generation)
+  pub goes_on : (place : ℕ) (x y : EntryValue) → at_place history place ≡ Some x → at_place history (suc place) ≡ Some y → Follows x y
+
+abbrev pub generation_of : Option EntryValue → ℕ
+generation_of None = 0
+generation_of (Some e) = e.generation
+
+-- the generation at a place, and 0 at none
+abbrev pub generation_at : List EntryValue → ℕ → ℕ
+generation_at history place = generation_of (at_place history place)

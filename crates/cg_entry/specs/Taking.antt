@@ -1,0 +1,38 @@
+-- What a delta makes of an entry.
+use Rattle.std.specs.Prelude.{nat_lt, nat_le, ◌==◌, Option, Some, None, if◌then◌else◌}
+use Rattle.cg_entry.specs.declared.entry.Absorbed.{Absorbed}
+use Rattle.cg_entry.specs.declared.entry.Absorbed.TheVariants.{Taken, Old, Gap}
+use Rattle.cg_entry.specs.Values.{EntryValue, DeltaValue}
+use Rattle.cg_entry.specs.Entry.{greatest, newest, overlay}
+
+-- the entry that a whole delta carries
+abbrev pub whole_entry : DeltaValue → Option EntryValue
+whole_entry d = if d.above == 0 then Some (record { generation = d.generation; heartbeat = d.heartbeat; states = d.states }) else None
+
+abbrev pub taken_or_gap : Option EntryValue → Absorbed
+taken_or_gap None = Gap
+taken_or_gap (Some e) = Taken e
+
+-- the heartbeat of the delta, its states over those of the entry
+abbrev pub advanced : EntryValue → DeltaValue → EntryValue
+advanced e d = record { generation = e.generation; heartbeat = d.heartbeat; states = overlay e.states d.states }
+
+-- the first case that fits
+abbrev pub absorbed : EntryValue → DeltaValue → Absorbed
+absorbed e d =
+    if nat_lt d.generation e.generation then Old
+    else if nat_lt e.generation d.generation then taken_or_gap (whole_entry d)
+    else if nat_le (greatest d.heartbeat d.states) (newest e) then Old
+    else if nat_lt (newest e) d.above then Gap
+    else Taken (advanced e d)
+
+-- what becomes of a delta at what is held
+abbrev pub met : Option EntryValue → DeltaValue → Absorbed
+met None d = taken_or_gap (whole_entry d)
+met (Some e) d = absorbed e d
+
+-- what is then held
+abbrev pub entry_after : Option EntryValue → Absorbed → Option EntryValue
+entry_after held (Taken e) = Some e
+entry_after held Old = held
+entry_after held Gap = held

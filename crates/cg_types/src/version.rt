@@ -1,0 +1,52 @@
+//! Versions.
+
+ghost use Rattle.std.specs.Prelude.{◌≡◌, ◌↔◌, IsSome, IfSome};
+ghost use Rattle.cg_types.specs.Numbers.{IsVersion};
+
+use crate::limits::NUMBER_LIMIT;
+use std::marker::Model;
+
+/// The number of a change within a generation, 1 to 2,147,483,647.
+#[derive(Clone, Copy, Debug, PartialEq, Eq, PartialOrd, Ord)]
+pub struct Version {
+    number: u32,
+}
+
+impl Model for Version {
+    ghost use Rattle.std.specs.Prelude.{ℕ};
+    ghost use Rattle.cg_types.specs.Numbers.{IsVersion};
+
+    ghost Value = { ℕ };
+
+    ghost view = { λ v. v.number };
+
+    ghost invariant = { λ v. IsVersion v.number };
+
+    ghost inverse = { λ n. record { number = n } };
+}
+
+impl Version {
+    /// The version of a start.
+    pub fn first() -> Version
+        ensures { result ≡ 1 }
+    {
+        Version { number: 1 }
+    }
+
+    pub fn new(number: u32) -> Option<Version>
+        ensures valid { IsSome result ↔ IsVersion number }
+        ensures value { IfSome result (λ v. v ≡ number) }
+    {
+        if number == 0 || number >= NUMBER_LIMIT {
+            return None;
+        }
+        Some(Version { number })
+    }
+
+    pub fn get(self) -> u32
+        ensures value { result ≡ self }
+        ensures range { IsVersion result }
+    {
+        self.number
+    }
+}
