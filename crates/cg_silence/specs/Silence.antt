@@ -1,0 +1,67 @@
+-- What a window shows of a whole list of arrivals, and its verdict.
+use Rattle.std.specs.Prelude.{ℕ, ◌≡◌, ◌-◌, ◌*◌, max, nat_le, nat_lt, Bool, List, [], ◌∷◌, ◌++◌, length, sum, filter, Option, Some, None, if◌then◌else◌}
+use Rattle.circular_buffer.specs.Buffer.{keep_last}
+use Rattle.cg_silence.specs.Values.{SilenceValue, Shown, WindowValue}
+use Rattle.cg_silence.specs.declared.limits.TheConstants.{THRESHOLD_UNIT}
+use Rattle.cg_silence.specs.declared.verdict.Verdict.{Verdict}
+use Rattle.cg_silence.specs.declared.verdict.Verdict.TheVariants.{Alive, Silent, Unheard}
+
+-- the gap of an arrival: the initial one, or what it is past the greatest arrival before it, at least 1
+abbrev pub gap : SilenceValue → Option ℕ → ℕ → ℕ
+gap s None now = s.initial_gap
+gap s (Some last) now = max 1 (now - last)
+
+-- the greatest arrival, with one at now
+abbrev pub latest : Option ℕ → ℕ → ℕ
+latest None now = now
+latest (Some last) now = max last now
+
+-- the greatest of these arrivals and those before them
+abbrev pub greatest_arrival : Option ℕ → List ℕ → Option ℕ
+greatest_arrival before [] = before
+greatest_arrival before (a ∷ arrivals) = greatest_arrival (Some (latest before a)) arrivals
+
+-- the gaps of all arrivals, where before is the greatest one before them
+abbrev pub gaps_of : SilenceValue → Option ℕ → List ℕ → List ℕ
+gaps_of s before [] = []
+gaps_of s before (a ∷ arrivals) = gap s before a ∷ gaps_of s (Some (latest before a)) arrivals
+
+-- whether a gap is recorded
+abbrev pub is_recorded : SilenceValue → ℕ → Bool
+is_recorded s g = nat_le g s.max_gap
+
+-- of these arrivals: the last of the recorded gaps, and the greatest arrival
+abbrev pub shown : SilenceValue → List ℕ → Shown
+shown s arrivals = record {
+  gaps = keep_last s.window (filter (is_recorded s) (gaps_of s None arrivals));
+  last = greatest_arrival None arrivals;
+}
+
+-- the window shows what is to be shown of these arrivals
+abbrev pub Shows : WindowValue → List ℕ → Type 0
+Shows w arrivals = w.shown ≡ shown w.silence arrivals
+
+-- the gaps kept after one more
+abbrev pub with_gap : SilenceValue → List ℕ → ℕ → List ℕ
+with_gap s gaps g = if is_recorded s g then keep_last s.window (gaps ++ g ∷ []) else gaps
+
+-- what was shown, with one more arrival
+abbrev pub heard_after : SilenceValue → Shown → ℕ → Shown
+heard_after s w now = record { gaps = with_gap s w.gaps (gap s w.last now); last = Some (latest w.last now) }
+
+-- what a window shows after one more arrival; where there is none yet, a new one is taken
+abbrev pub heard : SilenceValue → Option Shown → ℕ → Shown
+heard s None now = heard_after s (shown s []) now
+heard s (Some w) now = heard_after s w now
+
+-- whether the time without an arrival is more than threshold thousandths of the mean gap
+abbrev pub is_over : ℕ → ℕ → ℕ → ℕ → Bool
+is_over threshold elapsed count total = nat_lt (threshold * total) (elapsed * count * THRESHOLD_UNIT)
+
+-- what is said of an endpoint whose window shows this
+abbrev pub verdict : SilenceValue → Shown → ℕ → Verdict
+verdict s w now = judged w.last
+  where
+    judged : Option ℕ → Verdict
+    judged None = Unheard
+    judged (Some last) = if is_over s.threshold (now - last) (length w.gaps) (sum w.gaps) then Silent else Alive

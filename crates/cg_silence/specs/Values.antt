@@ -1,0 +1,47 @@
+-- What contracts see of settings and windows.
+use Rattle.std.specs.Prelude.{ℕ, ◌≡◌, ◌<◌, ◌≤◌, List, length, sum, Option, All}
+use Rattle.cg_silence.specs.declared.limits.TheConstants.{WINDOW_LIMIT, GAP_LIMIT, THRESHOLD_LIMIT, DEFAULT_WINDOW, DEFAULT_INITIAL_GAP, DEFAULT_MAX_GAP, DEFAULT_THRESHOLD}
+
+-- how silence is judged: gaps kept, gaps in milliseconds, and thousandths of the mean gap
+pub record SilenceValue : Type 0 where
+  pub window : ℕ
+  pub initial_gap : ℕ
+  pub max_gap : ℕ
+  pub threshold : ℕ
+
+-- the settings of these four numbers
+abbrev pub silence_of : ℕ → ℕ → ℕ → ℕ → SilenceValue
+silence_of window initial_gap max_gap threshold =
+    record { window = window; initial_gap = initial_gap; max_gap = max_gap; threshold = threshold }
+
+-- the settings where nothing else is set
+abbrev pub default_silence : SilenceValue
+default_silence = silence_of DEFAULT_WINDOW DEFAULT_INITIAL_GAP DEFAULT_MAX_GAP DEFAULT_THRESHOLD
+
+-- The settings are in their ranges. So a first arrival's gap is recorded, and a window keeps it.
+pub record IsSilence (s : SilenceValue) : Type 0 where
+  pub some_gaps : 0 < s.window
+  pub few_gaps : s.window ≤ WINDOW_LIMIT
+  pub some_time : 0 < s.initial_gap
+  pub initial_within : s.initial_gap ≤ s.max_gap
+  pub max_within : s.max_gap ≤ GAP_LIMIT
+  pub some_threshold : 0 < s.threshold
+  pub threshold_within : s.threshold ≤ THRESHOLD_LIMIT
+
+-- the recorded gaps that are kept, the oldest first, and the greatest arrival
+pub record Shown : Type 0 where
+  pub gaps : List ℕ
+  pub last : Option ℕ
+
+-- how a window judges, and what it shows
+pub record WindowValue : Type 0 where
+  pub silence : SilenceValue
+  pub shown : Shown
+
+-- The ring has the settings' room, the gaps in it were due to be recorded, and the total is their sum.
+pub record IsWindow (s : SilenceValue) (gaps : List ℕ) (capacity total : ℕ) : Type 0 where
+  pub settings : IsSilence s
+  pub room : capacity ≡ s.window
+  pub few : length gaps ≤ s.window
+  pub small : All (λ g. g ≤ s.max_gap) gaps
+  pub summed : total ≡ sum gaps

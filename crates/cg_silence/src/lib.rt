@@ -1,0 +1,21 @@
+//! Who has been silent for too long.
+//!
+//! For each endpoint that is listened to, a window keeps the last gaps between its arrivals, as the `ArrivalWindow`
+//! of Apache Cassandra's failure detector does. Cassandra compares a floating-point phi; this crate compares whole
+//! numbers, and exactly.
+#![tactic(auto)]
+
+mod limits;
+mod silence;
+#[cfg(test)]
+mod tests;
+mod verdict;
+mod window;
+
+pub use limits::{
+    DEFAULT_INITIAL_GAP, DEFAULT_MAX_GAP, DEFAULT_THRESHOLD, DEFAULT_WINDOW, GAP_LIMIT,
+    THRESHOLD_LIMIT, THRESHOLD_UNIT, WINDOW_LIMIT,
+};
+pub use silence::Silence;
+pub use verdict::Verdict;
+pub use window::Window;

@@ -1,0 +1,99 @@
+//! How silence is judged.
+
+ghost use Rattle.std.specs.Prelude.{◌≡◌, ◌↔◌, IsSome, IfSome};
+ghost use Rattle.cg_silence.specs.Values.{IsSilence, silence_of, default_silence};
+
+use crate::limits::{
+    DEFAULT_INITIAL_GAP, DEFAULT_MAX_GAP, DEFAULT_THRESHOLD, DEFAULT_WINDOW, GAP_LIMIT,
+    THRESHOLD_LIMIT, WINDOW_LIMIT,
+};
+use std::marker::Model;
+
+/// How silence is judged. Gaps are in milliseconds, and the threshold is in thousandths of the mean gap.
+#[derive(Clone, Copy, Debug, PartialEq, Eq)]
+pub struct Silence {
+    window: usize,
+    initial_gap: u32,
+    max_gap: u32,
+    threshold: u32,
+}
+
+impl Model for Silence {
+    ghost use Rattle.cg_silence.specs.Values.{SilenceValue, IsSilence, silence_of};
+
+    ghost Value = { SilenceValue };
+
+    ghost view = { λ s. silence_of s.window s.initial_gap s.max_gap s.threshold };
+
+    ghost invariant = { λ s. IsSilence (silence_of s.window s.initial_gap s.max_gap s.threshold) };
+
+    ghost inverse = { λ s. record { window = s.window; initial_gap = s.initial_gap; max_gap = s.max_gap; threshold = s.threshold } };
+}
+
+impl Silence {
+    /// `None` unless the window is 1 to `WINDOW_LIMIT` gaps, the initial gap is 1 to `max_gap`, that is 1 to
+    /// `GAP_LIMIT`, and the threshold is 1 to `THRESHOLD_LIMIT`.
+    pub fn new(window: usize, initial_gap: u32, max_gap: u32, threshold: u32) -> Option<Silence>
+        ensures valid { IsSome result ↔ IsSilence (silence_of window initial_gap max_gap threshold) }
+        ensures value { IfSome result (λ s. s ≡ silence_of window initial_gap max_gap threshold) }
+    {
+        if window == 0 || window > WINDOW_LIMIT {
+            return None;
+        }
+        if initial_gap == 0 || initial_gap > max_gap || max_gap > GAP_LIMIT {
+            return None;
+        }
+        if threshold == 0 || threshold > THRESHOLD_LIMIT {
+            return None;
+        }
+        Some(Silence {
+            window,
+            initial_gap,
+            max_gap,
+            threshold,
+        })
+    }
+
+    /// How many gaps a window keeps.
+    pub fn window(self) -> usize
+        ensures value { result ≡ self.window }
+        ensures valid { IsSilence self }
+    {
+        self.window
+    }
+
+    /// The gap that the first arrival records, in milliseconds.
+    pub fn initial_gap(self) -> u32
+        ensures { result ≡ self.initial_gap }
+    {
+        self.initial_gap
+    }
+
+    /// The greatest gap that is recorded, in milliseconds.
+    pub fn max_gap(self) -> u32
+        ensures { result ≡ self.max_gap }
+    {
+        self.max_gap
+    }
+
+    /// How many thousandths of the mean gap may pass without an arrival.
+    pub fn threshold(self) -> u32
+        ensures { result ≡ self.threshold }
+    {
+        self.threshold
+    }
+}
+
+/// The defaults of `limits`.
+impl Default for Silence {
+    ghost is_default = { λ s. s ≡ default_silence };
+
+    fn default() -> Silence {
+        Silence {
+            window: DEFAULT_WINDOW,
+            initial_gap: DEFAULT_INITIAL_GAP,
+            max_gap: DEFAULT_MAX_GAP,
+            threshold: DEFAULT_THRESHOLD,
+        }
+    }
+}

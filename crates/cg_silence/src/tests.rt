@@ -1,0 +1,136 @@
+//! The verdicts at worked moments, and each call once with ample memory.
+
+use crate::{
+    DEFAULT_INITIAL_GAP, DEFAULT_MAX_GAP, DEFAULT_THRESHOLD, DEFAULT_WINDOW, GAP_LIMIT, Silence,
+    THRESHOLD_LIMIT, Verdict, WINDOW_LIMIT, Window,
+};
+use std::alloc::Global;
+use std::test::Fail;
+
+fn silence(window: usize, initial_gap: u32, max_gap: u32, threshold: u32) -> Result<Silence, Fail> {
+    Ok(Silence::new(window, initial_gap, max_gap, threshold).ok_or("settings")?)
+}
+
+fn window(alloc: Global, silence: Silence, arrivals: &[u64]) -> Result<Window, Fail> {
+    let mut window = Window::new(alloc, silence)?;
+    for now in arrivals {
+        window.arrived(*now);
+    }
+    Ok(window)
+}
+
+#[test]
+fn settings_are_in_their_ranges(rt: HostRuntime) {
+    for (window, initial_gap, max_gap, threshold, is_in) in [
+        (1, 1, 1, 1, true),
+        (1000, 86400000, 86400000, 1000000000, true),
+        (0, 1, 1, 1, false),
+        (1001, 1, 1, 1, false),
+        (1, 0, 1, 1, false),
+        (1, 2, 1, 1, false),
+        (1, 1, 0, 1, false),
+        (1, 1, 86400001, 1, false),
+        (1, 1, 1, 0, false),
+        (1, 1, 1, 1000000001, false),
+    ] {
+        let silence = Silence::new(window, initial_gap, max_gap, threshold);
+        assert_eq!(rt;
+            silence.is_some(),
+            is_in,
+            "{window} {initial_gap} {max_gap} {threshold}"
+        );
+    }
+}
+
+#[test]
+fn settings_are_read(rt: HostRuntime) -> Result<(), Fail> {
+    let silence = silence(5, 2, 3, 4)?;
+    assert_eq!(rt; silence.window(), 5);
+    assert_eq!(rt; silence.initial_gap(), 2);
+    assert_eq!(rt; silence.max_gap(), 3);
+    assert_eq!(rt; silence.threshold(), 4);
+    Ok(())
+}
+
+#[test]
+fn the_defaults(rt: HostRuntime) {
+    let silence = Silence::default();
+    assert_eq!(rt; Silence::new(1000, 2000, 60000, 18421), Some(silence));
+    let named = Silence::new(
+        DEFAULT_WINDOW,
+        DEFAULT_INITIAL_GAP,
+        DEFAULT_MAX_GAP,
+        DEFAULT_THRESHOLD,
+    );
+    assert_eq!(rt; named, Some(silence));
+}
+
+#[test]
+fn nothing_was_heard(rt: HostRuntime) -> Result<(), Fail> {
+    let window = window(rt.alloc(), Silence::default(), &[])?;
+    for now in [0, 1, u64::MAX] {
+        assert_eq!(rt; window.verdict(now), Verdict::Unheard, "at {now}");
+    }
+    Ok(())
+}
+
+// 2 gaps of 3,000 together: silent after 18.421 of their mean.
+#[test]
+fn the_threshold_is_passed(rt: HostRuntime) -> Result<(), Fail> {
+    let window = window(rt.alloc(), Silence::default(), &[10000, 11000])?;
+    for (now, verdict) in [
+        (10500, Verdict::Alive),
+        (38631, Verdict::Alive),
+        (38632, Verdict::Silent),
+        (u64::MAX, Verdict::Silent),
+    ] {
+        assert_eq!(rt; window.verdict(now), verdict, "at {now}");
+    }
+    Ok(())
+}
+
+// A gap of 1 is added, and the last arrival stays at 11,000.
+#[test]
+fn an_arrival_before_the_last_one(rt: HostRuntime) -> Result<(), Fail> {
+    let window = window(rt.alloc(), Silence::default(), &[10000, 11000, 10400])?;
+    assert_eq!(rt; window.verdict(29427), Verdict::Alive);
+    assert_eq!(rt; window.verdict(29428), Verdict::Silent);
+    Ok(())
+}
+
+// Of the gaps 2,000, 1,000, 7,000 and 500 the third is not recorded, and the first has left: the mean of the
+// others is 750, and the last arrival is 9,500.
+#[test]
+fn gaps_are_left_out_and_leave(rt: HostRuntime) -> Result<(), Fail> {
+    let silence = silence(2, 2000, 5000, 1000)?;
+    let window = window(rt.alloc(), silence, &[1000, 2000, 9000, 9500])?.copy(rt.alloc())?;
+    assert_eq!(rt; window.verdict(10250), Verdict::Alive);
+    assert_eq!(rt; window.verdict(10251), Verdict::Silent);
+    Ok(())
+}
+
+// A copy and its source go on by themselves.
+#[test]
+fn a_copy_stands_alone(rt: HostRuntime) -> Result<(), Fail> {
+    let source = window(rt.alloc(), silence(2, 1000, 5000, 1000)?, &[1000])?;
+    let mut copy = source.copy(rt.alloc())?;
+    copy.arrived(4000);
+    assert_eq!(rt; source.verdict(2001), Verdict::Silent);
+    assert_eq!(rt; copy.verdict(6000), Verdict::Alive);
+    assert_eq!(rt; copy.verdict(6001), Verdict::Silent);
+    Ok(())
+}
+
+// The greatest settings: 1,000 gaps of a day and a million means. Both products pass 64 bits.
+#[test]
+fn the_greatest_products(rt: HostRuntime) -> Result<(), Fail> {
+    let silence = silence(WINDOW_LIMIT, GAP_LIMIT, GAP_LIMIT, THRESHOLD_LIMIT)?;
+    let mut window = Window::new(rt.alloc(), silence)?;
+    for day in 0..1000u64 {
+        window.arrived(day * 86400000);
+    }
+    assert_eq!(rt; window.verdict(86486313600000), Verdict::Alive);
+    assert_eq!(rt; window.verdict(86486313600001), Verdict::Silent);
+    assert_eq!(rt; window.verdict(u64::MAX), Verdict::Silent);
+    Ok(())
+}

@@ -1,0 +1,5 @@
+pub mod HexLemmas
+pub mod TextLemmas
+pub mod TokenTextLemmas
+pub mod RingLemmas
+pub mod ClaimLemmas

@@ -1,0 +1,13 @@
+use Rattle.std.specs.List.Sorted.{IsPermutation}
+use Rattle.cg_tokens.specs.Claims.{claims}
+use Rattle.cg_tokens.proofs.ClaimLemmas.{heads_valid, heads_winners}
+use Rattle.cg_tokens.proofs.ring.Ring.of_table.Goals as goal
+
+pub invariant_of-result : goal.invariant_of-result
+invariant_of-result c =
+    rw (c.in_ok-heads.ensures, c.deref.ensures.value) (heads_valid c.in_ok-all_claims.field-0.items c.ranked-claims.result.items c.ranked-claims.ensures.permutation c.ranked-claims.ensures.sorted)
+
+pub returns : goal.returns
+returns c =
+    let moved : IsPermutation (claims c.args.table.now.entries) c.ranked-claims.result.items = rw (← c.in_ok-all_claims.ensures) c.ranked-claims.ensures.permutation in
+    rw (c.in_ok-heads.ensures, c.deref.ensures.value) (heads_winners (claims c.args.table.now.entries) c.ranked-claims.result.items moved c.ranked-claims.ensures.sorted)

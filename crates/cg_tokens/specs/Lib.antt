@@ -1,0 +1,4 @@
+pub mod Tokens
+pub mod Text
+pub mod Claims
+pub mod Ring

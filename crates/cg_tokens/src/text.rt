@@ -1,0 +1,145 @@
+//! Texts of tokens.
+
+ghost use Rattle.std.specs.Prelude.{◌≡◌, ◌≢◌, ℕ, List, Err, ◌<◌, ◌≤◌, ◌∷◌, length, IfOk, OnErr, IfSome, IsSome, IsTrue, option_copied, option_map};
+ghost use Rattle.std.specs.List.{list_all, filter_map};
+ghost use Rattle.std.specs.Char.{digit_value};
+ghost use Rattle.std.specs.Str.Parse.{digits_value};
+ghost use Rattle.cg_types.specs.Answer.{Answers};
+ghost use Rattle.cg_tokens.specs.Text.{is_lower_digit, token_in, pieces, pieces_of, are_tokens, tokens_of, read_as, tokens_text, AreTokens};
+ghost use Rattle.cg_types.specs.declared.fault.Fault.TheVariants.{BadText};
+
+use crate::limits::{COMMA, TOKEN_COUNT_LIMIT, TOKEN_DIGITS};
+use crate::token::Token;
+use cg_types::{Fault, cut};
+use std::alloc::{AllocError, Global};
+
+// A digit, as hexadecimal texts of tokens have them: no capital letter.
+fn is_lower_digit(byte: u8) -> bool
+    ensures { result ≡ is_lower_digit byte }
+{
+    matches!(byte, b'0'..=b'9' | b'a'..=b'f')
+}
+
+fn are_lower_digits(text: &[u8]) -> bool
+    ensures { result ≡ list_all is_lower_digit text.now }
+{
+    text.iter().all(|byte| is_lower_digit(*byte))
+}
+
+// What a digit stands for.
+fn digit_of(byte: u8) -> u8
+    requires { IsTrue (is_lower_digit byte) }
+    ensures value { result ≡ digit_value byte }
+    ensures range { result < 16 }
+{
+    if byte <= b'9' {
+        byte - b'0'
+    } else {
+        byte - b'a' + 10
+    }
+}
+
+// The number that digits write.
+fn number_of(digits: &[u8]) -> u128
+    requires digits { IsTrue (list_all is_lower_digit digits.now) }
+    requires few { length digits.now ≤ TOKEN_DIGITS }
+    ensures { result ≡ digits_value 16 digits.now }
+{
+    let mut number = 0;
+    for byte in digits {
+        number = number * 16 + u128::from(digit_of(*byte));
+    }
+    number
+}
+
+// The token that 32 digits write.
+#[tactic(auto, unfolding(crate::specs::Text::token_in))]
+fn token_in(digits: &[u8]) -> Option<Token>
+    ensures { result ≡ token_in digits.now }
+{
+    if digits.len() != TOKEN_DIGITS || !are_lower_digits(digits) {
+        return None;
+    }
+    Token::new(number_of(digits))
+}
+
+// What stands before the first comma, and what stands behind it, if there is one.
+pub(crate) fn first_piece(text: &[u8]) -> (&[u8], Option<&[u8]>)
+    ensures pieces { pieces text.now ≡ result.0.now ∷ pieces_of (option_copied result.1) }
+    ensures shorter { IfSome result.1 (λ rest. length rest.now < length text.now) }
+{
+    match cut(text, COMMA) {
+        Some((piece, rest)) => (piece, Some(rest)),
+        None => (text, None),
+    }
+}
+
+// Whether a text is tokens that rise, with one comma between them.
+fn are_tokens(text: &[u8]) -> bool
+    ensures { result ≡ are_tokens (pieces text.now) }
+{
+    let mut count = 0;
+    let mut last: Option<Token> = None;
+    let mut rest = Some(text);
+    while let Some(text) = rest {
+        let (piece, behind) = first_piece(text);
+        let Some(token) = token_in(piece) else {
+            return false;
+        };
+        if count == TOKEN_COUNT_LIMIT {
+            return false;
+        }
+        if let Some(before) = last
+            && token <= before
+        {
+            return false;
+        }
+        count += 1;
+        last = Some(token);
+        rest = behind;
+    }
+    true
+}
+
+// The tokens of the pieces that are tokens.
+fn listed(alloc: Global, text: &[u8]) -> Result<Vec<Token>, AllocError>
+    ensures { IfOk result (λ tokens. tokens.items ≡ filter_map token_in (pieces text.now)) }
+{
+    let mut tokens = Vec::new(alloc);
+    let mut rest = Some(text);
+    while let Some(text) = rest {
+        let (piece, behind) = first_piece(text);
+        if let Some(token) = token_in(piece) {
+            tokens.push(token)?;
+        }
+        rest = behind;
+    }
+    Ok(tokens)
+}
+
+// The tokens of a text, if it is one of tokens. Only then it takes memory.
+pub(crate) fn tokens_in(alloc: Global, text: &[u8]) -> Result<Option<Vec<Token>>, AllocError>
+    ensures ok { IfOk result (λ tokens. option_map (λ v. v.items) tokens ≡ tokens_of text.now) }
+    ensures err { OnErr result (IsSome (tokens_of text.now)) }
+{
+    if !are_tokens(text) {
+        return Ok(None);
+    }
+    Ok(Some(listed(alloc, text)?))
+}
+
+/// The tokens of an endpoint, as its state `TOKENS` has them: 1 to `TOKEN_COUNT_LIMIT` tokens of 32 lower-case
+/// hexadecimal digits, each greater than the one before it, with one comma between them. Any other text is BadText,
+/// which is found before memory is taken.
+pub fn read_tokens(alloc: Global, text: &str) -> Result<Vec<Token>, Fault>
+    ensures answer { Answers (λ tokens. tokens.items) (read_as (tokens_of text.now)) result }
+    // The text is the one that is written of the tokens.
+    ensures ok { IfOk result (λ tokens. text.now ≡ tokens_text tokens.items) }
+    // A text that is refused is not written of any.
+    ensures bad { result ≡ Err BadText → (tokens : List ℕ) → AreTokens tokens → text.now ≢ tokens_text tokens }
+{
+    match tokens_in(alloc, text.as_bytes())? {
+        Some(tokens) => Ok(tokens),
+        None => Err(Fault::BadText),
+    }
+}
