@@ -1,6 +1,6 @@
 //! What a message carries of one endpoint.
 
-ghost use Rattle.std.specs.Prelude.{◌≡◌, IfSome, IfOk, is_some};
+ghost use Rattle.std.specs.Prelude.{◌≡◌, ◌↔◌, IsTrue, IfSome, IfOk, is_some};
 ghost use Rattle.std.specs.FinMap as map;
 ghost use Rattle.cg_types.specs.Numbers.{IsVersionHeld};
 ghost use Rattle.cg_entry.specs.State.{KeysRise, pairs, all_newer as all_newer_of, makes_delta};
@@ -124,6 +124,16 @@ impl Delta {
         ensures rise { KeysRise result.now }
     {
         self.states.as_slice()
+    }
+
+    /// Whether it is the same delta: generation, version that it stands above, heartbeat version and states.
+    pub fn is_same(&self, other: &Delta) -> bool
+        ensures { IsTrue result ↔ (self.now ≡ other.now) }
+    {
+        other.generation == self.generation
+            && self.above == other.above
+            && self.heartbeat == other.heartbeat
+            && self.states.is_same(&other.states)
     }
 
     /// The same delta, which shares the texts of its states.

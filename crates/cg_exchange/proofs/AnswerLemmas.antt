@@ -2,7 +2,7 @@
 use Rattle.std.proofs.Common.{◌≡◌, ℕ, suc, ◌+◌, ◌<◌, ◌≤◌, Bool, true, false, cond, List, [], ◌∷◌, ◌++◌, map, length, take, get_or, Option, Some, None, refl, sym, ap, subst, ◌∙◌, arith, nat_lt}
 use Rattle.std.specs.List.{filter_map}
 use Rattle.std.specs.Option.{option_to_list}
-use Rattle.std.proofs.lemmas.List.{take_more, length-map}
+use Rattle.std.proofs.lemmas.List.{take_more, length-map, map-append}
 use Rattle.std.proofs.lemmas.List.Elements.{filter_map-append}
 use Rattle.std.specs.Prelude.{◌&&◌, ◌==◌, find}
 use Rattle.std.specs.Option.{option_map}
@@ -15,11 +15,16 @@ use Rattle.cg_shared.specs.Rows.{keys_of}
 use Rattle.cg_table.specs.Values.{Entries}
 use Rattle.cg_exchange.specs.declared.owner_delta.OwnerDelta.{OwnerDelta}
 use Rattle.cg_exchange.specs.Values.{RequestValue}
+use Rattle.cg_exchange.specs.Taking.{granted, delta_granted, deltas_granted}
+use Rattle.cg_table.specs.Table.{digest_of, digests_of}
 use Rattle.cg_exchange.specs.Answering.{asked, requests_for, sent, delta_for}
 use Rattle.std.specs.List.{cons_option}
 use Rattle.cg_exchange.specs.Members.{AreListed, endpoints_of_digests, endpoints_of_requests, endpoints_of_deltas}
 use Rattle.cg_types.specs.Rising.{is_past, rise_past, Rises}
-use Rattle.cg_types.proofs.RisingLemmas.{both, first_of, second_of, rise_earlier}
+use Rattle.cg_types.proofs.RisingLemmas.{both, first_of, second_of, rise_earlier, rise_sorted}
+
+pub map_more : {X Y : Type 0} (f : X → Y) (xs : List X) (i : ℕ) (x : X) → i < length xs → x ≡ get_or xs i x → map f (take (i + 1) xs) ≡ map f (take i xs) ++ f x ∷ []
+map_more f xs i x lt is = ap (map f) (take_more xs i x lt) ∙ map-append f (take i xs) (get_or xs i x ∷ []) ∙ ap (λ y. map f (take i xs) ++ f y ∷ []) (sym is)
 
 module _ {X Y : Type 0} (f : X → Option Y) where
   one_mapped : (x : X) → filter_map f (x ∷ []) ≡ option_to_list (f x)
@@ -31,7 +36,7 @@ module _ {X Y : Type 0} (f : X → Option Y) where
       ∙ ap (λ y. filter_map f (take i xs) ++ filter_map f (y ∷ [])) (sym is) ∙ ap (λ ys. filter_map f (take i xs) ++ ys) (one_mapped x)
 
   -- Keys that the mapped items keep rise where those of the items do, and are no more.
-  rise_mapped : (key : X → ℕ) (kept : Y → ℕ) → ((x : X) (y : Y) → f x ≡ Some y → kept y ≡ key x) → (last : Option ℕ) (xs : List X) → rise_past last (map key xs) ≡ true → rise_past last (map kept (filter_map f xs)) ≡ true
+  pub rise_mapped : (key : X → ℕ) (kept : Y → ℕ) → ((x : X) (y : Y) → f x ≡ Some y → kept y ≡ key x) → (last : Option ℕ) (xs : List X) → rise_past last (map key xs) ≡ true → rise_past last (map kept (filter_map f xs)) ≡ true
   rise_mapped key kept same last [] h = refl
   rise_mapped key kept same last (x ∷ xs) h =
       let here = first_of (is_past last (key x)) (rise_past (Some (key x)) (map key xs)) h in
@@ -71,14 +76,32 @@ mapped_endpoint : (o : ℕ) (sent : Option DeltaValue) (d : OwnerDelta) → opti
 mapped_endpoint o None d e = absurd cc
 mapped_endpoint o (Some x) d e = ap (λ (d : OwnerDelta). d.endpoint) (sym (some_is _ _ e))
 
-asked_same : (entries : Entries) (d : Digest) (r : RequestValue) → asked d (table.get entries d.endpoint) ≡ Some r → r.endpoint ≡ d.endpoint
+pub asked_same : (entries : Entries) (d : Digest) (r : RequestValue) → asked d (table.get entries d.endpoint) ≡ Some r → r.endpoint ≡ d.endpoint
 asked_same entries d r e = asked_endpoint d (table.get entries d.endpoint) r e
 
 pub requests_listed : (entries : Entries) (digests : List Digest) → AreListed (endpoints_of_digests digests) → AreListed (endpoints_of_requests (requests_for entries digests))
 requests_listed entries digests h = listed_mapped (λ d. asked d (table.get entries d.endpoint)) (λ d. d.endpoint) (λ r. r.endpoint) (asked_same entries) digests h
 
-delta_same : (digests : List Digest) (held : ℕ × EntryValue) (d : OwnerDelta) → delta_for digests held ≡ Some d → d.endpoint ≡ held.0
+pub delta_same : (digests : List Digest) (held : ℕ × EntryValue) (d : OwnerDelta) → delta_for digests held ≡ Some d → d.endpoint ≡ held.0
 delta_same digests held d e = mapped_endpoint held.0 (sent held.1 (find (λ d. d.endpoint == held.0) digests)) d e
 
 pub deltas_listed : (owners : List (ℕ × EntryValue)) (digests : List Digest) → Rises (keys_of owners) → length owners ≤ MEMBER_LIMIT → AreListed (endpoints_of_deltas (filter_map (delta_for digests) owners))
 deltas_listed owners digests rise few = listed_mapped (delta_for digests) (λ e. e.0) (λ d. d.endpoint) (delta_same digests) owners (record { rise = rise; few = omega (arith, few, length-map {A = ℕ × EntryValue} {B = ℕ}) })
+
+-- ---- a SYN, and the answer to an ACK
+
+digest_keys : (rows : List (ℕ × EntryValue)) → endpoints_of_digests (map digest_of rows) ≡ keys_of rows
+digest_keys [] = refl
+digest_keys (r ∷ rows) = ap (λ (ks : List ℕ). r.0 ∷ ks) (digest_keys rows)
+
+pub digests_listed : (entries : Entries) (digests : List Digest) → digests ≡ digests_of entries → length digests ≤ MEMBER_LIMIT → AreListed (endpoints_of_digests digests)
+digests_listed entries digests is few = record {
+  rise = rw (is, digest_keys (table.entries entries)) (rise_sorted (table.entries entries) (table.entries_sorted entries));
+  few = omega (arith, few, length-map {A = Digest} {B = ℕ});
+}
+
+pub granted_same : (entries : Entries) (r : RequestValue) (d : OwnerDelta) → delta_granted entries r ≡ Some d → d.endpoint ≡ r.endpoint
+granted_same entries r d e = mapped_endpoint r.endpoint (granted r (table.get entries r.endpoint)) d e
+
+pub granted_listed : (entries : Entries) (requests : List RequestValue) → AreListed (endpoints_of_requests requests) → AreListed (endpoints_of_deltas (deltas_granted entries requests))
+granted_listed entries requests h = listed_mapped (delta_granted entries) (λ r. r.endpoint) (λ d. d.endpoint) (granted_same entries) requests h

@@ -10,6 +10,7 @@ use Rattle.cg_types.specs.Text.{ClusterValue}
 use Rattle.cg_entry.specs.Values.{EntryValue, DeltaValue}
 use Rattle.cg_entry.specs.Entry.{newest, delta_above}
 use Rattle.cg_table.specs.declared.digest.Digest.{Digest}
+use Rattle.cg_table.specs.Table.{digests_of}
 use Rattle.cg_table.specs.Values.{TableValue, Entries}
 use Rattle.cg_exchange.specs.declared.owner_delta.OwnerDelta.{OwnerDelta}
 use Rattle.cg_exchange.specs.Values.{RequestValue, SynValue, AckValue}
@@ -54,3 +55,7 @@ answer_to_syn t cluster syn =
     if same_cluster cluster syn.cluster
     then Ok (record { requests = requests_for t.entries syn.digests; deltas = deltas_for t.entries syn.digests })
     else Err OtherCluster
+
+-- the digests of a table, with the cluster
+abbrev pub syn_of : TableValue → ClusterValue → SynValue
+syn_of t cluster = record { cluster = cluster; digests = digests_of t.entries }

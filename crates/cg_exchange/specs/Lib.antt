@@ -1,3 +1,9 @@
 pub mod Values
 pub mod Members
 pub mod Answering
+pub mod Walking
+pub mod Taking
+pub mod Changes
+pub mod Places
+pub mod Spelling
+pub mod Laws

@@ -31,3 +31,10 @@ owner_delta_code = code_by (ℕ × DeltaValue) (coded× coded_ℕ delta_code) (�
 
 abbrev pub ack_code : Coded AckValue
 ack_code = code_by (List RequestValue × List OwnerDelta) (coded× (coded_list request_code) (coded_list owner_delta_code)) (λ a. (a.requests, a.deltas)) (λ p. record { requests = p.0; deltas = p.1 }) (λ _. refl)
+
+-- what the sender of an ACK is sent
+pub record Ack2Value : Type 0 where
+  pub deltas : List OwnerDelta
+
+abbrev pub ack2_code : Coded Ack2Value
+ack2_code = code_by (List OwnerDelta) (coded_list owner_delta_code) (λ a. a.deltas) (λ ds. record { deltas = ds }) (λ _. refl)

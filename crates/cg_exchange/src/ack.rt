@@ -1,11 +1,12 @@
 //! The answer to a SYN.
 
-ghost use Rattle.std.specs.Prelude.{◌≡◌, ◌&&◌, IfSome, is_some};
+ghost use Rattle.std.specs.Prelude.{◌≡◌, ◌&&◌, ◌↔◌, IsTrue, IfOk, IfSome, is_some};
 ghost use Rattle.cg_exchange.specs.Members.{AreListed, listed, endpoints_of_requests, endpoints_of_deltas};
 
 use crate::owned::are_listed;
-use crate::owner_delta::OwnerDelta;
-use crate::request::Request;
+use crate::owner_delta::{OwnerDelta, are_same, copies};
+use crate::request::{Request, are_same_requests};
+use std::alloc::{AllocError, Global};
 use std::marker::Model;
 
 /// What the sender of a SYN is asked for, and what it is sent.
@@ -62,5 +63,24 @@ impl Ack {
         ensures listed { AreListed (endpoints_of_deltas self.now.deltas) }
     {
         &self.deltas
+    }
+
+    /// Whether both ask for the same and send the same deltas.
+    pub fn is_same(&self, other: &Ack) -> bool
+        ensures { IsTrue result ↔ (self.now ≡ other.now) }
+    {
+        are_same_requests(&self.requests, &other.requests) && are_same(&self.deltas, &other.deltas)
+    }
+
+    /// The same answer, which shares the texts of its states.
+    pub fn copy(&self, alloc: Global) -> Result<Ack, AllocError>
+        ensures { IfOk result (λ a. a ≡ self.now) }
+    {
+        let mut requests = Vec::with_capacity(alloc, self.requests.len())?;
+        requests.extend_from_slice(&self.requests)?;
+        Ok(Ack {
+            requests,
+            deltas: copies(alloc, &self.deltas)?,
+        })
     }
 }

@@ -1,19 +1,21 @@
 //! The answers to messages.
 
-ghost use Rattle.std.specs.Prelude.{◌≡◌, ◌++◌, ◌==◌, IfOk, OnOk, find, option_copied};
-ghost use Rattle.std.specs.Option.{option_to_list};
+ghost use Rattle.std.specs.Prelude.{◌≡◌, IfOk, option_copied};
 ghost use Rattle.cg_types.specs.Answer.{Answers};
-ghost use Rattle.cg_exchange.specs.Members.{AreListed, endpoints_of_deltas};
-ghost use Rattle.cg_exchange.specs.Answering.{same_cluster as same_cluster_of, asked as asked_of, sent as sent_of, delta_for as delta_for_of, requests_for as requests_of, deltas_for as deltas_of, answer_to_syn};
+ghost use Rattle.cg_types.specs.Rising.{Rises};
+ghost use Rattle.cg_exchange.specs.Members.{AreListed, endpoints_of_digests, endpoints_of_deltas};
+ghost use Rattle.cg_exchange.specs.Answering.{same_cluster as same_cluster_of, asked as asked_of, sent as sent_of, requests_for as requests_of, deltas_for as deltas_of, answer_to_syn, syn_of};
+ghost use Rattle.cg_exchange.specs.Walking.{asked_by as asked_by_of, sent_by as sent_by_of};
 
 use crate::ack::Ack;
+use crate::opening::Syn;
+use crate::owned::{first_about, from_owner, push_some};
 use crate::owner_delta::OwnerDelta;
 use crate::request::Request;
-use crate::syn::Syn;
 use cg_entry::{Delta, Entry};
 use cg_shared::Row;
 use cg_table::{Digest, Table};
-use cg_types::{Cluster, Endpoint, Fault};
+use cg_types::{Cluster, Fault};
 use std::alloc::{AllocError, Global};
 
 fn same_cluster(ours: &Cluster, theirs: &Cluster) -> bool
@@ -54,67 +56,78 @@ fn sent(alloc: Global, entry: &Entry, named: Option<&Digest>) -> Result<Option<D
     Ok(None)
 }
 
-// Puts an item at the end, if there is one.
-fn push_some<T: Drop>(items: &mut Vec<T>, item: Option<T>) -> Result<(), AllocError>
-    ensures { OnOk result (items.new.items ≡ items.old.items ++ option_to_list item) }
+// What is asked of the sender of a digest, by the row of its endpoint.
+fn asked_by(digest: &Digest, row: Option<&Row<Entry>>) -> Option<Request>
+    ensures { result ≡ asked_by_of digest.now (option_copied row.entry) }
 {
-    if let Some(item) = item {
-        items.push(item)?;
+    match row {
+        Some(row) => asked(digest, Some(row.value())),
+        None => asked(digest, None),
     }
-    Ok(())
 }
 
-// The digest that names an endpoint.
-fn named(digests: &[Digest], endpoint: Endpoint) -> Option<&Digest>
-    ensures { option_copied result ≡ find (λ d. d.endpoint == endpoint) digests.now }
-{
-    digests.iter().find(|digest| digest.endpoint == endpoint)
-}
-
-fn delta_for(
+// What is sent of a row, by the digest that names its endpoint, if there is one.
+fn sent_by(
     alloc: Global,
-    digests: &[Digest],
     row: &Row<Entry>,
+    named: Option<&Digest>,
 ) -> Result<Option<OwnerDelta>, AllocError>
-    ensures { IfOk result (λ d. d ≡ delta_for_of digests.now row.now) }
+    ensures { IfOk result (λ d. d ≡ sent_by_of row.now (option_copied named.entry)) }
 {
     let endpoint = row.endpoint();
-    match sent(alloc, row.value(), named(digests, endpoint))? {
+    match sent(alloc, row.value(), named)? {
         Some(delta) => Ok(Some(OwnerDelta { endpoint, delta })),
         None => Ok(None),
     }
 }
 
+// In one walk over digests and rows, since both rise.
 fn requests_for(
     alloc: Global,
     table: &Table,
     digests: &[Digest],
 ) -> Result<Vec<Request>, AllocError>
+    requires { Rises (endpoints_of_digests digests.now) }
     ensures { IfOk result (λ v. v.items ≡ requests_of table.now.entries digests.now) }
 {
     let mut requests = Vec::new(alloc);
+    let mut rows = table.owners();
     for digest in digests {
-        let request = asked(digest, table.get(digest.endpoint));
+        rows = from_owner(rows, digest.endpoint);
+        let request = asked_by(digest, first_about(rows, digest.endpoint));
         push_some(&mut requests, request)?;
     }
     Ok(requests)
 }
 
+// In one walk over rows and digests, since both rise.
 fn deltas_for(
     alloc: Global,
     table: &Table,
     digests: &[Digest],
 ) -> Result<Vec<OwnerDelta>, AllocError>
+    requires { Rises (endpoints_of_digests digests.now) }
     ensures value { IfOk result (λ v. v.items ≡ deltas_of table.now.entries digests.now) }
     ensures listed { IfOk result (λ v. AreListed (endpoints_of_deltas v.items)) }
 {
     let owners = table.owners();
     let mut deltas = Vec::new(alloc);
+    let mut named = digests;
     for row in owners {
-        let delta = delta_for(alloc, digests, row)?;
+        named = from_owner(named, row.endpoint());
+        let delta = sent_by(alloc, row, first_about(named, row.endpoint()))?;
         push_some(&mut deltas, delta)?;
     }
     Ok(deltas)
+}
+
+/// What the member that holds `table` and is in `cluster` opens an exchange with: a digest of each entry, rising by
+/// endpoint, and the cluster.
+pub fn syn(alloc: Global, table: &Table, cluster: &Cluster) -> Result<Syn, AllocError>
+    ensures { IfOk result (λ s. s ≡ syn_of table.now cluster.now) }
+{
+    let digests = table.digests(alloc)?;
+    Ok(Syn::of_parts(cluster.copy()?, digests))
 }
 
 /// The answer of the member that holds `table` and is in `cluster`. It asks for what the sender's digests are ahead

@@ -1,23 +1,33 @@
-//! The messages of an exchange between two members, and the answer to a SYN.
+//! The three messages of an exchange between two members, and what each makes of a table.
 //!
-//! An exchange has the shape of Apache Cassandra's: a SYN of digests (`GossipDigestSyn`), and an ACK of what is
-//! asked for and what is sent (`GossipDigestAck`). Each list of a message rises strictly by endpoint and has at most
-//! `MEMBER_LIMIT` members.
+//! An exchange has the shape of Apache Cassandra's: a SYN of digests (`GossipDigestSyn`), an ACK of what is asked for
+//! and what is sent (`GossipDigestAck`), and an ACK2 of what was asked for (`GossipDigestAck2`). Each list of a message
+//! rises strictly by endpoint and has at most `MEMBER_LIMIT` members. Each rule is a function from tables and messages
+//! to tables and messages.
 #![tactic(auto)]
 
 mod ack;
+mod ack2;
 mod answers;
+pub mod laws;
 mod message;
+mod opening;
+mod outcome;
 mod owned;
 mod owner_delta;
 mod request;
-mod syn;
+mod taking;
+#[cfg(test)]
+mod taking_tests;
 #[cfg(test)]
 mod tests;
 
 pub use ack::Ack;
-pub use answers::answer_syn;
+pub use ack2::Ack2;
+pub use answers::{answer_syn, syn};
 pub use message::Message;
+pub use opening::Syn;
+pub use outcome::Outcome;
 pub use owner_delta::OwnerDelta;
 pub use request::Request;
-pub use syn::Syn;
+pub use taking::{take_ack, take_ack2};

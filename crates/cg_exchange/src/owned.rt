@@ -1,13 +1,18 @@
 //! What the members of a message's lists have in common.
 
-ghost use Rattle.std.specs.Prelude.{◌≡◌, ℕ, None, map};
+ghost use Rattle.std.specs.Prelude.{◌≡◌, ◌++◌, ℕ, OnOk, None, map, option_copied};
+ghost use Rattle.std.specs.Option.{option_to_list};
 ghost use Rattle.cg_types.specs.Rising.{rise_past};
 ghost use Rattle.cg_exchange.specs.Members.{listed};
+ghost use Rattle.cg_exchange.specs.Walking.{from_owner as from_owner_of, first_about as first_about_of};
 
 use crate::owner_delta::OwnerDelta;
 use crate::request::Request;
+use cg_entry::Entry;
+use cg_shared::Row;
 use cg_table::Digest;
 use cg_types::{Endpoint, MEMBER_LIMIT};
+use std::alloc::AllocError;
 
 /// Something about an endpoint, its owner.
 pub(crate) trait Owned {
@@ -41,6 +46,14 @@ impl Owned for OwnerDelta {
     }
 }
 
+impl Owned for Row<Entry> {
+    ghost owner_of = { λ r. r.0 };
+
+    fn owner(&self) -> Endpoint {
+        self.endpoint()
+    }
+}
+
 // Whether the owners rise strictly.
 fn owners_rise<M: Owned>(members: &[M]) -> bool
     ensures { result ≡ rise_past None (map M.owner_of members.now) }
@@ -63,4 +76,36 @@ pub(crate) fn are_listed<M: Owned>(members: &[M]) -> bool
     ensures { result ≡ listed (map M.owner_of members.now) }
 {
     members.len() <= MEMBER_LIMIT && owners_rise(members)
+}
+
+/// Puts an item at the end, if there is one.
+pub(crate) fn push_some<T: Drop>(items: &mut Vec<T>, item: Option<T>) -> Result<(), AllocError>
+    ensures { OnOk result (items.new.items ≡ items.old.items ++ option_to_list item) }
+{
+    if let Some(item) = item {
+        items.push(item)?;
+    }
+    Ok(())
+}
+
+/// The members from an owner on. It looks at those that it leaves out, and at one more.
+pub(crate) fn from_owner<M: Owned>(members: &[M], owner: Endpoint) -> &[M]
+    ensures { result.now ≡ from_owner_of M.owner_of owner members.now }
+{
+    for i in 0..members.len() {
+        if members[i].owner() >= owner {
+            return &members[i..];
+        }
+    }
+    &members[members.len()..]
+}
+
+/// The first member, where it is about this owner.
+pub(crate) fn first_about<M: Owned>(members: &[M], owner: Endpoint) -> Option<&M>
+    ensures { option_copied result ≡ first_about_of M.owner_of owner members.now }
+{
+    match members.first() {
+        Some(first) if first.owner() == owner => Some(first),
+        _ => None,
+    }
 }

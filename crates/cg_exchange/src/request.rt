@@ -1,6 +1,6 @@
 //! Requests.
 
-ghost use Rattle.std.specs.Prelude.{◌≡◌, ◌↔◌, IsSome, IfSome};
+ghost use Rattle.std.specs.Prelude.{◌≡◌, ◌↔◌, IsTrue, IsSome, IfSome};
 ghost use Rattle.cg_types.specs.Numbers.{IsVersionHeld};
 
 use cg_types::{Endpoint, Generation, NUMBER_LIMIT};
@@ -64,4 +64,11 @@ impl Request {
     {
         self.version
     }
+}
+
+// Whether both are the same requests.
+pub(crate) fn are_same_requests(ours: &[Request], theirs: &[Request]) -> bool
+    ensures { IsTrue result ↔ (ours.now ≡ theirs.now) }
+{
+    ours == theirs
 }

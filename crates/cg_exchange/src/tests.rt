@@ -6,17 +6,17 @@ use std::alloc::Global;
 use std::test::Fail;
 
 // A is 10.0.0.1:7000, and B is 10.0.0.2:7000.
-const A: u16 = 1;
+pub(crate) const A: u16 = 1;
 
-const B: u16 = 2;
+pub(crate) const B: u16 = 2;
 
 // 10.0.HIGH.LOW:7000, where HIGH and LOW are the two bytes of the number
-fn endpoint(number: u16) -> Result<Endpoint, Fail> {
+pub(crate) fn endpoint(number: u16) -> Result<Endpoint, Fail> {
     let [high, low] = number.to_be_bytes();
     Ok(Endpoint::new([10, 0, high, low], 7000).ok_or("an endpoint")?)
 }
 
-fn generation(number: u32) -> Result<Generation, Fail> {
+pub(crate) fn generation(number: u32) -> Result<Generation, Fail> {
     Ok(Generation::new(number).ok_or("a generation")?)
 }
 
@@ -28,12 +28,12 @@ fn digest(owner: u16, at: u32, newest: u32) -> Result<Digest, Fail> {
     })
 }
 
-fn request(owner: u16, at: u32, version: u32) -> Result<Request, Fail> {
+pub(crate) fn request(owner: u16, at: u32, version: u32) -> Result<Request, Fail> {
     Ok(Request::new(endpoint(owner)?, generation(at)?, version).ok_or("a request")?)
 }
 
 // The whole entry of an endpoint that started at generation 5.
-fn whole(alloc: Global, owner: u16) -> Result<OwnerDelta, Fail> {
+pub(crate) fn whole(alloc: Global, owner: u16) -> Result<OwnerDelta, Fail> {
     let entry = Entry::start(alloc, generation(5)?);
     Ok(OwnerDelta {
         endpoint: endpoint(owner)?,
@@ -103,7 +103,7 @@ fn what_is_held_is_answered_by_how_far_it_came(rt: HostRuntime) -> Result<(), Fa
 }
 
 #[test]
-fn what_is_not_named_is_sent_whole(rt: HostRuntime) -> Result<(), Fail> {
+fn empty_syn(rt: HostRuntime) -> Result<(), Fail> {
     let ack = answer_to(rt.alloc(), Vec::new(rt.alloc()))?;
     assert!(rt; ack.requests().is_empty());
     assert_eq!(rt; ack.deltas().len(), 1);
@@ -118,7 +118,7 @@ fn what_is_not_named_is_sent_whole(rt: HostRuntime) -> Result<(), Fail> {
 }
 
 #[test]
-fn another_cluster_is_not_answered(rt: HostRuntime) -> Result<(), Fail> {
+fn other_cluster(rt: HostRuntime) -> Result<(), Fail> {
     for (name, partitioner) in [("c2", 1), ("c1", 2)] {
         let other = syn(rt.alloc(), name, partitioner, Vec::new(rt.alloc()))?;
         let refusal = answer_of_b(rt.alloc(), &other)?.err();

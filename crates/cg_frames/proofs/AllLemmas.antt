@@ -50,7 +50,7 @@ pub greatest_small : (layout : Layout) (above n : ℕ) (es : List (ℕ × Versio
 greatest_small layout above n [] lt all = lt
 greatest_small layout above n (s ∷ es) lt all = greatest_small layout above (max n s.1.version) es (omega (arith, all.0.version.1)) all.1
 
-all_pairs : (P : ℕ × Versioned → Type 0) (ss : List State) → AllByRecursion (λ (s : State). P (pair s)) ss → AllByRecursion P (pairs ss)
+pub all_pairs : (P : ℕ × Versioned → Type 0) (ss : List State) → AllByRecursion (λ (s : State). P (pair s)) ss → AllByRecursion P (pairs ss)
 all_pairs P [] all = tt
 all_pairs P (s ∷ ss) all = (all.0, all_pairs P ss all.1)
 

@@ -22,7 +22,7 @@ sized_again layout inside rest m short read =
 
 -- a frame whose inside is read is read, whatever follows
 pub frame_again : (layout : Layout) (inside rest : List ℕ) (m : Message) → length inside ≤ layout.length → layout.length < 2 ^ 32 → inside_at layout inside ≡ Ok m → frame_at layout ((four_bytes (length inside) ++ inside) ++ rest) ≡ Ok (Some (m, 4 + length inside))
-unfolding four_bytes
+unfolding four_bytes frame_at
 frame_again layout inside rest m short wide read =
     let front = to_be_bytes w32 (length inside) in
     let bytes = front ++ (inside ++ rest) in
@@ -62,6 +62,7 @@ was_read size (Ok x) m n e =
 was_read size (Err f) m n e = absurd cc
 
 pub frame_parts : (layout : Layout) (bytes : List ℕ) (m : Message) (n : ℕ) → frame_at layout bytes ≡ Ok (Some (m, n)) → FrameParts layout bytes m n
+unfolding frame_at
 frame_parts layout bytes m n h =
     let size = from_be_bytes w32 (take 4 bytes) in
     let behind = drop 4 bytes in

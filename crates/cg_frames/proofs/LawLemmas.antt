@@ -17,20 +17,19 @@ use Rattle.cg_entry.specs.Versioned.{Versioned}
 use Rattle.cg_table.specs.declared.digest.Digest.{Digest}
 use Rattle.cg_exchange.specs.declared.owner_delta.OwnerDelta.{OwnerDelta}
 use Rattle.cg_exchange.specs.declared.message.Message.{Message}
-use Rattle.cg_exchange.specs.declared.message.Message.TheVariants.{Syn, Ack}
-use Rattle.cg_exchange.specs.Values.{RequestValue, SynValue, AckValue}
+use Rattle.cg_exchange.specs.declared.message.Message.TheVariants.{Syn, Ack, Ack2}
+use Rattle.cg_exchange.specs.Values.{RequestValue, SynValue, AckValue, Ack2Value}
 use Rattle.cg_frames.specs.declared.layout.Layout.{Layout}
 use Rattle.cg_frames.specs.declared.layout.TheConstants.{LAYOUT_1}
 use Rattle.cg_frames.specs.declared.misread.Misread.{Misread}
-use Rattle.cg_frames.specs.Reading.{◌>>=◌, Field, number_at, ended, told, of_kind, syn_at, inside_at, frame_at}
-use Rattle.cg_frames.specs.Spelling.{two_bytes, four_bytes, endpoint, digest, request, text, state, delta, members, cluster, body, message, inside, frame}
-use Rattle.cg_frames.specs.Fits.{FitsState, FitsDelta, FitsSyn, FitsAck, Fits}
+use Rattle.cg_frames.specs.Reading.{◌>>=◌, Field, number_at, ended, told, of_kind, syn_at, inside_at, frame_at, ack_at, ack2_at}
+use Rattle.cg_frames.specs.Spelling.{two_bytes, four_bytes, endpoint, digest, request, text, state, delta, members, cluster, kind, body, message, inside, frame}
+use Rattle.cg_frames.specs.Fits.{FitsState, FitsDelta, FitsSyn, FitsAck, FitsAck2, Fits}
 use Rattle.cg_frames.specs.Lengths.{state_most, delta_most, greatest_length}
 use Rattle.cg_frames.specs.Laws.{GivesEachSpelled, NoSpellingBeginsAnother, EachIsShort}
-use Rattle.cg_frames.proofs.AckReading.{ack_at}
 use Rattle.cg_frames.proofs.AgainLemmas.{byte_again, length_keys, syn_again}
 use Rattle.cg_frames.proofs.SpelledDeltas.{states_few}
-use Rattle.cg_frames.proofs.SpelledLists.{ack_again}
+use Rattle.cg_frames.proofs.SpelledLists.{ack_again, ack2_again}
 use Rattle.cg_frames.proofs.LengthLemmas.{length-endpoint, length-two_bytes, length-four_bytes, length-digests, length-requests}
 use Rattle.cg_frames.proofs.FrameLemmas.{frame_again}
 use Rattle.cg_frames.proofs.TakenLemmas.{ok_is}
@@ -102,36 +101,51 @@ ack_short m fits =
       length-two_bytes (length m.deltas),
     )
 
+ack2_short : (m : Ack2Value) → FitsAck2 LAYOUT_1 m → length (inside LAYOUT_1 (Ack2 m)) ≤ greatest_length
+ack2_short m fits =
+    let few : length m.deltas ≤ MEMBER_LIMIT = omega (arith, fits.listed.few, length_keys (λ (d : OwnerDelta). d.endpoint) m.deltas) in
+    let deltas = short_members delta (FitsDelta LAYOUT_1) delta_most delta_short m.deltas fits.deltas in
+    omega (arith, few, deltas, length-append (two_bytes (length m.deltas)) (flat_map delta m.deltas), length-two_bytes (length m.deltas))
+
 inside_short : (m : Message) → Fits LAYOUT_1 m → length (inside LAYOUT_1 m) ≤ greatest_length
 inside_short (Syn m) fits = syn_short m fits
 inside_short (Ack m) fits = ack_short m fits
+inside_short (Ack2 m) fits = ack2_short m fits
 
 pub each_is_short : EachIsShort LAYOUT_1
 each_is_short m fits = (inside_short m fits, omega arith)
 
 -- ---- what is spelled so is read
 
-inside_again : (layout : Layout) (m : SynValue) → layout.members < 2 ^ 16 → FitsSyn layout m → inside_at layout (inside layout (Syn m)) ≡ Ok (Syn m)
-unfolding inside_at
-inside_again layout m wide fits =
-    let fault : Misread = record { cause = causes.Layout; left = length (inside layout (Syn m)) } in
-    let read : syn_at layout (body (Syn m)) ≡ Ok (m, []) = ap (syn_at layout) (sym (append-nil (body (Syn m)))) ∙ syn_again layout m [] wide fits in
-    ap (λ (r : Field ℕ). r >>= λ byte. cond (byte.0 == layout.byte) (number_at w8 byte.1) (Err fault) >>= λ kind. of_kind layout kind.0 byte.1 kind.1) (byte_again layout.byte (message (Syn m)))
-    ∙ ap (λ (b : Bool). cond b (number_at w8 (message (Syn m))) (Err fault) >>= λ kind. of_kind layout kind.0 (message (Syn m)) kind.1) (eq-eqb layout.byte layout.byte refl)
-    ∙ ap (λ (r : Field ℕ). r >>= λ kind. of_kind layout kind.0 (message (Syn m)) kind.1) (byte_again 1 (body (Syn m)))
-    ∙ ap (λ (r : Field SynValue). told Syn (ended r)) read
+-- a body that is read, whatever follows, is read to its end
+ended_again : {A : Type 0} (tag : A → Message) (at : List ℕ → Field A) (x : A) (bytes : List ℕ) → at (bytes ++ []) ≡ Ok (x, []) → told tag (ended (at bytes)) ≡ Ok (tag x)
+ended_again {A = A} tag at x bytes read = ap (λ (r : Field A). told tag (ended r)) (ap at (sym (append-nil bytes)) ∙ read)
 
-syn_frame_again : (m : SynValue) (rest : List ℕ) → FitsSyn LAYOUT_1 m → frame_at LAYOUT_1 (frame LAYOUT_1 (Syn m) ++ rest) ≡ Ok (Some (Syn m, length (frame LAYOUT_1 (Syn m))))
-syn_frame_again m rest fits =
-    let spelled = inside LAYOUT_1 (Syn m) in
-    let short : length spelled ≤ LAYOUT_1.length = omega (arith, syn_short m fits) in
-    let long : 4 + length spelled ≡ length (frame LAYOUT_1 (Syn m)) = omega (arith, length-append (four_bytes (length spelled)) spelled, length-four_bytes (length spelled)) in
-    frame_again LAYOUT_1 spelled rest (Syn m) short (omega arith) (inside_again LAYOUT_1 m (omega arith) fits)
-    ∙ ap (λ (n : ℕ). Ok (Some (Syn m, n))) long
+body_again : (layout : Layout) (m : Message) (place : List ℕ) → layout.text < 2 ^ 16 → layout.members < 2 ^ 16 → Fits layout m → of_kind layout (kind m) place (body m) ≡ Ok m
+body_again layout (Syn m) place text wide fits = ended_again Syn (syn_at layout) m (body (Syn m)) (syn_again layout m [] wide fits)
+body_again layout (Ack m) place text wide fits = ended_again Ack (ack_at layout) m (body (Ack m)) (ack_again layout m [] text wide fits)
+body_again layout (Ack2 m) place text wide fits = ended_again Ack2 (ack2_at layout) m (body (Ack2 m)) (ack2_again layout m [] text wide fits)
+
+pub inside_again : (layout : Layout) (m : Message) → layout.text < 2 ^ 16 → layout.members < 2 ^ 16 → Fits layout m → inside_at layout (inside layout m) ≡ Ok m
+unfolding inside_at
+inside_again layout m text wide fits =
+    let fault : Misread = record { cause = causes.Layout; left = length (inside layout m) } in
+    ap (λ (r : Field ℕ). r >>= λ byte. cond (byte.0 == layout.byte) (number_at w8 byte.1) (Err fault) >>= λ kind. of_kind layout kind.0 byte.1 kind.1) (byte_again layout.byte (message m))
+    ∙ ap (λ (b : Bool). cond b (number_at w8 (message m)) (Err fault) >>= λ kind. of_kind layout kind.0 (message m) kind.1) (eq-eqb layout.byte layout.byte refl)
+    ∙ ap (λ (r : Field ℕ). r >>= λ kind. of_kind layout kind.0 (message m) kind.1) (byte_again (kind m) (body m))
+    ∙ body_again layout m (message m) text wide fits
+
+pub frame_is_read : (m : Message) (rest : List ℕ) → Fits LAYOUT_1 m → frame_at LAYOUT_1 (frame LAYOUT_1 m ++ rest) ≡ Ok (Some (m, length (frame LAYOUT_1 m)))
+frame_is_read m rest fits =
+    let spelled = inside LAYOUT_1 m in
+    let short : length spelled ≤ LAYOUT_1.length = omega (arith, inside_short m fits) in
+    let long : 4 + length spelled ≡ length (frame LAYOUT_1 m) = omega (arith, length-append (four_bytes (length spelled)) spelled, length-four_bytes (length spelled)) in
+    frame_again LAYOUT_1 spelled rest m short (omega arith) (inside_again LAYOUT_1 m (omega arith) (omega arith) fits)
+    ∙ ap (λ (n : ℕ). Ok (Some (m, n))) long
 
 pub each_spelled_is_read : (bytes : List ℕ) (result : Result (Option (Message × ℕ)) Fault) → Answers (λ (x : Option (Message × ℕ)). x) (frame_at LAYOUT_1 bytes) result → GivesEachSpelled LAYOUT_1 bytes result
 each_spelled_is_read bytes result answers m rest fits is =
-    subst (λ (due : Result (Option (Message × ℕ)) Fault). Answers (λ (x : Option (Message × ℕ)). x) due result) (ap (frame_at LAYOUT_1) is ∙ syn_frame_again m rest fits) answers
+    subst (λ (due : Result (Option (Message × ℕ)) Fault). Answers (λ (x : Option (Message × ℕ)). x) due result) (ap (frame_at LAYOUT_1) is ∙ frame_is_read m rest fits) answers
 
 -- ---- no two messages have one spelling
 
@@ -152,29 +166,11 @@ same_inside a b rest short few e =
     let none : rest ≡ [] = no_more rest (omega (arith, ap length behind, length-append a rest, sizes)) in
     (sym (append-nil a) ∙ ap (λ (ys : List ℕ). a ++ ys) (sym none) ∙ behind, none)
 
--- two values that are read of the same bytes are the same
-read_once : {X : Type 0} (at : List ℕ → Field X) (x y : X) (a b : List ℕ) → at (a ++ []) ≡ Ok (x, []) → at (b ++ []) ≡ Ok (y, []) → a ≡ b → x ≡ y
-read_once {X = X} at x y a b first second same =
-    let e : ◌≡◌ {A = Field X} (Ok (x, [])) (Ok (y, [])) = sym first ∙ ap (λ (bytes : List ℕ). at (bytes ++ [])) same ∙ second in
-    ap (λ (p : X × List ℕ). p.0) (ok_is (x, []) (y, []) e)
-
-same_rest : (x y : ℕ) (xs ys : List ℕ) → x ∷ xs ≡ y ∷ ys → xs ≡ ys
-same_rest x y xs ys e = cc
-
-same_head : (x y : ℕ) (xs ys : List ℕ) → x ∷ xs ≡ y ∷ ys → x ≡ y
-same_head x y xs ys e = cc
-
-same_message : (m n : Message) → Fits LAYOUT_1 m → Fits LAYOUT_1 n → message m ≡ message n → m ≡ n
-same_message (Syn m) (Syn n) fits other e =
-    ap (λ (x : SynValue). Syn x) (read_once (syn_at LAYOUT_1) m n (body (Syn m)) (body (Syn n)) (syn_again LAYOUT_1 m [] (omega arith) fits) (syn_again LAYOUT_1 n [] (omega arith) other) (same_rest 1 1 (body (Syn m)) (body (Syn n)) e))
-same_message (Ack m) (Ack n) fits other e =
-    ap (λ (x : AckValue). Ack x) (read_once (ack_at LAYOUT_1) m n (body (Ack m)) (body (Ack n)) (ack_again LAYOUT_1 m [] (omega arith) (omega arith) fits) (ack_again LAYOUT_1 n [] (omega arith) (omega arith) other) (same_rest 2 2 (body (Ack m)) (body (Ack n)) e))
-same_message (Syn m) (Ack n) fits other e = absurd (omega (arith, same_head 1 2 (body (Syn m)) (body (Ack n)) e))
-same_message (Ack m) (Syn n) fits other e = absurd (omega (arith, same_head 2 1 (body (Ack m)) (body (Syn n)) e))
-
 pub no_spelling_begins_another : NoSpellingBeginsAnother LAYOUT_1
 no_spelling_begins_another m n rest fits other e =
     let short = inside_short m fits in
     let few = inside_short n other in
     let same = same_inside (inside LAYOUT_1 m) (inside LAYOUT_1 n) rest (omega (arith, short)) (omega (arith, few)) e in
-    (same_message m n fits other (same_rest 1 1 (message m) (message n) same.0), same.1)
+    let read : ◌≡◌ {A = Result Message Misread} (Ok m) (Ok n) =
+    sym (inside_again LAYOUT_1 m (omega arith) (omega arith) fits) ∙ ap (inside_at LAYOUT_1) same.0 ∙ inside_again LAYOUT_1 n (omega arith) (omega arith) other in
+    (ok_is m n read, same.1)

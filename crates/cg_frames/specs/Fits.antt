@@ -10,8 +10,8 @@ use Rattle.cg_entry.specs.Entry.{greatest}
 use Rattle.cg_table.specs.declared.digest.Digest.{Digest}
 use Rattle.cg_exchange.specs.declared.owner_delta.OwnerDelta.{OwnerDelta}
 use Rattle.cg_exchange.specs.declared.message.Message.{Message}
-use Rattle.cg_exchange.specs.declared.message.Message.TheVariants.{Syn, Ack}
-use Rattle.cg_exchange.specs.Values.{RequestValue, SynValue, AckValue}
+use Rattle.cg_exchange.specs.declared.message.Message.TheVariants.{Syn, Ack, Ack2}
+use Rattle.cg_exchange.specs.Values.{RequestValue, SynValue, AckValue, Ack2Value}
 use Rattle.cg_exchange.specs.Members.{endpoints_of_digests, endpoints_of_requests, endpoints_of_deltas}
 use Rattle.cg_frames.specs.declared.layout.Layout.{Layout}
 
@@ -59,7 +59,12 @@ pub record FitsAck (layout : Layout) (m : AckValue) : Type 0 where
   pub listed : FitsMembers layout (endpoints_of_deltas m.deltas)
   pub deltas : AllByRecursion (FitsDelta layout) m.deltas
 
+pub record FitsAck2 (layout : Layout) (m : Ack2Value) : Type 0 where
+  pub listed : FitsMembers layout (endpoints_of_deltas m.deltas)
+  pub deltas : AllByRecursion (FitsDelta layout) m.deltas
+
 -- The layout can spell the message.
 abbrev pub Fits : Layout → Message → Type 0
 Fits layout (Syn m) = FitsSyn layout m
 Fits layout (Ack m) = FitsAck layout m
+Fits layout (Ack2 m) = FitsAck2 layout m

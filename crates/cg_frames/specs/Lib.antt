@@ -3,3 +3,4 @@ pub mod Spelling
 pub mod Fits
 pub mod Lengths
 pub mod Laws
+pub mod Feeding

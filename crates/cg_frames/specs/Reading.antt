@@ -1,18 +1,22 @@
 -- Reading from left to right, with the first fault that is met.
-use Rattle.std.specs.Prelude.{◌≡◌, ℕ, zero, suc, ◌+◌, true, false, ◌&&◌, ◌||◌, not, List, [], ◌∷◌, length, take, drop, Option, Some, None, Result, Ok, Err, IsOk, ◌-◌, nat_lt, ◌==◌, if◌then◌else◌}
+use Rattle.std.specs.Prelude.{◌≡◌, ℕ, zero, suc, ◌+◌, Bool, true, false, ◌&&◌, ◌||◌, not, List, [], ◌∷◌, length, take, drop, Option, Some, None, Result, Ok, Err, IsOk, ◌-◌, nat_lt, ◌==◌, if◌then◌else◌}
+use Rattle.std.specs.FinMap as map
 use Rattle.std.specs.Int.{Width, w8, w16, w32, byte_len, from_be_bytes}
 use Rattle.cg_types.specs.declared.fault.Cause.{Cause}
 use Rattle.cg_types.specs.declared.fault.Cause.TheVariants as causes
 use Rattle.cg_types.specs.declared.fault.Fault.{Fault}
 use Rattle.cg_types.specs.declared.fault.Fault.TheVariants as faults
-use Rattle.cg_types.specs.declared.limits.TheConstants.{NUMBER_LIMIT, NAME_LIMIT}
+use Rattle.cg_types.specs.declared.limits.TheConstants.{NUMBER_LIMIT, NAME_LIMIT, STATE_LIMIT}
 use Rattle.cg_types.specs.Numbers.{endpoint_of}
 use Rattle.cg_types.specs.Rising.{is_past}
 use Rattle.cg_types.specs.Text.{plain}
+use Rattle.cg_entry.specs.declared.state.State.{State}
+use Rattle.cg_entry.specs.State.{pairs}
 use Rattle.cg_table.specs.declared.digest.Digest.{Digest}
 use Rattle.cg_exchange.specs.declared.message.Message.{Message}
 use Rattle.cg_exchange.specs.declared.message.Message.TheVariants as messages
-use Rattle.cg_exchange.specs.Values.{SynValue}
+use Rattle.cg_exchange.specs.declared.owner_delta.OwnerDelta.{OwnerDelta}
+use Rattle.cg_exchange.specs.Values.{RequestValue, SynValue, AckValue, Ack2Value}
 use Rattle.cg_frames.specs.declared.layout.Layout.{Layout}
 use Rattle.cg_frames.specs.declared.misread.Misread.{Misread}
 use Rattle.cg_frames.specs.declared.misread.ReadError.{ReadError}
@@ -75,6 +79,20 @@ generation_at = ranged_at causes.Generation 1
 abbrev pub version_at : List ℕ → Field ℕ
 version_at = ranged_at causes.Version 1
 
+-- the version of a heartbeat
+abbrev pub heartbeat_at : List ℕ → Field ℕ
+heartbeat_at = ranged_at causes.Heartbeat 1
+
+-- A version, or 0: of a request, and the version that a delta stands above.
+abbrev pub held_at : Cause → List ℕ → Field ℕ
+held_at cause = ranged_at cause 0
+
+-- a version that is greater than another
+abbrev pub version_above_at : ℕ → List ℕ → Field ℕ
+version_above_at above bytes = do
+  version ← version_at bytes
+  if nat_lt above version.0 then Ok version else wrong causes.Version bytes
+
 unfoldable pub digest_at : Option ℕ → List ℕ → Field Digest
 digest_at last bytes = do
   endpoint ← endpoint_at last bytes
@@ -93,6 +111,46 @@ name_at bytes = do
   len ← number_at w8 bytes
   if len.0 == 0 || nat_lt NAME_LIMIT len.0 then wrong causes.Name bytes else plain_at len.0 causes.Name len.1
 
+-- a key, which has to come after the last one of its delta
+abbrev pub key_from : Option ℕ → List ℕ → ℕ → List ℕ → Field ℕ
+key_from last bytes key rest =
+    if key == 0 || nat_lt STATE_LIMIT key then wrong causes.Key bytes
+    else if is_past last key then Ok (key, rest)
+    else wrong causes.Order bytes
+
+abbrev pub key_at : Option ℕ → List ℕ → Field ℕ
+key_at last bytes = do
+  key ← number_at w8 bytes
+  key_from last bytes key.0 key.1
+
+-- how many states a delta has: one byte
+abbrev pub state_count_at : List ℕ → Field ℕ
+state_count_at bytes = do
+  count ← number_at w8 bytes
+  if nat_lt STATE_LIMIT count.0 then wrong causes.Count bytes else Ok count
+
+-- a state's text, with its length before it
+unfoldable pub text_at : Layout → List ℕ → Field (List ℕ)
+text_at layout bytes = do
+  len ← number_at w16 bytes
+  if nat_lt layout.text len.0 then wrong causes.Text bytes else plain_at len.0 causes.Text len.1
+
+-- a request, which has to come after the last one of its list
+unfoldable pub request_at : Option ℕ → List ℕ → Field RequestValue
+request_at last bytes = do
+  endpoint ← endpoint_at last bytes
+  generation ← generation_at endpoint.1
+  version ← held_at causes.Version generation.1
+  Ok (record { endpoint = endpoint.0; generation = generation.0; version = version.0 }, version.1)
+
+-- a state of a delta above a version
+unfoldable pub state_at : Layout → ℕ → Option ℕ → List ℕ → Field State
+state_at layout above last bytes = do
+  key ← key_at last bytes
+  version ← version_above_at above key.1
+  text ← text_at layout version.1
+  Ok (record { key = key.0; version = version.0; text = text.0 }, text.1)
+
 -- ---- lists
 
 -- So many members, each of which comes after the one before it.
@@ -105,6 +163,57 @@ rising_at key one (suc n) last bytes = do
 
 abbrev pub digests_at : ℕ → Option ℕ → List ℕ → Field (List Digest)
 digests_at = rising_at (λ d. d.endpoint) digest_at
+
+-- so many requests, rising by endpoint
+abbrev pub requests_at : ℕ → Option ℕ → List ℕ → Field (List RequestValue)
+requests_at = rising_at (λ r. r.endpoint) request_at
+
+-- so many states of a delta above a version, rising by key
+abbrev pub states_at : Layout → ℕ → ℕ → Option ℕ → List ℕ → Field (List State)
+states_at layout above = rising_at (λ s. s.key) (state_at layout above)
+
+-- Whether a delta carries something above `above`: each of its states does.
+abbrev pub carries : ℕ → ℕ → ℕ → Bool
+carries above heartbeat count = nat_lt above heartbeat || not (count == 0)
+
+-- what a delta is made of; where it carries nothing, the fault stands at its first byte
+abbrev pub delta_from : List ℕ → ℕ → ℕ → ℕ → ℕ → ℕ → List State → List ℕ → Field OwnerDelta
+delta_from bytes endpoint generation above heartbeat count states rest =
+    if carries above heartbeat count
+    then Ok (record { endpoint = endpoint; delta = record { generation = generation; above = above; heartbeat = heartbeat; states = map.from_sorted (pairs states) } }, rest)
+    else wrong causes.Empty bytes
+
+-- a delta, which has to come after the last one of its list
+unfoldable pub delta_at : Layout → Option ℕ → List ℕ → Field OwnerDelta
+delta_at layout last bytes = do
+  endpoint ← endpoint_at last bytes
+  generation ← generation_at endpoint.1
+  above ← held_at causes.Above generation.1
+  heartbeat ← heartbeat_at above.1
+  count ← state_count_at heartbeat.1
+  states ← states_at layout above.0 count.0 None count.1
+  delta_from bytes endpoint.0 generation.0 above.0 heartbeat.0 count.0 states.0 states.1
+
+-- so many deltas, rising by endpoint
+abbrev pub deltas_at : Layout → ℕ → Option ℕ → List ℕ → Field (List OwnerDelta)
+deltas_at layout = rising_at (λ d. d.endpoint) (delta_at layout)
+
+-- two bytes of count, and the requests
+abbrev pub listed_requests_at : Layout → List ℕ → Field (List RequestValue)
+listed_requests_at layout bytes = do
+  count ← count_at layout bytes
+  requests_at count.0 None count.1
+
+-- two bytes of count, and the deltas
+abbrev pub listed_deltas_at : Layout → List ℕ → Field (List OwnerDelta)
+listed_deltas_at layout bytes = do
+  count ← count_at layout bytes
+  deltas_at layout count.0 None count.1
+
+-- a field of which a part is kept
+abbrev pub seen : {X Y : Type 0} → (Y → X) → Field Y → Field X
+seen part (Ok y) = Ok (part y.0, y.1)
+seen part (Err m) = Err m
 
 -- where reading stands behind a field
 abbrev pub behind : {A : Type 0} → Field A → Result (List ℕ) Misread
@@ -135,6 +244,19 @@ syn_at layout bytes = do
   digests ← digests_at count.0 None count.1
   Ok (record { cluster = record { name = name.0; partitioner = partitioner.0 }; digests = digests.0 }, digests.1)
 
+-- the body of an ACK: requests, and then deltas
+unfoldable pub ack_at : Layout → List ℕ → Field AckValue
+ack_at layout bytes = do
+  requests ← listed_requests_at layout bytes
+  deltas ← listed_deltas_at layout requests.1
+  Ok (record { requests = requests.0; deltas = deltas.0 }, deltas.1)
+
+-- the body of an ACK2: deltas
+unfoldable pub ack2_at : Layout → List ℕ → Field Ack2Value
+ack2_at layout bytes = do
+  deltas ← listed_deltas_at layout bytes
+  Ok (record { deltas = deltas.0 }, deltas.1)
+
 -- Nothing is left.
 abbrev pub Ends : {X : Type 0} → Result X Misread → List ℕ → Type 0
 Ends (Ok x) bytes = (length bytes == 0) ≡ true
@@ -149,11 +271,12 @@ abbrev pub told : {A : Type 0} → (A → Message) → Result A Misread → Resu
 told message (Ok x) = Ok (message x)
 told message (Err m) = Err m
 
--- The body of a message, by its kind, which stands at `place`. Only a SYN is due.
+-- The body of a message, by its kind, which stands at `place`.
 abbrev pub of_kind : Layout → ℕ → List ℕ → List ℕ → Result Message Misread
 of_kind layout kind place bytes =
     if kind == 1 then told messages.Syn (ended (syn_at layout bytes))
-    else if kind == 2 || kind == 3 then wrong causes.Unexpected place
+    else if kind == 2 then told messages.Ack (ended (ack_at layout bytes))
+    else if kind == 3 then told messages.Ack2 (ended (ack2_at layout bytes))
     else wrong causes.Kind place
 
 -- all that stands behind the length of a frame
@@ -196,8 +319,12 @@ sized_at layout size rest =
     else if nat_lt (length rest) size then Ok None
     else with_size size (located size (inside_at layout (take size rest)))
 
+-- the length that the first four bytes say
+abbrev pub size_of : List ℕ → ℕ
+size_of bytes = from_be_bytes w32 (take 4 bytes)
+
 -- The frame at the front of the bytes, and how long it is; None where more bytes are needed.
-abbrev pub frame_at : Layout → List ℕ → Result (Option (Message × ℕ)) Fault
+unfoldable pub frame_at : Layout → List ℕ → Result (Option (Message × ℕ)) Fault
 frame_at layout bytes =
     if nat_lt (length bytes) 4 then Ok None
-    else sized_at layout (from_be_bytes w32 (take 4 bytes)) (drop 4 bytes)
+    else sized_at layout (size_of bytes) (drop 4 bytes)

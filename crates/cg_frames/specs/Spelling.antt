@@ -9,7 +9,7 @@ use Rattle.cg_entry.specs.Versioned.{Versioned}
 use Rattle.cg_table.specs.declared.digest.Digest.{Digest}
 use Rattle.cg_exchange.specs.declared.owner_delta.OwnerDelta.{OwnerDelta}
 use Rattle.cg_exchange.specs.declared.message.Message.{Message}
-use Rattle.cg_exchange.specs.declared.message.Message.TheVariants.{Syn, Ack}
+use Rattle.cg_exchange.specs.declared.message.Message.TheVariants.{Syn, Ack, Ack2}
 use Rattle.cg_exchange.specs.Values.{RequestValue}
 use Rattle.cg_frames.specs.declared.layout.Layout.{Layout}
 
@@ -52,10 +52,12 @@ cluster c = length c.name ∷ (c.name ++ (c.partitioner ∷ []))
 abbrev pub kind : Message → ℕ
 kind (Syn m) = 1
 kind (Ack m) = 2
+kind (Ack2 m) = 3
 
 abbrev pub body : Message → List ℕ
 body (Syn m) = cluster m.cluster ++ members digest m.digests
 body (Ack m) = members request m.requests ++ members delta m.deltas
+body (Ack2 m) = members delta m.deltas
 
 -- the kind, and the body
 abbrev pub message : Message → List ℕ

@@ -1,7 +1,7 @@
 //! Frames at the front of bytes.
 
 ghost use Rattle.std.specs.Prelude.{◌≡◌, ◌<◌, ◌≤◌, ◌^◌, length, Ok, None};
-ghost use Rattle.cg_types.specs.declared.limits.TheConstants.{MEMBER_LIMIT};
+ghost use Rattle.cg_types.specs.declared.limits.TheConstants.{MEMBER_LIMIT, TEXT_LIMIT};
 ghost use Rattle.cg_frames.specs.declared.layout.TheConstants.{LAYOUT_1};
 ghost use Rattle.cg_types.specs.Answer.{Answers};
 ghost use Rattle.cg_frames.specs.Reading as spec;
@@ -29,6 +29,7 @@ fn fault_at(size: usize, misread: Misread) -> Fault
 fn read_inside(alloc: Global, layout: &Layout, inside: &[u8]) -> Result<Message, Fault>
     requires short { length inside.now < 2 ^ 62 }
     requires members { layout.now.members ≤ MEMBER_LIMIT }
+    requires text { layout.now.text ≤ TEXT_LIMIT }
     ensures { Answers (λ m. m)
         (spec.located (length inside.now) (spec.inside_at layout.now inside.now)) result }
 {
@@ -42,6 +43,7 @@ fn read_inside(alloc: Global, layout: &Layout, inside: &[u8]) -> Result<Message,
     }
 }
 
+#[tactic(auto, unfolding(crate::specs::Reading::frame_at))]
 fn decode_in(
     alloc: Global,
     layout: &Layout,
@@ -49,6 +51,7 @@ fn decode_in(
 ) -> Result<Option<(Message, usize)>, Fault>
     requires short { layout.now.length < 2 ^ 62 }
     requires members { layout.now.members ≤ MEMBER_LIMIT }
+    requires text { layout.now.text ≤ TEXT_LIMIT }
     ensures exact { Answers (λ x. x) (spec.frame_at layout.now bytes.now) result }
     ensures more { spec.frame_at layout.now bytes.now ≡ Ok None → result ≡ Ok None }
 {
@@ -71,12 +74,12 @@ fn decode_in(
     Ok(Some((message, 4 + size)))
 }
 
-/// The SYN whose frame stands at the front of the bytes, and how many bytes that frame has.
+/// The message whose frame stands at the front of the bytes, and how many bytes that frame has.
 ///
 /// None where more bytes are needed: fewer than 4, or fewer than the length says. What follows the
 /// frame is not looked at. `BadFrame` has the first cause that is met, and its place, in bytes from
-/// the first byte of the length; a frame of another kind than SYN is `Unexpected`. `OutOfMemory`
-/// comes only where the frame reads.
+/// the first byte of the length; it takes no memory to find. `OutOfMemory` comes only where the
+/// frame reads.
 pub fn decode(alloc: Global, bytes: &[u8]) -> Result<Option<(Message, usize)>, Fault>
     ensures exact { Answers (λ x. x) (spec.frame_at LAYOUT_1 bytes.now) result }
     ensures more { spec.frame_at LAYOUT_1 bytes.now ≡ Ok None → result ≡ Ok None }

@@ -8,7 +8,7 @@ ghost use Rattle.std.specs.List.{flat_map, AllByRecursion};
 ghost use Rattle.cg_exchange.specs.declared.message.Message.TheVariants as messages;
 ghost use Rattle.cg_types.specs.Numbers.{address_of, IsEndpoint};
 ghost use Rattle.cg_types.specs.Text.{IsClusterName, IsStateText};
-ghost use Rattle.cg_frames.specs.Fits.{FitsDigest, FitsRequest, FitsState, FitsDelta, FitsSyn, FitsAck, Fits};
+ghost use Rattle.cg_frames.specs.Fits.{FitsDigest, FitsRequest, FitsState, FitsDelta, FitsSyn, FitsAck, FitsAck2, Fits};
 ghost use Rattle.cg_frames.specs.declared.layout.TheConstants.{LAYOUT_1};
 ghost use Rattle.cg_frames.specs.Spelling as spelling;
 ghost use Rattle.cg_frames.specs.Lengths as lengths;
@@ -16,7 +16,7 @@ ghost use Rattle.cg_frames.specs.Lengths as lengths;
 use crate::layout::{LAYOUT_1, Layout};
 use bytes::{BufMut, Bytes, BytesMut};
 use cg_entry::State;
-use cg_exchange::{Ack, Message, OwnerDelta, Request, Syn};
+use cg_exchange::{Ack, Ack2, Message, OwnerDelta, Request, Syn};
 use cg_table::Digest;
 use cg_types::{Cluster, Endpoint, StateKey, StateText};
 use std::alloc::{AllocError, Global};
@@ -210,6 +210,16 @@ fn put_ack(out: &mut BytesMut, ack: &Ack) -> Result<(), AllocError>
     Ok(())
 }
 
+fn put_ack2(out: &mut BytesMut, ack2: &Ack2) -> Result<(), AllocError>
+    ensures written { OnOk result (out.new.items ≡ out.old.items ++ spelling.message (messages.Ack2 ack2.now)) }
+    ensures short { OnOk result (length out.new.items ≤ length out.old.items + lengths.message_most) }
+    ensures fits { OnOk result (FitsAck2 LAYOUT_1 ack2.now) }
+{
+    out.put_u8(3)?;
+    put_deltas(out, ack2.deltas())?;
+    Ok(())
+}
+
 fn put_message(out: &mut BytesMut, message: &Message) -> Result<(), AllocError>
     ensures written { OnOk result (out.new.items ≡ out.old.items ++ spelling.message message.now) }
     ensures short { OnOk result (length out.new.items ≤ length out.old.items + lengths.message_most) }
@@ -218,6 +228,7 @@ fn put_message(out: &mut BytesMut, message: &Message) -> Result<(), AllocError>
     match message {
         Message::Syn(syn) => put_syn(out, syn)?,
         Message::Ack(ack) => put_ack(out, ack)?,
+        Message::Ack2(ack2) => put_ack2(out, ack2)?,
     }
     Ok(())
 }

@@ -2,7 +2,9 @@
 #![tactic(auto)]
 
 mod decoding;
+mod deltas;
 mod encoding;
+mod feed;
 pub mod laws;
 mod layout;
 mod lists;
@@ -10,10 +12,15 @@ mod messages;
 mod misread;
 mod reader;
 
-pub use cg_exchange::{Ack, Message, OwnerDelta, Request, Syn};
+pub use cg_exchange::{Ack, Ack2, Message, OwnerDelta, Request, Syn};
 pub use decoding::decode;
 pub use encoding::encode;
+pub use feed::{Fed, Feed};
 pub use layout::{LAYOUT_1, Layout};
 
+#[cfg(test)]
+mod fault_tests;
+#[cfg(test)]
+mod feed_tests;
 #[cfg(test)]
 mod tests;

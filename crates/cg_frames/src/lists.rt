@@ -1,14 +1,16 @@
-//! Lists of digests, which rise: checked with no memory, and read.
+//! Lists of digests and requests, which rise: checked with no memory, and read.
 
 ghost use Rattle.std.specs.Prelude.{◌≡◌, None};
 ghost use Rattle.cg_frames.specs.Reading as spec;
 
 use crate::misread::{Misread, ReadError};
 use crate::reader::Reader;
+use cg_exchange::Request;
 use cg_table::Digest;
 use cg_types::Endpoint;
 use std::alloc::Global;
 
+/// Reads past so many digests, rising by endpoint.
 pub fn check_digests(reader: &mut Reader<'_>, count: u16) -> Result<(), Misread>
     ensures { spec.Passes result reader.new (spec.digests_at count None reader.old) }
 {
@@ -20,6 +22,7 @@ pub fn check_digests(reader: &mut Reader<'_>, count: u16) -> Result<(), Misread>
     Ok(())
 }
 
+/// So many digests, rising by endpoint.
 pub fn digests_of(
     alloc: Global,
     reader: &mut Reader<'_>,
@@ -35,4 +38,34 @@ pub fn digests_of(
         digests.push(digest)?;
     }
     Ok(digests)
+}
+
+/// Reads past so many requests, rising by endpoint.
+pub fn check_requests(reader: &mut Reader<'_>, count: u16) -> Result<(), Misread>
+    ensures { spec.Passes result reader.new (spec.requests_at count None reader.old) }
+{
+    let mut last: Option<Endpoint> = None;
+    for _ in 0..count {
+        let request = reader.request(last)?;
+        last = Some(request.endpoint());
+    }
+    Ok(())
+}
+
+/// So many requests, rising by endpoint.
+pub fn requests_of(
+    alloc: Global,
+    reader: &mut Reader<'_>,
+    count: u16,
+) -> Result<Vec<Request>, ReadError>
+    ensures { spec.Gives (λ v. v.items) result reader.new (spec.requests_at count None reader.old) }
+{
+    let mut requests = Vec::new(alloc);
+    let mut last: Option<Endpoint> = None;
+    for _ in 0..count {
+        let request = reader.request(last)?;
+        last = Some(request.endpoint());
+        requests.push(request)?;
+    }
+    Ok(requests)
 }

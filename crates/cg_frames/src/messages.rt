@@ -1,16 +1,17 @@
 //! What stands behind the length of a frame: checked with no memory, and read.
 
 ghost use Rattle.std.specs.Prelude.{◌≡◌, ◌≤◌, Ok, IfOk};
-ghost use Rattle.cg_types.specs.declared.limits.TheConstants.{MEMBER_LIMIT};
+ghost use Rattle.cg_types.specs.declared.limits.TheConstants.{MEMBER_LIMIT, TEXT_LIMIT};
 ghost use Rattle.cg_types.specs.Text.{cluster_of as cluster_due};
 ghost use Rattle.cg_exchange.specs.declared.message.Message.TheVariants as kinds;
 ghost use Rattle.cg_frames.specs.Reading as spec;
 
+use crate::deltas::{check_deltas, deltas_of};
 use crate::layout::Layout;
-use crate::lists::{check_digests, digests_of};
+use crate::lists::{check_digests, check_requests, digests_of, requests_of};
 use crate::misread::{Misread, ReadError};
 use crate::reader::Reader;
-use cg_exchange::{Message, Syn};
+use cg_exchange::{Ack, Ack2, Message, OwnerDelta, Request, Syn};
 use cg_types::{Cause, Cluster, Fault};
 use std::alloc::Global;
 
@@ -24,10 +25,55 @@ fn check_syn(layout: &Layout, reader: &mut Reader<'_>) -> Result<(), Misread>
     check_digests(reader, count)
 }
 
+fn check_listed_requests(layout: &Layout, reader: &mut Reader<'_>) -> Result<(), Misread>
+    ensures { spec.Passes result reader.new (spec.listed_requests_at layout.now reader.old) }
+{
+    let count = reader.count(layout)?;
+    check_requests(reader, count)
+}
+
+fn check_listed_deltas(layout: &Layout, reader: &mut Reader<'_>) -> Result<(), Misread>
+    ensures { spec.Passes result reader.new (spec.listed_deltas_at layout.now reader.old) }
+{
+    let count = reader.count(layout)?;
+    check_deltas(layout, reader, count)
+}
+
+#[tactic(auto, unfolding(crate::specs::Reading::ack_at))]
+fn check_ack(layout: &Layout, reader: &mut Reader<'_>) -> Result<(), Misread>
+    ensures { spec.Passes result reader.new (spec.ack_at layout.now reader.old) }
+{
+    check_listed_requests(layout, reader)?;
+    check_listed_deltas(layout, reader)
+}
+
+#[tactic(auto, unfolding(crate::specs::Reading::ack2_at))]
+fn check_ack2(layout: &Layout, reader: &mut Reader<'_>) -> Result<(), Misread>
+    ensures { spec.Passes result reader.new (spec.ack2_at layout.now reader.old) }
+{
+    check_listed_deltas(layout, reader)
+}
+
 fn check_whole_syn(layout: &Layout, reader: &mut Reader<'_>) -> Result<(), Misread>
     ensures { spec.Checks result (spec.told kinds.Syn (spec.ended (spec.syn_at layout.now reader.old))) }
 {
     check_syn(layout, reader)?;
+    reader.end()?;
+    Ok(())
+}
+
+fn check_whole_ack(layout: &Layout, reader: &mut Reader<'_>) -> Result<(), Misread>
+    ensures { spec.Checks result (spec.told kinds.Ack (spec.ended (spec.ack_at layout.now reader.old))) }
+{
+    check_ack(layout, reader)?;
+    reader.end()?;
+    Ok(())
+}
+
+fn check_whole_ack2(layout: &Layout, reader: &mut Reader<'_>) -> Result<(), Misread>
+    ensures { spec.Checks result (spec.told kinds.Ack2 (spec.ended (spec.ack2_at layout.now reader.old))) }
+{
+    check_ack2(layout, reader)?;
     reader.end()?;
     Ok(())
 }
@@ -48,10 +94,8 @@ pub fn check(layout: &Layout, inside: &[u8]) -> Result<(), Misread>
     let left = reader.left();
     match reader.byte()? {
         1 => check_whole_syn(layout, &mut reader),
-        2 | 3 => Err(Misread {
-            cause: Cause::Unexpected,
-            left,
-        }),
+        2 => check_whole_ack(layout, &mut reader),
+        3 => check_whole_ack2(layout, &mut reader),
         _ => Err(Misread {
             cause: Cause::Kind,
             left,
@@ -86,6 +130,56 @@ fn syn_of(alloc: Global, layout: &Layout, reader: &mut Reader<'_>) -> Result<Syn
     }
 }
 
+fn listed_requests_of(
+    alloc: Global,
+    layout: &Layout,
+    reader: &mut Reader<'_>,
+) -> Result<Vec<Request>, ReadError>
+    ensures { spec.Gives (λ v. v.items) result reader.new (spec.listed_requests_at layout.now reader.old) }
+{
+    let count = reader.count(layout)?;
+    requests_of(alloc, reader, count)
+}
+
+fn listed_deltas_of(
+    alloc: Global,
+    layout: &Layout,
+    reader: &mut Reader<'_>,
+) -> Result<Vec<OwnerDelta>, ReadError>
+    requires { layout.now.text ≤ TEXT_LIMIT }
+    ensures { spec.Gives (λ v. v.items) result reader.new (spec.listed_deltas_at layout.now reader.old) }
+{
+    let count = reader.count(layout)?;
+    deltas_of(alloc, layout, reader, count)
+}
+
+#[tactic(auto, unfolding(crate::specs::Reading::ack_at))]
+fn ack_of(alloc: Global, layout: &Layout, reader: &mut Reader<'_>) -> Result<Ack, ReadError>
+    requires members { layout.now.members ≤ MEMBER_LIMIT }
+    requires text { layout.now.text ≤ TEXT_LIMIT }
+    ensures { spec.Gives (λ a. a) result reader.new (spec.ack_at layout.now reader.old) }
+{
+    let requests = listed_requests_of(alloc, layout, reader)?;
+    let deltas = listed_deltas_of(alloc, layout, reader)?;
+    match Ack::new(requests, deltas) {
+        Some(ack) => Ok(ack),
+        None => unreachable!(),
+    }
+}
+
+#[tactic(auto, unfolding(crate::specs::Reading::ack2_at))]
+fn ack2_of(alloc: Global, layout: &Layout, reader: &mut Reader<'_>) -> Result<Ack2, ReadError>
+    requires members { layout.now.members ≤ MEMBER_LIMIT }
+    requires text { layout.now.text ≤ TEXT_LIMIT }
+    ensures { spec.Gives (λ a. a) result reader.new (spec.ack2_at layout.now reader.old) }
+{
+    let deltas = listed_deltas_of(alloc, layout, reader)?;
+    match Ack2::new(deltas) {
+        Some(ack) => Ok(ack),
+        None => unreachable!(),
+    }
+}
+
 fn whole_syn_of(alloc: Global, layout: &Layout, reader: &mut Reader<'_>) -> Result<Syn, ReadError>
     requires { layout.now.members ≤ MEMBER_LIMIT }
     ensures { spec.GivesWhole (λ s. s) result (spec.ended (spec.syn_at layout.now reader.old)) }
@@ -95,10 +189,31 @@ fn whole_syn_of(alloc: Global, layout: &Layout, reader: &mut Reader<'_>) -> Resu
     Ok(syn)
 }
 
+fn whole_ack_of(alloc: Global, layout: &Layout, reader: &mut Reader<'_>) -> Result<Ack, ReadError>
+    requires members { layout.now.members ≤ MEMBER_LIMIT }
+    requires text { layout.now.text ≤ TEXT_LIMIT }
+    ensures { spec.GivesWhole (λ a. a) result (spec.ended (spec.ack_at layout.now reader.old)) }
+{
+    let ack = ack_of(alloc, layout, reader)?;
+    reader.end()?;
+    Ok(ack)
+}
+
+fn whole_ack2_of(alloc: Global, layout: &Layout, reader: &mut Reader<'_>) -> Result<Ack2, ReadError>
+    requires members { layout.now.members ≤ MEMBER_LIMIT }
+    requires text { layout.now.text ≤ TEXT_LIMIT }
+    ensures { spec.GivesWhole (λ a. a) result (spec.ended (spec.ack2_at layout.now reader.old)) }
+{
+    let ack2 = ack2_of(alloc, layout, reader)?;
+    reader.end()?;
+    Ok(ack2)
+}
+
 /// The message that stands behind the length.
 #[tactic(auto, unfolding(crate::specs::Reading::inside_at))]
 pub fn read(alloc: Global, layout: &Layout, inside: &[u8]) -> Result<Message, ReadError>
-    requires { layout.now.members ≤ MEMBER_LIMIT }
+    requires members { layout.now.members ≤ MEMBER_LIMIT }
+    requires text { layout.now.text ≤ TEXT_LIMIT }
     ensures { spec.GivesWhole (λ m. m) result (spec.inside_at layout.now inside.now) }
 {
     let mut reader = Reader::new(inside);
@@ -112,10 +227,8 @@ pub fn read(alloc: Global, layout: &Layout, inside: &[u8]) -> Result<Message, Re
     let left = reader.left();
     match reader.byte()? {
         1 => Ok(Message::Syn(whole_syn_of(alloc, layout, &mut reader)?)),
-        2 | 3 => Err(ReadError::Misread(Misread {
-            cause: Cause::Unexpected,
-            left,
-        })),
+        2 => Ok(Message::Ack(whole_ack_of(alloc, layout, &mut reader)?)),
+        3 => Ok(Message::Ack2(whole_ack2_of(alloc, layout, &mut reader)?)),
         _ => Err(ReadError::Misread(Misread {
             cause: Cause::Kind,
             left,

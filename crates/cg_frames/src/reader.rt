@@ -2,14 +2,17 @@
 
 ghost use Rattle.std.specs.Prelude.{◌≡◌, ◌<◌, ◌≤◌, true, length, IfOk};
 ghost use Rattle.cg_types.specs.Text.{plain};
-ghost use Rattle.cg_types.specs.declared.limits.TheConstants.{NAME_LIMIT};
+ghost use Rattle.cg_types.specs.declared.limits.TheConstants.{NAME_LIMIT, NUMBER_LIMIT};
 ghost use Rattle.std.specs.Int.{w8, w16, w32};
 ghost use Rattle.cg_frames.specs.Reading as spec;
 
 use crate::layout::Layout;
 use crate::misread::Misread;
+use cg_exchange::Request;
 use cg_table::Digest;
-use cg_types::{Cause, Endpoint, Generation, NAME_LIMIT, Version, is_plain};
+use cg_types::{
+    Cause, Endpoint, Generation, NAME_LIMIT, NUMBER_LIMIT, STATE_LIMIT, StateKey, Version, is_plain,
+};
 use std::marker::Model;
 
 /// What is left of a frame.
@@ -75,13 +78,19 @@ impl<'a> Reader<'a> {
         Ok(u8::from_be_bytes([front[0]]))
     }
 
+    fn two(&mut self) -> Result<u16, Misread>
+        ensures { spec.Reads (λ x. x) result self.new (spec.number_at w16 self.old) }
+    {
+        let front = self.bytes(2)?;
+        Ok(u16::from_be_bytes([front[0], front[1]]))
+    }
+
     /// How many members a list has.
     pub fn count(&mut self, layout: &Layout) -> Result<u16, Misread>
         ensures { spec.Reads (λ x. x) result self.new (spec.count_at layout.now self.old) }
     {
         let left = self.left();
-        let front = self.bytes(2)?;
-        let count = u16::from_be_bytes([front[0], front[1]]);
+        let count = self.two()?;
         if count as usize > layout.members {
             return Err(Misread {
                 cause: Cause::Count,
@@ -150,17 +159,110 @@ impl<'a> Reader<'a> {
         }
     }
 
+    /// A heartbeat version.
+    pub fn heartbeat(&mut self) -> Result<Version, Misread>
+        ensures { spec.Reads (λ x. x) result self.new (spec.heartbeat_at self.old) }
+    {
+        let left = self.left();
+        let number = self.number()?;
+        match Version::new(number) {
+            Some(version) => Ok(version),
+            None => Err(Misread {
+                cause: Cause::Heartbeat,
+                left,
+            }),
+        }
+    }
+
+    /// A version, or 0.
+    pub fn held(&mut self, cause: Cause) -> Result<u32, Misread>
+        ensures value { spec.Reads (λ x. x) result self.new (spec.held_at cause self.old) }
+        ensures range { IfOk result (λ n. n < NUMBER_LIMIT) }
+    {
+        let left = self.left();
+        let number = self.number()?;
+        if number >= NUMBER_LIMIT {
+            return Err(Misread { cause, left });
+        }
+        Ok(number)
+    }
+
+    /// A version that is greater than `above`.
+    pub fn version_above(&mut self, above: u32) -> Result<Version, Misread>
+        ensures { spec.Reads (λ x. x) result self.new (spec.version_above_at above self.old) }
+    {
+        let left = self.left();
+        let version = self.version()?;
+        if version.get() <= above {
+            return Err(Misread {
+                cause: Cause::Version,
+                left,
+            });
+        }
+        Ok(version)
+    }
+
+    /// A key, which has to come after the last one of its delta.
+    pub fn key(&mut self, last: Option<StateKey>) -> Result<StateKey, Misread>
+        ensures { spec.Reads (λ x. x) result self.new (spec.key_at last self.old) }
+    {
+        let left = self.left();
+        let number = self.byte()?;
+        let Some(key) = StateKey::new(number) else {
+            return Err(Misread {
+                cause: Cause::Key,
+                left,
+            });
+        };
+        if let Some(before) = last
+            && key <= before
+        {
+            return Err(Misread {
+                cause: Cause::Order,
+                left,
+            });
+        }
+        Ok(key)
+    }
+
+    /// How many states a delta has.
+    pub fn state_count(&mut self) -> Result<u8, Misread>
+        ensures { spec.Reads (λ x. x) result self.new (spec.state_count_at self.old) }
+    {
+        let left = self.left();
+        let count = self.byte()?;
+        if count > STATE_LIMIT {
+            return Err(Misread {
+                cause: Cause::Count,
+                left,
+            });
+        }
+        Ok(count)
+    }
+
+    /// A request, which has to come after the last one of its list.
+    #[tactic(auto, unfolding(crate::specs::Reading::request_at))]
+    pub fn request(&mut self, last: Option<Endpoint>) -> Result<Request, Misread>
+        ensures { spec.Reads (λ x. x) result self.new (spec.request_at last self.old) }
+    {
+        let endpoint = self.endpoint(last)?;
+        let generation = self.generation()?;
+        let version = self.held(Cause::Version)?;
+        match Request::new(endpoint, generation, version) {
+            Some(request) => Ok(request),
+            None => unreachable!(),
+        }
+    }
+
+    /// A digest, which has to come after the last one of its list.
     #[tactic(auto, unfolding(crate::specs::Reading::digest_at))]
     pub fn digest(&mut self, last: Option<Endpoint>) -> Result<Digest, Misread>
         ensures { spec.Reads (λ x. x) result self.new (spec.digest_at last self.old) }
     {
-        let endpoint = self.endpoint(last)?;
-        let generation = self.generation()?;
-        let newest = self.version()?;
         Ok(Digest {
-            endpoint,
-            generation,
-            newest,
+            endpoint: self.endpoint(last)?,
+            generation: self.generation()?,
+            newest: self.version()?,
         })
     }
 
@@ -198,5 +300,23 @@ impl<'a> Reader<'a> {
             });
         }
         self.plain(len, Cause::Name)
+    }
+
+    /// A state's text, with its length before it.
+    #[tactic(auto, unfolding(crate::specs::Reading::text_at))]
+    pub fn text(&mut self, layout: &Layout) -> Result<&'a str, Misread>
+        ensures value { spec.Reads (λ x. x.now) result self.new (spec.text_at layout.now self.old) }
+        ensures short { IfOk result (λ x. length x.now ≤ layout.now.text) }
+        ensures plain { IfOk result (λ x. plain x.now ≡ true) }
+    {
+        let left = self.left();
+        let len = self.two()? as usize;
+        if len > layout.text {
+            return Err(Misread {
+                cause: Cause::Text,
+                left,
+            });
+        }
+        self.plain(len, Cause::Text)
     }
 }

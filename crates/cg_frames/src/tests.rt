@@ -1,6 +1,5 @@
 use super::*;
 use cg_entry::{Delta, State};
-use cg_exchange::{Ack, Message, OwnerDelta, Request, Syn};
 use cg_table::Digest;
 use cg_types::{Cause, Cluster, Endpoint, Fault, Generation, StateKey, StateText, Version};
 use std::alloc::Global;
@@ -10,7 +9,28 @@ use std::test::Fail;
 const ROW: [u8; 26] =
     *b"\0\0\0\x16\x01\x01\x02c1\x01\0\x01\x0a\0\0\x01\x1b\x58\0\0\0\x09\0\0\0\x01";
 
-fn fault_of(alloc: Global, bytes: &[u8]) -> Option<(usize, Cause)> {
+// What hexadecimal digits spell; all else in the text is for reading only.
+pub(crate) fn bytes_of(alloc: Global, text: &str) -> Result<Vec<u8>, Fail> {
+    let mut bytes = Vec::new(alloc);
+    let mut high: Option<u8> = None;
+    for digit in text.as_bytes() {
+        let value = match *digit {
+            b'0'..=b'9' => *digit - b'0',
+            b'a'..=b'f' => *digit - b'a' + 10,
+            _ => continue,
+        };
+        high = match high {
+            None => Some(value),
+            Some(first) => {
+                bytes.push(first.wrapping_mul(16) | value)?;
+                None
+            }
+        };
+    }
+    Ok(bytes)
+}
+
+pub(crate) fn fault_of(alloc: Global, bytes: &[u8]) -> Option<(usize, Cause)> {
     match decode(alloc, bytes) {
         Err(Fault::BadFrame { place, cause }) => Some((place, cause)),
         _ => None,
@@ -68,9 +88,8 @@ fn first_faults(rt: HostRuntime) {
         (b"\0\0\0\x01\x07", 4, Cause::Layout),
         (b"\0\0\0\x02\x01\x04", 5, Cause::Kind),
         (b"\0\0\0\x02\x01\0", 5, Cause::Kind),
-        (b"\0\0\0\x04\x01\x02\0\0", 5, Cause::Unexpected),
-        (b"\0\0\0\x04\x01\x03\0\0", 5, Cause::Unexpected),
-        (b"\0\0\0\x02\x01\x02", 5, Cause::Unexpected),
+        (b"\0\0\0\x02\x01\x02", 6, Cause::Short),
+        (b"\0\0\0\x04\x01\x02\0\0", 8, Cause::Short),
         (b"\0\0\0\x02\x01\x01", 6, Cause::Short),
         (b"\0\0\0\x03\x01\x01\0", 6, Cause::Name),
         (b"\0\0\0\x03\x01\x01\x31", 6, Cause::Name),
@@ -117,15 +136,15 @@ fn endpoints_rise(rt: HostRuntime) {
     assert_eq!(rt; fault_of(rt.alloc(), rising), None);
 }
 
-fn endpoint(last: u8) -> Result<Endpoint, Fail> {
+pub(crate) fn endpoint(last: u8) -> Result<Endpoint, Fail> {
     Ok(Endpoint::new([10, 0, 0, last], 7000).ok_or("an endpoint")?)
 }
 
-fn generation(number: u32) -> Result<Generation, Fail> {
+pub(crate) fn generation(number: u32) -> Result<Generation, Fail> {
     Ok(Generation::new(number).ok_or("a generation")?)
 }
 
-fn version(number: u32) -> Result<Version, Fail> {
+pub(crate) fn version(number: u32) -> Result<Version, Fail> {
     Ok(Version::new(number).ok_or("a version")?)
 }
 

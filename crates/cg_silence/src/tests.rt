@@ -76,7 +76,7 @@ fn nothing_was_heard(rt: HostRuntime) -> Result<(), Fail> {
 
 // 2 gaps of 3,000 together: silent after 18.421 of their mean.
 #[test]
-fn the_threshold_is_passed(rt: HostRuntime) -> Result<(), Fail> {
+fn silence_threshold(rt: HostRuntime) -> Result<(), Fail> {
     let window = window(rt.alloc(), Silence::default(), &[10000, 11000])?;
     for (now, verdict) in [
         (10500, Verdict::Alive),

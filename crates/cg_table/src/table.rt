@@ -48,8 +48,8 @@ fn digest_of_row(row: &Row<Entry>) -> Digest
     }
 }
 
-// What a delta makes of what is held of its endpoint, if anything is.
-fn met(alloc: Global, held: Option<&Entry>, delta: &Delta) -> Result<Absorbed, AllocError>
+/// What a delta makes of what is held of its endpoint, if anything is.
+pub fn met(alloc: Global, held: Option<&Entry>, delta: &Delta) -> Result<Absorbed, AllocError>
     ensures { IfOk result (λ a. a ≡ met_of (option_copied held.entry) delta.now) }
 {
     if let Some(entry) = held {
@@ -130,9 +130,10 @@ impl Table {
 
     /// A digest of each entry, rising by endpoint.
     pub fn digests(&self, alloc: Global) -> Result<Vec<Digest>, AllocError>
-        ensures { IfOk result (λ ds. ds.items ≡ digests_of self.now.entries) }
+        ensures value { IfOk result (λ ds. ds.items ≡ digests_of self.now.entries) }
+        ensures few { IfOk result (λ ds. length ds.items ≤ MEMBER_LIMIT) }
     {
-        let owners = self.entries.rows();
+        let owners = self.owners();
         let mut digests = Vec::with_capacity(alloc, owners.len())?;
         for row in owners {
             digests.push(digest_of_row(row))?;

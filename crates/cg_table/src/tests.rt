@@ -70,13 +70,13 @@ fn table_with(alloc: Global, heartbeat: u32) -> Result<Table, Fail> {
     Ok(table)
 }
 
-// The newest version that is held of an endpoint, or 0.
-fn newest_of(table: &Table, last: u8) -> Result<u32, Fail> {
-    Ok(
-        table
-            .get(endpoint(last)?)
-            .map_or(0, |entry| entry.newest().get()),
-    )
+// The newest version that is held of an endpoint.
+fn newest_of(table: &Table, last: u8) -> Option<u32> {
+    let endpoint = Endpoint::new([10, 0, 0, last], 7000)?;
+    match table.get(endpoint) {
+        Some(entry) => Some(entry.newest().get()),
+        None => None,
+    }
 }
 
 #[test]
@@ -85,15 +85,21 @@ fn a_delta_changes_its_owner_alone(rt: HostRuntime) -> Result<(), Fail> {
     let part = delta(9, 1, 3, rt.alloc())?;
     let (after, took) = table.put_delta(rt.alloc(), endpoint(1)?, &part)?;
     assert_eq!(rt; took, Took::Taken);
-    assert_eq!(rt; newest_of(&after, 1)?, 3);
-    assert_eq!(rt; newest_of(&after, 2)?, 1);
-    assert_eq!(rt; newest_of(&table, 1)?, 1);
+    assert_eq!(rt; newest_of(&after, 1), Some(3));
+    assert_eq!(rt; newest_of(&after, 2), Some(1));
+    assert_eq!(rt; newest_of(&table, 1), Some(1));
     Ok(())
+}
+
+// What becomes of a delta at the table of endpoint 2 with endpoint 1 at (9, 3).
+fn took_of(alloc: Global, last: u8, delta: &Delta) -> Result<Took, Fail> {
+    let table = table_with(alloc, 3)?;
+    let (_, took) = table.put_delta(alloc, endpoint(last)?, delta)?;
+    Ok(took)
 }
 
 #[test]
 fn what_becomes_of_deltas(rt: HostRuntime) -> Result<(), Fail> {
-    let table = table_with(rt.alloc(), 3)?;
     for (last, of, above, heartbeat, took) in [
         (1, 9, 0, 3, Took::Old),
         (1, 9, 4, 5, Took::Gap),
@@ -104,8 +110,7 @@ fn what_becomes_of_deltas(rt: HostRuntime) -> Result<(), Fail> {
         (2, 6, 0, 1, Took::Own),
     ] {
         let delta = delta(of, above, heartbeat, rt.alloc())?;
-        let (_, became) = table.put_delta(rt.alloc(), endpoint(last)?, &delta)?;
-        assert_eq!(rt; became, took);
+        assert_eq!(rt; took_of(rt.alloc(), last, &delta)?, took);
     }
     Ok(())
 }
@@ -130,15 +135,20 @@ fn own_delta(rt: HostRuntime) -> Result<(), Fail> {
     Ok(())
 }
 
+// A table with a delta about 10.1.HIGH.LOW:7000, where HIGH and LOW are the two bytes of the number.
+fn with_other(alloc: Global, table: &Table, number: u16, delta: &Delta) -> Result<Table, Fail> {
+    let [high, low] = number.to_be_bytes();
+    let other = Endpoint::new([10, 1, high, low], 7000).ok_or("an endpoint")?;
+    let (after, _) = table.put_delta(alloc, other, delta)?;
+    Ok(after)
+}
+
 // The table of endpoint 2 with this many others.
 fn crowded(alloc: Global, others: u16) -> Result<Table, Fail> {
     let whole = delta(9, 0, 1, alloc)?;
     let mut table = table(alloc)?;
     for number in 0..others {
-        let [high, low] = number.to_be_bytes();
-        let other = Endpoint::new([10, 1, high, low], 7000).ok_or("an endpoint")?;
-        let (after, _) = table.put_delta(alloc, other, &whole)?;
-        table = after;
+        table = with_other(alloc, &table, number, &whole)?;
     }
     Ok(table)
 }
@@ -147,11 +157,12 @@ fn crowded(alloc: Global, others: u16) -> Result<Table, Fail> {
 fn table_full(rt: HostRuntime) -> Result<(), Fail> {
     let table = crowded(rt.alloc(), 255)?;
     assert_eq!(rt; table.owners().len(), 256);
+    let stranger = endpoint(1)?;
     let whole = delta(9, 0, 1, rt.alloc())?;
-    let refusal = table.put_delta(rt.alloc(), endpoint(1)?, &whole).err();
+    let refusal = table.put_delta(rt.alloc(), stranger, &whole).err();
     assert_eq!(rt; refusal, Some(Fault::TableFull));
     let part = delta(9, 1, 2, rt.alloc())?;
-    let (_, took) = table.put_delta(rt.alloc(), endpoint(1)?, &part)?;
+    let (_, took) = table.put_delta(rt.alloc(), stranger, &part)?;
     assert_eq!(rt; took, Took::Gap);
     Ok(())
 }
@@ -193,8 +204,8 @@ fn merged_tables_hold_the_later_entries(rt: HostRuntime) -> Result<(), Fail> {
     assert!(rt; !one.same_entries(&two));
     let here = one.merge(rt.alloc(), &two)?;
     assert_eq!(rt; here.own(), endpoint(1)?);
-    assert_eq!(rt; newest_of(&here, 1)?, 3);
-    assert_eq!(rt; newest_of(&here, 2)?, 2);
+    assert_eq!(rt; newest_of(&here, 1), Some(3));
+    assert_eq!(rt; newest_of(&here, 2), Some(2));
     let there = two.merge(rt.alloc(), &one)?;
     assert_eq!(rt; there.own(), endpoint(2)?);
     assert!(rt; here.same_entries(&there));

@@ -176,7 +176,7 @@ fn lasts(endpoints: &[Endpoint]) -> [u8; 4] {
 }
 
 #[test]
-fn replicas_stand_clockwise(rt: HostRuntime) -> Result<(), Fail> {
+fn ring_and_replicas(rt: HostRuntime) -> Result<(), Fail> {
     let ring = ring(rt.alloc())?;
     for (number, rf, wanted) in [
         (0x20, 2, [2, 3, 0, 0]),

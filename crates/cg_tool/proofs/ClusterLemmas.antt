@@ -1,8 +1,7 @@
 -- What is no UTF-8 names no cluster.
-use Rattle.std.proofs.Common.{◌≡◌, ℕ, Bool, true, false, cond, List, length, Option, None, refl, ap, ◌∙◌}
-use Rattle.std.specs.Prelude.{nat_lt, ◌==◌, Result, Ok, Err}
+use Rattle.std.proofs.Common.{◌≡◌, ℕ, Bool, true, false, cond, List, length, None, refl}
+use Rattle.std.specs.Prelude.{nat_lt, ◌==◌, Ok, Err}
 use Rattle.std.specs.Str.{IsUtf8}
-use Rattle.cg_types.specs.declared.fault.Fault.{Fault}
 use Rattle.cg_types.specs.declared.fault.Fault.TheVariants.{TooLong, BadText}
 use Rattle.cg_types.specs.declared.limits.TheConstants.{NAME_LIMIT}
 use Rattle.cg_types.specs.Text.{ClusterValue, cluster_of, plain}

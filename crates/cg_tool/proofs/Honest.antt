@@ -1,12 +1,11 @@
 -- Where no link failed, the answer to all of the input was written.
-use Rattle.std.proofs.Common.{◌≡◌, ℕ, ◌+◌, ◌^◌, ◌-◌, ◌<◌, ◌≤◌, ◌⊎◌, List, [], ◌++◌, length, Option, Some, None, IfSome, refl, sym, ap, ◌∙◌, subst, arith, inl, inr, append-nil, length-append}
+use Rattle.std.proofs.Common.{◌≡◌, ℕ, ◌<◌, ◌⊎◌, List, ◌++◌, Option, Some, None, IfSome, sym, ap, ◌∙◌, subst, arith, inl, inr, append-nil}
 use Rattle.std.specs.Io.KnownBytes.{Appends, Consumes, IsAtEnd}
-use Rattle.std.proofs.lemmas.List.{length-append}
 use Rattle.cg_engine.specs.declared.counted.Counted.{Counted}
-use Rattle.cg_engine.specs.Counted.{calls_of, failed_of, idle_of, KeepsCounts, CountsCalls, CountsFailed, CountsIdle}
+use Rattle.cg_engine.specs.Counted.{calls_of, failed_of, idle_of, CountsCalls}
 use Rattle.cg_engine.specs.declared.transfer.TheConstants.{MOST_READS}
 use Rattle.cg_tool.specs.Answer.{answer_to, text_of, status_of}
-use Rattle.cg_tool.specs.Answered.{IsDue, AnswersInput, OutOfMemoryDue, ReadFaultDue, Wrote, WroteAll, WroteFront, AnswersAll, SaysOutOfMemory}
+use Rattle.cg_tool.specs.Answered.{IsDue, Wrote, WroteAll, AnswersAll, SaysOutOfMemory}
 
 -- all that was there was read
 all_read : (input bytes : List ℕ) (after : Option (List ℕ)) → Consumes (Some input) after bytes → IsAtEnd after → bytes ≡ input

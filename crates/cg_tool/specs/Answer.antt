@@ -1,8 +1,6 @@
 -- What `answer` writes for what it reads.
-use Rattle.std.specs.Prelude.{◌≡◌, ℕ, ◌+◌, ◌⊎◌, ◌&&◌, Bool, true, false, nat_lt, if◌then◌else◌, List, [], ◌∷◌, ◌++◌, length, take, Option, Some, None, Result, Ok, Err, MatchResult}
-use Rattle.std.specs.Int.{w32, from_be_bytes}
+use Rattle.std.specs.Prelude.{◌≡◌, ℕ, ◌⊎◌, nat_lt, if◌then◌else◌, List, [], ◌∷◌, ◌++◌, length, Option, Some, None, Result, Ok, Err, MatchResult}
 use Rattle.hex.specs.Hex.{encode_lower}
-use Rattle.cg_types.specs.declared.fault.Cause.{Cause}
 use Rattle.cg_types.specs.declared.fault.Cause.TheVariants as cause
 use Rattle.cg_types.specs.declared.fault.Fault.{Fault}
 use Rattle.cg_types.specs.declared.fault.Fault.TheVariants as fault
@@ -12,7 +10,7 @@ use Rattle.cg_table.specs.Values.{TableValue}
 use Rattle.cg_table.specs.Table.{alone}
 use Rattle.cg_exchange.specs.declared.message.Message.{Message}
 use Rattle.cg_exchange.specs.declared.message.Message.TheVariants as messages
-use Rattle.cg_exchange.specs.Values.{SynValue, AckValue}
+use Rattle.cg_exchange.specs.Values.{SynValue}
 use Rattle.cg_exchange.specs.Answering.{answer_to_syn}
 use Rattle.cg_frames.specs.declared.layout.TheConstants.{LAYOUT_1}
 use Rattle.cg_frames.specs.Reading.{frame_at}
@@ -20,31 +18,17 @@ use Rattle.cg_frames.specs.Spelling.{frame}
 use Rattle.cg_tool.specs.declared.request.Header.{Header}
 use Rattle.cg_tool.specs.Request.{request_in}
 
--- where the bytes behind the frame begin, if there are any
-abbrev pub rest_at : List ℕ → ℕ → Option ℕ
-rest_at bytes size = if nat_lt size (length bytes) then Some size else None
-
-abbrev pub rest_place : List ℕ → Option ℕ
-rest_place bytes = if nat_lt (length bytes) 4 then None else rest_at bytes (4 + from_be_bytes w32 (take 4 bytes))
-
-abbrev pub is_unexpected : Fault → Bool
-is_unexpected (fault.BadFrame place cause.Unexpected) = true
-is_unexpected f = false
-
--- Bytes behind a frame of another kind come before its kind.
-abbrev pub unexpected_or_rest : Option ℕ → Fault → Fault
-unexpected_or_rest None f = f
-unexpected_or_rest (Some place) f = if is_unexpected f then fault.BadFrame place cause.Rest else f
-
+-- a SYN is due
 abbrev pub syn_of : Message → Result SynValue Fault
 syn_of (messages.Syn m) = Ok m
 syn_of (messages.Ack m) = Err (fault.BadFrame 5 cause.Unexpected)
+syn_of (messages.Ack2 m) = Err (fault.BadFrame 5 cause.Unexpected)
 
 -- the message at the front of the bytes, where nothing stands behind it
 abbrev pub alone_in : List ℕ → Result (Option (Message × ℕ)) Fault → Result SynValue Fault
 alone_in bytes (Ok None) = Err fault.Truncated
 alone_in bytes (Ok (Some m)) = if nat_lt m.1 (length bytes) then Err (fault.BadFrame m.1 cause.Rest) else syn_of m.0
-alone_in bytes (Err f) = Err (unexpected_or_rest (rest_place bytes) f)
+alone_in bytes (Err f) = Err f
 
 -- the SYN that the bytes are the frame of
 unfoldable pub syn_in : List ℕ → Result SynValue Fault

@@ -4,7 +4,7 @@ ghost use Rattle.std.specs.Prelude.{◌≡◌, ◌⊎◌, ℕ, ◌<◌, List, So
 ghost use Rattle.cg_types.specs.declared.fault.Fault.TheVariants as fault;
 ghost use Rattle.cg_engine.specs.declared.transfer.TheConstants.{MOST_READS};
 ghost use Rattle.cg_engine.specs.Counted.{link_of, calls_of, failed_of, idle_of};
-ghost use Rattle.cg_tool.specs.Answer.{rest_place as text_rest_place, is_unexpected as is_unexpected_fault, unexpected_or_rest as fault_of, syn_of as syn_of_message, syn_in as text_syn_in, answer_to_frame, answer_to, text_of, status_of, Gives};
+ghost use Rattle.cg_tool.specs.Answer.{syn_of as syn_of_message, syn_in as text_syn_in, answer_to_frame, answer_to, text_of, status_of, Gives};
 ghost use Rattle.cg_tool.specs.Answered.{IsDue, Wrote, AnswersAll, SaysOutOfMemory};
 
 use crate::request::{Header, request};
@@ -18,52 +18,12 @@ use cg_types::{Cause, Fault};
 use std::alloc::{AllocError, Global};
 use std::io::{Read, Write};
 
-// Where the bytes behind the frame begin, if there are any.
-fn rest_place(bytes: &[u8]) -> Option<usize>
-    ensures { result ≡ text_rest_place bytes.now }
-{
-    if bytes.len() < 4 {
-        return None;
-    }
-    let size = u32::from_be_bytes([bytes[0], bytes[1], bytes[2], bytes[3]]) as usize;
-    if 4 + size < bytes.len() {
-        Some(4 + size)
-    } else {
-        None
-    }
-}
-
-fn is_unexpected(fault: Fault) -> bool
-    ensures { result ≡ is_unexpected_fault fault }
-{
-    match fault {
-        Fault::BadFrame {
-            cause: Cause::Unexpected,
-            ..
-        } => true,
-        _ => false,
-    }
-}
-
-// Bytes behind a frame of another kind come before its kind.
-fn unexpected_or_rest(rest: Option<usize>, fault: Fault) -> Fault
-    ensures { result ≡ fault_of rest fault }
-{
-    match rest {
-        Some(place) if is_unexpected(fault) => Fault::BadFrame {
-            place,
-            cause: Cause::Rest,
-        },
-        _ => fault,
-    }
-}
-
 fn syn_of(message: Message) -> Result<Syn, Fault>
     ensures { result ≡ syn_of_message message }
 {
     match message {
         Message::Syn(syn) => Ok(syn),
-        Message::Ack(_) => Err(Fault::BadFrame {
+        Message::Ack(_) | Message::Ack2(_) => Err(Fault::BadFrame {
             place: 5,
             cause: Cause::Unexpected,
         }),
@@ -86,7 +46,7 @@ fn syn_in(alloc: Global, bytes: &[u8]) -> Result<Syn, Fault>
             }
             syn_of(message)
         }
-        Err(fault) => Err(unexpected_or_rest(rest_place(bytes), fault)),
+        Err(fault) => Err(fault),
     }
 }
 

@@ -137,6 +137,9 @@ fn bad_frames(rt: HostRuntime) -> Result<(), Fail> {
         ("00000006010200000000", "12 BadFrame 5 Unexpected"),
         ("0000000401030000", "12 BadFrame 5 Unexpected"),
         ("000000060102000000000000", "12 BadFrame 10 Rest"),
+        // what is wrong in them comes before their kind
+        ("00000006010200000101", "12 BadFrame 8 Count"),
+        ("00000006010300010a00", "12 BadFrame 8 Short"),
     ] {
         assert!(rt; refuses(rt.alloc(), frame, fault)?, "{frame}");
     }

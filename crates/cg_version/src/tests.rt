@@ -30,7 +30,7 @@ fn started(stored: Option<u32>, now_secs: u64) -> Result<u32, Fault> {
 }
 
 #[test]
-fn generations_rise(rt: HostRuntime) {
+fn next_generation_of_starts(rt: HostRuntime) {
     for (stored, now_secs, next) in [
         (Some(9), 1700000000, Ok(1700000000)),
         (Some(1700000005), 1700000000, Ok(1700000006)),

@@ -1,7 +1,7 @@
-use Rattle.std.proofs.Common.{◌≡◌, take}
-use Rattle.std.specs.List.{filter_map}
-use Rattle.cg_exchange.specs.Answering.{delta_for}
+use Rattle.std.proofs.Common.{◌≡◌, ◌++◌, drop}
+use Rattle.cg_exchange.specs.Walking.{side_by_side, sent_by}
 use Rattle.cg_exchange.proofs.answers.deltas_for.Given as goal
 
 abbrev pub invariant-loop-row : goal.invariant-loop-row
-invariant-loop-row l = l.deltas.items ≡ filter_map (delta_for l.digests) (take l.row-index l.owners)
+invariant-loop-row l =
+    l.deltas.items ++ side_by_side (λ r. r.0) (λ d. d.endpoint) sent_by (drop l.row-index l.owners) l.named ≡ side_by_side (λ r. r.0) (λ d. d.endpoint) sent_by l.owners l.fn.digests

@@ -1,5 +1,5 @@
 use Rattle.std.proofs.Common.{arith}
-use Rattle.cg_frames.proofs.FoundLemmas.{all_found}
+use Rattle.cg_frames.proofs.FoundFrames.{all_found}
 use Rattle.cg_frames.proofs.LawLemmas.{each_spelled_is_read}
 use Rattle.cg_frames.proofs.decoding.decode.Goals as goal
 

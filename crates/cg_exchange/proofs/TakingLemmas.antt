@@ -1,0 +1,135 @@
+-- The deltas of a message are about owners that rise: each meets the table as it was.
+use Rattle.std.proofs.Common.{◌≡◌, ◌+◌, ◌≤◌, ◌==◌, ℕ, Bool, true, false, cond, List, [], ◌∷◌, map, Option, Some, None, refl, sym, ap, subst, ◌∙◌, arith, nat_lt}
+use Rattle.std.specs.Prelude.{not, is_some, count_by, ◌&&◌}
+use Rattle.std.specs.List.{filter_map, cons_option}
+use Rattle.std.specs.Ordering.{nat_cmp, eq_by_cmp}
+use Rattle.std.specs.Cmp.{nat_cmp_total}
+use Rattle.std.specs.FinMap.{get, insert, len, contains_key, get-insert}
+use Rattle.std.proofs.lemmas.Bool.{ltb-true}
+use Rattle.cg_types.specs.declared.limits.TheConstants.{MEMBER_LIMIT}
+use Rattle.cg_types.specs.Rising.{is_past, rise_past, Rises}
+use Rattle.cg_types.proofs.RisingLemmas.{first_of, second_of, past_trans, same_tied}
+use Rattle.cg_shared.specs.Rows.{keys_of}
+use Rattle.cg_shared.specs.Map.{put_each}
+use Rattle.cg_entry.specs.declared.entry.Absorbed.{Absorbed}
+use Rattle.cg_entry.specs.declared.entry.Absorbed.TheVariants as absorbed
+use Rattle.cg_entry.specs.Values.{EntryValue, DeltaValue}
+use Rattle.cg_entry.specs.Taking.{met, taken_or_gap}
+use Rattle.cg_table.specs.declared.took.Took.TheVariants as took
+use Rattle.cg_table.specs.Values.{TableValue, Entries}
+use Rattle.cg_table.specs.Taking.{taken, needs_room}
+use Rattle.cg_table.proofs.RoomLemmas.{count_by-cons, strangers, len-put_each}
+use Rattle.cg_exchange.specs.declared.owner_delta.OwnerDelta.{OwnerDelta}
+use Rattle.cg_exchange.specs.declared.outcome.Outcome.{Outcome}
+use Rattle.cg_exchange.specs.Members.{endpoints_of_deltas}
+use Rattle.cg_exchange.specs.Taking.{table_after, outcomes_of, held_after}
+use Rattle.cg_exchange.specs.Changes.{row_of, row_changed, outcome_of}
+use Rattle.cg_exchange.proofs.AnswerLemmas.{rise_mapped}
+
+other_key : (e k : ℕ) → nat_lt e k ≡ true → (b : Bool) → eq_by_cmp nat_cmp k e ≡ b → b ≡ false
+other_key e k lt true is = absurd (omega (arith, ltb-true e k lt, same_tied k e is))
+other_key e k lt false is = refl
+
+-- the table that a table's member holds, with these entries
+abbrev pub holding : TableValue → Entries → TableValue
+holding t m = record { own = t.own; entries = m }
+
+-- Deltas come to entries one after the other as they all come to the table t.
+pub record AreTakenAtOnce (t : TableValue) (m : Entries) (ds : List OwnerDelta) : Type 0 where
+  pub after : table_after (holding t m) ds ≡ holding t (put_each (filter_map (row_changed t) ds) m)
+  pub outcomes : outcomes_of (holding t m) ds ≡ map (outcome_of t) ds
+
+module _ (t : TableValue) where
+  -- the entries past an owner are those of t
+  abbrev pub AgreePast : Option ℕ → Entries → Type 0
+  AgreePast last m = (k : ℕ) → is_past last k ≡ true → get m k ≡ get t.entries k
+
+  still_agree : (m : Entries) (e : ℕ) (x : EntryValue) → AgreePast (Some e) m → AgreePast (Some e) (insert m e x)
+  still_agree m e x same k p = get-insert nat_cmp_total m e x k ∙ rw (other_key e k p (eq_by_cmp nat_cmp k e) refl) (same k p)
+
+  agree_later : (m : Entries) (last : Option ℕ) (e : ℕ) → is_past last e ≡ true → AgreePast last m → AgreePast (Some e) m
+  agree_later m last e here same k p = same k (past_trans last e k here (ltb-true e k p))
+
+  -- one delta and those after it, by whether it is about the own endpoint and by what it makes of what is held
+  record AreTakenWith (m : Entries) (d : OwnerDelta) (ds : List OwnerDelta) (own : Bool) (a : Absorbed) : Type 0 where
+    after : table_after (cond own (holding t m, took.Own) (taken (holding t m) d.endpoint a)).0 ds ≡ holding t (put_each (cons_option (cond own None (row_of d.endpoint a)) (filter_map (row_changed t) ds)) m)
+    outcomes : ◌≡◌ {A = List Outcome} (record { endpoint = d.endpoint; took = (cond own (holding t m, took.Own) (taken (holding t m) d.endpoint a)).1 } ∷ outcomes_of (cond own (holding t m, took.Own) (taken (holding t m) d.endpoint a)).0 ds)
+        (record { endpoint = d.endpoint; took = (cond own (t, took.Own) (taken t d.endpoint a)).1 } ∷ map (outcome_of t) ds)
+
+  step : (m : Entries) (d : OwnerDelta) (ds : List OwnerDelta) (own : Bool) (a : Absorbed) → AgreePast (Some d.endpoint) m
+      → ((n : Entries) → AgreePast (Some d.endpoint) n → AreTakenAtOnce t n ds) → AreTakenWith m d ds own a
+  step m d ds true a same rest = let r = rest m same in record { after = r.after; outcomes = ap (λ (os : List Outcome). record { endpoint = d.endpoint; took = took.Own } ∷ os) r.outcomes }
+  step m d ds false (absorbed.Taken x) same rest =
+      let r = rest (insert m d.endpoint x) (still_agree m d.endpoint x same) in record { after = r.after; outcomes = ap (λ (os : List Outcome). record { endpoint = d.endpoint; took = took.Taken } ∷ os) r.outcomes }
+  step m d ds false absorbed.Old same rest = let r = rest m same in record { after = r.after; outcomes = ap (λ (os : List Outcome). record { endpoint = d.endpoint; took = took.Old } ∷ os) r.outcomes }
+  step m d ds false absorbed.Gap same rest = let r = rest m same in record { after = r.after; outcomes = ap (λ (os : List Outcome). record { endpoint = d.endpoint; took = took.Gap } ∷ os) r.outcomes }
+
+  taken_past : (m : Entries) (last : Option ℕ) (ds : List OwnerDelta) → rise_past last (endpoints_of_deltas ds) ≡ true → AgreePast last m → AreTakenAtOnce t m ds
+  taken_past m last [] h same = record { after = refl; outcomes = refl }
+  taken_past m last (d ∷ ds) h same =
+      let here = first_of (is_past last d.endpoint) (rise_past (Some d.endpoint) (endpoints_of_deltas ds)) h in
+      let rest = second_of (is_past last d.endpoint) (rise_past (Some d.endpoint) (endpoints_of_deltas ds)) h in
+      let s = step m d ds (d.endpoint == t.own) (met (get t.entries d.endpoint) d.delta) (agree_later m last d.endpoint here same) (λ n agree. taken_past n (Some d.endpoint) ds rest agree) in
+      record { after = rw (same d.endpoint here) s.after; outcomes = rw (same d.endpoint here) s.outcomes }
+
+  -- deltas about owners that rise, taken one after the other, are taken against the table as it was
+  pub taken_at_once : (ds : List OwnerDelta) → Rises (endpoints_of_deltas ds) → AreTakenAtOnce t t.entries ds
+  taken_at_once ds rise = taken_past t.entries None ds rise (λ k p. refl)
+
+-- ---- the rows that deltas change
+
+row_key_by : (own : Bool) (e : ℕ) (a : Absorbed) (r : ℕ × EntryValue) → cond own None (row_of e a) ≡ Some r → r.0 ≡ e
+row_key_by true e a r is = absurd cc
+row_key_by false e (absorbed.Taken x) r is = let same : (e, x) ≡ r = cc in ap (λ (r : ℕ × EntryValue). r.0) (sym same)
+row_key_by false e absorbed.Old r is = absurd cc
+row_key_by false e absorbed.Gap r is = absurd cc
+
+pub row_key : (t : TableValue) (d : OwnerDelta) (r : ℕ × EntryValue) → row_changed t d ≡ Some r → r.0 ≡ d.endpoint
+row_key t d r is = row_key_by (d.endpoint == t.own) d.endpoint (met (get t.entries d.endpoint) d.delta) r is
+
+-- the rows that are changed rise, as the deltas do
+pub rows_rise : (t : TableValue) (ds : List OwnerDelta) → Rises (endpoints_of_deltas ds) → Rises (keys_of (filter_map (row_changed t) ds))
+rows_rise t ds rise = rise_mapped (row_changed t) (λ d. d.endpoint) (λ r. r.0) (row_key t) None ds rise
+
+whole_by : (e : ℕ) (whole : Bool) (x : EntryValue) (r : ℕ × EntryValue) → row_of e (taken_or_gap (cond whole (Some x) None)) ≡ Some r → (whole && true) ≡ true
+whole_by e true x r is = refl
+whole_by e false x r is = absurd cc
+
+-- a row of an owner that was not held is that of a whole delta
+stranger_by : (own : Bool) (e : ℕ) (held : Option EntryValue) (d : DeltaValue) (r : ℕ × EntryValue) → cond own None (row_of e (met held d)) ≡ Some r → not (is_some held) ≡ true
+    → (d.above == 0 && not (is_some held)) ≡ true
+stranger_by true e held d r is new = absurd cc
+stranger_by false e (Some x) d r is new = absurd cc
+stranger_by false e None d r is new = whole_by e (d.above == 0) (record { generation = d.generation; heartbeat = d.heartbeat; states = d.states }) r is
+
+stranger_needs : (t : TableValue) (d : OwnerDelta) (r : ℕ × EntryValue) → row_changed t d ≡ Some r → not (contains_key t.entries r.0) ≡ true → needs_room t.entries d.endpoint d.delta ≡ true
+stranger_needs t d r is new =
+    stranger_by (d.endpoint == t.own) d.endpoint (get t.entries d.endpoint) d.delta r is (subst (λ (k : ℕ). not (contains_key t.entries k) ≡ true) (row_key t d r is) new)
+
+more_by : (q : Bool) (a b : ℕ) → a ≤ b → a ≤ cond q 1 0 + b
+more_by true a b le = omega (arith, le)
+more_by false a b le = omega (arith, le)
+
+no_more_by : (p q : Bool) (a b : ℕ) → (p ≡ true → q ≡ true) → a ≤ b → cond p 1 0 + a ≤ cond q 1 0 + b
+no_more_by true true a b h le = omega (arith, le)
+no_more_by true false a b h le = let wrong = h refl in absurd cc
+no_more_by false true a b h le = omega (arith, le)
+no_more_by false false a b h le = omega (arith, le)
+
+stranger_more : (t : TableValue) (d : OwnerDelta) (rows : List (ℕ × EntryValue)) (o : Option (ℕ × EntryValue)) (n : ℕ) → row_changed t d ≡ o → strangers t.entries rows ≤ n
+    → strangers t.entries (cons_option o rows) ≤ cond (needs_room t.entries d.endpoint d.delta) 1 0 + n
+stranger_more t d rows None n is few = more_by (needs_room t.entries d.endpoint d.delta) (strangers t.entries rows) n few
+stranger_more t d rows (Some r) n is few =
+    rw (count_by-cons (λ (e : ℕ × EntryValue). not (contains_key t.entries e.0)) r rows)
+    (no_more_by (not (contains_key t.entries r.0)) (needs_room t.entries d.endpoint d.delta) (strangers t.entries rows) n (stranger_needs t d r is) few)
+
+-- the rows of owners that were not held are no more than the deltas that need room
+strangers_few : (t : TableValue) (ds : List OwnerDelta) → strangers t.entries (filter_map (row_changed t) ds) ≤ count_by (λ d. needs_room t.entries d.endpoint d.delta) ds
+strangers_few t [] = omega arith
+strangers_few t (d ∷ ds) =
+    rw (count_by-cons (λ (d : OwnerDelta). needs_room t.entries d.endpoint d.delta) d ds)
+    (stranger_more t d (filter_map (row_changed t) ds) (row_changed t d) (count_by (λ (d : OwnerDelta). needs_room t.entries d.endpoint d.delta) ds) refl (strangers_few t ds))
+
+-- what would be held bounds the table with the rows put
+pub rows_fit : (t : TableValue) (ds : List OwnerDelta) → held_after t ds ≤ MEMBER_LIMIT → len (put_each (filter_map (row_changed t) ds) t.entries) ≤ MEMBER_LIMIT
+rows_fit t ds room = omega (arith, room, len-put_each (filter_map (row_changed t) ds) t.entries, strangers_few t ds)

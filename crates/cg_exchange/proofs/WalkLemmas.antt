@@ -1,0 +1,139 @@
+-- What a walk over two lists whose owners rise makes, and one step of it.
+use Rattle.std.proofs.Common.{◌≡◌, ◌+◌, ◌<◌, ◌≤◌, ◌==◌, ℕ, suc, Bool, true, false, cond, List, [], ◌∷◌, ◌++◌, map, length, drop, get_or, drop-cons, add-one, append_assoc, Option, Some, None, refl, sym, ap, ◌∙◌, arith, nat_lt}
+use Rattle.std.specs.Prelude.{find}
+use Rattle.std.specs.List.{filter_map, cons_option}
+use Rattle.std.specs.Option.{option_map, option_to_list}
+use Rattle.std.specs.Ordering.{nat_cmp, eq_by_cmp}
+use Rattle.std.specs.FinMap as table
+use Rattle.std.specs.FinMap.Entries as entries
+use Rattle.std.proofs.lemmas.List.{drop_all, append-nil}
+use Rattle.std.proofs.lemmas.Bool.{ltb-true, ltb-false}
+use Rattle.std.proofs.lemmas.Bool.Decides.{nat_tests}
+use Rattle.cg_types.specs.Rising.{is_past, rise_past, Rises}
+use Rattle.cg_types.proofs.RisingLemmas.{first_of, second_of, past_trans, rise_earlier, rise_sorted}
+use Rattle.cg_entry.specs.Values.{EntryValue}
+use Rattle.cg_table.specs.declared.digest.Digest.{Digest}
+use Rattle.cg_table.specs.Values.{Entries}
+use Rattle.cg_exchange.specs.Members.{endpoints_of_digests}
+use Rattle.cg_exchange.specs.Answering.{asked, requests_for, deltas_for}
+use Rattle.cg_exchange.specs.Walking.{from_owner, first_about, side_by_side, asked_by, sent_by}
+
+less_differs : (x k : ℕ) → x < k → (x == k) ≡ false
+less_differs x k lt = grind (arith, nat_tests)
+
+more_differs : (x k : ℕ) → k < x → (x == k) ≡ false
+more_differs x k lt = grind (arith, nat_tests)
+
+pub is_less : (x k : ℕ) → x < k → nat_lt x k ≡ true
+is_less x k lt = grind (arith, nat_tests)
+
+pub not_less : (x k : ℕ) → k ≤ x → nat_lt x k ≡ false
+not_less x k le = grind (arith, nat_tests)
+
+one_dropped : {X : Type 0} (xs : List X) (i : ℕ) (x : X) → i < length xs → x ≡ get_or xs i x → drop i xs ≡ x ∷ drop (i + 1) xs
+one_dropped {X} xs i x lt is = rw add-one (drop-cons xs i x lt ∙ ap (λ (y : X). y ∷ drop (suc i) xs) (sym is))
+
+module _ {X : Type 0} (owner : X → ℕ) where
+  -- nothing is about an owner that all members are past
+  pub find_none : (k x : ℕ) (ys : List X) → k ≤ x → rise_past (Some x) (map owner ys) ≡ true → find (λ y. owner y == k) ys ≡ None
+  find_none k x [] le h = refl
+  find_none k x (y ∷ ys) le h =
+      let lt = ltb-true x (owner y) (first_of (nat_lt x (owner y)) (rise_past (Some (owner y)) (map owner ys)) h) in
+      rw (more_differs (owner y) k (omega (arith, le, lt))) (find_none k (owner y) ys (omega (arith, le, lt)) (second_of (nat_lt x (owner y)) (rise_past (Some (owner y)) (map owner ys)) h))
+
+  first_found_by : (k : ℕ) (y : X) (ys : List X) → rise_past (Some (owner y)) (map owner ys) ≡ true → first_about owner k (from_owner owner k ys) ≡ find (λ y. owner y == k) ys
+      → (less : Bool) → nat_lt (owner y) k ≡ less → (same : Bool) → (owner y == k) ≡ same
+      → first_about owner k (cond less (from_owner owner k ys) (y ∷ ys)) ≡ cond same (Some y) (find (λ y. owner y == k) ys)
+  first_found_by k y ys rest found true lt true same = let differs = less_differs (owner y) k (ltb-true (owner y) k lt) in absurd cc
+  first_found_by k y ys rest found true lt false same = found
+  first_found_by k y ys rest found false le true same = rw same refl
+  first_found_by k y ys rest found false le false same = rw same (sym (find_none k (owner y) ys (ltb-false (owner y) k le) rest))
+
+  -- what the walk finds of an owner is what a search finds
+  first_found : (last : Option ℕ) (k : ℕ) (ys : List X) → rise_past last (map owner ys) ≡ true → first_about owner k (from_owner owner k ys) ≡ find (λ y. owner y == k) ys
+  first_found last k [] h = refl
+  first_found last k (y ∷ ys) h =
+      first_found_by k y ys rest (first_found (Some (owner y)) k ys rest) (nat_lt (owner y) k) refl (owner y == k) refl
+    where
+      rest : rise_past (Some (owner y)) (map owner ys) ≡ true
+      rest = second_of (is_past last (owner y)) (rise_past (Some (owner y)) (map owner ys)) h
+
+  find_later_by : (k q : ℕ) (y : X) (ys : List X) → k < q → find (λ y. owner y == q) (from_owner owner k ys) ≡ find (λ y. owner y == q) ys
+      → (less : Bool) → nat_lt (owner y) k ≡ less → find (λ y. owner y == q) (cond less (from_owner owner k ys) (y ∷ ys)) ≡ find (λ y. owner y == q) (y ∷ ys)
+  find_later_by k q y ys lt rest true less = rw (less_differs (owner y) q (omega (arith, lt, ltb-true (owner y) k less))) rest
+  find_later_by k q y ys lt rest false less = refl
+
+  -- what is about a later owner is not walked past
+  find_later : (k q : ℕ) (ys : List X) → k < q → find (λ y. owner y == q) (from_owner owner k ys) ≡ find (λ y. owner y == q) ys
+  find_later k q [] lt = refl
+  find_later k q (y ∷ ys) lt = find_later_by k q y ys lt (find_later k q ys lt) (nat_lt (owner y) k) refl
+
+  rise_from : (k : ℕ) (last : Option ℕ) (ys : List X) → rise_past last (map owner ys) ≡ true → rise_past last (map owner (from_owner owner k ys)) ≡ true
+  rise_from k last [] h = refl
+  rise_from k last (y ∷ ys) h =
+      let here = first_of (is_past last (owner y)) (rise_past (Some (owner y)) (map owner ys)) h in
+      let rest = second_of (is_past last (owner y)) (rise_past (Some (owner y)) (map owner ys)) h in
+      let later = rise_from k last ys (rise_earlier last (owner y) (map owner ys) here rest) in
+      elim (nat_lt (owner y) k) as (λ b. rise_past last (map owner (cond b (from_owner owner k ys) (y ∷ ys))) ≡ true) [ true ↦ later | false ↦ h ]
+
+  -- ---- one step of the search for an owner
+
+  pub from_step : (k : ℕ) (ys : List X) (i : ℕ) (y : X) → i < length ys → y ≡ get_or ys i y → owner y < k → from_owner owner k (drop i ys) ≡ from_owner owner k (drop (i + 1) ys)
+  from_step k ys i y lt is less = rw (one_dropped ys i y lt is, is_less (owner y) k less) refl
+
+  pub from_here : (k : ℕ) (ys : List X) (i : ℕ) (y : X) → i < length ys → y ≡ get_or ys i y → k ≤ owner y → from_owner owner k (drop i ys) ≡ drop i ys
+  from_here k ys i y lt is le = rw (one_dropped ys i y lt is, not_less (owner y) k le) refl
+
+module _ {X Y Z : Type 0} (key : X → ℕ) (owner : Y → ℕ) (f : X → Option Y → Option Z) where
+  walked_past : (all : List Y) (last : Option ℕ) (xs : List X) (ys : List Y) → rise_past last (map key xs) ≡ true → Rises (map owner ys)
+      → ((k : ℕ) → is_past last k ≡ true → find (λ y. owner y == k) ys ≡ find (λ y. owner y == k) all)
+      → side_by_side key owner f xs ys ≡ filter_map (λ x. f x (find (λ y. owner y == key x) all)) xs
+  walked_past all last [] ys hx hy same = refl
+  walked_past all last (x ∷ xs) ys hx hy same =
+      let here = first_of (is_past last (key x)) (rise_past (Some (key x)) (map key xs)) hx in
+      let rest = second_of (is_past last (key x)) (rise_past (Some (key x)) (map key xs)) hx in
+      let found = first_found owner None (key x) ys hy ∙ same (key x) here in
+      let later = walked_past all (Some (key x)) xs (from_owner owner (key x) ys) rest (rise_from owner (key x) None ys hy)
+      (λ k p. find_later owner (key x) k ys (ltb-true (key x) k p) ∙ same k (past_trans last (key x) k here (ltb-true (key x) k p))) in
+      λ i. cons_option (f x (found i)) (later i)
+
+  -- a walk over lists whose owners rise finds what a search for each would
+  pub walked_is : (xs : List X) (ys : List Y) → Rises (map key xs) → Rises (map owner ys) → side_by_side key owner f xs ys ≡ filter_map (λ x. f x (find (λ y. owner y == key x) ys)) xs
+  walked_is xs ys hx hy = walked_past ys None xs ys hx hy (λ k p. refl)
+
+  put_first : (o : Option Z) (made rest : List Z) → (made ++ option_to_list o) ++ rest ≡ made ++ cons_option o rest
+  put_first (Some z) made rest = append_assoc made (z ∷ []) rest
+  put_first None made rest = append_assoc made [] rest
+
+  -- one step of a walk
+  pub walk_step : (made : List Z) (xs : List X) (rest : List Y) (i : ℕ) (x : X) → i < length xs → x ≡ get_or xs i x
+      → (made ++ option_to_list (f x (first_about owner (key x) (from_owner owner (key x) rest)))) ++ side_by_side key owner f (drop (i + 1) xs) (from_owner owner (key x) rest)
+      ≡ made ++ side_by_side key owner f (drop i xs) rest
+  walk_step made xs rest i x lt is =
+      put_first (f x (first_about owner (key x) (from_owner owner (key x) rest))) made (side_by_side key owner f (drop (i + 1) xs) (from_owner owner (key x) rest))
+      ∙ sym (ap (λ its. made ++ side_by_side key owner f its rest) (one_dropped xs i x lt is))
+
+  -- the end of a walk
+  pub walk_end : (made all : List Z) (xs : List X) (rest : List Y) (i : ℕ) → length xs ≤ i → made ++ side_by_side key owner f (drop i xs) rest ≡ all → made ≡ all
+  walk_end made all xs rest i le is = sym (append-nil made) ∙ sym (ap (λ its. made ++ side_by_side key owner f its rest) (drop_all i xs le)) ∙ is
+
+-- ---- the two walks of an answer to a SYN
+
+pub same_test : (x k : ℕ) → (x == k) ≡ eq_by_cmp nat_cmp k x
+same_test x k = grind (arith, nat_tests)
+
+pub row_found : (k : ℕ) (rows : List (ℕ × EntryValue)) → option_map (λ r. r.1) (find (λ r. r.0 == k) rows) ≡ entries.find nat_cmp k rows
+row_found k [] = refl
+row_found k (r ∷ rows) =
+    rw (same_test r.0 k) (elim (eq_by_cmp nat_cmp k r.0) as (λ b. option_map (λ (r : ℕ × EntryValue). r.1) (cond b (Some r) (find (λ r. r.0 == k) rows)) ≡ cond b (Some r.1) (entries.find nat_cmp k rows)) [
+      | true ↦ refl
+      | false ↦ row_found k rows
+    ])
+
+pub requests_walked : (m : Entries) (digests : List Digest) → Rises (endpoints_of_digests digests) → side_by_side (λ d. d.endpoint) (λ r. r.0) asked_by digests (table.entries m) ≡ requests_for m digests
+requests_walked m digests rise =
+    walked_is (λ d. d.endpoint) (λ r. r.0) asked_by digests (table.entries m) rise (rise_sorted (table.entries m) (table.entries_sorted m))
+    ∙ (λ i. filter_map (λ d. asked d ((row_found d.endpoint (table.entries m) ∙ sym (table.get-entries m d.endpoint)) i)) digests)
+
+pub deltas_walked : (m : Entries) (digests : List Digest) → Rises (endpoints_of_digests digests) → side_by_side (λ r. r.0) (λ d. d.endpoint) sent_by (table.entries m) digests ≡ deltas_for m digests
+deltas_walked m digests rise = walked_is (λ r. r.0) (λ d. d.endpoint) sent_by (table.entries m) digests (rise_sorted (table.entries m) (table.entries_sorted m)) rise

@@ -1,0 +1,58 @@
+-- The rules of messages, by places in owners' histories. A place is how many of an owner's entries were seen, and 0 is none.
+use Rattle.std.specs.Prelude.{◌≡◌, ℕ, ◌≤◌, ◌⊎◌, ◌==◌, nat_lt, Bool, List, length, Option, Some, None, if◌then◌else◌}
+use Rattle.cg_entry.specs.Values.{EntryValue}
+use Rattle.cg_entry.specs.History.{generation_at}
+use Rattle.cg_entry.specs.Place.{Span, SpanOutcome, taking, place_after}
+use Rattle.cg_entry.specs.Place as place
+use Rattle.cg_table.specs.declared.took.Took.{Took}
+use Rattle.cg_table.specs.declared.took.Took.TheVariants as took
+
+-- asks for what lies after a place of a generation
+pub record Ask : Type 0 where
+  pub generation : ℕ
+  pub from : ℕ
+
+-- The place that is asked from lies in the history, and has the generation where it is not none.
+pub record IsAsk (history : List EntryValue) (ask : Ask) : Type 0 where
+  pub stands : ask.from ≤ length history
+  pub alike : (ask.from ≡ 0) ⊎ (generation_at history ask.from ≡ ask.generation)
+
+-- the place, where it has that generation, and else none
+abbrev pub within_generation : List EntryValue → ℕ → ℕ → ℕ
+within_generation history generation place = if generation_at history place == generation then place else 0
+
+-- what one at the place mine sends one at the place theirs: what that one lacks
+abbrev pub span_for : List EntryValue → ℕ → ℕ → Option Span
+span_for history mine theirs =
+    if nat_lt theirs mine then Some (record { from = within_generation history (generation_at history mine) theirs; to = mine }) else None
+
+-- what one at the place mine asks of one at the place theirs: what itself lacks
+abbrev pub ask_for : List EntryValue → ℕ → ℕ → Option Ask
+ask_for history mine theirs =
+    if nat_lt mine theirs
+    then Some (record { generation = generation_at history theirs; from = within_generation history (generation_at history theirs) mine })
+    else None
+
+-- what one at the place mine sends for an ask
+abbrev pub span_asked : List EntryValue → ℕ → Ask → Option Span
+span_asked history mine ask =
+    if mine == 0 then None
+    else if nat_lt (generation_at history mine) ask.generation then None
+    else if nat_lt ask.generation (generation_at history mine) then Some (record { from = 0; to = mine })
+    else if nat_lt ask.from mine then Some (record { from = ask.from; to = mine })
+    else None
+
+-- what becomes of a span, in the words of deltas
+abbrev pub took_of_span : SpanOutcome → Took
+took_of_span place.Taken = took.Taken
+took_of_span place.Old = took.Old
+took_of_span place.Gap = took.Gap
+
+-- what becomes of a span about an owner, which may be the holder itself
+abbrev pub took_for : Bool → ℕ → Span → Took
+took_for own place span = if own then took.Own else took_of_span (taking place span)
+
+-- where a holder is after a span about an owner, if it got one; about itself none moves it
+abbrev pub place_with : Bool → ℕ → Option Span → ℕ
+place_with own place None = place
+place_with own place (Some span) = if own then place else place_after (taking place span) place span

@@ -1,0 +1,72 @@
+//! The answer to an ACK.
+
+ghost use Rattle.std.specs.Prelude.{◌≡◌, ◌↔◌, IsTrue, IfOk, IfSome, is_some};
+ghost use Rattle.cg_exchange.specs.Members.{AreListed, listed, endpoints_of_deltas};
+
+use crate::owned::are_listed;
+use crate::owner_delta::{OwnerDelta, are_same, copies};
+use std::alloc::{AllocError, Global};
+use std::marker::Model;
+
+/// What the sender of an ACK is sent for its requests (Cassandra's `GossipDigestAck2`).
+#[derive(Debug, Drop)]
+pub struct Ack2 {
+    deltas: Vec<OwnerDelta>,
+}
+
+impl Model for Ack2 {
+    ghost use Rattle.cg_exchange.specs.Values.{Ack2Value, ack2_code};
+    ghost use Rattle.cg_exchange.specs.Members.{AreListed, endpoints_of_deltas};
+
+    ghost Value = { Ack2Value };
+
+    ghost coded = { ack2_code };
+
+    ghost view = { λ a. record { deltas = a.deltas.items } };
+
+    ghost invariant = { λ a. AreListed (endpoints_of_deltas a.deltas.items) };
+}
+
+impl Ack2 {
+    /// `None` unless the deltas rise strictly by endpoint and are at most `MEMBER_LIMIT`.
+    pub fn new(deltas: Vec<OwnerDelta>) -> Option<Ack2>
+        ensures when { is_some result ≡ listed (endpoints_of_deltas deltas.items) }
+        ensures value { IfSome result (λ a. a ≡ record { deltas = deltas.items }) }
+    {
+        if !are_listed(&deltas) {
+            return None;
+        }
+        Some(Ack2 { deltas })
+    }
+
+    pub(crate) fn of_parts(deltas: Vec<OwnerDelta>) -> Ack2
+        requires { AreListed (endpoints_of_deltas deltas.items) }
+        ensures { result ≡ record { deltas = deltas.items } }
+    {
+        Ack2 { deltas }
+    }
+
+    /// The deltas, rising by endpoint.
+    pub fn deltas(&self) -> &[OwnerDelta]
+        ensures value { result.now ≡ self.now.deltas }
+        ensures listed { AreListed (endpoints_of_deltas self.now.deltas) }
+    {
+        &self.deltas
+    }
+
+    /// Whether both send the same deltas.
+    pub fn is_same(&self, other: &Ack2) -> bool
+        ensures { IsTrue result ↔ (self.now ≡ other.now) }
+    {
+        are_same(&self.deltas, &other.deltas)
+    }
+
+    /// The same answer, which shares the texts of its states.
+    pub fn copy(&self, alloc: Global) -> Result<Ack2, AllocError>
+        ensures { IfOk result (λ a. a ≡ self.now) }
+    {
+        Ok(Ack2 {
+            deltas: copies(alloc, &self.deltas)?,
+        })
+    }
+}

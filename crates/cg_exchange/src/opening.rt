@@ -1,0 +1,91 @@
+//! The message that opens an exchange.
+
+ghost use Rattle.std.specs.Prelude.{◌≡◌, ◌↔◌, IsTrue, IfOk, IfSome, is_some};
+ghost use Rattle.cg_exchange.specs.Members.{AreListed, listed, endpoints_of_digests};
+
+use crate::owned::are_listed;
+use cg_table::Digest;
+use cg_types::Cluster;
+use std::alloc::{AllocError, Global};
+use std::marker::Model;
+
+/// The sender's cluster, and how far its entries have come.
+#[derive(Debug, Drop)]
+pub struct Syn {
+    cluster: Cluster,
+    digests: Vec<Digest>,
+}
+
+impl Model for Syn {
+    ghost use Rattle.cg_exchange.specs.Values.{SynValue};
+    ghost use Rattle.cg_exchange.specs.Members.{AreListed, endpoints_of_digests};
+
+    ghost Value = { SynValue };
+
+    ghost view = { λ s. record { cluster = s.cluster; digests = s.digests.items } };
+
+    ghost invariant = { λ s. AreListed (endpoints_of_digests s.digests.items) };
+}
+
+// Whether both are the same digests.
+fn are_same_digests(ours: &[Digest], theirs: &[Digest]) -> bool
+    ensures { IsTrue result ↔ (ours.now ≡ theirs.now) }
+{
+    ours == theirs
+}
+
+impl Syn {
+    /// `None` unless the digests rise strictly by endpoint and are at most `MEMBER_LIMIT`.
+    pub fn new(cluster: Cluster, digests: Vec<Digest>) -> Option<Syn>
+        ensures when { is_some result ≡ listed (endpoints_of_digests digests.items) }
+        ensures value { IfSome result (λ s. s ≡ record { cluster = cluster; digests = digests.items }) }
+    {
+        if !are_listed(&digests) {
+            return None;
+        }
+        Some(Syn { cluster, digests })
+    }
+
+    pub(crate) fn of_parts(cluster: Cluster, digests: Vec<Digest>) -> Syn
+        requires { AreListed (endpoints_of_digests digests.items) }
+        ensures { result ≡ record { cluster = cluster; digests = digests.items } }
+    {
+        Syn { cluster, digests }
+    }
+
+    /// The sender's cluster.
+    pub fn cluster(&self) -> &Cluster
+        ensures { result.now ≡ self.now.cluster }
+    {
+        &self.cluster
+    }
+
+    /// The digests, rising by endpoint.
+    pub fn digests(&self) -> &[Digest]
+        ensures value { result.now ≡ self.now.digests }
+        ensures listed { AreListed (endpoints_of_digests self.now.digests) }
+    {
+        &self.digests
+    }
+
+    /// Whether both are of the same cluster and have the same digests.
+    pub fn is_same(&self, other: &Syn) -> bool
+        ensures { IsTrue result ↔ (self.now ≡ other.now) }
+    {
+        self.cluster.name() == other.cluster.name()
+            && self.cluster.partitioner() == other.cluster.partitioner()
+            && are_same_digests(&self.digests, &other.digests)
+    }
+
+    /// The same message, which shares the cluster's name.
+    pub fn copy(&self, alloc: Global) -> Result<Syn, AllocError>
+        ensures { IfOk result (λ s. s ≡ self.now) }
+    {
+        let mut digests = Vec::with_capacity(alloc, self.digests.len())?;
+        digests.extend_from_slice(&self.digests)?;
+        Ok(Syn {
+            cluster: self.cluster.copy()?,
+            digests,
+        })
+    }
+}

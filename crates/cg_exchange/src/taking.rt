@@ -1,0 +1,181 @@
+//! Taking what an ACK or an ACK2 sends.
+
+ghost use Rattle.std.specs.Prelude.{◌≡◌, ◌≤◌, IfOk, length, map, option_copied};
+ghost use Rattle.std.specs.List.{filter_map};
+ghost use Rattle.cg_types.specs.Answer.{Answers};
+ghost use Rattle.cg_types.specs.Rising.{Rises};
+ghost use Rattle.cg_table.specs.Taking.{needs_room as needs_room_for};
+ghost use Rattle.cg_exchange.specs.Members.{endpoints_of_deltas};
+ghost use Rattle.cg_exchange.specs.Taking.{table_after, outcomes_of, held_after as held_after_of, granted as granted_of, delta_granted as delta_granted_of, deltas_granted as deltas_granted_of, taking_ack, taking_ack2};
+ghost use Rattle.cg_exchange.specs.Changes.{row_changed, outcome_of};
+
+use crate::ack::Ack;
+use crate::ack2::Ack2;
+use crate::outcome::Outcome;
+use crate::owned::push_some;
+use crate::owner_delta::OwnerDelta;
+use crate::request::Request;
+use cg_entry::{Absorbed, Delta, Entry};
+use cg_shared::Row;
+use cg_table::{Table, Took, met};
+use cg_types::{Fault, MEMBER_LIMIT};
+use std::alloc::{AllocError, Global};
+
+// Whether a delta needs room for one more endpoint.
+fn needs_room(table: &Table, sent: &OwnerDelta) -> bool
+    ensures { result ≡ needs_room_for table.now.entries sent.now.endpoint sent.now.delta }
+{
+    sent.delta.above() == 0 && table.get(sent.endpoint).is_none()
+}
+
+// How many endpoints would be held after the deltas.
+fn held_after(table: &Table, deltas: &[OwnerDelta]) -> usize
+    requires { length deltas.now ≤ MEMBER_LIMIT }
+    ensures { result ≡ held_after_of table.now deltas.now }
+{
+    let owners = table.owners();
+    let mut count = owners.len();
+    for sent in deltas {
+        if needs_room(table, sent) {
+            count += 1;
+        }
+    }
+    count
+}
+
+// The row that a delta changes, if it changes one, and what becomes of the delta.
+fn changed(
+    alloc: Global,
+    table: &Table,
+    sent: &OwnerDelta,
+) -> Result<(Option<Row<Entry>>, Outcome), AllocError>
+    ensures { IfOk result (λ x. x ≡ (row_changed table.now sent.now, outcome_of table.now sent.now)) }
+{
+    let endpoint = sent.endpoint;
+    if endpoint == table.own() {
+        let took = Took::Own;
+        return Ok((None, Outcome { endpoint, took }));
+    }
+    let (row, took) = match met(alloc, table.get(endpoint), &sent.delta)? {
+        Absorbed::Taken(entry) => (Some(Row::new(alloc, endpoint, entry)?), Took::Taken),
+        Absorbed::Old => (None, Took::Old),
+        Absorbed::Gap => (None, Took::Gap),
+    };
+    Ok((row, Outcome { endpoint, took }))
+}
+
+// The rows that the deltas change, and what becomes of each delta.
+fn changes(
+    alloc: Global,
+    table: &Table,
+    deltas: &[OwnerDelta],
+) -> Result<(Vec<Row<Entry>>, Vec<Outcome>), AllocError>
+    ensures rows { IfOk result (λ x. x.0.items ≡ filter_map (row_changed table.now) deltas.now) }
+    ensures outcomes { IfOk result (λ x. x.1.items ≡ map (outcome_of table.now) deltas.now) }
+{
+    let mut rows = Vec::new(alloc);
+    let mut outcomes = Vec::new(alloc);
+    for sent in deltas {
+        let (row, outcome) = changed(alloc, table, sent)?;
+        push_some(&mut rows, row)?;
+        outcomes.push(outcome)?;
+    }
+    Ok((rows, outcomes))
+}
+
+// The table after the deltas, for which there is room, and what became of each. Each delta is about another owner, so
+// that all of them meet the table as it was.
+fn take_deltas(
+    alloc: Global,
+    table: &Table,
+    deltas: &[OwnerDelta],
+) -> Result<(Table, Vec<Outcome>), AllocError>
+    requires rise { Rises (endpoints_of_deltas deltas.now) }
+    requires room { held_after_of table.now deltas.now ≤ MEMBER_LIMIT }
+    ensures after { IfOk result (λ x. x.0 ≡ table_after table.now deltas.now) }
+    ensures outcomes { IfOk result (λ x. x.1.items ≡ outcomes_of table.now deltas.now) }
+{
+    let (rows, outcomes) = changes(alloc, table, deltas)?;
+    Ok((table.with_rows(alloc, &rows)?, outcomes))
+}
+
+// What a request is sent of an entry, or of none.
+fn granted(
+    alloc: Global,
+    request: Request,
+    held: Option<&Entry>,
+) -> Result<Option<Delta>, AllocError>
+    ensures { IfOk result (λ d. d ≡ granted_of request (option_copied held.entry)) }
+{
+    let Some(entry) = held else {
+        return Ok(None);
+    };
+    if entry.generation() < request.generation() {
+        return Ok(None);
+    }
+    if entry.generation() == request.generation() {
+        return entry.above(alloc, request.version());
+    }
+    entry.above(alloc, 0)
+}
+
+fn delta_granted(
+    alloc: Global,
+    table: &Table,
+    request: Request,
+) -> Result<Option<OwnerDelta>, AllocError>
+    ensures { IfOk result (λ d. d ≡ delta_granted_of table.now.entries request) }
+{
+    let endpoint = request.endpoint();
+    match granted(alloc, request, table.get(endpoint))? {
+        Some(delta) => Ok(Some(OwnerDelta { endpoint, delta })),
+        None => Ok(None),
+    }
+}
+
+fn deltas_granted(
+    alloc: Global,
+    table: &Table,
+    requests: &[Request],
+) -> Result<Vec<OwnerDelta>, AllocError>
+    ensures { IfOk result (λ v. v.items ≡ deltas_granted_of table.now.entries requests.now) }
+{
+    let mut deltas = Vec::new(alloc);
+    for request in requests {
+        let delta = delta_granted(alloc, table, *request)?;
+        push_some(&mut deltas, delta)?;
+    }
+    Ok(deltas)
+}
+
+/// The table after an ACK, what its sender is sent, and what became of each delta, in the order of the deltas. The
+/// deltas are taken first, and the requests are answered from the table that they make, by generation and by version.
+/// An answer is made even where nothing is sent. Entries that no delta changes are shared.
+///
+/// `TableFull` where the endpoints held with those that whole deltas are about and that are not held are more than
+/// `MEMBER_LIMIT`; nothing is taken then, and that is decided before any memory is taken.
+pub fn take_ack(
+    alloc: Global,
+    table: &Table,
+    ack: &Ack,
+) -> Result<(Table, Ack2, Vec<Outcome>), Fault>
+    ensures { Answers (λ x. (x.0, x.1, x.2.items)) (taking_ack table.now ack.now) result }
+{
+    if held_after(table, ack.deltas()) > MEMBER_LIMIT {
+        return Err(Fault::TableFull);
+    }
+    let (after, outcomes) = take_deltas(alloc, table, ack.deltas())?;
+    let deltas = deltas_granted(alloc, &after, ack.requests())?;
+    Ok((after, Ack2::of_parts(deltas), outcomes))
+}
+
+/// The table after an ACK2, and what became of each delta, in the order of the deltas. Entries that no delta changes
+/// are shared. `TableFull` as for an ACK.
+pub fn take_ack2(alloc: Global, table: &Table, ack2: &Ack2) -> Result<(Table, Vec<Outcome>), Fault>
+    ensures { Answers (λ x. (x.0, x.1.items)) (taking_ack2 table.now ack2.now) result }
+{
+    if held_after(table, ack2.deltas()) > MEMBER_LIMIT {
+        return Err(Fault::TableFull);
+    }
+    Ok(take_deltas(alloc, table, ack2.deltas())?)
+}

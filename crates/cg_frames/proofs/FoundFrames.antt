@@ -1,0 +1,173 @@
+-- Messages and frames that are read are spelled so, and fit.
+use Rattle.std.proofs.Common.{◌≡◌, ℕ, ◌≤◌, true, false, cond, List, [], ◌∷◌, ◌++◌, length, take, drop, Option, Some, None, Result, Ok, Err, refl, sym, ap, subst, ◌∙◌, append_assoc, arith, length-append, length-take, length-drop}
+use Rattle.std.specs.Prelude.{◌==◌}
+use Rattle.std.specs.Int.{w8, w32, from_be_bytes, to_be_bytes}
+use Rattle.std.proofs.lemmas.Bool.{eqb-true}
+use Rattle.std.proofs.lemmas.List.{take-append-drop, take_at, append-nil}
+use Rattle.std.proofs.lemmas.Nat.{be_bytes_4}
+use Rattle.cg_types.specs.declared.fault.Cause.TheVariants as causes
+use Rattle.cg_types.specs.declared.fault.Fault.{Fault}
+use Rattle.cg_types.specs.Answer.{Answers}
+use Rattle.cg_table.specs.declared.digest.Digest.{Digest}
+use Rattle.cg_exchange.specs.declared.owner_delta.OwnerDelta.{OwnerDelta}
+use Rattle.cg_exchange.specs.declared.message.Message.{Message}
+use Rattle.cg_exchange.specs.declared.message.Message.TheVariants.{Syn, Ack, Ack2}
+use Rattle.cg_exchange.specs.Values.{RequestValue, SynValue, AckValue, Ack2Value}
+use Rattle.cg_frames.specs.declared.layout.Layout.{Layout}
+use Rattle.cg_frames.specs.declared.layout.TheConstants.{LAYOUT_1}
+use Rattle.cg_frames.specs.declared.misread.Misread.{Misread}
+use Rattle.cg_frames.specs.Reading.{◌>>=◌, Field, number_at, digest_at, request_at, delta_at, listed_requests_at, listed_deltas_at, syn_at, ack_at, ack2_at, ended, told, of_kind, inside_at, frame_at}
+use Rattle.cg_frames.specs.Spelling.{four_bytes, digest, request, delta, cluster, members, kind, body, inside, frame}
+use Rattle.cg_frames.specs.Fits.{Fits, FitsDigest, FitsRequest, FitsDelta, FitsSyn, FitsAck, FitsAck2}
+use Rattle.cg_frames.specs.Laws.{AreBytes, IsSpelledIn, TakesOnlySpelled}
+use Rattle.cg_frames.proofs.TakenLemmas.{bind_ok, ok_is, goes_on_by, digest_past, request_past, delta_past, syn_parts}
+use Rattle.cg_frames.proofs.FrameLemmas.{frame_parts}
+use Rattle.cg_frames.proofs.FoundLemmas.{Stands, then, front_bytes, later_bytes, byte_found, digest_found, name_found, MembersFound, members_found, listed_found}
+use Rattle.cg_frames.proofs.FoundMembers.{request_found, delta_found}
+
+-- ---- bodies
+
+syn_found : (layout : Layout) (bytes : List ℕ) (m : SynValue) (rest : List ℕ) → AreBytes bytes → syn_at layout bytes ≡ Ok (m, rest) → Stands (body (Syn m)) bytes rest × FitsSyn layout m
+syn_found layout bytes m rest small h =
+    let p = syn_parts layout bytes m rest h in
+    let name = name_found bytes m.cluster.name p.from_partitioner small p.name in
+    let part = byte_found p.from_partitioner m.cluster.partitioner p.from_count name.0.bytes_behind p.partitioner in
+    let listed = members_found (λ (d : Digest). d.endpoint) digest digest_at FitsDigest digest_found digest_past layout p.from_count p.count p.from_digests m.digests rest part.0.bytes_behind p.counted p.digests in (
+      then (cluster m.cluster) (members digest m.digests) bytes p.from_count rest
+          (then (length m.cluster.name ∷ m.cluster.name) (m.cluster.partitioner ∷ []) bytes p.from_partitioner p.from_count name.0 part.0)
+          listed.stands,
+      record { name = name.1; partitioner = part.1; listed = listed.listed; digests = listed.fit },
+    )
+
+requests_found : (layout : Layout) (bytes : List ℕ) (rs : List RequestValue) (rest : List ℕ) → AreBytes bytes → listed_requests_at layout bytes ≡ Ok (rs, rest) → MembersFound (λ (r : RequestValue). r.endpoint) request FitsRequest layout bytes rs rest
+requests_found = listed_found (λ (r : RequestValue). r.endpoint) request request_at FitsRequest request_found request_past
+
+deltas_found : (layout : Layout) (bytes : List ℕ) (ds : List OwnerDelta) (rest : List ℕ) → AreBytes bytes → listed_deltas_at layout bytes ≡ Ok (ds, rest) → MembersFound (λ (d : OwnerDelta). d.endpoint) delta (FitsDelta layout) layout bytes ds rest
+deltas_found layout = listed_found (λ (d : OwnerDelta). d.endpoint) delta (delta_at layout) (FitsDelta layout) (delta_found layout) (delta_past layout) layout
+
+abbrev ack_of : List RequestValue → List OwnerDelta × List ℕ → Field AckValue
+ack_of requests deltas = Ok (record { requests = requests; deltas = deltas.0 }, deltas.1)
+
+ack_found : (layout : Layout) (bytes : List ℕ) (m : AckValue) (rest : List ℕ) → AreBytes bytes → ack_at layout bytes ≡ Ok (m, rest) → Stands (body (Ack m)) bytes rest × FitsAck layout m
+unfolding ack_at
+ack_found layout bytes m rest small h =
+    let r = bind_ok (listed_requests_at layout bytes) (λ requests. listed_deltas_at layout requests.1 >>= ack_of requests.0) (m, rest) h in
+    let d = bind_ok (listed_deltas_at layout r.0.1) (ack_of r.0.0) (m, rest) r.2 in
+    let asked = requests_found layout bytes r.0.0 r.0.1 small r.1 in
+    let sent = deltas_found layout r.0.1 d.0.0 d.0.1 asked.stands.bytes_behind d.1 in
+    let made : AckValue = record { requests = r.0.0; deltas = d.0.0 } in
+    subst (λ (p : AckValue × List ℕ). Stands (body (Ack p.0)) bytes p.1 × FitsAck layout p.0) {x = (made, d.0.1)} (ok_is (made, d.0.1) (m, rest) d.2) (
+      then (members request r.0.0) (members delta d.0.0) bytes r.0.1 d.0.1 asked.stands sent.stands,
+      record { asked = asked.listed; requests = asked.fit; listed = sent.listed; deltas = sent.fit },
+    )
+
+abbrev ack2_of : List OwnerDelta × List ℕ → Field Ack2Value
+ack2_of deltas = Ok (record { deltas = deltas.0 }, deltas.1)
+
+ack2_found : (layout : Layout) (bytes : List ℕ) (m : Ack2Value) (rest : List ℕ) → AreBytes bytes → ack2_at layout bytes ≡ Ok (m, rest) → Stands (body (Ack2 m)) bytes rest × FitsAck2 layout m
+unfolding ack2_at
+ack2_found layout bytes m rest small h =
+    let d = bind_ok (listed_deltas_at layout bytes) ack2_of (m, rest) h in
+    let sent = deltas_found layout bytes d.0.0 d.0.1 small d.1 in
+    let made : Ack2Value = record { deltas = d.0.0 } in
+    subst (λ (p : Ack2Value × List ℕ). Stands (body (Ack2 p.0)) bytes p.1 × FitsAck2 layout p.0) {x = (made, d.0.1)} (ok_is (made, d.0.1) (m, rest) d.2) (sent.stands, record { listed = sent.listed; deltas = sent.fit })
+
+-- ---- a message
+
+ended_well : {A : Type 0} (r : Field A) (x : A) → ended r ≡ Ok x → (rest : List ℕ) × (r ≡ Ok (x, rest)) × (length rest ≡ 0)
+ended_well {A = A} (Ok y) x e =
+    let g = goes_on_by (length y.1 == 0) (record { cause = causes.Rest; left = length y.1 }) (Ok y.0) x e in
+    let same : y.0 ≡ x = ok_is y.0 x g.1 in
+    (y.1, ap (λ (z : A). Ok (z, y.1)) same, eqb-true (length y.1) 0 g.0)
+ended_well (Err m) x e = absurd cc
+
+told_well : {A : Type 0} (tag : A → Message) (r : Result A Misread) (m : Message) → told tag r ≡ Ok m → (x : A) × (r ≡ Ok x) × (tag x ≡ m)
+told_well tag (Ok x) m e = (x, refl, ok_is (tag x) m e)
+told_well tag (Err f) m e = absurd cc
+
+pub record InsideFound (layout : Layout) (bytes : List ℕ) (m : Message) : Type 0 where
+  pub spelled : bytes ≡ inside layout m
+  pub fits : Fits layout m
+
+pub record KindFound (layout : Layout) (number : ℕ) (behind : List ℕ) (m : Message) : Type 0 where
+  pub is : number ≡ kind m
+  pub whole : behind ≡ body m
+  pub fits : Fits layout m
+
+no_bytes : (rest : List ℕ) → length rest ≡ 0 → rest ≡ []
+no_bytes [] e = refl
+no_bytes (b ∷ rest) e = absurd (omega arith)
+
+-- a body that was read to its end, by how its kind is read
+body_found : {A : Type 0} (tag : A → Message) (layout : Layout) (at : List ℕ → Field A) → ((bytes : List ℕ) (x : A) (rest : List ℕ) → AreBytes bytes → at bytes ≡ Ok (x, rest) → Stands (body (tag x)) bytes rest × Fits layout (tag x))
+    → (number : ℕ) (behind : List ℕ) (m : Message) → ((x : A) → number ≡ kind (tag x)) → AreBytes behind → told tag (ended (at behind)) ≡ Ok m → KindFound layout number behind m
+body_found tag layout at found number behind m is small h =
+    let t = told_well tag (ended (at behind)) m h in
+    let e = ended_well (at behind) t.0 t.1 in
+    let f = found behind t.0 e.0 small e.1 in
+    subst (λ (m : Message). KindFound layout number behind m) t.2
+    (record { is = is t.0; whole = f.0.whole ∙ ap (λ (ys : List ℕ). body (tag t.0) ++ ys) (no_bytes e.0 e.2) ∙ append-nil (body (tag t.0)); fits = f.1 })
+
+kind_found : (layout : Layout) (number : ℕ) (place behind : List ℕ) (m : Message) → AreBytes behind → of_kind layout number place behind ≡ Ok m → KindFound layout number behind m
+kind_found layout number place behind m small h =
+    let syn : Result Message Misread = told Syn (ended (syn_at layout behind)) in
+    let ack : Result Message Misread = told Ack (ended (ack_at layout behind)) in
+    let ack2 : Result Message Misread = told Ack2 (ended (ack2_at layout behind)) in
+    let none : Result Message Misread = Err (record { cause = causes.Kind; left = length place }) in
+    elim (number == 1) as (λ b. (number == 1) ≡ b → cond b syn (cond (number == 2) ack (cond (number == 3) ack2 none)) ≡ Ok m → KindFound layout number behind m) [
+      | true ↦ λ one h. body_found Syn layout (syn_at layout) (syn_found layout) number behind m (λ x. eqb-true number 1 one) small h
+      | false ↦ λ other h. elim (number == 2) as (λ b. (number == 2) ≡ b → cond b ack (cond (number == 3) ack2 none) ≡ Ok m → KindFound layout number behind m) [
+        | true ↦ λ two h. body_found Ack layout (ack_at layout) (ack_found layout) number behind m (λ x. eqb-true number 2 two) small h
+        | false ↦ λ other h. elim (number == 3) as (λ b. (number == 3) ≡ b → cond b ack2 none ≡ Ok m → KindFound layout number behind m) [
+          | true ↦ λ three h. body_found Ack2 layout (ack2_at layout) (ack2_found layout) number behind m (λ x. eqb-true number 3 three) small h
+          | false ↦ λ other h. absurd cc
+        ] refl h
+      ] refl h
+    ] refl h
+
+two_before : (bytes from_second behind body : List ℕ) (first byte second kind : ℕ) → bytes ≡ first ∷ from_second → from_second ≡ second ∷ behind → first ≡ byte → second ≡ kind → behind ≡ body → bytes ≡ byte ∷ (kind ∷ body)
+two_before bytes from_second behind body first byte second kind e f b k r = e ∙ ap (λ (ys : List ℕ). first ∷ ys) f ∙ (λ i. b i ∷ (k i ∷ r i))
+
+pub inside_found : (layout : Layout) (bytes : List ℕ) (m : Message) → AreBytes bytes → inside_at layout bytes ≡ Ok m → InsideFound layout bytes m
+unfolding inside_at
+inside_found layout bytes m small h =
+    let fault : Misread = record { cause = causes.Layout; left = length bytes } in
+    let a = bind_ok (number_at w8 bytes) (λ byte. cond (byte.0 == layout.byte) (number_at w8 byte.1) (Err fault) >>= λ kind. of_kind layout kind.0 byte.1 kind.1) m h in
+    let b = bind_ok (cond (a.0.0 == layout.byte) (number_at w8 a.0.1) (Err fault)) (λ kind. of_kind layout kind.0 a.0.1 kind.1) m a.2 in
+    let g = goes_on_by (a.0.0 == layout.byte) fault (number_at w8 a.0.1) b.0 b.1 in
+    let first = byte_found bytes a.0.0 a.0.1 small a.1 in
+    let second = byte_found a.0.1 b.0.0 b.0.1 first.0.bytes_behind g.1 in
+    let k = kind_found layout b.0.0 a.0.1 b.0.1 m second.0.bytes_behind b.2 in
+    let is : a.0.0 ≡ layout.byte = eqb-true a.0.0 layout.byte g.0 in
+    record { spelled = two_before bytes a.0.1 b.0.1 (body m) a.0.0 layout.byte b.0.0 (kind m) first.0.whole second.0.whole is k.is k.whole; fits = k.fits }
+
+-- ---- a frame
+
+inside_stands : (size : ℕ) (bytes front : List ℕ) → size ≤ length bytes → AreBytes bytes → take size bytes ≡ front → length front ≡ size
+inside_stands size bytes front le small e = omega (arith, length-take size bytes, ap length e)
+
+pub frame_found : (layout : Layout) (bytes : List ℕ) (m : Message) (n : ℕ) → AreBytes bytes → frame_at layout bytes ≡ Ok (Some (m, n)) → IsSpelledIn layout bytes m n
+unfolding four_bytes
+frame_found layout bytes m n small h =
+    let p = frame_parts layout bytes m n h in
+    let front = take 4 bytes in
+    let behind = drop 4 bytes in
+    let size = from_be_bytes w32 front in
+    let f = inside_found layout (take size behind) m (front_bytes size behind (later_bytes 4 bytes small)) p.inside in
+    let few : size ≤ length behind = omega (arith, p.size, p.within, length-drop 4 bytes) in
+    let count : length (inside layout m) ≡ size = inside_stands size behind (inside layout m) few (later_bytes 4 bytes small) f.spelled in
+    let four : length front ≡ 4 = omega (arith, length-take 4 bytes, p.size, p.within) in
+    let sized : to_be_bytes w32 (length (inside layout m)) ≡ front = be_bytes_4 front (length (inside layout m)) four (front_bytes 4 bytes small) count in
+    let unsized = sym sized in
+    let long : length (frame layout m) ≡ n = omega (arith, length-append (four_bytes (length (inside layout m))) (inside layout m), count, p.size, ap length sized, four) in
+    let whole : bytes ≡ frame layout m ++ drop size behind =
+    sym (take-append-drop 4 bytes)
+    ∙ ap (λ (ys : List ℕ). front ++ ys) (sym (take-append-drop size behind))
+    ∙ (λ i. unsized i ++ (f.spelled i ++ drop size behind))
+    ∙ sym (append_assoc (four_bytes (length (inside layout m))) (inside layout m) (drop size behind)) in
+    record { within = p.within; spelled = ap (take n) whole ∙ take_at (frame layout m) (drop size behind) n long; fits = f.fits }
+
+pub all_found : (bytes : List ℕ) (result : Result (Option (Message × ℕ)) Fault) → AreBytes bytes → Answers (λ (x : Option (Message × ℕ)). x) (frame_at LAYOUT_1 bytes) result → TakesOnlySpelled LAYOUT_1 bytes result
+all_found bytes (Ok (Some f)) small answers = frame_found LAYOUT_1 bytes f.0 f.1 small answers
+all_found bytes (Ok None) small answers = tt
+all_found bytes (Err fault) small answers = tt

@@ -1,0 +1,104 @@
+-- What feeding needs of the grammar: what stands at the front is settled once it is there, and how long it is.
+use Rattle.std.proofs.Common.{◌≡◌, ℕ, ◌+◌, ◌-◌, ◌<◌, ◌≤◌, List, [], ◌++◌, length, take, drop, Some, None, Result, Ok, Err, refl, sym, ap, ◌∙◌, subst, inl, inr, arith, length-append, length-drop}
+use Rattle.std.specs.Prelude.{◌⊎◌}
+use Rattle.std.specs.Int.{w32, from_be_bytes}
+use Rattle.std.proofs.lemmas.Bool.{lt-ltb, le-ltb, cases_lt}
+use Rattle.std.proofs.lemmas.List.{take-append-le, drop-append-le, drop_all}
+use Rattle.cg_types.specs.declared.fault.Cause.TheVariants as causes
+use Rattle.cg_types.specs.declared.fault.Fault.{Fault}
+use Rattle.cg_types.specs.declared.fault.Fault.TheVariants as faults
+use Rattle.cg_exchange.specs.declared.message.Message.{Message}
+use Rattle.cg_frames.specs.declared.layout.Layout.{Layout}
+use Rattle.cg_frames.specs.Reading.{inside_at, located, with_size, size_of, frame_at}
+use Rattle.cg_frames.specs.Feeding.{lack_of}
+use Rattle.cg_frames.proofs.FrameLemmas.{frame_parts}
+
+-- How the front of bytes may look.
+pub data Front (layout : Layout) (xs : List ℕ) : Type 0 where
+  short : length xs < 4 → frame_at layout xs ≡ Ok None → Front layout xs
+  over : 4 ≤ length xs → layout.length < size_of xs → frame_at layout xs ≡ Err (faults.BadFrame 0 causes.Length) → Front layout xs
+  part : 4 ≤ length xs → length xs < 4 + size_of xs → frame_at layout xs ≡ Ok None → Front layout xs
+  whole : 4 + size_of xs ≤ length xs → size_of xs ≤ layout.length → frame_at layout xs ≡ with_size (size_of xs) (located (size_of xs) (inside_at layout (take (size_of xs) (drop 4 xs)))) → Front layout xs
+
+module _ (layout : Layout) where
+  short_is : (xs : List ℕ) → length xs < 4 → frame_at layout xs ≡ Ok None
+  unfolding frame_at
+  short_is xs few = rw (lt-ltb (length xs) 4 few) refl
+
+  over_is : (xs : List ℕ) → 4 ≤ length xs → layout.length < size_of xs → frame_at layout xs ≡ Err (faults.BadFrame 0 causes.Length)
+  unfolding frame_at
+  over_is xs long high = rw (le-ltb (length xs) 4 long, lt-ltb layout.length (size_of xs) high) refl
+
+  part_is : (xs : List ℕ) → 4 ≤ length xs → size_of xs ≤ layout.length → length (drop 4 xs) < size_of xs → frame_at layout xs ≡ Ok None
+  unfolding frame_at
+  part_is xs long low few = rw (le-ltb (length xs) 4 long, le-ltb layout.length (size_of xs) low, lt-ltb (length (drop 4 xs)) (size_of xs) few) refl
+
+  pub whole_is : (xs : List ℕ) → 4 ≤ length xs → size_of xs ≤ layout.length → size_of xs ≤ length (drop 4 xs) → frame_at layout xs ≡ with_size (size_of xs) (located (size_of xs) (inside_at layout (take (size_of xs) (drop 4 xs))))
+  unfolding frame_at
+  whole_is xs long low enough = rw (le-ltb (length xs) 4 long, le-ltb layout.length (size_of xs) low, le-ltb (length (drop 4 xs)) (size_of xs) enough) refl
+
+  pub front_of : (xs : List ℕ) → Front layout xs
+  front_of xs = elim (cases_lt (length xs) 4) [
+    | inl few ↦ short few (short_is xs few)
+    | inr long ↦ elim (cases_lt layout.length (size_of xs)) [
+      | inl high ↦ over long high (over_is xs long high)
+      | inr low ↦ elim (cases_lt (length (drop 4 xs)) (size_of xs)) [
+        | inl few ↦ part long (omega (arith, length-drop 4 xs)) (part_is xs long low few)
+        | inr enough ↦ whole (omega (arith, length-drop 4 xs)) low (whole_is xs long low enough)
+      ]
+    ]
+  ]
+
+  size_longer : (xs ys : List ℕ) → 4 ≤ length xs → size_of (xs ++ ys) ≡ size_of xs
+  size_longer xs ys long = ap (from_be_bytes w32) (take-append-le 4 xs ys long)
+
+  inside_longer : (xs ys : List ℕ) (n : ℕ) → 4 + n ≤ length xs → take n (drop 4 (xs ++ ys)) ≡ take n (drop 4 xs)
+  inside_longer xs ys n long =
+      ap (take n) (drop-append-le 4 xs ys (omega arith)) ∙ take-append-le n (drop 4 xs) ys (omega (arith, length-drop 4 xs))
+
+  -- What stands at the front stays there, whatever follows.
+  pub settled : (xs ys : List ℕ) → (frame_at layout xs ≡ Ok None) ⊎ (frame_at layout (xs ++ ys) ≡ frame_at layout xs)
+  settled xs ys = elim (front_of xs) [
+    | short few is ↦ inl is
+    | over long high is ↦ inr (over_is (xs ++ ys) (omega (arith, length-append xs ys)) (subst (λ n. layout.length < n) (sym (size_longer xs ys long)) high) ∙ sym is)
+    | part long few is ↦ inl is
+    | whole long low is ↦
+        let same : size_of (xs ++ ys) ≡ size_of xs = size_longer xs ys (omega arith) in
+        inr (whole_is (xs ++ ys) (omega (arith, length-append xs ys)) (subst (λ n. n ≤ layout.length) (sym same) low) (omega (arith, length-append xs ys, length-drop 4 (xs ++ ys), same))
+        ∙ ap (λ n. with_size n (located n (inside_at layout (take n (drop 4 (xs ++ ys)))))) same
+        ∙ ap (λ l. with_size (size_of xs) (located (size_of xs) (inside_at layout l))) (inside_longer xs ys (size_of xs) long)
+        ∙ sym is)
+  ]
+
+  with_size_none : (n : ℕ) (r : Result Message Fault) → with_size n r ≡ Ok None → ⊥
+  with_size_none n (Ok x) is = cc
+  with_size_none n (Err f) is = cc
+
+  short_lacks : (xs : List ℕ) → length xs < 4 → lack_of xs ≡ 4 - length xs
+  unfolding lack_of
+  short_lacks xs few = rw (lt-ltb (length xs) 4 few) refl
+
+  long_lacks : (xs : List ℕ) → 4 ≤ length xs → lack_of xs ≡ 4 + size_of xs - length xs
+  unfolding lack_of
+  long_lacks xs long = rw (le-ltb (length xs) 4 long) refl
+
+  -- Where more bytes are needed, some are lacking.
+  pub partial_lacks : (xs : List ℕ) → frame_at layout xs ≡ Ok None → 0 < lack_of xs
+  partial_lacks xs none = elim (front_of xs) [
+    | short few is ↦ omega (arith, short_lacks xs few)
+    | over long high is ↦ cc
+    | part long few is ↦ omega (arith, long_lacks xs long)
+    | whole long low is ↦ absurd (with_size_none (size_of xs) (located (size_of xs) (inside_at layout (take (size_of xs) (drop 4 xs)))) (sym is ∙ none))
+  ]
+
+  -- A piece that is no longer than what is lacking doesn't pass the frame.
+  pub frame_is_all : (held piece : List ℕ) (p : Message × ℕ) → frame_at layout held ≡ Ok None → length piece ≤ lack_of held → frame_at layout (held ++ piece) ≡ Ok (Some p) → drop p.1 (held ++ piece) ≡ []
+  frame_is_all held piece p none fits some =
+      let s = frame_parts layout (held ++ piece) p.0 p.1 some in
+      let size : p.1 ≡ 4 + size_of (held ++ piece) = s.size in
+      elim (front_of held) [
+        | short few is ↦ drop_all p.1 (held ++ piece) (omega (arith, short_lacks held few, length-append held piece))
+        | over long high is ↦ cc
+        | part long few is ↦ drop_all p.1 (held ++ piece) (omega (arith, long_lacks held long, length-append held piece, size_longer held piece long))
+        | whole long low is ↦ absurd (with_size_none (size_of held) (located (size_of held) (inside_at layout (take (size_of held) (drop 4 held)))) (sym is ∙ none))
+      ]

@@ -1,0 +1,19 @@
+use Rattle.std.proofs.Common.{None}
+use Rattle.std.proofs.lemmas.Result.{err_from_is_err_and}
+use Rattle.cg_exchange.specs.Values.{RequestValue}
+use Rattle.cg_frames.specs.Reading.{requests_at, request_at, behind}
+use Rattle.cg_frames.proofs.ListLemmas.{passes_on, passes_fault, passed}
+use Rattle.cg_frames.proofs.lists.check_requests.Goals as goal
+
+pub returns-in_err-request : goal.returns-in_err-request
+returns-in_err-request c =
+    let p = err_from_is_err_and c.from_residual.result c.from_residual.ensures.1 in
+    rw (p.1, p.2) (passes_fault (λ (r : RequestValue). r.endpoint) request_at c.in_err-request.field-0.0 c.args.count c.loop.counter c.loop.last c.loop.reader (behind (requests_at c.args.count None c.args.reader.now)) c.loop-test.true c.in_err-request.ensures c.loop.invariant)
+
+pub loop-preserved : goal.loop-preserved
+loop-preserved c =
+    rw c.endpoint.ensures (passes_on (λ (r : RequestValue). r.endpoint) request_at c.args.count c.loop.counter c.loop.last c.loop.reader c.in_ok-request.request c.request.new.self (behind (requests_at c.args.count None c.args.reader.now)) c.loop-test.true c.in_ok-request.ensures c.loop.invariant)
+
+pub returns : goal.returns
+returns c =
+    passed (λ (r : RequestValue). r.endpoint) request_at c.args.count c.loop.counter c.loop.last c.loop.reader (behind (requests_at c.args.count None c.args.reader.now)) c.loop-test.false c.loop.invariant

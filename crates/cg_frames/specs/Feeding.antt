@@ -1,0 +1,102 @@
+-- Bytes that come in pieces, cut into messages.
+use Rattle.std.specs.Prelude.{◌≡◌, ℕ, zero, suc, ◌+◌, ◌-◌, ◌≤◌, List, [], ◌∷◌, ◌++◌, length, drop, Option, Some, None, Result, Ok, Err, nat_lt, if◌then◌else◌}
+use Rattle.std.specs.List.{flat_map}
+use Rattle.cg_types.specs.declared.fault.Fault.{Fault}
+use Rattle.cg_types.specs.declared.fault.Fault.TheVariants.{Truncated}
+use Rattle.cg_exchange.specs.declared.message.Message.{Message}
+use Rattle.cg_frames.specs.declared.layout.Layout.{Layout}
+use Rattle.cg_frames.specs.Reading.{size_of, frame_at}
+use Rattle.cg_frames.specs.Spelling.{frame}
+
+-- How many bytes the present length or frame lacks.
+unfoldable pub lack_of : List ℕ → ℕ
+lack_of bytes =
+    if nat_lt (length bytes) 4 then 4 - length bytes
+    else 4 + size_of bytes - length bytes
+
+-- Where a feed stands: the bytes that it holds of the next frame, or the fault that stands for good.
+abbrev pub Standing : Type 0
+Standing = Result (List ℕ) Fault
+
+-- What bytes are cut into: whole messages, and where a feed stands behind them.
+pub record Cut : Type 0 where
+  pub messages : List Message
+  pub rest : Standing
+
+abbrev pub with_front : List Message → Cut → Cut
+with_front front c = record { messages = front ++ c.messages; rest = c.rest }
+
+-- What stands at the front decides; behind a message it goes on as next says.
+abbrev pub cut_by : (List ℕ → Cut) → List ℕ → Result (Option (Message × ℕ)) Fault → Cut
+cut_by next bytes (Err f) = record { messages = []; rest = Err f }
+cut_by next bytes (Ok None) = record { messages = []; rest = Ok bytes }
+cut_by next bytes (Ok (Some p)) = with_front (p.0 ∷ []) (next (drop p.1 bytes))
+
+abbrev pub cut_within : Layout → ℕ → List ℕ → Cut
+cut_within layout zero bytes = record { messages = []; rest = Ok bytes }
+cut_within layout (suc n) bytes = cut_by (cut_within layout n) bytes (frame_at layout bytes)
+
+-- All messages of the bytes, and where a feed stands behind them. There are no more frames than bytes.
+unfoldable pub frames_in : Layout → List ℕ → Cut
+frames_in layout bytes = cut_within layout (length bytes) bytes
+
+-- What a piece gives, and where the feed stands then.
+abbrev pub fed : Layout → Standing → List ℕ → Cut
+fed layout (Ok held) piece = frames_in layout (held ++ piece)
+fed layout (Err f) piece = record { messages = []; rest = Err f }
+
+-- What pieces give, one after another.
+abbrev pub fed_all : Layout → Standing → List (List ℕ) → Cut
+fed_all layout s [] = record { messages = []; rest = s }
+fed_all layout s (piece ∷ pieces) = with_front (fed layout s piece).messages (fed_all layout (fed layout s piece).rest pieces)
+
+-- Nothing whole and no fault stands in what is held.
+abbrev pub IsPartial : Layout → Standing → Type 0
+IsPartial layout (Ok held) = frame_at layout held ≡ Ok None
+IsPartial layout (Err f) = Unit {0}
+
+-- These bytes stand behind the messages.
+abbrev pub StandsAt : Layout → Standing → List ℕ → Type 0
+StandsAt layout (Ok held) rest = (rest ≡ held) × (frame_at layout held ≡ Ok None)
+StandsAt layout (Err f) rest = frame_at layout rest ≡ Err f
+
+-- The bytes are the spellings of these messages, and then a rest.
+pub record Splits (layout : Layout) (bytes : List ℕ) (c : Cut) : Type 0 where
+  pub rest : List ℕ
+  pub whole : bytes ≡ flat_map (frame layout) c.messages ++ rest
+  pub stands : StandsAt layout c.rest rest
+
+-- What is held and then the piece is split so; after a fault nothing is given, and the fault stands.
+abbrev pub SplitsFrom : Layout → Standing → List ℕ → Cut → Type 0
+SplitsFrom layout (Ok held) piece c = Splits layout (held ++ piece) c
+SplitsFrom layout (Err f) piece c = c ≡ record { messages = []; rest = Err f }
+
+abbrev pub fault_of : Standing → Option Fault
+fault_of (Ok held) = None
+fault_of (Err f) = Some f
+
+abbrev pub standing_of : List ℕ → Option Fault → Standing
+standing_of held None = Ok held
+standing_of held (Some f) = Err f
+
+-- how many bytes may come without passing the present length or frame
+abbrev pub wanted : Standing → ℕ
+wanted (Ok held) = lack_of held
+wanted (Err f) = 0
+
+-- At most one message, and then nothing is held.
+abbrev pub HasAtMostOne : List Message → Standing → Type 0
+HasAtMostOne [] rest = Unit {0}
+HasAtMostOne (m ∷ []) rest = rest ≡ Ok []
+HasAtMostOne (m ∷ (n ∷ ms)) rest = ⊥
+
+-- Cutting gave these messages of so many bytes, and this fault behind them.
+pub record IsCut (layout : Layout) (bytes : List ℕ) (messages : List Message) (taken : ℕ) (fault : Option Fault) : Type 0 where
+  pub within : taken ≤ length bytes
+  pub all : frames_in layout bytes ≡ record { messages = messages; rest = standing_of (drop taken bytes) fault }
+
+-- Where no byte is held and no fault stands a stream may end.
+abbrev pub Ends : Standing → Result Unit Fault → Type 0
+Ends (Ok []) result = result ≡ Ok tt
+Ends (Ok (b ∷ held)) result = result ≡ Err Truncated
+Ends (Err f) result = result ≡ Err f

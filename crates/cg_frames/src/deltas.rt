@@ -1,0 +1,183 @@
+//! Deltas and their states, which rise: checked with no memory, and read.
+
+ghost use Rattle.std.specs.Prelude.{◌≡◌, ◌≤◌, Ok, None};
+ghost use Rattle.cg_types.specs.declared.limits.TheConstants.{TEXT_LIMIT};
+ghost use Rattle.cg_types.specs.Text.{state_text_of};
+ghost use Rattle.cg_frames.specs.Reading as spec;
+
+use crate::layout::Layout;
+use crate::misread::{Misread, ReadError};
+use crate::reader::Reader;
+use cg_entry::{Delta, State};
+use cg_exchange::OwnerDelta;
+use cg_types::{Cause, Endpoint, Fault, StateKey, StateText};
+use std::alloc::Global;
+
+// Reads past a state of a delta above a version, and keeps its key.
+#[tactic(auto, unfolding(crate::specs::Reading::state_at))]
+fn check_state(
+    layout: &Layout,
+    above: u32,
+    reader: &mut Reader<'_>,
+    last: Option<StateKey>,
+) -> Result<StateKey, Misread>
+    ensures { spec.Reads (λ x. x) result reader.new (spec.seen (λ s. s.key) (spec.state_at layout.now above last reader.old)) }
+{
+    let key = reader.key(last)?;
+    reader.version_above(above)?;
+    reader.text(layout)?;
+    Ok(key)
+}
+
+// Reads past so many states, rising by key.
+fn check_states(
+    layout: &Layout,
+    above: u32,
+    reader: &mut Reader<'_>,
+    count: u8,
+) -> Result<(), Misread>
+    ensures { spec.Passes result reader.new (spec.states_at layout.now above count None reader.old) }
+{
+    let mut last: Option<StateKey> = None;
+    for _ in 0..count {
+        let key = check_state(layout, above, reader, last)?;
+        last = Some(key);
+    }
+    Ok(())
+}
+
+// Reads past a delta, and keeps its endpoint.
+#[tactic(auto, unfolding(crate::specs::Reading::delta_at))]
+fn check_delta(
+    layout: &Layout,
+    reader: &mut Reader<'_>,
+    last: Option<Endpoint>,
+) -> Result<Endpoint, Misread>
+    ensures { spec.Reads (λ x. x) result reader.new (spec.seen (λ d. d.endpoint) (spec.delta_at layout.now last reader.old)) }
+{
+    let left = reader.left();
+    let endpoint = reader.endpoint(last)?;
+    reader.generation()?;
+    let above = reader.held(Cause::Above)?;
+    let heartbeat = reader.heartbeat()?;
+    let count = reader.state_count()?;
+    check_states(layout, above, reader, count)?;
+    if heartbeat.get() <= above && count == 0 {
+        return Err(Misread {
+            cause: Cause::Empty,
+            left,
+        });
+    }
+    Ok(endpoint)
+}
+
+/// Reads past so many deltas, rising by endpoint.
+pub fn check_deltas(layout: &Layout, reader: &mut Reader<'_>, count: u16) -> Result<(), Misread>
+    ensures { spec.Passes result reader.new (spec.deltas_at layout.now count None reader.old) }
+{
+    let mut last: Option<Endpoint> = None;
+    for _ in 0..count {
+        let endpoint = check_delta(layout, reader, last)?;
+        last = Some(endpoint);
+    }
+    Ok(())
+}
+
+// A text of a state, copied, so that it keeps no frame alive.
+fn text_of(alloc: Global, text: &str) -> Result<StateText, ReadError>
+    requires { state_text_of text.now ≡ Ok text.now }
+    ensures { spec.GivesWhole (λ t. t) result (Ok text.now) }
+{
+    match StateText::new(alloc, text) {
+        Ok(text) => Ok(text),
+        Err(Fault::OutOfMemory) => Err(ReadError::Memory),
+        Err(_) => unreachable!(),
+    }
+}
+
+// A state of a delta above a version.
+#[tactic(auto, unfolding(crate::specs::Reading::state_at))]
+fn state_of(
+    alloc: Global,
+    layout: &Layout,
+    above: u32,
+    reader: &mut Reader<'_>,
+    last: Option<StateKey>,
+) -> Result<State, ReadError>
+    requires { layout.now.text ≤ TEXT_LIMIT }
+    ensures { spec.Gives (λ s. s) result reader.new (spec.state_at layout.now above last reader.old) }
+{
+    let key = reader.key(last)?;
+    let version = reader.version_above(above)?;
+    let text = reader.text(layout)?;
+    let text = text_of(alloc, text)?;
+    Ok(State { key, version, text })
+}
+
+// So many states, rising by key.
+fn states_of(
+    alloc: Global,
+    layout: &Layout,
+    above: u32,
+    reader: &mut Reader<'_>,
+    count: u8,
+) -> Result<Vec<State>, ReadError>
+    requires { layout.now.text ≤ TEXT_LIMIT }
+    ensures { spec.Gives (λ v. v.items) result reader.new (spec.states_at layout.now above count None reader.old) }
+{
+    let mut states = Vec::new(alloc);
+    let mut last: Option<StateKey> = None;
+    for _ in 0..count {
+        let state = state_of(alloc, layout, above, reader, last)?;
+        last = Some(state.key);
+        states.push(state)?;
+    }
+    Ok(states)
+}
+
+// A delta; where it would carry nothing, the fault stands at its first byte.
+#[tactic(auto, unfolding(crate::specs::Reading::delta_at))]
+fn delta_of(
+    alloc: Global,
+    layout: &Layout,
+    reader: &mut Reader<'_>,
+    last: Option<Endpoint>,
+) -> Result<OwnerDelta, ReadError>
+    requires { layout.now.text ≤ TEXT_LIMIT }
+    ensures { spec.Gives (λ d. d) result reader.new (spec.delta_at layout.now last reader.old) }
+{
+    let left = reader.left();
+    let endpoint = reader.endpoint(last)?;
+    let generation = reader.generation()?;
+    let above = reader.held(Cause::Above)?;
+    let heartbeat = reader.heartbeat()?;
+    let count = reader.state_count()?;
+    let states = states_of(alloc, layout, above, reader, count)?;
+    match Delta::new(generation, above, heartbeat, states) {
+        Some(delta) => Ok(OwnerDelta { endpoint, delta }),
+        None => Err(ReadError::Misread(Misread {
+            cause: Cause::Empty,
+            left,
+        })),
+    }
+}
+
+/// So many deltas, rising by endpoint.
+pub fn deltas_of(
+    alloc: Global,
+    layout: &Layout,
+    reader: &mut Reader<'_>,
+    count: u16,
+) -> Result<Vec<OwnerDelta>, ReadError>
+    requires { layout.now.text ≤ TEXT_LIMIT }
+    ensures { spec.Gives (λ v. v.items) result reader.new (spec.deltas_at layout.now count None reader.old) }
+{
+    let mut deltas = Vec::new(alloc);
+    let mut last: Option<Endpoint> = None;
+    for _ in 0..count {
+        let delta = delta_of(alloc, layout, reader, last)?;
+        last = Some(delta.endpoint);
+        deltas.push(delta)?;
+    }
+    Ok(deltas)
+}

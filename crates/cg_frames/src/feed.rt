@@ -1,0 +1,183 @@
+//! Bytes that come in pieces, cut into messages.
+
+ghost use Rattle.std.specs.Prelude.{◌≡◌, ℕ, ◌<◌, ◌≤◌, ◌+◌, List, [], ◌++◌, length, drop, IfOk, IfErr, OnErr, OnOk, IsOk, IsErr};
+ghost use Rattle.cg_types.specs.declared.fault.Fault.TheVariants as faults;
+ghost use Rattle.cg_frames.specs.declared.layout.TheConstants.{LAYOUT_1};
+ghost use Rattle.cg_frames.specs.Feeding as spec;
+ghost use Rattle.cg_frames.specs.Laws.{AreBytes};
+
+use crate::decoding::decode;
+use cg_exchange::Message;
+use cg_types::Fault;
+use std::alloc::Global;
+use std::marker::Model;
+
+/// What a piece gave.
+#[derive(Debug, Drop)]
+pub struct Fed {
+    /// The messages that are whole now, in the order of their bytes.
+    pub messages: Vec<Message>,
+    /// The fault that stands behind them, if any: `BadFrame`, with the place in its frame.
+    pub fault: Option<Fault>,
+}
+
+// What stands at the front of bytes: messages of so many bytes, and the fault behind them, if any.
+#[derive(Drop)]
+struct Cutting {
+    fed: Fed,
+    taken: usize,
+}
+
+// Cuts off all messages at the front. Only memory may run out.
+fn cut(alloc: Global, bytes: &[u8]) -> Result<Cutting, Fault>
+    ensures ok { IfOk result (λ c. spec.IsCut LAYOUT_1 bytes.now c.fed.messages.items c.taken c.fed.fault) }
+    ensures err { IfErr result (λ f. f ≡ faults.OutOfMemory) }
+    ensures bytes { AreBytes bytes.now }
+{
+    let mut messages = Vec::new(alloc);
+    let mut taken: usize = 0;
+    loop {
+        let (_, rest) = bytes.split_at(taken);
+        match decode(alloc, rest) {
+            Ok(Some((message, size))) => {
+                messages.push(message)?;
+                taken += size;
+            }
+            Ok(None) => {
+                let fault = None;
+                let fed = Fed { messages, fault };
+                return Ok(Cutting { fed, taken });
+            }
+            Err(fault) => match fault {
+                Fault::OutOfMemory => return Err(Fault::OutOfMemory),
+                _ => {
+                    let fed = Fed {
+                        messages,
+                        fault: Some(fault),
+                    };
+                    return Ok(Cutting { fed, taken });
+                }
+            },
+        }
+    }
+}
+
+// Appends the piece and cuts off all messages; a refusal changes nothing.
+fn extend(alloc: Global, held: &mut Vec<u8>, piece: &[u8]) -> Result<Fed, Fault>
+    ensures ok { IfOk result (λ fed. spec.frames_in LAYOUT_1 (held.old.items ++ piece.now)
+        ≡ record { messages = fed.messages.items; rest = spec.standing_of held.new.items fed.fault }) }
+    ensures bytes { OnOk result (AreBytes (held.old.items ++ piece.now)) }
+    ensures same { OnErr result (held.new.items ≡ held.old.items) }
+    ensures err { IfErr result (λ f. f ≡ faults.OutOfMemory) }
+{
+    let before = held.len();
+    held.extend_from_slice(piece)?;
+    let Ok(cutting) = cut(alloc, held.as_slice()) else {
+        held.truncate(before);
+        return Err(Fault::OutOfMemory);
+    };
+    if cutting.fed.fault.is_some() {
+        *held = Vec::new(alloc);
+    } else if cutting.taken > 0 {
+        let Ok(rest) = held[cutting.taken..].to_vec(alloc) else {
+            held.truncate(before);
+            return Err(Fault::OutOfMemory);
+        };
+        *held = rest;
+    }
+    Ok(cutting.fed)
+}
+
+/// A stream of frames that comes in pieces: it holds what has come of the next frame, or the fault that stands for
+/// good. It takes room for bytes that came, never for a length that was announced.
+#[derive(Drop)]
+pub struct Feed {
+    alloc: Global,
+    held: Vec<u8>,
+    fault: Option<Fault>,
+}
+
+impl Model for Feed {
+    ghost use Rattle.cg_frames.specs.declared.layout.TheConstants.{LAYOUT_1};
+    ghost use Rattle.cg_frames.specs.Feeding.{Standing, IsPartial, standing_of};
+
+    ghost Value = { Standing };
+
+    ghost view = { λ s. standing_of s.held.items s.fault };
+
+    ghost invariant = { λ s. IsPartial LAYOUT_1 (standing_of s.held.items s.fault) };
+}
+
+impl Feed {
+    /// A stream of which nothing has come. It takes no memory; what it will hold comes from `alloc`.
+    pub fn new(alloc: Global) -> Feed
+        ensures { result ≡ Ok [] }
+    {
+        Feed {
+            alloc,
+            held: Vec::new(alloc),
+            fault: None,
+        }
+    }
+
+    /// Takes the next piece of the stream, of any length, and gives the messages that are whole now.
+    ///
+    /// What was held and the piece are the spellings of these messages, then a rest: what is held from now on, or
+    /// bytes that begin with the fault. After a fault each piece is dropped, and gives no message and that fault. A
+    /// piece no longer than `wants` gives at most one message, and if it gives one, nothing is held after it.
+    /// `OutOfMemory` leaves the feed as it was; there is no other refusal, and after a fault there is none.
+    pub fn push(&mut self, piece: &[u8]) -> Result<Fed, Fault>
+        ensures given { IfOk result (λ fed. fed.messages.items ≡ (spec.fed LAYOUT_1 self.old piece.now).messages) }
+        ensures rest { OnOk result (self.new ≡ (spec.fed LAYOUT_1 self.old piece.now).rest) }
+        ensures fault { IfOk result (λ fed. fed.fault ≡ spec.fault_of self.new) }
+        ensures spelled { IfOk result (λ fed. spec.SplitsFrom LAYOUT_1 self.old piece.now (record { messages = fed.messages.items; rest = self.new })) }
+        ensures one { IfOk result (λ fed. length piece.now ≤ spec.wanted self.old → spec.HasAtMostOne fed.messages.items self.new) }
+        ensures same { OnErr result (self.new ≡ self.old) }
+        ensures stands { IsErr self.old → IsOk result }
+        ensures err { IfErr result (λ f. f ≡ faults.OutOfMemory) }
+    {
+        if let Some(fault) = self.fault {
+            return Ok(Fed {
+                messages: Vec::new(self.alloc),
+                fault: Some(fault),
+            });
+        }
+        let fed = extend(self.alloc, &mut self.held, piece)?;
+        self.fault = fed.fault;
+        Ok(fed)
+    }
+
+    /// How many bytes the present length, of 4 bytes, or the present frame lacks: at least 1, and 0 after a fault.
+    pub fn wants(&self) -> usize
+        ensures is { result ≡ spec.wanted self.now }
+        ensures some { IsOk self.now → 0 < result }
+    {
+        match self.fault {
+            Some(_) => 0,
+            None => lack(self.held.as_slice()),
+        }
+    }
+
+    /// Whether the stream may end here: `Truncated` where a part of a frame is held, and the fault after one.
+    pub fn end(&self) -> Result<(), Fault>
+        ensures { spec.Ends self.now result }
+    {
+        match self.fault {
+            Some(fault) => Err(fault),
+            None if self.held.is_empty() => Ok(()),
+            None => Err(Fault::Truncated),
+        }
+    }
+}
+
+// How many bytes the length or the frame lacks of which these have come.
+#[tactic(auto, unfolding(crate::specs::Feeding::lack_of))]
+fn lack(held: &[u8]) -> usize
+    ensures { result ≡ spec.lack_of held.now }
+{
+    if held.len() < 4 {
+        return 4 - held.len();
+    }
+    let size = u32::from_be_bytes([held[0], held[1], held[2], held[3]]) as usize;
+    (4 + size).saturating_sub(held.len())
+}

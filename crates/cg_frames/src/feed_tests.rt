@@ -1,0 +1,194 @@
+//! Bytes in any pieces.
+
+use super::*;
+use crate::tests::{bytes_of, endpoint, generation, version};
+use cg_entry::{Delta, State};
+use cg_types::{Cause, Fault, StateKey, StateText, TEXT_LIMIT};
+use std::alloc::Global;
+use std::test::Fail;
+
+// A SYN of A, the answer of B, and the answer of A.
+const FIRST_EXCHANGE: [&str; 3] = [
+    "00000016 0101 026331 01 0001 0a0000011b58 00000009 00000001",
+    "00000027 0102 0001 0a0000011b58 00000009 00000000 0001 0a0000021b58 00000005 00000000 00000001 00",
+    "00000017 0103 0001 0a0000011b58 00000009 00000000 00000001 00",
+];
+
+const OVER: Fault = Fault::BadFrame {
+    place: 0,
+    cause: Cause::Length,
+};
+
+// How many messages the pieces gave, the last fault, and how the stream may end.
+fn fed_in(alloc: Global, pieces: &[&[u8]]) -> Result<(usize, Option<Fault>, Feed), Fail> {
+    let mut feed = Feed::new(alloc);
+    let mut count: usize = 0;
+    let mut fault = None;
+    for piece in pieces {
+        let fed = feed.push(piece)?;
+        count = count.saturating_add(fed.messages.len());
+        fault = fed.fault;
+    }
+    Ok((count, fault, feed))
+}
+
+#[test]
+fn first_exchange(rt: HostRuntime) -> Result<(), Fail> {
+    for text in FIRST_EXCHANGE {
+        let frame = bytes_of(rt.alloc(), text)?;
+        let (message, size) = decode(rt.alloc(), frame.as_slice())?.ok_or("a whole frame")?;
+        assert_eq!(rt; size, frame.len());
+        assert_eq!(rt; encode(rt.alloc(), &message)?.as_slice(), frame.as_slice());
+    }
+    Ok(())
+}
+
+#[test]
+fn cut_at_every_byte(rt: HostRuntime) -> Result<(), Fail> {
+    for text in FIRST_EXCHANGE {
+        let frame = bytes_of(rt.alloc(), text)?;
+        for cut in 1..frame.len() {
+            let (front, back) = frame.as_slice().split_at(cut);
+            let (count, fault, feed) = fed_in(rt.alloc(), &[front])?;
+            assert_eq!(rt; (count, fault), (0, None));
+            assert_eq!(rt; feed.end(), Err(Fault::Truncated));
+            let (count, fault, feed) = fed_in(rt.alloc(), &[front, back])?;
+            assert_eq!(rt; (count, fault), (1, None));
+            assert_eq!(rt; feed.end(), Ok(()));
+        }
+    }
+    Ok(())
+}
+
+#[test]
+fn one_byte_at_a_time(rt: HostRuntime) -> Result<(), Fail> {
+    for text in FIRST_EXCHANGE {
+        let frame = bytes_of(rt.alloc(), text)?;
+        let mut feed = Feed::new(rt.alloc());
+        for (i, byte) in frame.as_slice().iter().enumerate() {
+            let fed = feed.push(&[*byte])?;
+            let last = i + 1 == frame.len();
+            assert_eq!(rt; fed.messages.len(), if last { 1 } else { 0 });
+        }
+        assert_eq!(rt; feed.end(), Ok(()));
+    }
+    Ok(())
+}
+
+#[test]
+fn wants_what_is_lacking(rt: HostRuntime) -> Result<(), Fail> {
+    let mut feed = Feed::new(rt.alloc());
+    assert_eq!(rt; feed.wants(), 4);
+    for (piece, wants) in [
+        ("0000", 2),
+        ("0016", 22),
+        ("01", 21),
+        ("01 026331 01 0001 0a0000011b58 00000009 000000", 1),
+        ("01", 4),
+    ] {
+        feed.push(bytes_of(rt.alloc(), piece)?.as_slice())?;
+        assert_eq!(rt; feed.wants(), wants, "after {piece}");
+    }
+    assert_eq!(rt; feed.end(), Ok(()));
+    Ok(())
+}
+
+#[test]
+fn a_fault_stands(rt: HostRuntime) -> Result<(), Fail> {
+    let mut feed = Feed::new(rt.alloc());
+    let bytes = bytes_of(rt.alloc(), "00000008 0101 026331 01 0000 004c4b41")?;
+    let fed = feed.push(bytes.as_slice())?;
+    assert_eq!(rt; (fed.messages.len(), fed.fault), (1, Some(OVER)));
+    for piece in ["", "00", "00000008 0101 026331 01 0000"] {
+        let fed = feed.push(bytes_of(rt.alloc(), piece)?.as_slice())?;
+        assert_eq!(rt; (fed.messages.len(), fed.fault), (0, Some(OVER)));
+        assert_eq!(rt; feed.wants(), 0);
+        assert_eq!(rt; feed.end(), Err(OVER));
+    }
+    Ok(())
+}
+
+#[test]
+fn faults_stand_for_good(rt: HostRuntime) -> Result<(), Fail> {
+    for (text, place, cause) in [
+        ("00000000", 4, Cause::Short),
+        ("00000009 0101 026331 01 0000 00", 12, Cause::Rest),
+        (
+            "00000022 0102 0002 0a0000011b58 00000009 00000000 0a0000011b58 00000009 00000000 0000",
+            22,
+            Cause::Order,
+        ),
+        (
+            "0000001f 0103 0001 0a0000011b58 00000009 00000002 00000003 01 01 00000002 0001 4e",
+            28,
+            Cause::Version,
+        ),
+    ] {
+        let bytes = bytes_of(rt.alloc(), text)?;
+        let fault = Fault::BadFrame { place, cause };
+        let (count, last, feed) = fed_in(rt.alloc(), &[bytes.as_slice(), bytes.as_slice()])?;
+        assert_eq!(rt; (count, last), (0, Some(fault)));
+        assert_eq!(rt; feed.end(), Err(fault));
+    }
+    Ok(())
+}
+
+#[test]
+fn three_at_once(rt: HostRuntime) -> Result<(), Fail> {
+    let mut bytes = Vec::new(rt.alloc());
+    for text in FIRST_EXCHANGE {
+        bytes.extend_from_slice(bytes_of(rt.alloc(), text)?.as_slice())?;
+    }
+    bytes.push(0)?;
+    let (count, fault, feed) = fed_in(rt.alloc(), &[bytes.as_slice()])?;
+    assert_eq!(rt; (count, fault), (3, None));
+    assert_eq!(rt; feed.wants(), 3);
+    Ok(())
+}
+
+// As many states as a delta may have, each with the longest text.
+fn most_states(alloc: Global) -> Result<Vec<State>, Fail> {
+    let letters = [b'x'; TEXT_LIMIT];
+    let text = std::str::from_utf8(&letters).ok().ok_or("a text")?;
+    let mut states = Vec::new(alloc);
+    for key in 1..=16u8 {
+        states.push(State {
+            key: StateKey::new(key).ok_or("a key")?,
+            version: version(2)?,
+            text: StateText::new(alloc, text)?,
+        })?;
+    }
+    Ok(states)
+}
+
+// The longest message.
+fn longest(alloc: Global) -> Result<Message, Fail> {
+    let mut requests = Vec::new(alloc);
+    let mut deltas = Vec::new(alloc);
+    for last in 0..=255 {
+        requests.push(Request::new(endpoint(last)?, generation(9)?, 0).ok_or("a request")?)?;
+        let delta = Delta::new(generation(5)?, 0, version(1)?, most_states(alloc)?).ok_or(
+            "a delta",
+        )?;
+        deltas.push(OwnerDelta {
+            endpoint: endpoint(last)?,
+            delta,
+        })?;
+    }
+    Ok(Message::Ack(Ack::new(requests, deltas).ok_or("an ACK")?))
+}
+
+#[test]
+fn longest_message_in_pieces(rt: HostRuntime) -> Result<(), Fail> {
+    let frame = encode(rt.alloc(), &longest(rt.alloc())?)?;
+    assert_eq!(rt; frame.len(), 4 + 4_231_430);
+    let mut feed = Feed::new(rt.alloc());
+    let mut given = Vec::new(rt.alloc());
+    for piece in frame.as_slice().chunks(4096) {
+        given.append(&mut feed.push(piece)?.messages)?;
+    }
+    assert_eq!(rt; feed.end(), Ok(()));
+    assert_eq!(rt; given.len(), 1);
+    assert_eq!(rt; encode(rt.alloc(), &given[0])?.as_slice(), frame.as_slice());
+    Ok(())
+}
