@@ -14,6 +14,27 @@ const FIRST_EXCHANGE: [&str; 3] = [
     "00000017 0103 0001 0a0000011b58 00000009 00000000 00000001 00",
 ];
 
+// A SYN that names nothing, its answer, a SYN of another cluster, and two frames with a fault.
+const OTHER_FRAMES: [(&str, usize); 5] = [
+    ("00000008 0101 026331 01 0000", 1),
+    (
+        "00000019 0102 0000 0001 0a0000021b58 00000005 00000000 00000001 00",
+        1,
+    ),
+    (
+        "00000016 0101 026332 01 0001 0a0000011b58 00000009 00000001",
+        1,
+    ),
+    (
+        "00000022 0102 0002 0a0000011b58 00000009 00000000 0a0000011b58 00000009 00000000 0000",
+        0,
+    ),
+    (
+        "0000001f 0103 0001 0a0000011b58 00000009 00000002 00000003 01 01 00000002 0001 4e",
+        0,
+    ),
+];
+
 const OVER: Fault = Fault::BadFrame {
     place: 0,
     cause: Cause::Length,
@@ -43,18 +64,33 @@ fn first_exchange(rt: HostRuntime) -> Result<(), Fail> {
     Ok(())
 }
 
+// Whether the first piece gives nothing, and the second so many messages, or else a fault.
+fn gives_at_the_end(alloc: Global, front: &[u8], back: &[u8], count: usize) -> Result<bool, Fail> {
+    let (early, early_fault, begun) = fed_in(alloc, &[front])?;
+    let (late, late_fault, _) = fed_in(alloc, &[front, back])?;
+    let nothing_early = early == 0 && early_fault.is_none() && begun.end() == Err(Fault::Truncated);
+    Ok(nothing_early && late == count && late_fault.is_none() == (count > 0))
+}
+
 #[test]
 fn cut_at_every_byte(rt: HostRuntime) -> Result<(), Fail> {
     for text in FIRST_EXCHANGE {
         let frame = bytes_of(rt.alloc(), text)?;
         for cut in 1..frame.len() {
             let (front, back) = frame.as_slice().split_at(cut);
-            let (count, fault, feed) = fed_in(rt.alloc(), &[front])?;
-            assert_eq!(rt; (count, fault), (0, None));
-            assert_eq!(rt; feed.end(), Err(Fault::Truncated));
-            let (count, fault, feed) = fed_in(rt.alloc(), &[front, back])?;
-            assert_eq!(rt; (count, fault), (1, None));
-            assert_eq!(rt; feed.end(), Ok(()));
+            assert!(rt; gives_at_the_end(rt.alloc(), front, back, 1)?);
+        }
+    }
+    Ok(())
+}
+
+#[test]
+fn other_frames_cut_at_every_byte(rt: HostRuntime) -> Result<(), Fail> {
+    for (text, count) in OTHER_FRAMES {
+        let frame = bytes_of(rt.alloc(), text)?;
+        for cut in 1..frame.len() {
+            let (front, back) = frame.as_slice().split_at(cut);
+            assert!(rt; gives_at_the_end(rt.alloc(), front, back, count)?);
         }
     }
     Ok(())
