@@ -1,5 +1,5 @@
 -- What a delta makes of an entry.
-use Rattle.std.specs.Prelude.{nat_lt, nat_le, ◌==◌, Option, Some, None, if◌then◌else◌}
+use Rattle.std.specs.Prelude.{Bool, true, false, nat_lt, nat_le, ◌==◌, Option, Some, None, if◌then◌else◌}
 use Rattle.cg_entry.specs.declared.entry.Absorbed.{Absorbed}
 use Rattle.cg_entry.specs.declared.entry.Absorbed.TheVariants.{Taken, Old, Gap}
 use Rattle.cg_entry.specs.Values.{EntryValue, DeltaValue}
@@ -12,6 +12,12 @@ whole_entry d = if d.above == 0 then Some (record { generation = d.generation; h
 abbrev pub taken_or_gap : Option EntryValue → Absorbed
 taken_or_gap None = Gap
 taken_or_gap (Some e) = Taken e
+
+-- whether a delta is taken
+abbrev pub is_taken : Absorbed → Bool
+is_taken (Taken e) = true
+is_taken Old = false
+is_taken Gap = false
 
 -- the heartbeat of the delta, its states over those of the entry
 abbrev pub advanced : EntryValue → DeltaValue → EntryValue

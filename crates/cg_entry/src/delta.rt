@@ -136,7 +136,7 @@ impl Delta {
             && self.states.is_same(&other.states)
     }
 
-    /// The same delta, which shares the texts of its states.
+    /// The same delta, which shares the texts of its states. `AllocError` where its list of states finds no memory.
     pub fn copy(&self, alloc: Global) -> Result<Delta, AllocError>
         ensures { IfOk result (λ d. d ≡ self.now) }
     {

@@ -1,12 +1,12 @@
 //! What is held of one endpoint.
 
-ghost use Rattle.std.specs.Prelude.{◌≡◌, ◌↔◌, IsTrue, IfOk, OnOk, OnErr, None, Ok};
+ghost use Rattle.std.specs.Prelude.{◌≡◌, ◌↔◌, true, IsTrue, IfOk, IfErr, OnOk, OnErr, None, Ok, option_copied};
 ghost use Rattle.std.specs.FinMap as map;
 ghost use Rattle.std.specs.Option.{option_map};
 ghost use Rattle.cg_types.specs.Answer.{Answers, AnswersExactly};
 ghost use Rattle.cg_version.specs.Version.{next_version};
 ghost use Rattle.cg_entry.specs.Entry.{newest, delta_above, started, beaten, with_state, is_later as is_later_of};
-ghost use Rattle.cg_entry.specs.Taking.{whole_entry, absorbed};
+ghost use Rattle.cg_entry.specs.Taking.{whole_entry, taken_or_gap, absorbed, is_taken, met as met_of};
 
 use crate::delta::Delta;
 use crate::state::State;
@@ -44,6 +44,29 @@ pub enum Absorbed {
     Gap,
 }
 
+// What becomes of a delta where nothing of its generation is held: it is taken if it is whole.
+fn whole(alloc: Global, delta: &Delta) -> Result<Absorbed, AllocError>
+    ensures value { IfOk result (λ a. a ≡ taken_or_gap (whole_entry delta.now)) }
+    ensures refused { IfErr result (λ _. is_taken (taken_or_gap (whole_entry delta.now)) ≡ true) }
+{
+    match Entry::of_delta(alloc, delta)? {
+        Some(entry) => Ok(Absorbed::Taken(entry)),
+        None => Ok(Absorbed::Gap),
+    }
+}
+
+/// What a delta makes of what is held of its endpoint, if anything is. Texts are shared; `AllocError` only where the
+/// delta is to be taken and the new list of states finds no memory.
+pub fn met(alloc: Global, held: Option<&Entry>, delta: &Delta) -> Result<Absorbed, AllocError>
+    ensures value { IfOk result (λ a. a ≡ met_of (option_copied held.entry) delta.now) }
+    ensures refused { IfErr result (λ _. is_taken (met_of (option_copied held.entry) delta.now) ≡ true) }
+{
+    match held {
+        Some(entry) => entry.absorb(alloc, delta),
+        None => whole(alloc, delta),
+    }
+}
+
 impl Entry {
     /// The entry of an endpoint that starts. It takes no memory: `alloc` is kept for what is held later.
     pub fn start(alloc: Global, generation: Generation) -> Entry
@@ -56,7 +79,8 @@ impl Entry {
         }
     }
 
-    /// The entry that a whole delta carries; `None` where the delta stands above a version.
+    /// The entry that a whole delta carries; `None` where the delta stands above a version. It shares the texts of the
+    /// delta's states; `AllocError` where a whole delta's list of states finds no memory.
     pub fn of_delta(alloc: Global, delta: &Delta) -> Result<Option<Entry>, AllocError>
         ensures value { IfOk result (λ e. e ≡ whole_entry delta.now) }
         ensures none { whole_entry delta.now ≡ None → result ≡ Ok None }
@@ -120,18 +144,17 @@ impl Entry {
         }
     }
 
-    /// What taking a delta about this endpoint makes of the entry, which stays as it is.
+    /// What taking a delta about this endpoint makes of the entry, which stays as it is. Texts are shared; `AllocError`
+    /// only where the delta is to be taken and the new list of states finds no memory.
     pub fn absorb(&self, alloc: Global, delta: &Delta) -> Result<Absorbed, AllocError>
-        ensures { IfOk result (λ a. a ≡ absorbed self.now delta.now) }
+        ensures value { IfOk result (λ a. a ≡ absorbed self.now delta.now) }
+        ensures refused { IfErr result (λ _. is_taken (absorbed self.now delta.now) ≡ true) }
     {
         if delta.generation() < self.generation {
             return Ok(Absorbed::Old);
         }
         if self.generation < delta.generation() {
-            return match Entry::of_delta(alloc, delta)? {
-                Some(entry) => Ok(Absorbed::Taken(entry)),
-                None => Ok(Absorbed::Gap),
-            };
+            return whole(alloc, delta);
         }
         if delta.newest() <= self.newest() {
             return Ok(Absorbed::Old);
@@ -186,7 +209,7 @@ impl Entry {
     }
 
     /// What a holder of this generation at version `above` lacks; 0 stands for a holder of nothing. `None` where
-    /// it lacks nothing.
+    /// it lacks nothing, which takes no memory; else `AllocError` where the list of states finds none.
     pub fn above(&self, alloc: Global, above: u32) -> Result<Option<Delta>, AllocError>
         ensures value { IfOk result (λ d. d ≡ delta_above above self.now) }
         ensures none { delta_above above self.now ≡ None → result ≡ Ok None }
@@ -198,7 +221,7 @@ impl Entry {
         Ok(Some(Delta::of_parts(self.generation, above, self.heartbeat, states)))
     }
 
-    /// The same entry, which shares the texts of its states.
+    /// The same entry, which shares the texts of its states. `AllocError` where its list of states finds no memory.
     pub fn copy(&self, alloc: Global) -> Result<Entry, AllocError>
         ensures { IfOk result (λ e. e ≡ self.now) }
     {

@@ -15,5 +15,5 @@ mod states;
 mod tests;
 
 pub use delta::Delta;
-pub use entry::{Absorbed, Entry};
+pub use entry::{Absorbed, Entry, met};
 pub use state::State;

@@ -1,4 +1,4 @@
-use crate::{Absorbed, Delta, Entry, State};
+use crate::{Absorbed, Delta, Entry, State, met};
 use cg_types::{Fault, Generation, StateKey, StateText, Version};
 use cg_version::Versions;
 use std::alloc::Global;
@@ -141,6 +141,38 @@ fn outcome(alloc: Global, entry: &Entry, delta: &Delta) -> Result<&'static str, 
         Absorbed::Old => Ok("old"),
         Absorbed::Gap => Ok("gap"),
     }
+}
+
+// What becomes of a delta where nothing is held.
+fn bare(alloc: Global, delta: &Delta) -> Result<&'static str, Fail> {
+    match met(alloc, None, delta)? {
+        Absorbed::Taken(_) => Ok("taken"),
+        Absorbed::Old => Ok("old"),
+        Absorbed::Gap => Ok("gap"),
+    }
+}
+
+#[test]
+fn deltas_that_meet_nothing(rt: HostRuntime) -> Result<(), Fail> {
+    let whole = delta(9, 0, 5, Vec::new(rt.alloc()))?;
+    let part = delta(9, 1, 5, Vec::new(rt.alloc()))?;
+    assert_eq!(rt; bare(rt.alloc(), &whole)?, "taken");
+    assert_eq!(rt; bare(rt.alloc(), &part)?, "gap");
+    Ok(())
+}
+
+// Whether deltas at generation 9 above 2, with key 2 at this version and heartbeat 5, are the same as one at 4.
+fn is_like_one_at_4(alloc: Global, at: u32) -> Result<bool, Fail> {
+    let states = vec![in alloc; state(alloc, 2, at)?]?;
+    let like = delta(9, 2, 5, states)?;
+    Ok(like.is_same(&delta_with_key_2(alloc, 2, 5)?))
+}
+
+#[test]
+fn deltas_are_compared(rt: HostRuntime) -> Result<(), Fail> {
+    assert!(rt; is_like_one_at_4(rt.alloc(), 4)?);
+    assert!(rt; !is_like_one_at_4(rt.alloc(), 5)?);
+    Ok(())
 }
 
 // A at generation 9 sets key 1 to NORMAL, and beats.

@@ -63,7 +63,8 @@ impl<T: Drop> SharedMap<T> {
         &self.rows
     }
 
-    /// A map with one value put, which shares all others.
+    /// A map with one value put, which shares all others. `AllocError` where its list of rows or the new row finds no
+    /// memory.
     pub fn put(
         &self,
         alloc: Global,
@@ -73,14 +74,15 @@ impl<T: Drop> SharedMap<T> {
         ensures { IfOk result (λ m. m ≡ map.insert self.now endpoint value) }
     {
         let (before, after) = around(&self.rows, endpoint);
-        let mut rows = Vec::with_capacity(alloc, self.rows.len())?;
+        let mut rows = Vec::with_capacity(alloc, before.len() + 1 + after.len())?;
         share_all(&mut rows, before)?;
         rows.push(Row::new(alloc, endpoint, value)?)?;
         share_all(&mut rows, after)?;
         Ok(SharedMap { rows })
     }
 
-    /// A map with each of the rows put, in one walk. It shares all values.
+    /// A map with each of the rows put, in one walk. It shares all values. The rows have to rise by endpoint. `AllocError`
+    /// where the list of rows finds no memory.
     pub fn with_rows(&self, alloc: Global, changes: &[Row<T>]) -> Result<SharedMap<T>, AllocError>
         requires { Rises (keys_of changes.now) }
         ensures { IfOk result (λ m. m ≡ put_each changes.now self.now) }
@@ -90,7 +92,7 @@ impl<T: Drop> SharedMap<T> {
         })
     }
 
-    /// The same map, which shares its values.
+    /// The same map, which shares its values. `AllocError` where its list of rows finds no memory.
     pub fn copy(&self, alloc: Global) -> Result<SharedMap<T>, AllocError>
         ensures { IfOk result (λ m. m ≡ self.now) }
     {

@@ -31,7 +31,7 @@ impl<T> Model for Row<T> {
 }
 
 impl<T> Row<T> {
-    /// A row of its own, in one block of memory.
+    /// A row of its own, in one block of memory. `AllocError` where there is none.
     pub fn new(alloc: Global, endpoint: Endpoint, value: T) -> Result<Row<T>, AllocError>
     where
         T: Drop,

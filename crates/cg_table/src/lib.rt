@@ -9,5 +9,5 @@ mod tests;
 mod took;
 
 pub use digest::Digest;
-pub use table::{Table, met};
+pub use table::Table;
 pub use took::Took;

@@ -2,18 +2,18 @@
 
 ghost use Rattle.std.specs.Prelude.{◌≡◌, ◌≤◌, ◌↔◌, ℕ, true, false, IsTrue, IfOk, is_some, length, option_copied};
 ghost use Rattle.cg_types.specs.Answer.{Answers};
-ghost use Rattle.cg_entry.specs.Taking.{met as met_of};
 ghost use Rattle.cg_table.specs.Merge.{is_ahead as is_ahead_of, later_of, later_entries as later_entries_of, owners_together as owners_together_of, merging};
 ghost use Rattle.cg_table.specs.Taking.{entries_after, taken, take_one as take_one_of, needs_room as needs_room_for, is_full_for, putting_delta};
 ghost use Rattle.std.specs.FinMap as table;
 ghost use Rattle.cg_types.specs.Rising.{Rises};
 ghost use Rattle.cg_shared.specs.Rows.{keys_of};
 ghost use Rattle.cg_shared.specs.Map.{put_each};
+ghost use Rattle.cg_table.specs.Own.{own_entry as own_entry_of, with_own as with_own_of};
 ghost use Rattle.cg_table.specs.Table.{alone, digest_of, digests_of};
 
 use crate::digest::Digest;
 use crate::took::Took;
-use cg_entry::{Absorbed, Delta, Entry};
+use cg_entry::{Absorbed, Delta, Entry, met};
 use cg_shared::{Row, SharedMap};
 use cg_types::{Endpoint, Fault, MEMBER_LIMIT};
 use std::alloc::{AllocError, Global};
@@ -45,19 +45,6 @@ fn digest_of_row(row: &Row<Entry>) -> Digest
         endpoint: row.endpoint(),
         generation: row.value().generation(),
         newest: row.value().newest(),
-    }
-}
-
-/// What a delta makes of what is held of its endpoint, if anything is.
-pub fn met(alloc: Global, held: Option<&Entry>, delta: &Delta) -> Result<Absorbed, AllocError>
-    ensures { IfOk result (λ a. a ≡ met_of (option_copied held.entry) delta.now) }
-{
-    if let Some(entry) = held {
-        return entry.absorb(alloc, delta);
-    }
-    match Entry::of_delta(alloc, delta)? {
-        Some(entry) => Ok(Absorbed::Taken(entry)),
-        None => Ok(Absorbed::Gap),
     }
 }
 
@@ -93,7 +80,7 @@ fn is_same_row(ours: &Row<Entry>, theirs: &Row<Entry>) -> bool
 }
 
 impl Table {
-    /// A table that holds the own entry alone.
+    /// A table that holds the own entry alone. `AllocError` where its one row finds no memory.
     pub fn new(alloc: Global, own: Endpoint, entry: Entry) -> Result<Table, AllocError>
         ensures { IfOk result (λ t. t ≡ alone own entry) }
     {
@@ -119,6 +106,16 @@ impl Table {
         self.entries.get(endpoint)
     }
 
+    /// The entry of the member's own endpoint, which every table holds.
+    pub fn own_entry(&self) -> &Entry
+        ensures { result.now ≡ own_entry_of self.now }
+    {
+        match self.get(self.own) {
+            Some(entry) => entry,
+            None => unreachable!(),
+        }
+    }
+
     /// The endpoints that are held with their entries, rising by endpoint.
     pub fn owners(&self) -> &[Row<Entry>]
         ensures value { result.now ≡ table.entries self.now.entries }
@@ -128,7 +125,8 @@ impl Table {
         self.entries.rows()
     }
 
-    /// A digest of each entry, rising by endpoint.
+    /// A digest of each entry, rising by endpoint (Cassandra's list of `GossipDigest`). `AllocError` where the list finds
+    /// no memory.
     pub fn digests(&self, alloc: Global) -> Result<Vec<Digest>, AllocError>
         ensures value { IfOk result (λ ds. ds.items ≡ digests_of self.now.entries) }
         ensures few { IfOk result (λ ds. length ds.items ≤ MEMBER_LIMIT) }
@@ -141,7 +139,7 @@ impl Table {
         Ok(digests)
     }
 
-    /// The same table, which shares its entries.
+    /// The same table, which shares its entries. `AllocError` where its list of rows finds no memory.
     pub fn copy(&self, alloc: Global) -> Result<Table, AllocError>
         ensures { IfOk result (λ t. t ≡ self.now) }
     {
@@ -190,6 +188,13 @@ impl Table {
         })
     }
 
+    /// The table with another entry for its own endpoint. It shares all others.
+    pub fn with_own(&self, alloc: Global, entry: Entry) -> Result<Table, AllocError>
+        ensures { IfOk result (λ t. t ≡ with_own_of entry self.now) }
+    {
+        self.with_entry(alloc, self.own, entry)
+    }
+
     // The table where a delta about an endpoint came to this.
     fn after(
         &self,
@@ -233,7 +238,7 @@ impl Table {
 
     /// The table after a delta about an endpoint, and what became of the delta. No other owner's entry changes.
     /// `TableFull` where a whole delta about an endpoint that is not held finds `MEMBER_LIMIT` held; that is decided
-    /// before any memory is taken.
+    /// before any memory is taken. Else at most `OutOfMemory`.
     pub fn put_delta(
         &self,
         alloc: Global,
@@ -275,7 +280,9 @@ impl Table {
         Ok(later)
     }
 
-    /// A table with each of the rows put, in one walk over both lists. All entries are shared, the new ones too.
+    /// A table with each of the rows put, in one walk over both lists. All entries are shared, the new ones too. The rows
+    /// have to rise by endpoint, and with them at most `MEMBER_LIMIT` endpoints to be held. `AllocError` where the list of
+    /// rows finds no memory.
     pub fn with_rows(&self, alloc: Global, changes: &[Row<Entry>]) -> Result<Table, AllocError>
         requires rise { Rises (keys_of changes.now) }
         requires room { table.len (put_each changes.now self.now.entries) ≤ MEMBER_LIMIT }
@@ -289,7 +296,7 @@ impl Table {
 
     /// Owner by owner the later entry of the two tables, this table's where neither is later; `own` stays. Entries are
     /// shared, not copied. `TableFull` where both together hold more than `MEMBER_LIMIT` endpoints; that is decided
-    /// before any memory is taken.
+    /// before any memory is taken. Else at most `OutOfMemory`.
     pub fn merge(&self, alloc: Global, other: &Table) -> Result<Table, Fault>
         ensures due { Answers (λ t. t) (merging self.now other.now) result }
         ensures each { IfOk result (λ t. (owner : ℕ) → table.get t.entries owner ≡ later_of (table.get self.now.entries owner) (table.get other.now.entries owner)) }

@@ -1,5 +1,6 @@
 use crate::{Digest, Table, Took};
 use cg_entry::{Delta, Entry};
+use cg_shared::Row;
 use cg_types::{Endpoint, Fault, Generation, Version};
 use std::alloc::Global;
 use std::test::Fail;
@@ -209,6 +210,28 @@ fn merged_tables_hold_the_later_entries(rt: HostRuntime) -> Result<(), Fail> {
     let there = two.merge(rt.alloc(), &one)?;
     assert_eq!(rt; there.own(), endpoint(2)?);
     assert!(rt; here.same_entries(&there));
+    Ok(())
+}
+
+#[test]
+fn rows_are_put_in_one_walk(rt: HostRuntime) -> Result<(), Fail> {
+    let entry = Entry::of_delta(rt.alloc(), &delta(9, 0, 3, rt.alloc())?)?.ok_or("an entry")?;
+    let row = Row::new(rt.alloc(), endpoint(1)?, entry)?;
+    let after = table(rt.alloc())?.with_rows(rt.alloc(), &[row])?;
+    assert_eq!(rt; after.owners().len(), 2);
+    assert_eq!(rt; newest_of(&after, 1), Some(3));
+    assert_eq!(rt; newest_of(&after, 2), Some(1));
+    Ok(())
+}
+
+#[test]
+fn the_own_entry_is_replaced(rt: HostRuntime) -> Result<(), Fail> {
+    let table = table_with(rt.alloc(), 3)?;
+    assert_eq!(rt; table.own_entry().newest().get(), 1);
+    let entry = Entry::of_delta(rt.alloc(), &delta(5, 0, 4, rt.alloc())?)?.ok_or("an entry")?;
+    let after = table.with_own(rt.alloc(), entry)?;
+    assert_eq!(rt; after.own_entry().newest().get(), 4);
+    assert_eq!(rt; newest_of(&after, 1), Some(3));
     Ok(())
 }
 

@@ -208,7 +208,8 @@ impl Fault {
         }
     }
 
-    /// The line that says the fault, as `fault 12 BadFrame 22 Order`, with its line feed.
+    /// The line that says the fault, as `fault 12 BadFrame 22 Order`, with its line feed. `AllocError` where there
+    /// is no memory for it.
     pub fn line(self, alloc: Global) -> Result<String, AllocError>
         ensures { IfOk result (λ text. string_bytes text ≡ fault_text self) }
     {

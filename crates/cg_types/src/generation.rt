@@ -6,7 +6,7 @@ ghost use Rattle.cg_types.specs.Numbers.{IsGeneration};
 use crate::limits::NUMBER_LIMIT;
 use std::marker::Model;
 
-/// The number of a start of an endpoint, 1 to 2,147,483,647.
+/// The number of a start of an endpoint, 1 to 2,147,483,647 (the generation of Cassandra's `HeartBeatState`).
 #[derive(Clone, Copy, Debug, PartialEq, Eq, PartialOrd, Ord)]
 pub struct Generation {
     number: u32,
@@ -26,6 +26,7 @@ impl Model for Generation {
 }
 
 impl Generation {
+    /// `None` unless the number is 1 to 2,147,483,647.
     pub fn new(number: u32) -> Option<Generation>
         ensures valid { IsSome result ↔ IsGeneration number }
         ensures value { IfSome result (λ g. g ≡ number) }
@@ -36,6 +37,7 @@ impl Generation {
         Some(Generation { number })
     }
 
+    /// The number, 1 to 2,147,483,647.
     pub fn get(self) -> u32
         ensures value { result ≡ self }
         ensures range { IsGeneration result }

@@ -237,6 +237,20 @@ fn faults_have_lines(rt: HostRuntime) -> Result<(), Fail> {
 }
 
 #[test]
+fn faults_and_causes_have_names(rt: HostRuntime) {
+    let place = Fault::BadFrame {
+        place: 22,
+        cause: Cause::Order,
+    };
+    assert_eq!(rt; place.number(), 12);
+    assert_eq!(rt; place.name(), "BadFrame");
+    assert_eq!(rt; Fault::TableFull.name(), "TableFull");
+    assert_eq!(rt; Fault::NoSuchNode.name(), "NoSuchNode");
+    assert_eq!(rt; Cause::Order.name(), "Order");
+    assert_eq!(rt; Cause::Unexpected.name(), "Unexpected");
+}
+
+#[test]
 fn bad_frames_have_lines(rt: HostRuntime) -> Result<(), Fail> {
     for (cause, line) in [
         (Cause::Length, "fault 12 BadFrame 22 Length\n"),

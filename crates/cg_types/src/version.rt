@@ -33,6 +33,7 @@ impl Version {
         Version { number: 1 }
     }
 
+    /// `None` unless the number is 1 to 2,147,483,647.
     pub fn new(number: u32) -> Option<Version>
         ensures valid { IsSome result ↔ IsVersion number }
         ensures value { IfSome result (λ v. v ≡ number) }
@@ -43,6 +44,7 @@ impl Version {
         Some(Version { number })
     }
 
+    /// The number, 1 to 2,147,483,647.
     pub fn get(self) -> u32
         ensures value { result ≡ self }
         ensures range { IsVersion result }

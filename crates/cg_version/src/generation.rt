@@ -1,9 +1,10 @@
 //! The generation of a start.
 
-ghost use Rattle.std.specs.Prelude.{◌≡◌, MatchResult, Ok, Err};
+ghost use Rattle.std.specs.Prelude.{◌≡◌};
+ghost use Rattle.cg_types.specs.Answer.{AnswersExactly};
 ghost use Rattle.cg_version.specs.Version.{generation_after as text_generation_after, generation_at_start};
 
-use cg_types::{Fault, Generation, NUMBER_LIMIT};
+use cg_types::{Fault, Generation};
 
 // One more than the stored generation, or 1 where none is stored.
 fn generation_after(stored: Option<Generation>) -> u32
@@ -18,11 +19,11 @@ fn generation_after(stored: Option<Generation>) -> u32
 /// The generation of a start at so many seconds since 1970: one more than the stored one (1 where none is
 /// stored), or the seconds where these are more. VersionsSpent above 2,147,483,647.
 pub fn next_generation(stored: Option<Generation>, now_secs: u64) -> Result<Generation, Fault>
-    ensures { MatchResult result (λ g. generation_at_start stored now_secs ≡ Ok g) (λ f. generation_at_start stored now_secs ≡ Err f) }
+    ensures { AnswersExactly (λ g. g) (generation_at_start stored now_secs) result }
 {
     let next = u64::from(generation_after(stored)).max(now_secs);
-    if next >= u64::from(NUMBER_LIMIT) {
-        return Err(Fault::VersionsSpent);
-    }
-    Generation::new(next as u32).ok_or(Fault::VersionsSpent)
+    u32::try_from(next)
+        .ok()
+        .and_then(Generation::new)
+        .ok_or(Fault::VersionsSpent)
 }

@@ -26,11 +26,11 @@ fn versions_spent(rt: HostRuntime) {
 
 // The generation of a start, as numbers.
 fn started(stored: Option<u32>, now_secs: u64) -> Result<u32, Fault> {
-    next_generation(stored.and_then(Generation::new), now_secs).map(|g| g.get())
+    crate::next_generation(stored.and_then(Generation::new), now_secs).map(|g| g.get())
 }
 
 #[test]
-fn next_generation_of_starts(rt: HostRuntime) {
+fn next_generation(rt: HostRuntime) {
     for (stored, now_secs, next) in [
         (Some(9), 1700000000, Ok(1700000000)),
         (Some(1700000005), 1700000000, Ok(1700000006)),

@@ -1,7 +1,8 @@
 //! The one generator of a node's versions, as Cassandra's VersionGenerator.
 
-ghost use Rattle.std.specs.Prelude.{◌≡◌, ◌<◌, IfOk, IfErr, OnOk, OnErr, MatchResult, Ok, Err};
+ghost use Rattle.std.specs.Prelude.{◌≡◌, ◌<◌, IfOk, OnErr};
 ghost use Rattle.cg_types.specs.declared.limits.TheConstants.{NUMBER_LIMIT};
+ghost use Rattle.cg_types.specs.Answer.{AnswersExactly};
 ghost use Rattle.cg_version.specs.Version.{next_version};
 
 use cg_types::{Fault, NUMBER_LIMIT, Version};
@@ -53,7 +54,7 @@ impl Versions {
 
     /// The version after the last one, which is then the last. VersionsSpent after 2,147,483,647, which stays.
     pub fn next(&mut self) -> Result<Version, Fault>
-        ensures value { MatchResult result (λ v. next_version self.old ≡ Ok v) (λ f. next_version self.old ≡ Err f) }
+        ensures value { AnswersExactly (λ v. v) (next_version self.old) result }
         ensures ok { IfOk result (λ v. self.new ≡ v) }
         ensures err { OnErr result (self.new ≡ self.old) }
     {
