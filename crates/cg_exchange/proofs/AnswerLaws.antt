@@ -4,6 +4,7 @@ use Rattle.std.specs.Prelude.{find, nat_le}
 use Rattle.std.specs.Option.{option_map, option_and_then}
 use Rattle.std.specs.FinMap as table
 use Rattle.std.proofs.lemmas.Bool.Decides.{nat_tests}
+use Rattle.cg_types.specs.Rising.{Rises}
 use Rattle.cg_types.proofs.RisingLemmas.{rise_sorted}
 use Rattle.cg_entry.specs.Values.{EntryValue}
 use Rattle.cg_entry.specs.Entry.{newest, delta_above}
@@ -13,15 +14,17 @@ use Rattle.cg_entry.proofs.PlaceLemmas.{at_place_none, at_place_within}
 use Rattle.cg_entry.proofs.HistoryLemmas.{Compared, Behind, Ahead, SameBehind, SameAhead, SamePlace, compared, version_tells}
 use Rattle.cg_entry.proofs.TakingLemmas.{above_none}
 use Rattle.cg_table.specs.declared.digest.Digest.{Digest}
-use Rattle.cg_table.specs.Table.{digest_of}
+use Rattle.cg_table.specs.Table.{digest_of, digests_of}
+use Rattle.cg_table.specs.Spelling.{SpellsPlaces}
 use Rattle.cg_table.specs.Values.{Entries}
 use Rattle.cg_exchange.specs.declared.owner_delta.OwnerDelta.{OwnerDelta}
 use Rattle.cg_exchange.specs.Values.{RequestValue}
-use Rattle.cg_exchange.specs.Answering.{asked, sent, delta_for}
-use Rattle.cg_exchange.specs.Taking.{granted, delta_granted}
+use Rattle.cg_exchange.specs.Answering.{asked, sent, delta_for, requests_for, deltas_for}
+use Rattle.cg_exchange.specs.Taking.{granted, delta_granted, deltas_granted}
 use Rattle.cg_exchange.specs.Places.{Ask, IsAsk, within_generation, span_for, ask_for, span_asked}
-use Rattle.cg_exchange.specs.Spelling.{request_of, about}
-use Rattle.cg_exchange.specs.Laws.{DigestsSpellPlaces, AnswersSpellAnswers, GrantsSpellSpans}
+use Rattle.cg_exchange.specs.Members.{about, endpoints_of_digests, endpoints_of_requests}
+use Rattle.cg_exchange.specs.Spelling.{request_of, SpellsDigests, SpellsAsks, SpellsSpans}
+use Rattle.cg_exchange.specs.PlaceMessages.{Stand, AreAsks, grants_at}
 use Rattle.cg_exchange.proofs.AnswerLemmas.{asked_same, delta_same, granted_same}
 use Rattle.cg_exchange.proofs.WalkLemmas.{is_less, not_less}
 use Rattle.cg_exchange.proofs.MemberLemmas.{found_mapped, found_map, row_held}
@@ -35,7 +38,8 @@ not_same a b e = grind (arith, nat_tests)
 is_most : (a b : ℕ) → a ≤ b → nat_le a b ≡ true
 is_most a b le = grind (arith, nat_tests)
 
-pub digests_spell_places : DigestsSpellPlaces
+-- a table's digests spell the places that the table spells
+pub digests_spell_places : (hs : ℕ → List EntryValue) (m : Entries) (places : ℕ → ℕ) → SpellsPlaces hs m places → SpellsDigests hs (digests_of m) places
 digests_spell_places hs m places s = record {
   at = λ owner.
       found_map (λ (r : ℕ × EntryValue). r.0) (λ (d : Digest). d.endpoint) digest_of (λ r. refl) owner (table.entries m)
@@ -191,17 +195,21 @@ sent_about : (owner : ℕ) (digests : List Digest) (mine : Option EntryValue)
 sent_about owner digests None = refl
 sent_about owner digests (Some x) = refl
 
-pub answers_spell_answers : AnswersSpellAnswers
-answers_spell_answers hs are m digests mine theirs lm lt rise held named = record {
-  asks = record {
+-- tables and digests that spell places of one family of histories
+module _ (hs : ℕ → List EntryValue) (are : (owner : ℕ) → IsHistory (hs owner)) (m : Entries) (digests : List Digest) (mine theirs : ℕ → ℕ) (lm : Stand hs mine) (lt : Stand hs theirs)
+    (held : SpellsPlaces hs m mine) (named : SpellsDigests hs digests theirs) where
+  pub requests_spell_asks : Rises (endpoints_of_digests digests) → SpellsAsks hs (requests_for m digests) (λ owner. ask_for (hs owner) (mine owner) (theirs owner))
+  requests_spell_asks rise = record {
     at = λ owner.
         found_mapped (λ (d : Digest). d.endpoint) (λ (r : RequestValue). r.endpoint) (λ (d : Digest). asked d (table.get m d.endpoint)) (asked_same m) owner digests rise
         ∙ ap (option_and_then (λ (d : Digest). asked d (table.get m d.endpoint))) (named.at owner)
         ∙ asked_about owner m (at_place (hs owner) (theirs owner))
         ∙ ap (λ (o : Option EntryValue). option_and_then (λ (d : Digest). asked d o) (option_map (λ e. digest_of (owner, e)) (at_place (hs owner) (theirs owner)))) (held.at owner)
         ∙ asked_spells owner (hs owner) (are owner) (mine owner) (theirs owner) (lm owner) (lt owner);
-  };
-  spans = record {
+  }
+
+  pub deltas_spell_spans : SpellsSpans hs (deltas_for m digests) (λ owner. span_for (hs owner) (mine owner) (theirs owner))
+  deltas_spell_spans = record {
     at = λ owner.
         found_mapped (λ (r : ℕ × EntryValue). r.0) (λ (d : OwnerDelta). d.endpoint) (delta_for digests) (delta_same digests) owner (table.entries m) (rise_sorted (table.entries m) (table.entries_sorted m))
         ∙ ap (option_and_then (delta_for digests)) (row_held m owner ∙ ap (option_map (λ (e : EntryValue). (owner, e))) (held.at owner))
@@ -210,8 +218,7 @@ answers_spell_answers hs are m digests mine theirs lm lt rise held named = recor
         ap (λ (o : Option Digest). option_and_then (λ e. sent e o) (at_place (hs owner) (mine owner))) (named.at owner)
         ∙ sent_spells owner (hs owner) (are owner) (mine owner) (theirs owner) (lm owner) (lt owner)
         );
-  };
-}
+  }
 
 granted_about : (owner : ℕ) (h : List EntryValue) (is : IsHistory h) (m : Entries) (p : ℕ) (lp : p ≤ length h) → table.get m owner ≡ at_place h p → (o : Option Ask) → ((ask : Ask) → o ≡ Some ask → IsAsk h ask)
     → option_and_then (delta_granted m) (option_map (request_of owner h) o) ≡ option_map (about owner) (option_and_then (delta_of h) (option_and_then (span_asked h p) o))
@@ -219,7 +226,9 @@ granted_about owner h is m p lp held None stand = refl
 granted_about owner h is m p lp held (Some ask) stand =
     ap (option_map (about owner)) (ap (granted (request_of owner h ask)) held ∙ grant_spells owner h is p lp ask (stand ask refl))
 
-pub grants_spell_spans : GrantsSpellSpans
+-- requests that spell asks are granted what spells the grants
+pub grants_spell_spans : (hs : ℕ → List EntryValue) → ((owner : ℕ) → IsHistory (hs owner)) → (m : Entries) (requests : List RequestValue) (mine : ℕ → ℕ) (asks : ℕ → Option Ask)
+    → Stand hs mine → Rises (endpoints_of_requests requests) → SpellsPlaces hs m mine → SpellsAsks hs requests asks → AreAsks hs asks → SpellsSpans hs (deltas_granted m requests) (grants_at hs mine asks)
 grants_spell_spans hs are m requests mine asks lm rise held spelled stand = record {
   at = λ owner.
       found_mapped (λ (r : RequestValue). r.endpoint) (λ (d : OwnerDelta). d.endpoint) (delta_granted m) (granted_same m) owner requests rise

@@ -17,7 +17,7 @@ use Rattle.cg_exchange.specs.declared.owner_delta.OwnerDelta.{OwnerDelta}
 use Rattle.cg_exchange.specs.Values.{RequestValue}
 use Rattle.cg_exchange.specs.Taking.{granted, delta_granted, deltas_granted}
 use Rattle.cg_table.specs.Table.{digest_of, digests_of}
-use Rattle.cg_exchange.specs.Answering.{asked, requests_for, sent, delta_for}
+use Rattle.cg_exchange.specs.Answering.{asked, requests_for, sent, delta_for, deltas_for}
 use Rattle.std.specs.List.{cons_option}
 use Rattle.cg_exchange.specs.Members.{AreListed, endpoints_of_digests, endpoints_of_requests, endpoints_of_deltas}
 use Rattle.cg_types.specs.Rising.{is_past, rise_past, Rises}
@@ -94,9 +94,12 @@ digest_keys : (rows : List (ℕ × EntryValue)) → endpoints_of_digests (map di
 digest_keys [] = refl
 digest_keys (r ∷ rows) = ap (λ (ks : List ℕ). r.0 ∷ ks) (digest_keys rows)
 
+pub digests_rise : (entries : Entries) → Rises (endpoints_of_digests (digests_of entries))
+digests_rise entries = rw (digest_keys (table.entries entries)) (rise_sorted (table.entries entries) (table.entries_sorted entries))
+
 pub digests_listed : (entries : Entries) (digests : List Digest) → digests ≡ digests_of entries → length digests ≤ MEMBER_LIMIT → AreListed (endpoints_of_digests digests)
 digests_listed entries digests is few = record {
-  rise = rw (is, digest_keys (table.entries entries)) (rise_sorted (table.entries entries) (table.entries_sorted entries));
+  rise = rw is (digests_rise entries);
   few = omega (arith, few, length-map {A = Digest} {B = ℕ});
 }
 
@@ -105,3 +108,14 @@ granted_same entries r d e = mapped_endpoint r.endpoint (granted r (table.get en
 
 pub granted_listed : (entries : Entries) (requests : List RequestValue) → AreListed (endpoints_of_requests requests) → AreListed (endpoints_of_deltas (deltas_granted entries requests))
 granted_listed entries requests h = listed_mapped (delta_granted entries) (λ r. r.endpoint) (λ d. d.endpoint) (granted_same entries) requests h
+
+-- ---- lists that rise make lists that rise
+
+pub requests_rise : (entries : Entries) (digests : List Digest) → Rises (endpoints_of_digests digests) → Rises (endpoints_of_requests (requests_for entries digests))
+requests_rise entries digests rise = rise_mapped (λ d. asked d (table.get entries d.endpoint)) (λ d. d.endpoint) (λ r. r.endpoint) (asked_same entries) None digests rise
+
+pub deltas_rise : (entries : Entries) (digests : List Digest) → Rises (endpoints_of_deltas (deltas_for entries digests))
+deltas_rise entries digests = rise_mapped (delta_for digests) (λ e. e.0) (λ d. d.endpoint) (delta_same digests) None (table.entries entries) (rise_sorted (table.entries entries) (table.entries_sorted entries))
+
+pub grants_rise : (entries : Entries) (requests : List RequestValue) → Rises (endpoints_of_requests requests) → Rises (endpoints_of_deltas (deltas_granted entries requests))
+grants_rise entries requests rise = rise_mapped (delta_granted entries) (λ r. r.endpoint) (λ d. d.endpoint) (granted_same entries) None requests rise

@@ -24,15 +24,16 @@ use Rattle.cg_table.specs.declared.took.Took.{Took}
 use Rattle.cg_table.specs.declared.took.Took.TheVariants as took
 use Rattle.cg_table.specs.Values.{TableValue}
 use Rattle.cg_table.specs.Taking.{took_of, taken}
+use Rattle.cg_table.specs.Spelling.{SpellsPlaces}
 use Rattle.cg_table.proofs.MergeLemmas.{get-put_each}
 use Rattle.cg_exchange.specs.declared.owner_delta.OwnerDelta.{OwnerDelta}
 use Rattle.cg_exchange.specs.declared.outcome.Outcome.{Outcome}
-use Rattle.cg_exchange.specs.Members.{endpoints_of_deltas}
+use Rattle.cg_exchange.specs.Members.{about, endpoints_of_deltas}
 use Rattle.cg_exchange.specs.Taking.{table_after, outcomes_of}
 use Rattle.cg_exchange.specs.Changes.{row_of, row_changed, outcome_of}
 use Rattle.cg_exchange.specs.Places.{took_of_span, took_for, place_with}
-use Rattle.cg_exchange.specs.Spelling.{about}
-use Rattle.cg_exchange.specs.Laws.{DeltasAreTakenAsSpans}
+use Rattle.cg_exchange.specs.Spelling.{SpellsSpans, outcome_about}
+use Rattle.cg_exchange.specs.PlaceMessages.{Stand, AreSpans, places_after}
 use Rattle.cg_exchange.proofs.WalkLemmas.{row_found}
 use Rattle.cg_exchange.proofs.MemberLemmas.{found_mapped, found_map}
 use Rattle.cg_exchange.proofs.TakingLemmas.{taken_at_once, rows_rise, row_key}
@@ -105,14 +106,20 @@ module _ (t : TableValue) (q : ℕ) (h : List EntryValue) (is : IsHistory h) (p 
       let y = at_place_some h span.to (omega (arith, s.rises)) s.stands in
       rw (named span s y.0 y.1) (ap (λ (took : Took). Some (record { endpoint = q; took = took })) (outcome_by span s y.0 y.1 (q == t.own)))
 
-pub deltas_are_taken_as_spans : DeltasAreTakenAsSpans
-deltas_are_taken_as_spans hs are t ds mine spans lm rise held spelled stand = record {
-  places = record {
+-- deltas that spell spans, at a table that spells places
+module _ (hs : ℕ → List EntryValue) (are : (owner : ℕ) → IsHistory (hs owner)) (t : TableValue) (deltas : List OwnerDelta) (mine : ℕ → ℕ) (spans : ℕ → Option Span) (lm : Stand hs mine)
+    (rise : Rises (endpoints_of_deltas deltas)) (held : SpellsPlaces hs t.entries mine) (spelled : SpellsSpans hs deltas spans) (stand : AreSpans hs spans) where
+  pub own_kept : (table_after t deltas).own ≡ t.own
+  own_kept = ap (λ (t : TableValue). t.own) (taken_at_once t deltas rise).after
+
+  pub places_taken : SpellsPlaces hs (table_after t deltas).entries (places_after t.own mine spans)
+  places_taken = record {
     at = λ owner.
-        held_at t ds rise owner ∙ ap (left_of t owner) (spelled.at owner)
+        held_at t deltas rise owner ∙ ap (left_of t owner) (spelled.at owner)
         ∙ span_left t owner (hs owner) (are owner) (mine owner) (lm owner) (held.at owner) (spans owner) (stand owner);
-  };
-  outcomes = λ owner.
-      outcome_at t ds rise owner ∙ ap (option_map (outcome_of t)) (spelled.at owner)
-      ∙ span_outcome t owner (hs owner) (are owner) (mine owner) (lm owner) (held.at owner) (spans owner) (stand owner);
-}
+  }
+
+  pub outcomes_taken : (owner : ℕ) → outcome_about owner (outcomes_of t deltas) ≡ option_map (λ span. record { endpoint = owner; took = took_for (owner == t.own) (mine owner) span }) (spans owner)
+  outcomes_taken owner =
+      outcome_at t deltas rise owner ∙ ap (option_map (outcome_of t)) (spelled.at owner)
+      ∙ span_outcome t owner (hs owner) (are owner) (mine owner) (lm owner) (held.at owner) (spans owner) (stand owner)

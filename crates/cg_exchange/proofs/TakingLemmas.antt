@@ -17,13 +17,13 @@ use Rattle.cg_entry.specs.Values.{EntryValue, DeltaValue}
 use Rattle.cg_entry.specs.Taking.{met, taken_or_gap}
 use Rattle.cg_table.specs.declared.took.Took.TheVariants as took
 use Rattle.cg_table.specs.Values.{TableValue, Entries}
-use Rattle.cg_table.specs.Taking.{taken, needs_room}
+use Rattle.cg_table.specs.Taking.{taken, take_one, needs_room}
 use Rattle.cg_table.proofs.RoomLemmas.{count_by-cons, strangers, len-put_each}
 use Rattle.cg_exchange.specs.declared.owner_delta.OwnerDelta.{OwnerDelta}
 use Rattle.cg_exchange.specs.declared.outcome.Outcome.{Outcome}
 use Rattle.cg_exchange.specs.Members.{endpoints_of_deltas}
 use Rattle.cg_exchange.specs.Taking.{table_after, outcomes_of, held_after}
-use Rattle.cg_exchange.specs.Changes.{row_of, row_changed, outcome_of}
+use Rattle.cg_exchange.specs.Changes.{row_of, row_changed, outcome_of, endpoints_of_outcomes}
 use Rattle.cg_exchange.proofs.AnswerLemmas.{rise_mapped}
 
 other_key : (e k : ℕ) → nat_lt e k ≡ true → (b : Bool) → eq_by_cmp nat_cmp k e ≡ b → b ≡ false
@@ -133,3 +133,13 @@ strangers_few t (d ∷ ds) =
 -- what would be held bounds the table with the rows put
 pub rows_fit : (t : TableValue) (ds : List OwnerDelta) → held_after t ds ≤ MEMBER_LIMIT → len (put_each (filter_map (row_changed t) ds) t.entries) ≤ MEMBER_LIMIT
 rows_fit t ds room = omega (arith, room, len-put_each (filter_map (row_changed t) ds) t.entries, strangers_few t ds)
+
+-- ---- whom the outcomes are about
+
+outcomes_about : (t : TableValue) (ds : List OwnerDelta) → endpoints_of_outcomes (outcomes_of t ds) ≡ endpoints_of_deltas ds
+outcomes_about t [] = refl
+outcomes_about t (d ∷ ds) = ap (λ (ks : List ℕ). d.endpoint ∷ ks) (outcomes_about (take_one t d.endpoint d.delta).0 ds)
+
+-- the outcomes are about the owners of the deltas, so they rise
+pub outcomes_rise : (t : TableValue) (ds : List OwnerDelta) → Rises (endpoints_of_deltas ds) → Rises (endpoints_of_outcomes (outcomes_of t ds))
+outcomes_rise t ds rise = rw (outcomes_about t ds) rise

@@ -14,6 +14,7 @@ use Rattle.cg_table.specs.Table.{digests_of}
 use Rattle.cg_table.specs.Values.{TableValue, Entries}
 use Rattle.cg_exchange.specs.declared.owner_delta.OwnerDelta.{OwnerDelta}
 use Rattle.cg_exchange.specs.Values.{RequestValue, SynValue, AckValue}
+use Rattle.cg_exchange.specs.Members.{about}
 
 -- the same name and the same partitioner
 abbrev pub same_cluster : ClusterValue → ClusterValue → Bool
@@ -42,8 +43,7 @@ sent e (Some d) =
 
 -- what is sent of an endpoint's entry, by the sender's digests
 abbrev pub delta_for : List Digest → ℕ × EntryValue → Option OwnerDelta
-delta_for digests held =
-    option_map (λ d. record { endpoint = held.0; delta = d }) (sent held.1 (find (λ d. d.endpoint == held.0) digests))
+delta_for digests held = option_map (about held.0) (sent held.1 (find (λ d. d.endpoint == held.0) digests))
 
 -- what is sent of all entries; one that no digest names is sent whole
 abbrev pub deltas_for : Entries → List Digest → List OwnerDelta

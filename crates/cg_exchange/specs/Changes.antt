@@ -1,5 +1,5 @@
 -- What each delta of a message changes in a table, where each is about another owner.
-use Rattle.std.specs.Prelude.{ℕ, ◌==◌, Option, Some, None, if◌then◌else◌}
+use Rattle.std.specs.Prelude.{ℕ, ◌==◌, List, map, Option, Some, None, if◌then◌else◌}
 use Rattle.std.specs.FinMap as table
 use Rattle.cg_entry.specs.declared.entry.Absorbed.{Absorbed}
 use Rattle.cg_entry.specs.declared.entry.Absorbed.TheVariants as absorbed
@@ -23,3 +23,7 @@ row_changed t d = if d.endpoint == t.own then None else row_of d.endpoint (met (
 -- what becomes of a delta
 abbrev pub outcome_of : TableValue → OwnerDelta → Outcome
 outcome_of t d = record { endpoint = d.endpoint; took = (take_one t d.endpoint d.delta).1 }
+
+-- whom the outcomes are about
+abbrev pub endpoints_of_outcomes : List Outcome → List ℕ
+endpoints_of_outcomes outcomes = map (λ o. o.endpoint) outcomes

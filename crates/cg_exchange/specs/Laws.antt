@@ -1,25 +1,22 @@
--- What messages do on tables and messages that spell places of one family of histories.
-use Rattle.std.specs.Prelude.{◌≡◌, ℕ, ◌≤◌, ◌==◌, List, length, Option, Some}
-use Rattle.std.specs.Option.{option_map, option_and_then}
-use Rattle.cg_types.specs.Rising.{Rises}
+-- What messages do on tables and messages that spell places of one family of histories, message by message.
+use Rattle.std.specs.Prelude.{◌≡◌, ℕ, ◌≤◌, ◌==◌, true, List, length, Option, Some, Ok}
+use Rattle.std.specs.Option.{option_map}
+use Rattle.cg_types.specs.Text.{ClusterValue}
 use Rattle.cg_entry.specs.Values.{EntryValue}
 use Rattle.cg_entry.specs.History.{IsHistory}
 use Rattle.cg_entry.specs.Place.{Span, IsSpan}
-use Rattle.cg_table.specs.declared.digest.Digest.{Digest}
-use Rattle.cg_table.specs.Values.{TableValue, Entries}
-use Rattle.cg_table.specs.Table.{digests_of}
+use Rattle.cg_table.specs.Values.{TableValue}
 use Rattle.cg_table.specs.Spelling.{SpellsPlaces}
-use Rattle.cg_exchange.specs.declared.owner_delta.OwnerDelta.{OwnerDelta}
-use Rattle.cg_exchange.specs.Values.{RequestValue}
-use Rattle.cg_exchange.specs.Members.{endpoints_of_digests, endpoints_of_requests, endpoints_of_deltas}
-use Rattle.cg_exchange.specs.Answering.{requests_for, deltas_for}
-use Rattle.cg_exchange.specs.Taking.{table_after, outcomes_of, deltas_granted}
-use Rattle.cg_exchange.specs.Places.{Ask, IsAsk, span_for, ask_for, span_asked, took_for, place_with}
-use Rattle.cg_exchange.specs.Spelling.{SpellsDigests, SpellsAsks, SpellsSpans, outcome_about}
-
--- The places stand in the histories.
-abbrev pub Stand : (ℕ → List EntryValue) → (ℕ → ℕ) → Type 0
-Stand histories places = (owner : ℕ) → places owner ≤ length (histories owner)
+use Rattle.cg_exchange.specs.declared.message.Message.{Message}
+use Rattle.cg_exchange.specs.declared.message.Message.TheVariants as kinds
+use Rattle.cg_exchange.specs.declared.outcome.Outcome.{Outcome}
+use Rattle.cg_exchange.specs.Values.{SynValue, AckValue, Ack2Value}
+use Rattle.cg_exchange.specs.Answering.{same_cluster, syn_of, answer_to_syn}
+use Rattle.cg_exchange.specs.Taking.{taking_ack, taking_ack2}
+use Rattle.cg_exchange.specs.Places.{Ask, IsAsk, span_for, ask_for, span_asked, took_for}
+use Rattle.cg_exchange.specs.Spelling.{SpellsMessage, outcome_about}
+pub use Rattle.cg_exchange.specs.PlaceMessages.{Stand}
+use Rattle.cg_exchange.specs.PlaceMessages.{PlaceMessage, IsPlaceMessage, Syn, Ack, Ack2, answer_at, places_after, grants_at}
 
 -- What the rules give at the place mine lies in the history.
 pub record RulesGiveSpans (history : List EntryValue) (mine : ℕ) : Type 0 where
@@ -31,40 +28,54 @@ pub record RulesGiveSpans (history : List EntryValue) (mine : ℕ) : Type 0 wher
 abbrev pub RulesStand : Type 0
 RulesStand = (history : List EntryValue) (mine : ℕ) → mine ≤ length history → RulesGiveSpans history mine
 
--- The digests of a table spell the places that the table spells.
-abbrev pub DigestsSpellPlaces : Type 0
-DigestsSpellPlaces =
-    (histories : ℕ → List EntryValue) (entries : Entries) (places : ℕ → ℕ) → SpellsPlaces histories entries places → SpellsDigests histories (digests_of entries) places
+-- The table holds, owner by owner, the entry at a place of the owner's history.
+pub record IsAt (histories : ℕ → List EntryValue) (t : TableValue) (places : ℕ → ℕ) : Type 0 where
+  pub spells : SpellsPlaces histories t.entries places
+  pub stand : Stand histories places
 
--- What an answer to a SYN asks for and sends, where the receiver is at the places mine and the SYN is of the places theirs.
-pub record AnswersPlaces (histories : ℕ → List EntryValue) (entries : Entries) (digests : List Digest) (mine theirs : ℕ → ℕ) : Type 0 where
-  pub asks : SpellsAsks histories (requests_for entries digests) (λ owner. ask_for (histories owner) (mine owner) (theirs owner))
-  pub spans : SpellsSpans histories (deltas_for entries digests) (λ owner. span_for (histories owner) (mine owner) (theirs owner))
+-- The message spells this one by places, which is one of the histories.
+pub record Says (histories : ℕ → List EntryValue) (message : Message) (said : PlaceMessage) : Type 0 where
+  pub spells : SpellsMessage histories said message
+  pub stands : IsPlaceMessage histories said
 
--- A SYN is answered place by place.
-abbrev pub AnswersSpellAnswers : Type 0
-AnswersSpellAnswers =
-    (histories : ℕ → List EntryValue) → ((owner : ℕ) → IsHistory (histories owner)) → (entries : Entries) (digests : List Digest) (mine theirs : ℕ → ℕ)
-    → Stand histories mine → Stand histories theirs → Rises (endpoints_of_digests digests) → SpellsPlaces histories entries mine → SpellsDigests histories digests theirs
-    → AnswersPlaces histories entries digests mine theirs
+-- What is held after spans came to the table t at the places mine, and what became of each.
+pub record IsMoved (histories : ℕ → List EntryValue) (t : TableValue) (mine : ℕ → ℕ) (spans : ℕ → Option Span) (after : TableValue) (outcomes : List Outcome) : Type 0 where
+  pub own : after.own ≡ t.own
+  pub places : IsAt histories after (places_after t.own mine spans)
+  pub outcomes_about : (owner : ℕ) → outcome_about owner outcomes ≡ option_map (λ span. record { endpoint = owner; took = took_for (owner == t.own) (mine owner) span }) (spans owner)
 
--- Requests are answered ask by ask.
-abbrev pub GrantsSpellSpans : Type 0
-GrantsSpellSpans =
-    (histories : ℕ → List EntryValue) → ((owner : ℕ) → IsHistory (histories owner)) → (entries : Entries) (requests : List RequestValue) (mine : ℕ → ℕ) (asks : ℕ → Option Ask)
-    → Stand histories mine → Rises (endpoints_of_requests requests) → SpellsPlaces histories entries mine → SpellsAsks histories requests asks
-    → ((owner : ℕ) (ask : Ask) → asks owner ≡ Some ask → IsAsk (histories owner) ask)
-    → SpellsSpans histories (deltas_granted entries requests) (λ owner. option_and_then (span_asked (histories owner) (mine owner)) (asks owner))
+-- The SYN of a table says where the table is.
+abbrev pub SynSaysPlaces : Type 0
+SynSaysPlaces =
+    (histories : ℕ → List EntryValue) (t : TableValue) (cluster : ClusterValue) (places : ℕ → ℕ) → IsAt histories t places → Says histories (kinds.Syn (syn_of t cluster)) (Syn places)
 
--- What the deltas of a message leave at a holder that is at the places mine, and what becomes of each.
-pub record TakesSpans (histories : ℕ → List EntryValue) (t : TableValue) (deltas : List OwnerDelta) (mine : ℕ → ℕ) (spans : ℕ → Option Span) : Type 0 where
-  pub places : SpellsPlaces histories (table_after t deltas).entries (λ owner. place_with (owner == t.own) (mine owner) (spans owner))
-  pub outcomes : (owner : ℕ) → outcome_about owner (outcomes_of t deltas) ≡ option_map (λ span. record { endpoint = owner; took = took_for (owner == t.own) (mine owner) span }) (spans owner)
+-- The answer to a SYN is an ACK that says what is asked for and what is sent.
+pub record IsAnswered (histories : ℕ → List EntryValue) (t : TableValue) (cluster : ClusterValue) (syn : SynValue) (mine theirs : ℕ → ℕ) : Type 0 where
+  pub ack : AckValue
+  pub answer : answer_to_syn t cluster syn ≡ Ok ack
+  pub says : Says histories (kinds.Ack ack) (answer_at histories mine theirs)
 
--- The deltas of a message are taken as the spans that they spell.
-abbrev pub DeltasAreTakenAsSpans : Type 0
-DeltasAreTakenAsSpans =
-    (histories : ℕ → List EntryValue) → ((owner : ℕ) → IsHistory (histories owner)) → (t : TableValue) (deltas : List OwnerDelta) (mine : ℕ → ℕ) (spans : ℕ → Option Span)
-    → Stand histories mine → Rises (endpoints_of_deltas deltas) → SpellsPlaces histories t.entries mine → SpellsSpans histories deltas spans
-    → ((owner : ℕ) (span : Span) → spans owner ≡ Some span → IsSpan (histories owner) span)
-    → TakesSpans histories t deltas mine spans
+-- Within a cluster each SYN is answered, place by place.
+abbrev pub SynIsAnswered : Type 0
+SynIsAnswered =
+    (histories : ℕ → List EntryValue) → ((owner : ℕ) → IsHistory (histories owner)) → (t : TableValue) (cluster : ClusterValue) (syn : SynValue) (mine theirs : ℕ → ℕ)
+    → IsAt histories t mine → Says histories (kinds.Syn syn) (Syn theirs) → same_cluster cluster syn.cluster ≡ true → IsAnswered histories t cluster syn mine theirs
+
+-- What an ACK leaves, and what is sent for its asks at the places after it.
+pub record AckMoves (histories : ℕ → List EntryValue) (t : TableValue) (mine : ℕ → ℕ) (asks : ℕ → Option Ask) (spans : ℕ → Option Span) (after : TableValue) (ack2 : Ack2Value) (outcomes : List Outcome) : Type 0 where
+  pub moved : IsMoved histories t mine spans after outcomes
+  pub says : Says histories (kinds.Ack2 ack2) (Ack2 (grants_at histories (places_after t.own mine spans) asks))
+
+-- An ACK that is taken moves the holder as its spans do, and is granted what it asks for.
+abbrev pub AckIsTaken : Type 0
+AckIsTaken =
+    (histories : ℕ → List EntryValue) → ((owner : ℕ) → IsHistory (histories owner)) → (t : TableValue) (ack : AckValue) (mine : ℕ → ℕ) (asks : ℕ → Option Ask) (spans : ℕ → Option Span)
+    → IsAt histories t mine → Says histories (kinds.Ack ack) (Ack asks spans)
+    → (after : TableValue) (ack2 : Ack2Value) (outcomes : List Outcome) → taking_ack t ack ≡ Ok (after, ack2, outcomes) → AckMoves histories t mine asks spans after ack2 outcomes
+
+-- An ACK2 that is taken moves the holder as its spans do.
+abbrev pub Ack2IsTaken : Type 0
+Ack2IsTaken =
+    (histories : ℕ → List EntryValue) → ((owner : ℕ) → IsHistory (histories owner)) → (t : TableValue) (ack2 : Ack2Value) (mine : ℕ → ℕ) (spans : ℕ → Option Span)
+    → IsAt histories t mine → Says histories (kinds.Ack2 ack2) (Ack2 spans)
+    → (after : TableValue) (outcomes : List Outcome) → taking_ack2 t ack2 ≡ Ok (after, outcomes) → IsMoved histories t mine spans after outcomes

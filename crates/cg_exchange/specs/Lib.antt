@@ -1,9 +1,12 @@
 pub mod Values
+pub mod Equality
+pub mod MessageCode
 pub mod Members
 pub mod Answering
 pub mod Walking
 pub mod Taking
 pub mod Changes
 pub mod Places
+pub mod PlaceMessages
 pub mod Spelling
 pub mod Laws

@@ -2,6 +2,7 @@
 use Rattle.std.specs.Prelude.{ℕ, Bool, ◌≤◌, ◌&&◌, nat_le, None, List, map, length}
 use Rattle.cg_types.specs.declared.limits.TheConstants.{MEMBER_LIMIT}
 use Rattle.cg_types.specs.Rising.{Rises, rise_past}
+use Rattle.cg_entry.specs.Values.{DeltaValue}
 use Rattle.cg_table.specs.declared.digest.Digest.{Digest}
 use Rattle.cg_exchange.specs.declared.owner_delta.OwnerDelta.{OwnerDelta}
 use Rattle.cg_exchange.specs.Values.{RequestValue}
@@ -24,3 +25,7 @@ endpoints_of_requests requests = map (λ r. r.endpoint) requests
 
 abbrev pub endpoints_of_deltas : List OwnerDelta → List ℕ
 endpoints_of_deltas deltas = map (λ d. d.endpoint) deltas
+
+-- a delta about an owner
+abbrev pub about : ℕ → DeltaValue → OwnerDelta
+about owner d = record { endpoint = owner; delta = d }

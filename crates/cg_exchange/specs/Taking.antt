@@ -13,6 +13,7 @@ use Rattle.cg_table.specs.Taking.{take_one, needs_room}
 use Rattle.cg_exchange.specs.declared.owner_delta.OwnerDelta.{OwnerDelta}
 use Rattle.cg_exchange.specs.declared.outcome.Outcome.{Outcome}
 use Rattle.cg_exchange.specs.Values.{RequestValue, AckValue, Ack2Value}
+use Rattle.cg_exchange.specs.Members.{about}
 
 -- the table after deltas, one after the other
 abbrev pub table_after : TableValue → List OwnerDelta → TableValue
@@ -38,7 +39,7 @@ granted r (Some e) =
 
 -- what a request is sent of a table
 abbrev pub delta_granted : Entries → RequestValue → Option OwnerDelta
-delta_granted entries r = option_map (λ d. record { endpoint = r.endpoint; delta = d }) (granted r (table.get entries r.endpoint))
+delta_granted entries r = option_map (about r.endpoint) (granted r (table.get entries r.endpoint))
 
 -- what requests are sent of a table
 abbrev pub deltas_granted : Entries → List RequestValue → List OwnerDelta

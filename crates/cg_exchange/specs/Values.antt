@@ -26,6 +26,15 @@ pub record AckValue : Type 0 where
 abbrev pub request_code : Coded RequestValue
 request_code = code_by (ℕ × (ℕ × ℕ)) (coded× coded_ℕ (coded× coded_ℕ coded_ℕ)) (λ r. (r.endpoint, (r.generation, r.version))) (λ p. record { endpoint = p.0; generation = p.1.0; version = p.1.1 }) (λ _. refl)
 
+abbrev cluster_code : Coded ClusterValue
+cluster_code = code_by (List ℕ × ℕ) (coded× (coded_list coded_ℕ) coded_ℕ) (λ c. (c.name, c.partitioner)) (λ p. record { name = p.0; partitioner = p.1 }) (λ _. refl)
+
+abbrev digest_code : Coded Digest
+digest_code = code_by (ℕ × (ℕ × ℕ)) (coded× coded_ℕ (coded× coded_ℕ coded_ℕ)) (λ d. (d.endpoint, (d.generation, d.newest))) (λ p. record { endpoint = p.0; generation = p.1.0; newest = p.1.1 }) (λ _. refl)
+
+abbrev pub syn_code : Coded SynValue
+syn_code = code_by (ClusterValue × List Digest) (coded× cluster_code (coded_list digest_code)) (λ s. (s.cluster, s.digests)) (λ p. record { cluster = p.0; digests = p.1 }) (λ _. refl)
+
 abbrev pub owner_delta_code : Coded OwnerDelta
 owner_delta_code = code_by (ℕ × DeltaValue) (coded× coded_ℕ delta_code) (λ d. (d.endpoint, d.delta)) (λ p. record { endpoint = p.0; delta = p.1 }) (λ _. refl)
 

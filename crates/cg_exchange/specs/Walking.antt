@@ -6,6 +6,7 @@ use Rattle.cg_entry.specs.Values.{EntryValue}
 use Rattle.cg_table.specs.declared.digest.Digest.{Digest}
 use Rattle.cg_exchange.specs.declared.owner_delta.OwnerDelta.{OwnerDelta}
 use Rattle.cg_exchange.specs.Values.{RequestValue}
+use Rattle.cg_exchange.specs.Members.{about}
 use Rattle.cg_exchange.specs.Answering.{asked, sent}
 
 module _ {X : Type 0} (owner : X → ℕ) where
@@ -31,4 +32,4 @@ asked_by d row = asked d (option_map (λ r. r.1) row)
 
 -- what is sent of a row, by the digest that names its endpoint
 abbrev pub sent_by : ℕ × EntryValue → Option Digest → Option OwnerDelta
-sent_by row named = option_map (λ d. record { endpoint = row.0; delta = d }) (sent row.1 named)
+sent_by row named = option_map (about row.0) (sent row.1 named)

@@ -4,12 +4,13 @@ ghost use Rattle.std.specs.Prelude.{◌≡◌, ◌&&◌, ◌↔◌, IsTrue, IfOk
 ghost use Rattle.cg_exchange.specs.Members.{AreListed, listed, endpoints_of_requests, endpoints_of_deltas};
 
 use crate::owned::are_listed;
-use crate::owner_delta::{OwnerDelta, are_same, copies};
-use crate::request::{Request, are_same_requests};
+use crate::owner_delta::{OwnerDelta, copies};
+use crate::request::Request;
 use std::alloc::{AllocError, Global};
 use std::marker::Model;
 
-/// What the sender of a SYN is asked for, and what it is sent.
+/// What the sender of a SYN is asked for, and what it is sent (Apache Cassandra's `GossipDigestAck`). Both lists rise
+/// strictly by endpoint and have at most `MEMBER_LIMIT` members.
 #[derive(Debug, Drop)]
 pub struct Ack {
     requests: Vec<Request>,
@@ -27,6 +28,29 @@ impl Model for Ack {
     ghost view = { λ a. record { requests = a.requests.items; deltas = a.deltas.items } };
 
     ghost invariant = { λ a. AreListed (endpoints_of_requests a.requests.items) × AreListed (endpoints_of_deltas a.deltas.items) };
+}
+
+impl PartialEq for Ack {
+    ghost use Rattle.cg_exchange.specs.Values.{ack_code};
+    ghost use Rattle.cg_exchange.specs.Equality.{same_by, same_by-partial};
+
+    ghost eq = { same_by ack_code };
+
+    ghost laws = { same_by-partial ack_code };
+
+    /// Whether both ask for the same and send the same deltas.
+    fn eq(&self, other: &Ack) -> bool
+        ensures { IsTrue result ↔ (self.now ≡ other.now) }
+    {
+        self.requests == other.requests && self.deltas == other.deltas
+    }
+}
+
+impl Eq for Ack {
+    ghost use Rattle.cg_exchange.specs.Values.{ack_code};
+    ghost use Rattle.cg_exchange.specs.Equality.{same_by-laws};
+
+    ghost laws = { same_by-laws ack_code };
 }
 
 impl Ack {
@@ -65,21 +89,12 @@ impl Ack {
         &self.deltas
     }
 
-    /// Whether both ask for the same and send the same deltas.
-    pub fn is_same(&self, other: &Ack) -> bool
-        ensures { IsTrue result ↔ (self.now ≡ other.now) }
-    {
-        are_same_requests(&self.requests, &other.requests) && are_same(&self.deltas, &other.deltas)
-    }
-
-    /// The same answer, which shares the texts of its states.
+    /// The same answer, which shares the texts of its states. `AllocError` where there is no memory for its lists.
     pub fn copy(&self, alloc: Global) -> Result<Ack, AllocError>
         ensures { IfOk result (λ a. a ≡ self.now) }
     {
-        let mut requests = Vec::with_capacity(alloc, self.requests.len())?;
-        requests.extend_from_slice(&self.requests)?;
         Ok(Ack {
-            requests,
+            requests: self.requests.to_vec(alloc)?,
             deltas: copies(alloc, &self.deltas)?,
         })
     }

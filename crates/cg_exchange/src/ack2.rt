@@ -4,11 +4,12 @@ ghost use Rattle.std.specs.Prelude.{◌≡◌, ◌↔◌, IsTrue, IfOk, IfSome, 
 ghost use Rattle.cg_exchange.specs.Members.{AreListed, listed, endpoints_of_deltas};
 
 use crate::owned::are_listed;
-use crate::owner_delta::{OwnerDelta, are_same, copies};
+use crate::owner_delta::{OwnerDelta, copies};
 use std::alloc::{AllocError, Global};
 use std::marker::Model;
 
-/// What the sender of an ACK is sent for its requests (Cassandra's `GossipDigestAck2`).
+/// What the sender of an ACK is sent for its requests (Apache Cassandra's `GossipDigestAck2`). The deltas rise strictly
+/// by endpoint and are at most `MEMBER_LIMIT`.
 #[derive(Debug, Drop)]
 pub struct Ack2 {
     deltas: Vec<OwnerDelta>,
@@ -25,6 +26,29 @@ impl Model for Ack2 {
     ghost view = { λ a. record { deltas = a.deltas.items } };
 
     ghost invariant = { λ a. AreListed (endpoints_of_deltas a.deltas.items) };
+}
+
+impl PartialEq for Ack2 {
+    ghost use Rattle.cg_exchange.specs.Values.{ack2_code};
+    ghost use Rattle.cg_exchange.specs.Equality.{same_by, same_by-partial};
+
+    ghost eq = { same_by ack2_code };
+
+    ghost laws = { same_by-partial ack2_code };
+
+    /// Whether both send the same deltas.
+    fn eq(&self, other: &Ack2) -> bool
+        ensures { IsTrue result ↔ (self.now ≡ other.now) }
+    {
+        self.deltas == other.deltas
+    }
+}
+
+impl Eq for Ack2 {
+    ghost use Rattle.cg_exchange.specs.Values.{ack2_code};
+    ghost use Rattle.cg_exchange.specs.Equality.{same_by-laws};
+
+    ghost laws = { same_by-laws ack2_code };
 }
 
 impl Ack2 {
@@ -54,14 +78,7 @@ impl Ack2 {
         &self.deltas
     }
 
-    /// Whether both send the same deltas.
-    pub fn is_same(&self, other: &Ack2) -> bool
-        ensures { IsTrue result ↔ (self.now ≡ other.now) }
-    {
-        are_same(&self.deltas, &other.deltas)
-    }
-
-    /// The same answer, which shares the texts of its states.
+    /// The same answer, which shares the texts of its states. `AllocError` where there is no memory for its deltas.
     pub fn copy(&self, alloc: Global) -> Result<Ack2, AllocError>
         ensures { IfOk result (λ a. a ≡ self.now) }
     {

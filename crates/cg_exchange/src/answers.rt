@@ -4,7 +4,7 @@ ghost use Rattle.std.specs.Prelude.{◌≡◌, IfOk, option_copied};
 ghost use Rattle.cg_types.specs.Answer.{Answers};
 ghost use Rattle.cg_types.specs.Rising.{Rises};
 ghost use Rattle.cg_exchange.specs.Members.{AreListed, endpoints_of_digests, endpoints_of_deltas};
-ghost use Rattle.cg_exchange.specs.Answering.{same_cluster as same_cluster_of, asked as asked_of, sent as sent_of, requests_for as requests_of, deltas_for as deltas_of, answer_to_syn, syn_of};
+ghost use Rattle.cg_exchange.specs.Answering.{asked as asked_of, sent as sent_of, requests_for as requests_of, deltas_for as deltas_of, answer_to_syn, syn_of};
 ghost use Rattle.cg_exchange.specs.Walking.{asked_by as asked_by_of, sent_by as sent_by_of};
 
 use crate::ack::Ack;
@@ -17,12 +17,6 @@ use cg_shared::Row;
 use cg_table::{Digest, Table};
 use cg_types::{Cluster, Fault};
 use std::alloc::{AllocError, Global};
-
-fn same_cluster(ours: &Cluster, theirs: &Cluster) -> bool
-    ensures { result ≡ same_cluster_of ours.now theirs.now }
-{
-    ours.name() == theirs.name() && ours.partitioner() == theirs.partitioner()
-}
 
 // What is asked of the sender of a digest, by what is held of its endpoint.
 fn asked(digest: &Digest, held: Option<&Entry>) -> Option<Request>
@@ -122,7 +116,7 @@ fn deltas_for(
 }
 
 /// What the member that holds `table` and is in `cluster` opens an exchange with: a digest of each entry, rising by
-/// endpoint, and the cluster.
+/// endpoint, and the cluster. `AllocError` where there is no memory for the digests.
 pub fn syn(alloc: Global, table: &Table, cluster: &Cluster) -> Result<Syn, AllocError>
     ensures { IfOk result (λ s. s ≡ syn_of table.now cluster.now) }
 {
@@ -135,11 +129,11 @@ pub fn syn(alloc: Global, table: &Table, cluster: &Cluster) -> Result<Syn, Alloc
 /// is answered with everything. The receiver's own endpoint is answered for like any other.
 ///
 /// `OtherCluster` where the sender's cluster has another name or another partitioner; that is decided before any
-/// memory is taken.
+/// memory is taken. Else `OutOfMemory` where there is no memory for the two lists of the answer.
 pub fn answer_syn(alloc: Global, table: &Table, cluster: &Cluster, syn: &Syn) -> Result<Ack, Fault>
     ensures { Answers (λ a. a) (answer_to_syn table.now cluster.now syn.now) result }
 {
-    if !same_cluster(cluster, syn.cluster()) {
+    if cluster != syn.cluster() {
         return Err(Fault::OtherCluster);
     }
     let requests = requests_for(alloc, table, syn.digests())?;

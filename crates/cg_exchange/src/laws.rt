@@ -1,34 +1,37 @@
 //! Laws of messages on tables that spell places of one family of histories, each the contract of an empty function.
+//! What each leaves is what the next one asks for, so that they follow one another along an exchange.
 
 ghost use Rattle.cg_exchange.specs.Laws.{
-  AnswersSpellAnswers,
-  DeltasAreTakenAsSpans,
-  DigestsSpellPlaces,
-  GrantsSpellSpans,
+  Ack2IsTaken,
+  AckIsTaken,
   RulesStand,
+  SynIsAnswered,
+  SynSaysPlaces,
 };
 
-/// A SYN spells the places that its sender's table spells.
-pub fn digests_spell_places()
-    ensures { DigestsSpellPlaces }
+/// The SYN of a table says where the table is.
+pub fn syn_says_places()
+    ensures { SynSaysPlaces }
 {}
 
-/// The answer to a SYN asks for and sends, owner by owner, what lies between the two places.
-pub fn answers_spell_answers()
-    ensures { AnswersSpellAnswers }
+/// Within a cluster each SYN is answered by an ACK that asks for and sends, owner by owner, what lies between the two
+/// places.
+pub fn syn_is_answered()
+    ensures { SynIsAnswered }
 {}
 
-/// Each request is granted what the holder's place has after the place that is asked from.
-pub fn grants_spell_spans()
-    ensures { GrantsSpellSpans }
+/// An ACK that is taken moves the holder, owner by owner, as the spans that it spells do, and the ACK2 sends what the
+/// holder's new places have after each place that is asked from.
+pub fn ack_is_taken()
+    ensures { AckIsTaken }
 {}
 
-/// The deltas of a message move the holder, owner by owner, as the spans that they spell do.
-pub fn deltas_are_taken_as_spans()
-    ensures { DeltasAreTakenAsSpans }
+/// An ACK2 that is taken moves the holder, owner by owner, as the spans that it spells do.
+pub fn ack2_is_taken()
+    ensures { Ack2IsTaken }
 {}
 
-/// What is asked, sent and granted by places lies in the owner's history, so that the laws above follow one another.
+/// What is asked, sent and granted by places lies in the owner's history.
 pub fn rules_stand()
     ensures { RulesStand }
 {}

@@ -11,6 +11,8 @@ mod ack2;
 mod answers;
 pub mod laws;
 mod message;
+#[cfg(test)]
+mod message_tests;
 mod opening;
 mod outcome;
 mod owned;

@@ -15,20 +15,36 @@ pub enum Message {
     Ack2(Ack2),
 }
 
-impl Message {
+impl PartialEq for Message {
+    ghost use Rattle.cg_exchange.specs.MessageCode.{message_code};
+    ghost use Rattle.cg_exchange.specs.Equality.{same_by, same_by-partial};
+
+    ghost eq = { same_by message_code };
+
+    ghost laws = { same_by-partial message_code };
+
     /// Whether both are of one kind and the same.
-    pub fn is_same(&self, other: &Message) -> bool
+    fn eq(&self, other: &Message) -> bool
         ensures { IsTrue result ↔ (self.now ≡ other.now) }
     {
         match (self, other) {
-            (Message::Syn(ours), Message::Syn(theirs)) => ours.is_same(theirs),
-            (Message::Ack(ours), Message::Ack(theirs)) => ours.is_same(theirs),
-            (Message::Ack2(ours), Message::Ack2(theirs)) => ours.is_same(theirs),
+            (Message::Syn(ours), Message::Syn(theirs)) => ours == theirs,
+            (Message::Ack(ours), Message::Ack(theirs)) => ours == theirs,
+            (Message::Ack2(ours), Message::Ack2(theirs)) => ours == theirs,
             _ => false,
         }
     }
+}
 
-    /// The same message, which shares its texts.
+impl Eq for Message {
+    ghost use Rattle.cg_exchange.specs.MessageCode.{message_code};
+    ghost use Rattle.cg_exchange.specs.Equality.{same_by-laws};
+
+    ghost laws = { same_by-laws message_code };
+}
+
+impl Message {
+    /// The same message, which shares its texts. `AllocError` where there is no memory for its lists.
     pub fn copy(&self, alloc: Global) -> Result<Message, AllocError>
         ensures { IfOk result (λ m. m ≡ self.now) }
     {

@@ -9,7 +9,8 @@ use cg_types::Cluster;
 use std::alloc::{AllocError, Global};
 use std::marker::Model;
 
-/// The sender's cluster, and how far its entries have come.
+/// The sender's cluster, and how far each entry that it holds has come (Apache Cassandra's `GossipDigestSyn`). The
+/// digests rise strictly by endpoint and are at most `MEMBER_LIMIT`.
 #[derive(Debug, Drop)]
 pub struct Syn {
     cluster: Cluster,
@@ -27,11 +28,27 @@ impl Model for Syn {
     ghost invariant = { λ s. AreListed (endpoints_of_digests s.digests.items) };
 }
 
-// Whether both are the same digests.
-fn are_same_digests(ours: &[Digest], theirs: &[Digest]) -> bool
-    ensures { IsTrue result ↔ (ours.now ≡ theirs.now) }
-{
-    ours == theirs
+impl PartialEq for Syn {
+    ghost use Rattle.cg_exchange.specs.Values.{syn_code};
+    ghost use Rattle.cg_exchange.specs.Equality.{same_by, same_by-partial};
+
+    ghost eq = { same_by syn_code };
+
+    ghost laws = { same_by-partial syn_code };
+
+    /// Whether both are of the same cluster and have the same digests.
+    fn eq(&self, other: &Syn) -> bool
+        ensures { IsTrue result ↔ (self.now ≡ other.now) }
+    {
+        self.cluster == other.cluster && self.digests == other.digests
+    }
+}
+
+impl Eq for Syn {
+    ghost use Rattle.cg_exchange.specs.Values.{syn_code};
+    ghost use Rattle.cg_exchange.specs.Equality.{same_by-laws};
+
+    ghost laws = { same_by-laws syn_code };
 }
 
 impl Syn {
@@ -68,24 +85,13 @@ impl Syn {
         &self.digests
     }
 
-    /// Whether both are of the same cluster and have the same digests.
-    pub fn is_same(&self, other: &Syn) -> bool
-        ensures { IsTrue result ↔ (self.now ≡ other.now) }
-    {
-        self.cluster.name() == other.cluster.name()
-            && self.cluster.partitioner() == other.cluster.partitioner()
-            && are_same_digests(&self.digests, &other.digests)
-    }
-
-    /// The same message, which shares the cluster's name.
+    /// The same message, which shares the cluster's name. `AllocError` where there is no memory for the digests.
     pub fn copy(&self, alloc: Global) -> Result<Syn, AllocError>
         ensures { IfOk result (λ s. s ≡ self.now) }
     {
-        let mut digests = Vec::with_capacity(alloc, self.digests.len())?;
-        digests.extend_from_slice(&self.digests)?;
         Ok(Syn {
             cluster: self.cluster.copy()?,
-            digests,
+            digests: self.digests.to_vec(alloc)?,
         })
     }
 }

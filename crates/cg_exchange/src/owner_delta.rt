@@ -6,22 +6,40 @@ use cg_entry::Delta;
 use cg_types::Endpoint;
 use std::alloc::{AllocError, Global};
 
-/// A delta, and the endpoint that it is about.
+/// A delta, and the endpoint that it is about: a member of the map from endpoints to their `EndpointState` in Apache
+/// Cassandra's `GossipDigestAck` and `GossipDigestAck2`.
 #[derive(Debug, Drop)]
 pub struct OwnerDelta {
     pub endpoint: Endpoint,
     pub delta: Delta,
 }
 
-impl OwnerDelta {
+impl PartialEq for OwnerDelta {
+    ghost use Rattle.cg_exchange.specs.Values.{owner_delta_code};
+    ghost use Rattle.cg_exchange.specs.Equality.{same_by, same_by-partial};
+
+    ghost eq = { same_by owner_delta_code };
+
+    ghost laws = { same_by-partial owner_delta_code };
+
     /// Whether both are the same delta about the same endpoint.
-    pub fn is_same(&self, other: &OwnerDelta) -> bool
+    fn eq(&self, other: &OwnerDelta) -> bool
         ensures { IsTrue result ↔ (self.now ≡ other.now) }
     {
         self.endpoint == other.endpoint && self.delta.is_same(&other.delta)
     }
+}
 
-    /// The same delta about the same endpoint, which shares the texts of its states.
+impl Eq for OwnerDelta {
+    ghost use Rattle.cg_exchange.specs.Values.{owner_delta_code};
+    ghost use Rattle.cg_exchange.specs.Equality.{same_by-laws};
+
+    ghost laws = { same_by-laws owner_delta_code };
+}
+
+impl OwnerDelta {
+    /// The same delta about the same endpoint, which shares the texts of its states. `AllocError` where there is no
+    /// memory for the list of the states.
     pub fn copy(&self, alloc: Global) -> Result<OwnerDelta, AllocError>
         ensures { IfOk result (λ d. d ≡ self.now) }
     {
@@ -30,21 +48,6 @@ impl OwnerDelta {
             delta: self.delta.copy(alloc)?,
         })
     }
-}
-
-// Whether both are the same deltas.
-pub(crate) fn are_same(ours: &[OwnerDelta], theirs: &[OwnerDelta]) -> bool
-    ensures { IsTrue result ↔ (ours.now ≡ theirs.now) }
-{
-    if ours.len() != theirs.len() {
-        return false;
-    }
-    for i in 0..ours.len() {
-        if !ours[i].is_same(&theirs[i]) {
-            return false;
-        }
-    }
-    true
 }
 
 pub(crate) fn copies(alloc: Global, deltas: &[OwnerDelta]) -> Result<Vec<OwnerDelta>, AllocError>

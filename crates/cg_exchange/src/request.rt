@@ -1,12 +1,13 @@
 //! Requests.
 
-ghost use Rattle.std.specs.Prelude.{◌≡◌, ◌↔◌, IsTrue, IsSome, IfSome};
+ghost use Rattle.std.specs.Prelude.{◌≡◌, ◌↔◌, IsSome, IfSome};
 ghost use Rattle.cg_types.specs.Numbers.{IsVersionHeld};
 
 use cg_types::{Endpoint, Generation, NUMBER_LIMIT};
 use std::marker::Model;
 
-/// Asks for what stands above a version in an endpoint's entry of a generation, or for the whole entry at version 0.
+/// Asks for what stands above a version in an endpoint's entry of a generation, or for the whole entry at version 0: a
+/// `GossipDigest` in the list of Apache Cassandra's `GossipDigestAck`.
 #[derive(Clone, Copy, Debug, PartialEq, Eq)]
 pub struct Request {
     endpoint: Endpoint,
@@ -64,11 +65,4 @@ impl Request {
     {
         self.version
     }
-}
-
-// Whether both are the same requests.
-pub(crate) fn are_same_requests(ours: &[Request], theirs: &[Request]) -> bool
-    ensures { IsTrue result ↔ (ours.now ≡ theirs.now) }
-{
-    ours == theirs
 }

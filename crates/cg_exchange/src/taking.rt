@@ -7,7 +7,7 @@ ghost use Rattle.cg_types.specs.Rising.{Rises};
 ghost use Rattle.cg_table.specs.Taking.{needs_room as needs_room_for};
 ghost use Rattle.cg_exchange.specs.Members.{endpoints_of_deltas};
 ghost use Rattle.cg_exchange.specs.Taking.{table_after, outcomes_of, held_after as held_after_of, granted as granted_of, delta_granted as delta_granted_of, deltas_granted as deltas_granted_of, taking_ack, taking_ack2};
-ghost use Rattle.cg_exchange.specs.Changes.{row_changed, outcome_of};
+ghost use Rattle.cg_exchange.specs.Changes.{row_changed, outcome_of, endpoints_of_outcomes};
 
 use crate::ack::Ack;
 use crate::ack2::Ack2;
@@ -15,9 +15,9 @@ use crate::outcome::Outcome;
 use crate::owned::push_some;
 use crate::owner_delta::OwnerDelta;
 use crate::request::Request;
-use cg_entry::{Absorbed, Delta, Entry};
+use cg_entry::{Absorbed, Delta, Entry, met};
 use cg_shared::Row;
-use cg_table::{Table, Took, met};
+use cg_table::{Table, Took};
 use cg_types::{Fault, MEMBER_LIMIT};
 use std::alloc::{AllocError, Global};
 
@@ -153,13 +153,15 @@ fn deltas_granted(
 /// An answer is made even where nothing is sent. Entries that no delta changes are shared.
 ///
 /// `TableFull` where the endpoints held with those that whole deltas are about and that are not held are more than
-/// `MEMBER_LIMIT`; nothing is taken then, and that is decided before any memory is taken.
+/// `MEMBER_LIMIT`; that is decided before any memory is taken. Else `OutOfMemory` where there is no memory for the new
+/// table, the answer and the outcomes. `table` is as it was in each case.
 pub fn take_ack(
     alloc: Global,
     table: &Table,
     ack: &Ack,
 ) -> Result<(Table, Ack2, Vec<Outcome>), Fault>
-    ensures { Answers (λ x. (x.0, x.1, x.2.items)) (taking_ack table.now ack.now) result }
+    ensures due { Answers (λ x. (x.0, x.1, x.2.items)) (taking_ack table.now ack.now) result }
+    ensures rise { IfOk result (λ x. Rises (endpoints_of_outcomes x.2.items)) }
 {
     if held_after(table, ack.deltas()) > MEMBER_LIMIT {
         return Err(Fault::TableFull);
@@ -170,9 +172,11 @@ pub fn take_ack(
 }
 
 /// The table after an ACK2, and what became of each delta, in the order of the deltas. Entries that no delta changes
-/// are shared. `TableFull` as for an ACK.
+/// are shared. `TableFull` as for an ACK. Else `OutOfMemory` where there is no memory for the new table and the
+/// outcomes. `table` is as it was in each case.
 pub fn take_ack2(alloc: Global, table: &Table, ack2: &Ack2) -> Result<(Table, Vec<Outcome>), Fault>
-    ensures { Answers (λ x. (x.0, x.1.items)) (taking_ack2 table.now ack2.now) result }
+    ensures due { Answers (λ x. (x.0, x.1.items)) (taking_ack2 table.now ack2.now) result }
+    ensures rise { IfOk result (λ x. Rises (endpoints_of_outcomes x.1.items)) }
 {
     if held_after(table, ack2.deltas()) > MEMBER_LIMIT {
         return Err(Fault::TableFull);

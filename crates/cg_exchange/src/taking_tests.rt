@@ -1,34 +1,13 @@
-use crate::tests::{A, B, endpoint, generation, request, whole};
-use crate::{Ack, Ack2, Message, Outcome, OwnerDelta, answer_syn, syn, take_ack, take_ack2};
-use cg_entry::{Delta, Entry};
+use crate::tests::{A, B, C, ack_of, ack2_of, alone, delta, digest, endpoint, request, syn_of};
+use crate::{Ack, Ack2, Outcome, OwnerDelta, Syn, answer_syn, syn, take_ack, take_ack2};
 use cg_table::{Table, Took};
-use cg_types::{Cluster, Fault, Version};
+use cg_types::{Cluster, Fault};
 use std::alloc::Global;
 use std::test::Fail;
 
-// C is 10.0.0.3:7000.
-const C: u16 = 3;
-
-// What a member holds that started at a generation and met nobody.
-fn alone(alloc: Global, owner: u16, at: u32) -> Result<Table, Fail> {
-    let entry = Entry::start(alloc, generation(at)?);
-    Ok(Table::new(alloc, endpoint(owner)?, entry)?)
-}
-
-// A delta with no states: the generation, the version that it stands above, and the heartbeat version.
-fn delta(alloc: Global, owner: u16, of: (u32, u32, u32)) -> Result<OwnerDelta, Fail> {
-    let (at, above, heartbeat) = of;
-    let endpoint = endpoint(owner)?;
-    let generation = generation(at)?;
-    let heartbeat = Version::new(heartbeat).ok_or("a version")?;
-    let delta = Delta::new(generation, above, heartbeat, Vec::new(alloc)).ok_or("a delta")?;
-    Ok(OwnerDelta { endpoint, delta })
-}
-
 // An ACK2 of one delta.
 fn one(alloc: Global, owner: u16, of: (u32, u32, u32)) -> Result<Ack2, Fail> {
-    let deltas = vec![in alloc; delta(alloc, owner, of)?]?;
-    Ok(Ack2::new(deltas).ok_or("an ACK2")?)
+    ack2_of(vec![in alloc; delta(alloc, owner, of)?]?)
 }
 
 fn after(alloc: Global, table: &Table, ack2: &Ack2) -> Result<Table, Fail> {
@@ -64,35 +43,92 @@ fn only(ack2: &Ack2) -> Option<(u32, u32, u32)> {
     }
 }
 
-// B's answer to A's SYN.
-fn answered(alloc: Global, a: &Table, b: &Table) -> Result<Ack, Fail> {
-    let cluster = Cluster::with(alloc, "c1", 1)?;
-    let syn = syn(alloc, a, &cluster)?;
-    Ok(answer_syn(alloc, b, &cluster, &syn)?)
+// The messages of the exchange that A at generation 9 opens with B at generation 5, where each holds only itself.
+fn first_syn(alloc: Global) -> Result<Syn, Fail> {
+    syn_of(alloc, "c1", 1, vec![in alloc; digest(A, 9, 1)?]?)
+}
+
+fn first_ack(alloc: Global) -> Result<Ack, Fail> {
+    let requests = vec![in alloc; request(A, 9, 0)?]?;
+    ack_of(requests, vec![in alloc; delta(alloc, B, (5, 0, 1))?]?)
+}
+
+fn first_ack2(alloc: Global) -> Result<Ack2, Fail> {
+    one(alloc, A, (9, 0, 1))
+}
+
+// The only outcome.
+fn became(outcomes: &[Outcome]) -> Option<Outcome> {
+    match outcomes {
+        [one] => Some(*one),
+        _ => None,
+    }
+}
+
+#[test]
+fn first_exchange_opens(rt: HostRuntime) -> Result<(), Fail> {
+    let cluster = Cluster::with(rt.alloc(), "c1", 1)?;
+    let a = alone(rt.alloc(), A, 9)?;
+    let opening = syn(rt.alloc(), &a, &cluster)?;
+    assert_eq!(rt; opening, first_syn(rt.alloc())?);
+    Ok(())
+}
+
+#[test]
+fn first_exchange_is_answered(rt: HostRuntime) -> Result<(), Fail> {
+    let cluster = Cluster::with(rt.alloc(), "c1", 1)?;
+    let b = alone(rt.alloc(), B, 5)?;
+    let ack = answer_syn(rt.alloc(), &b, &cluster, &first_syn(rt.alloc())?)?;
+    assert_eq!(rt; ack, first_ack(rt.alloc())?);
+    Ok(())
+}
+
+#[test]
+fn first_exchange_is_taken(rt: HostRuntime) -> Result<(), Fail> {
+    let a = alone(rt.alloc(), A, 9)?;
+    let ack = first_ack(rt.alloc())?;
+    let (a, ack2, outcomes) = take_ack(rt.alloc(), &a, &ack)?;
+    let (endpoint, took) = (endpoint(B)?, Took::Taken);
+    assert_eq!(rt; ack2, first_ack2(rt.alloc())?);
+    assert_eq!(rt; became(&outcomes), Some(Outcome { endpoint, took }));
+    assert_eq!(rt; held(&a, B)?, Some((5, 1)));
+    Ok(())
+}
+
+#[test]
+fn first_exchange_ends(rt: HostRuntime) -> Result<(), Fail> {
+    let b = alone(rt.alloc(), B, 5)?;
+    let ack2 = first_ack2(rt.alloc())?;
+    let (b, outcomes) = take_ack2(rt.alloc(), &b, &ack2)?;
+    let (endpoint, took) = (endpoint(A)?, Took::Taken);
+    assert_eq!(rt; became(&outcomes), Some(Outcome { endpoint, took }));
+    assert_eq!(rt; held(&b, A)?, Some((9, 1)));
+    Ok(())
 }
 
 // Both tables after the exchange that A opens.
 fn exchanged(alloc: Global, a: &Table, b: &Table) -> Result<(Table, Table), Fail> {
-    let ack = answered(alloc, a, b)?;
+    let ack = first_ack(alloc)?;
     let (a, ack2, _outcomes) = take_ack(alloc, a, &ack)?;
     let b = after(alloc, b, &ack2)?;
     Ok((a, b))
 }
 
 #[test]
-fn first_exchange(rt: HostRuntime) -> Result<(), Fail> {
+fn first_exchange_equals_the_tables(rt: HostRuntime) -> Result<(), Fail> {
     let a = alone(rt.alloc(), A, 9)?;
     let b = alone(rt.alloc(), B, 5)?;
     let (a, b) = exchanged(rt.alloc(), &a, &b)?;
-    assert_eq!(rt; held(&a, B)?, Some((5, 1)));
-    assert_eq!(rt; held(&b, A)?, Some((9, 1)));
     assert!(rt; a.same_entries(&b));
     Ok(())
 }
 
-fn request_of_a(alloc: Global) -> Result<Ack, Fail> {
-    let requests = vec![in alloc; request(A, 9, 2)?]?;
-    Ok(Ack::new(requests, Vec::new(alloc)).ok_or("an ACK")?)
+// An ACK of one request.
+fn asks(alloc: Global, owner: u16, at: u32, version: u32) -> Result<Ack, Fail> {
+    ack_of(
+        vec![in alloc; request(owner, at, version)?]?,
+        Vec::new(alloc),
+    )
 }
 
 fn sent_for(alloc: Global, table: &Table, ack: &Ack) -> Result<Ack2, Fail> {
@@ -103,7 +139,7 @@ fn sent_for(alloc: Global, table: &Table, ack: &Ack) -> Result<Ack2, Fail> {
 // What C sends for a request of A at generation 9 above version 2, after one delta about A.
 fn granted(alloc: Global, of: (u32, u32, u32)) -> Result<Ack2, Fail> {
     let table = with_a(alloc, C, of)?;
-    let ack = request_of_a(alloc)?;
+    let ack = asks(alloc, A, 9, 2)?;
     sent_for(alloc, &table, &ack)
 }
 
@@ -128,7 +164,7 @@ fn request_by_version(rt: HostRuntime) -> Result<(), Fail> {
 #[test]
 fn request_of_what_is_not_held(rt: HostRuntime) -> Result<(), Fail> {
     let table = alone(rt.alloc(), C, 5)?;
-    let ack = request_of_a(rt.alloc())?;
+    let ack = asks(rt.alloc(), A, 9, 2)?;
     let ack2 = sent_for(rt.alloc(), &table, &ack)?;
     assert!(rt; ack2.deltas().is_empty());
     Ok(())
@@ -139,10 +175,10 @@ fn others(alloc: Global) -> Result<Ack2, Fail> {
     let mut deltas = Vec::new(alloc);
     for owner in 0..256 {
         if owner != B {
-            deltas.push(whole(alloc, owner)?)?;
+            deltas.push(delta(alloc, owner, (5, 0, 1))?)?;
         }
     }
-    Ok(Ack2::new(deltas).ok_or("an ACK2")?)
+    ack2_of(deltas)
 }
 
 // B with all of these.
@@ -153,18 +189,26 @@ fn crowded(alloc: Global) -> Result<Table, Fail> {
 }
 
 // A newer delta of A, and one about a 257th endpoint.
-fn crowding(alloc: Global, of: (u32, u32, u32)) -> Result<Ack2, Fail> {
-    let deltas = vec![in alloc; delta(alloc, A, (5, 1, 3))?, delta(alloc, 256, of)?]?;
-    Ok(Ack2::new(deltas).ok_or("an ACK2")?)
+fn crowding(alloc: Global, of: (u32, u32, u32)) -> Result<Vec<OwnerDelta>, Fail> {
+    Ok(vec![in alloc; delta(alloc, A, (5, 1, 3))?, delta(alloc, 256, of)?]?)
 }
 
 #[test]
 fn table_full(rt: HostRuntime) -> Result<(), Fail> {
     let table = crowded(rt.alloc())?;
-    let ack2 = crowding(rt.alloc(), (5, 0, 1))?;
+    let ack2 = ack2_of(crowding(rt.alloc(), (5, 0, 1))?)?;
     let refusal = take_ack2(rt.alloc(), &table, &ack2).err();
     assert_eq!(rt; refusal, Some(Fault::TableFull));
     assert_eq!(rt; held(&table, A)?, Some((5, 1)));
+    Ok(())
+}
+
+#[test]
+fn table_full_at_an_ack(rt: HostRuntime) -> Result<(), Fail> {
+    let table = crowded(rt.alloc())?;
+    let ack = ack_of(Vec::new(rt.alloc()), crowding(rt.alloc(), (5, 0, 1))?)?;
+    let refusal = take_ack(rt.alloc(), &table, &ack).err();
+    assert_eq!(rt; refusal, Some(Fault::TableFull));
     Ok(())
 }
 
@@ -178,7 +222,7 @@ fn both(outcomes: &[Outcome]) -> Option<(Took, Took)> {
 #[test]
 fn a_full_table_takes_what_needs_no_room(rt: HostRuntime) -> Result<(), Fail> {
     let table = crowded(rt.alloc())?;
-    let ack2 = crowding(rt.alloc(), (5, 1, 3))?;
+    let ack2 = ack2_of(crowding(rt.alloc(), (5, 1, 3))?)?;
     let (after, outcomes) = take_ack2(rt.alloc(), &table, &ack2)?;
     assert_eq!(rt; both(&outcomes), Some((Took::Taken, Took::Gap)));
     assert_eq!(rt; held(&after, A)?, Some((5, 3)));
@@ -186,21 +230,41 @@ fn a_full_table_takes_what_needs_no_room(rt: HostRuntime) -> Result<(), Fail> {
     Ok(())
 }
 
-// What is asked and said of B itself.
-fn about_b(alloc: Global) -> Result<Ack, Fail> {
-    let requests = vec![in alloc; request(B, 4, 7)?]?;
-    let deltas = vec![in alloc; delta(alloc, B, (9, 0, 7))?]?;
-    Ok(Ack::new(requests, deltas).ok_or("an ACK")?)
+#[test]
+fn a_delta_about_the_receiver(rt: HostRuntime) -> Result<(), Fail> {
+    let table = alone(rt.alloc(), B, 5)?;
+    let ack2 = one(rt.alloc(), B, (9, 0, 7))?;
+    let (after, outcomes) = take_ack2(rt.alloc(), &table, &ack2)?;
+    let (endpoint, took) = (endpoint(B)?, Took::Own);
+    assert_eq!(rt; became(&outcomes), Some(Outcome { endpoint, took }));
+    assert!(rt; after.same_entries(&table));
+    Ok(())
 }
 
+// What B sends for a request about B.
+fn sent_of_itself(
+    alloc: Global,
+    table: &Table,
+    at: u32,
+    version: u32,
+) -> Result<Option<(u32, u32, u32)>, Fail> {
+    let ack = asks(alloc, B, at, version)?;
+    let ack2 = sent_for(alloc, table, &ack)?;
+    Ok(only(&ack2))
+}
+
+// Of B at generation 5: the generation and the version that are asked for, and what is sent.
 #[test]
-fn the_receiver_itself(rt: HostRuntime) -> Result<(), Fail> {
+fn a_request_about_the_receiver(rt: HostRuntime) -> Result<(), Fail> {
     let table = alone(rt.alloc(), B, 5)?;
-    let ack = about_b(rt.alloc())?;
-    let (after, ack2, outcomes) = take_ack(rt.alloc(), &table, &ack)?;
-    assert_eq!(rt; outcomes.first().map(|one| one.took), Some(Took::Own));
-    assert_eq!(rt; only(&ack2), Some((5, 0, 1)));
-    assert!(rt; after.same_entries(&table));
+    for (at, version, sent) in [
+        (4, 7, Some((5, 0, 1))),
+        (5, 0, Some((5, 0, 1))),
+        (5, 1, None),
+        (6, 0, None),
+    ] {
+        assert_eq!(rt; sent_of_itself(rt.alloc(), &table, at, version)?, sent);
+    }
     Ok(())
 }
 
@@ -222,8 +286,7 @@ fn parts_across_generations(rt: HostRuntime) -> Result<(), Fail> {
 // A request of A, and a delta about A.
 fn asked_and_sent(alloc: Global) -> Result<Ack, Fail> {
     let requests = vec![in alloc; request(A, 9, 0)?]?;
-    let deltas = vec![in alloc; delta(alloc, A, (9, 0, 4))?]?;
-    Ok(Ack::new(requests, deltas).ok_or("an ACK")?)
+    ack_of(requests, vec![in alloc; delta(alloc, A, (9, 0, 4))?]?)
 }
 
 #[test]
@@ -232,35 +295,5 @@ fn deltas_are_taken_first(rt: HostRuntime) -> Result<(), Fail> {
     let ack = asked_and_sent(rt.alloc())?;
     let ack2 = sent_for(rt.alloc(), &table, &ack)?;
     assert_eq!(rt; only(&ack2), Some((9, 0, 4)));
-    Ok(())
-}
-
-fn is_as_its_copy(alloc: Global, message: &Message) -> Result<bool, Fail> {
-    let copy = message.copy(alloc)?;
-    Ok(copy.is_same(message))
-}
-
-fn a_syn(alloc: Global) -> Result<Message, Fail> {
-    let cluster = Cluster::with(alloc, "c1", 1)?;
-    let table = alone(alloc, B, 5)?;
-    Ok(Message::Syn(syn(alloc, &table, &cluster)?))
-}
-
-#[test]
-fn messages_are_as_their_copies(rt: HostRuntime) -> Result<(), Fail> {
-    let syn = a_syn(rt.alloc())?;
-    let ack = Message::Ack(about_b(rt.alloc())?);
-    let ack2 = Message::Ack2(one(rt.alloc(), A, (9, 0, 4))?);
-    assert!(rt; is_as_its_copy(rt.alloc(), &syn)?);
-    assert!(rt; is_as_its_copy(rt.alloc(), &ack)?);
-    assert!(rt; is_as_its_copy(rt.alloc(), &ack2)?);
-    Ok(())
-}
-
-#[test]
-fn messages_of_two_kinds_differ(rt: HostRuntime) -> Result<(), Fail> {
-    let syn = a_syn(rt.alloc())?;
-    let ack = Message::Ack(about_b(rt.alloc())?);
-    assert!(rt; !syn.is_same(&ack));
     Ok(())
 }
