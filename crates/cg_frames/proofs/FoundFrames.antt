@@ -14,9 +14,10 @@ use Rattle.cg_exchange.specs.declared.message.Message.{Message}
 use Rattle.cg_exchange.specs.declared.message.Message.TheVariants.{Syn, Ack, Ack2}
 use Rattle.cg_exchange.specs.Values.{RequestValue, SynValue, AckValue, Ack2Value}
 use Rattle.cg_frames.specs.declared.layout.Layout.{Layout}
-use Rattle.cg_frames.specs.declared.layout.TheConstants.{LAYOUT_1}
 use Rattle.cg_frames.specs.declared.misread.Misread.{Misread}
-use Rattle.cg_frames.specs.Reading.{◌>>=◌, Field, number_at, digest_at, request_at, delta_at, listed_requests_at, listed_deltas_at, syn_at, ack_at, ack2_at, ended, told, of_kind, inside_at, frame_at}
+use Rattle.cg_frames.specs.declared.reader.Kind.{Kind}
+use Rattle.cg_frames.specs.declared.reader.Kind.TheVariants as kinds
+use Rattle.cg_frames.specs.Reading.{◌>>=◌, Field, number_at, digest_at, request_at, delta_at, listed_requests_at, listed_deltas_at, syn_at, ack_at, ack2_at, ended, told, layout_at, kind_from, kind_at, of_kind, inside_at, frame_at}
 use Rattle.cg_frames.specs.Spelling.{four_bytes, digest, request, delta, cluster, members, kind, body, inside, frame}
 use Rattle.cg_frames.specs.Fits.{Fits, FitsDigest, FitsRequest, FitsDelta, FitsSyn, FitsAck, FitsAck2}
 use Rattle.cg_frames.specs.Laws.{AreBytes, IsSpelledIn, TakesOnlySpelled}
@@ -94,6 +95,46 @@ pub record KindFound (layout : Layout) (number : ℕ) (behind : List ℕ) (m : M
   pub whole : behind ≡ body m
   pub fits : Fits layout m
 
+-- ---- what stands before a body
+
+layout_read : (layout : Layout) (bytes : List ℕ) (p : ℕ × List ℕ) → layout_at layout bytes ≡ Ok p → (p.0 ≡ layout.byte) × (number_at w8 bytes ≡ Ok p)
+layout_read layout bytes p h =
+    let fault : Misread = record { cause = causes.Layout; left = length bytes } in
+    let a = bind_ok (number_at w8 bytes) (λ byte. cond (byte.0 == layout.byte) (Ok byte) (Err fault)) p h in
+    let g = goes_on_by (a.0.0 == layout.byte) fault (Ok a.0) p a.2 in
+    subst (λ (q : ℕ × List ℕ). (q.0 ≡ layout.byte) × (number_at w8 bytes ≡ Ok q)) (ok_is a.0 p g.1) (eqb-true a.0.0 layout.byte g.0, a.1)
+
+abbrev number : Kind → ℕ
+number kinds.Syn = 1
+number kinds.Ack = 2
+number kinds.Ack2 = 3
+
+kind_was : (n : ℕ) (of : Kind) (rest : List ℕ) (p : Kind × List ℕ) → n ≡ number of → ◌≡◌ {A = Field Kind} (Ok (of, rest)) (Ok p) → (n ≡ number p.0) × (rest ≡ p.1)
+kind_was n of rest p is e = subst (λ (q : Kind × List ℕ). (n ≡ number q.0) × (rest ≡ q.1)) (ok_is (of, rest) p e) (is, refl)
+
+kind_is : (bytes : List ℕ) (n : ℕ) (rest : List ℕ) (p : Kind × List ℕ) → kind_from bytes n rest ≡ Ok p → (n ≡ number p.0) × (rest ≡ p.1)
+kind_is bytes n rest p h =
+    let syn : Field Kind = Ok (kinds.Syn, rest) in
+    let ack : Field Kind = Ok (kinds.Ack, rest) in
+    let ack2 : Field Kind = Ok (kinds.Ack2, rest) in
+    let none : Field Kind = Err (record { cause = causes.Kind; left = length bytes }) in
+    elim (n == 1) as (λ b. (n == 1) ≡ b → cond b syn (cond (n == 2) ack (cond (n == 3) ack2 none)) ≡ Ok p → (n ≡ number p.0) × (rest ≡ p.1)) [
+      | true ↦ λ one h. kind_was n kinds.Syn rest p (eqb-true n 1 one) h
+      | false ↦ λ other h. elim (n == 2) as (λ b. (n == 2) ≡ b → cond b ack (cond (n == 3) ack2 none) ≡ Ok p → (n ≡ number p.0) × (rest ≡ p.1)) [
+        | true ↦ λ two h. kind_was n kinds.Ack rest p (eqb-true n 2 two) h
+        | false ↦ λ other h. elim (n == 3) as (λ b. (n == 3) ≡ b → cond b ack2 none ≡ Ok p → (n ≡ number p.0) × (rest ≡ p.1)) [
+          | true ↦ λ three h. kind_was n kinds.Ack2 rest p (eqb-true n 3 three) h
+          | false ↦ λ other h. absurd cc
+        ] refl h
+      ] refl h
+    ] refl h
+
+kind_read : (bytes : List ℕ) (k : Kind) (rest : List ℕ) → kind_at bytes ≡ Ok (k, rest) → number_at w8 bytes ≡ Ok (number k, rest)
+kind_read bytes k rest h =
+    let a = bind_ok (number_at w8 bytes) (λ n. kind_from bytes n.0 n.1) (k, rest) h in
+    let is = kind_is bytes a.0.0 a.0.1 (k, rest) a.2 in
+    a.1 ∙ (λ i. Ok (is.0 i, is.1 i))
+
 no_bytes : (rest : List ℕ) → length rest ≡ 0 → rest ≡ []
 no_bytes [] e = refl
 no_bytes (b ∷ rest) e = absurd (omega arith)
@@ -108,22 +149,10 @@ body_found tag layout at found number behind m is small h =
     subst (λ (m : Message). KindFound layout number behind m) t.2
     (record { is = is t.0; whole = f.0.whole ∙ ap (λ (ys : List ℕ). body (tag t.0) ++ ys) (no_bytes e.0 e.2) ∙ append-nil (body (tag t.0)); fits = f.1 })
 
-kind_found : (layout : Layout) (number : ℕ) (place behind : List ℕ) (m : Message) → AreBytes behind → of_kind layout number place behind ≡ Ok m → KindFound layout number behind m
-kind_found layout number place behind m small h =
-    let syn : Result Message Misread = told Syn (ended (syn_at layout behind)) in
-    let ack : Result Message Misread = told Ack (ended (ack_at layout behind)) in
-    let ack2 : Result Message Misread = told Ack2 (ended (ack2_at layout behind)) in
-    let none : Result Message Misread = Err (record { cause = causes.Kind; left = length place }) in
-    elim (number == 1) as (λ b. (number == 1) ≡ b → cond b syn (cond (number == 2) ack (cond (number == 3) ack2 none)) ≡ Ok m → KindFound layout number behind m) [
-      | true ↦ λ one h. body_found Syn layout (syn_at layout) (syn_found layout) number behind m (λ x. eqb-true number 1 one) small h
-      | false ↦ λ other h. elim (number == 2) as (λ b. (number == 2) ≡ b → cond b ack (cond (number == 3) ack2 none) ≡ Ok m → KindFound layout number behind m) [
-        | true ↦ λ two h. body_found Ack layout (ack_at layout) (ack_found layout) number behind m (λ x. eqb-true number 2 two) small h
-        | false ↦ λ other h. elim (number == 3) as (λ b. (number == 3) ≡ b → cond b ack2 none ≡ Ok m → KindFound layout number behind m) [
-          | true ↦ λ three h. body_found Ack2 layout (ack2_at layout) (ack2_found layout) number behind m (λ x. eqb-true number 3 three) small h
-          | false ↦ λ other h. absurd cc
-        ] refl h
-      ] refl h
-    ] refl h
+kind_found : (layout : Layout) (k : Kind) (behind : List ℕ) (m : Message) → AreBytes behind → of_kind layout k behind ≡ Ok m → KindFound layout (number k) behind m
+kind_found layout kinds.Syn behind m small h = body_found Syn layout (syn_at layout) (syn_found layout) 1 behind m (λ x. refl) small h
+kind_found layout kinds.Ack behind m small h = body_found Ack layout (ack_at layout) (ack_found layout) 2 behind m (λ x. refl) small h
+kind_found layout kinds.Ack2 behind m small h = body_found Ack2 layout (ack2_at layout) (ack2_found layout) 3 behind m (λ x. refl) small h
 
 two_before : (bytes from_second behind body : List ℕ) (first byte second kind : ℕ) → bytes ≡ first ∷ from_second → from_second ≡ second ∷ behind → first ≡ byte → second ≡ kind → behind ≡ body → bytes ≡ byte ∷ (kind ∷ body)
 two_before bytes from_second behind body first byte second kind e f b k r = e ∙ ap (λ (ys : List ℕ). first ∷ ys) f ∙ (λ i. b i ∷ (k i ∷ r i))
@@ -131,15 +160,13 @@ two_before bytes from_second behind body first byte second kind e f b k r = e �
 pub inside_found : (layout : Layout) (bytes : List ℕ) (m : Message) → AreBytes bytes → inside_at layout bytes ≡ Ok m → InsideFound layout bytes m
 unfolding inside_at
 inside_found layout bytes m small h =
-    let fault : Misread = record { cause = causes.Layout; left = length bytes } in
-    let a = bind_ok (number_at w8 bytes) (λ byte. cond (byte.0 == layout.byte) (number_at w8 byte.1) (Err fault) >>= λ kind. of_kind layout kind.0 byte.1 kind.1) m h in
-    let b = bind_ok (cond (a.0.0 == layout.byte) (number_at w8 a.0.1) (Err fault)) (λ kind. of_kind layout kind.0 a.0.1 kind.1) m a.2 in
-    let g = goes_on_by (a.0.0 == layout.byte) fault (number_at w8 a.0.1) b.0 b.1 in
-    let first = byte_found bytes a.0.0 a.0.1 small a.1 in
-    let second = byte_found a.0.1 b.0.0 b.0.1 first.0.bytes_behind g.1 in
-    let k = kind_found layout b.0.0 a.0.1 b.0.1 m second.0.bytes_behind b.2 in
-    let is : a.0.0 ≡ layout.byte = eqb-true a.0.0 layout.byte g.0 in
-    record { spelled = two_before bytes a.0.1 b.0.1 (body m) a.0.0 layout.byte b.0.0 (kind m) first.0.whole second.0.whole is k.is k.whole; fits = k.fits }
+    let a = bind_ok (layout_at layout bytes) (λ byte. kind_at byte.1 >>= λ kind. of_kind layout kind.0 kind.1) m h in
+    let b = bind_ok (kind_at a.0.1) (λ kind. of_kind layout kind.0 kind.1) m a.2 in
+    let l = layout_read layout bytes a.0 a.1 in
+    let first = byte_found bytes a.0.0 a.0.1 small l.1 in
+    let second = byte_found a.0.1 (number b.0.0) b.0.1 first.0.bytes_behind (kind_read a.0.1 b.0.0 b.0.1 b.1) in
+    let k = kind_found layout b.0.0 b.0.1 m second.0.bytes_behind b.2 in
+    record { spelled = two_before bytes a.0.1 b.0.1 (body m) a.0.0 layout.byte (number b.0.0) (kind m) first.0.whole second.0.whole l.0 k.is k.whole; fits = k.fits }
 
 -- ---- a frame
 
@@ -167,7 +194,7 @@ frame_found layout bytes m n small h =
     ∙ sym (append_assoc (four_bytes (length (inside layout m))) (inside layout m) (drop size behind)) in
     record { within = p.within; spelled = ap (take n) whole ∙ take_at (frame layout m) (drop size behind) n long; fits = f.fits }
 
-pub all_found : (bytes : List ℕ) (result : Result (Option (Message × ℕ)) Fault) → AreBytes bytes → Answers (λ (x : Option (Message × ℕ)). x) (frame_at LAYOUT_1 bytes) result → TakesOnlySpelled LAYOUT_1 bytes result
-all_found bytes (Ok (Some f)) small answers = frame_found LAYOUT_1 bytes f.0 f.1 small answers
-all_found bytes (Ok None) small answers = tt
-all_found bytes (Err fault) small answers = tt
+pub all_found : (layout : Layout) (bytes : List ℕ) (result : Result (Option (Message × ℕ)) Fault) → AreBytes bytes → Answers (λ (x : Option (Message × ℕ)). x) (frame_at layout bytes) result → TakesOnlySpelled layout bytes result
+all_found layout bytes (Ok (Some f)) small answers = frame_found layout bytes f.0 f.1 small answers
+all_found layout bytes (Ok None) small answers = tt
+all_found layout bytes (Err fault) small answers = tt

@@ -1,14 +1,15 @@
 -- Laws of whole messages: what is spelled so is read, is short, and is no other message's spelling.
-use Rattle.std.proofs.Common.{◌≡◌, ℕ, ◌+◌, ◌*◌, ◌^◌, ◌<◌, ◌≤◌, Bool, cond, List, [], ◌∷◌, ◌++◌, length, take, drop, Option, Some, Result, Ok, Err, refl, sym, ap, subst, ◌∙◌, append_assoc, arith, length-append}
-use Rattle.std.specs.Prelude.{◌==◌}
-use Rattle.std.specs.Int.{w8, w32, from_be_bytes, to_be_bytes}
+use Rattle.std.proofs.Common.{◌≡◌, ℕ, ◌+◌, ◌*◌, ◌^◌, ◌<◌, ◌≤◌, Bool, true, cond, List, [], ◌∷◌, ◌++◌, length, take, drop, Option, Some, Result, Ok, Err, refl, sym, ap, subst, ◌∙◌, append_assoc, arith, length-append}
+use Rattle.std.specs.Prelude.{◌==◌, max}
+use Rattle.std.proofs.Math.Nat.{le_trans}
+use Rattle.std.specs.Int.{w32, from_be_bytes, to_be_bytes}
 use Rattle.std.specs.List.{flat_map, AllByRecursion}
 use Rattle.std.specs.FinMap.{entries, entries_sorted}
 use Rattle.std.proofs.lemmas.Bool.{eq-eqb}
 use Rattle.std.proofs.lemmas.List.{take_at, drop_at, append-nil}
 use Rattle.std.proofs.lemmas.List.Concat.{flat_map-cons}
-use Rattle.std.proofs.lemmas.Nat.{from_be_bytes-to_be_bytes_4}
-use Rattle.cg_types.specs.declared.limits.TheConstants.{MEMBER_LIMIT}
+use Rattle.std.proofs.lemmas.Nat.{from_be_bytes-to_be_bytes_4, mul-le}
+use Rattle.cg_types.specs.declared.limits.TheConstants.{STATE_LIMIT}
 use Rattle.cg_types.specs.declared.fault.Cause.TheVariants as causes
 use Rattle.cg_types.specs.Answer.{Answers}
 use Rattle.cg_types.specs.declared.fault.Fault.{Fault}
@@ -18,14 +19,18 @@ use Rattle.cg_table.specs.declared.digest.Digest.{Digest}
 use Rattle.cg_exchange.specs.declared.owner_delta.OwnerDelta.{OwnerDelta}
 use Rattle.cg_exchange.specs.declared.message.Message.{Message}
 use Rattle.cg_exchange.specs.declared.message.Message.TheVariants.{Syn, Ack, Ack2}
-use Rattle.cg_exchange.specs.Values.{RequestValue, SynValue, AckValue, Ack2Value}
+use Rattle.cg_exchange.specs.Members.{endpoints_of_requests, endpoints_of_deltas}
+use Rattle.cg_exchange.specs.Values.{RequestValue, SynValue}
 use Rattle.cg_frames.specs.declared.layout.Layout.{Layout}
 use Rattle.cg_frames.specs.declared.layout.TheConstants.{LAYOUT_1}
 use Rattle.cg_frames.specs.declared.misread.Misread.{Misread}
-use Rattle.cg_frames.specs.Reading.{◌>>=◌, Field, number_at, ended, told, of_kind, syn_at, inside_at, frame_at, ack_at, ack2_at}
+use Rattle.cg_frames.specs.declared.reader.Kind.{Kind}
+use Rattle.cg_frames.specs.declared.reader.Kind.TheVariants as kinds
+use Rattle.cg_frames.specs.Reading.{◌>>=◌, Field, ended, told, layout_at, kind_from, kind_at, of_kind, syn_at, inside_at, frame_at, ack_at, ack2_at}
 use Rattle.cg_frames.specs.Spelling.{two_bytes, four_bytes, endpoint, digest, request, text, state, delta, members, cluster, kind, body, message, inside, frame}
-use Rattle.cg_frames.specs.Fits.{FitsState, FitsDelta, FitsSyn, FitsAck, FitsAck2, Fits}
-use Rattle.cg_frames.specs.Lengths.{state_most, delta_most, greatest_length}
+use Rattle.cg_frames.specs.Fits.{FitsState, FitsDelta, FitsMembers, FitsSyn, Fits}
+use Rattle.cg_frames.specs.Lengths.{state_most, delta_most, deltas_most, digests_most, syn_most, ack_most}
+use Rattle.cg_frames.specs.Layouts.{IsLayout}
 use Rattle.cg_frames.specs.Laws.{GivesEachSpelled, NoSpellingBeginsAnother, EachIsShort}
 use Rattle.cg_frames.proofs.AgainLemmas.{byte_again, length_keys, syn_again}
 use Rattle.cg_frames.proofs.SpelledDeltas.{states_few}
@@ -36,28 +41,31 @@ use Rattle.cg_frames.proofs.TakenLemmas.{ok_is}
 
 -- ---- lengths
 
-state_short : (above : ℕ) (s : ℕ × Versioned) → FitsState LAYOUT_1 above s → length (state s) ≤ state_most
-state_short above s fits =
+state_short : (layout : Layout) (above : ℕ) (s : ℕ × Versioned) → FitsState layout above s → length (state s) ≤ state_most layout
+state_short layout above s fits =
     omega (arith, length-append (four_bytes s.1.version) (text s.1.text), length-append (two_bytes (length s.1.text)) s.1.text, length-four_bytes s.1.version, length-two_bytes (length s.1.text), fits.short)
 
 -- members of which each is short
-short_members : {X : Type 0} (spell : X → List ℕ) (Fits : X → Type 0) (most : ℕ) → ((x : X) → Fits x → length (spell x) ≤ most) → (xs : List X) → AllByRecursion Fits xs → length (flat_map spell xs) ≤ length xs * most
-short_members spell Fits most short [] all = omega arith
-short_members spell Fits most short (x ∷ xs) all =
-    rw (flat_map-cons spell x xs) (omega (arith, length-append (spell x) (flat_map spell xs), short x all.0, short_members spell Fits most short xs all.1))
+each_short : {X : Type 0} (spell : X → List ℕ) (Fits : X → Type 0) (most : ℕ) → ((x : X) → Fits x → length (spell x) ≤ most) → (xs : List X) → AllByRecursion Fits xs → length (flat_map spell xs) ≤ length xs * most
+each_short spell Fits most short [] all = omega arith
+each_short spell Fits most short (x ∷ xs) all =
+    rw (flat_map-cons spell x xs) (omega (arith, length-append (spell x) (flat_map spell xs), short x all.0, each_short spell Fits most short xs all.1))
 
-delta_short : (d : OwnerDelta) → FitsDelta LAYOUT_1 d → length (delta d) ≤ delta_most
-delta_short d fits =
+-- few members of which each is short
+short_members : {X : Type 0} (spell : X → List ℕ) (Fits : X → Type 0) (most : ℕ) → ((x : X) → Fits x → length (spell x) ≤ most) → (count : ℕ) (xs : List X) → AllByRecursion Fits xs → length xs ≤ count → length (flat_map spell xs) ≤ count * most
+short_members spell Fits most short count xs all few = le_trans (each_short spell Fits most short xs all) (mul-le (length xs) most count most few (omega arith))
+
+delta_short : (layout : Layout) (d : OwnerDelta) → FitsDelta layout d → length (delta d) ≤ delta_most layout
+delta_short layout d fits =
     let es = entries d.delta.states in
-    let few = states_few LAYOUT_1 d.delta.above es fits.states (rise_sorted es (entries_sorted d.delta.states)) in
-    let states = short_members state (FitsState LAYOUT_1 d.delta.above) state_most (state_short d.delta.above) es fits.states in
+    let few = states_few layout d.delta.above es fits.states (rise_sorted es (entries_sorted d.delta.states)) in
+    let states = short_members state (FitsState layout d.delta.above) (state_most layout) (state_short layout d.delta.above) STATE_LIMIT es fits.states few in
     let counted : List ℕ = length es ∷ flat_map state es in
     let from_heartbeat = four_bytes d.delta.heartbeat ++ counted in
     let from_above = four_bytes d.delta.above ++ from_heartbeat in
     let from_generation = four_bytes d.delta.generation ++ from_above in
     omega (
       arith,
-      few,
       states,
       length-append (endpoint d.endpoint) from_generation,
       length-append (four_bytes d.delta.generation) from_above,
@@ -69,9 +77,28 @@ delta_short d fits =
       length-four_bytes d.delta.heartbeat,
     )
 
-syn_short : (m : SynValue) → FitsSyn LAYOUT_1 m → length (inside LAYOUT_1 (Syn m)) ≤ greatest_length
-syn_short m fits =
-    let few : length m.digests ≤ MEMBER_LIMIT = omega (arith, fits.listed.few, length_keys (λ (d : Digest). d.endpoint) m.digests) in
+-- sums of lengths, of which one may be a product
+counted_short : (n most whole : ℕ) → n ≤ most → whole ≡ 2 + n → whole ≤ 2 + most
+counted_short n most whole le is = omega arith
+
+both_short : (a b whole most_a most_b : ℕ) → whole ≡ a + b → a ≤ most_a → b ≤ most_b → whole ≤ most_a + most_b
+both_short a b whole most_a most_b is le few = omega arith
+
+behind_short : (n before most : ℕ) → n ≤ most → n ≤ before + most
+behind_short n before most le = omega arith
+
+longer : (n syn ack whole : ℕ) → whole ≡ 2 + n → n ≤ ack → whole ≤ 2 + max syn ack
+longer n syn ack whole is le = omega arith
+
+deltas_short : (layout : Layout) (ds : List OwnerDelta) → FitsMembers layout (endpoints_of_deltas ds) → AllByRecursion (FitsDelta layout) ds → length (members delta ds) ≤ deltas_most layout
+deltas_short layout ds listed all =
+    let few : length ds ≤ layout.members = omega (arith, listed.few, length_keys (λ (d : OwnerDelta). d.endpoint) ds) in
+    let deltas = short_members delta (FitsDelta layout) (delta_most layout) (delta_short layout) layout.members ds all few in
+    counted_short (length (flat_map delta ds)) (layout.members * delta_most layout) (length (members delta ds)) deltas (omega (arith, length-append (two_bytes (length ds)) (flat_map delta ds), length-two_bytes (length ds)))
+
+syn_short : (layout : Layout) (m : SynValue) → FitsSyn layout m → length (body (Syn m)) ≤ syn_most layout
+syn_short layout m fits =
+    let few : length m.digests ≤ layout.members = omega (arith, fits.listed.few, length_keys (λ (d : Digest). d.endpoint) m.digests) in
     omega (
       arith,
       few,
@@ -83,37 +110,17 @@ syn_short m fits =
       length-digests m.digests,
     )
 
-ack_short : (m : AckValue) → FitsAck LAYOUT_1 m → length (inside LAYOUT_1 (Ack m)) ≤ greatest_length
-ack_short m fits =
-    let asked : length m.requests ≤ MEMBER_LIMIT = omega (arith, fits.asked.few, length_keys (λ (r : RequestValue). r.endpoint) m.requests) in
-    let few : length m.deltas ≤ MEMBER_LIMIT = omega (arith, fits.listed.few, length_keys (λ (d : OwnerDelta). d.endpoint) m.deltas) in
-    let deltas = short_members delta (FitsDelta LAYOUT_1) delta_most delta_short m.deltas fits.deltas in
-    omega (
-      arith,
-      asked,
-      few,
-      deltas,
-      length-append (members request m.requests) (members delta m.deltas),
-      length-append (two_bytes (length m.requests)) (flat_map request m.requests),
-      length-two_bytes (length m.requests),
-      length-requests m.requests,
-      length-append (two_bytes (length m.deltas)) (flat_map delta m.deltas),
-      length-two_bytes (length m.deltas),
-    )
+requests_short : (layout : Layout) (rs : List RequestValue) → FitsMembers layout (endpoints_of_requests rs) → length (members request rs) ≤ digests_most layout
+requests_short layout rs listed =
+    omega (arith, listed.few, length_keys (λ (r : RequestValue). r.endpoint) rs, length-append (two_bytes (length rs)) (flat_map request rs), length-two_bytes (length rs), length-requests rs)
 
-ack2_short : (m : Ack2Value) → FitsAck2 LAYOUT_1 m → length (inside LAYOUT_1 (Ack2 m)) ≤ greatest_length
-ack2_short m fits =
-    let few : length m.deltas ≤ MEMBER_LIMIT = omega (arith, fits.listed.few, length_keys (λ (d : OwnerDelta). d.endpoint) m.deltas) in
-    let deltas = short_members delta (FitsDelta LAYOUT_1) delta_most delta_short m.deltas fits.deltas in
-    omega (arith, few, deltas, length-append (two_bytes (length m.deltas)) (flat_map delta m.deltas), length-two_bytes (length m.deltas))
-
-inside_short : (m : Message) → Fits LAYOUT_1 m → length (inside LAYOUT_1 m) ≤ greatest_length
-inside_short (Syn m) fits = syn_short m fits
-inside_short (Ack m) fits = ack_short m fits
-inside_short (Ack2 m) fits = ack2_short m fits
-
-pub each_is_short : EachIsShort LAYOUT_1
-each_is_short m fits = (inside_short m fits, omega arith)
+pub inside_short : (layout : Layout) → EachIsShort layout
+inside_short layout (Syn m) fits = omega (arith, syn_short layout m fits)
+inside_short layout (Ack m) fits =
+    longer (length (body (Ack m))) (syn_most layout) (ack_most layout) (length (inside layout (Ack m))) (omega arith) (both_short (length (members request m.requests)) (length (members delta m.deltas)) (length (body (Ack m))) (digests_most layout) (deltas_most layout)
+    (length-append (members request m.requests) (members delta m.deltas)) (requests_short layout m.requests fits.asked) (deltas_short layout m.deltas fits.listed fits.deltas))
+inside_short layout (Ack2 m) fits =
+    longer (length (body (Ack2 m))) (syn_most layout) (ack_most layout) (length (inside layout (Ack2 m))) (omega arith) (behind_short (length (body (Ack2 m))) (digests_most layout) (deltas_most layout) (deltas_short layout m.deltas fits.listed fits.deltas))
 
 -- ---- what is spelled so is read
 
@@ -121,31 +128,50 @@ each_is_short m fits = (inside_short m fits, omega arith)
 ended_again : {A : Type 0} (tag : A → Message) (at : List ℕ → Field A) (x : A) (bytes : List ℕ) → at (bytes ++ []) ≡ Ok (x, []) → told tag (ended (at bytes)) ≡ Ok (tag x)
 ended_again {A = A} tag at x bytes read = ap (λ (r : Field A). told tag (ended r)) (ap at (sym (append-nil bytes)) ∙ read)
 
-body_again : (layout : Layout) (m : Message) (place : List ℕ) → layout.text < 2 ^ 16 → layout.members < 2 ^ 16 → Fits layout m → of_kind layout (kind m) place (body m) ≡ Ok m
-body_again layout (Syn m) place text wide fits = ended_again Syn (syn_at layout) m (body (Syn m)) (syn_again layout m [] wide fits)
-body_again layout (Ack m) place text wide fits = ended_again Ack (ack_at layout) m (body (Ack m)) (ack_again layout m [] text wide fits)
-body_again layout (Ack2 m) place text wide fits = ended_again Ack2 (ack2_at layout) m (body (Ack2 m)) (ack2_again layout m [] text wide fits)
+abbrev kind_of : Message → Kind
+kind_of (Syn m) = kinds.Syn
+kind_of (Ack m) = kinds.Ack
+kind_of (Ack2 m) = kinds.Ack2
+
+body_again : (layout : Layout) (m : Message) → layout.text < 2 ^ 16 → layout.members < 2 ^ 16 → Fits layout m → of_kind layout (kind_of m) (body m) ≡ Ok m
+body_again layout (Syn m) text wide fits = ended_again Syn (syn_at layout) m (body (Syn m)) (syn_again layout m [] wide fits)
+body_again layout (Ack m) text wide fits = ended_again Ack (ack_at layout) m (body (Ack m)) (ack_again layout m [] text wide fits)
+body_again layout (Ack2 m) text wide fits = ended_again Ack2 (ack2_at layout) m (body (Ack2 m)) (ack2_again layout m [] text wide fits)
+
+layout_again : (layout : Layout) (rest : List ℕ) → layout_at layout (layout.byte ∷ rest) ≡ Ok (layout.byte, rest)
+layout_again layout rest =
+    let fault : Misread = record { cause = causes.Layout; left = length (layout.byte ∷ rest) } in
+    let same : (layout.byte == layout.byte) ≡ true = eq-eqb layout.byte layout.byte refl in
+    ap (λ (r : Field ℕ). r >>= λ byte. cond (byte.0 == layout.byte) (Ok byte) (Err fault)) (byte_again layout.byte rest)
+    ∙ ap (λ (b : Bool). cond b (Ok (layout.byte, rest)) (Err fault)) same
+
+kind_from_again : (m : Message) (bytes rest : List ℕ) → kind_from bytes (kind m) rest ≡ Ok (kind_of m, rest)
+kind_from_again (Syn m) bytes rest = refl
+kind_from_again (Ack m) bytes rest = refl
+kind_from_again (Ack2 m) bytes rest = refl
+
+kind_again : (m : Message) (rest : List ℕ) → kind_at (kind m ∷ rest) ≡ Ok (kind_of m, rest)
+kind_again m rest =
+    ap (λ (r : Field ℕ). r >>= λ number. kind_from (kind m ∷ rest) number.0 number.1) (byte_again (kind m) rest) ∙ kind_from_again m (kind m ∷ rest) rest
 
 pub inside_again : (layout : Layout) (m : Message) → layout.text < 2 ^ 16 → layout.members < 2 ^ 16 → Fits layout m → inside_at layout (inside layout m) ≡ Ok m
 unfolding inside_at
 inside_again layout m text wide fits =
-    let fault : Misread = record { cause = causes.Layout; left = length (inside layout m) } in
-    ap (λ (r : Field ℕ). r >>= λ byte. cond (byte.0 == layout.byte) (number_at w8 byte.1) (Err fault) >>= λ kind. of_kind layout kind.0 byte.1 kind.1) (byte_again layout.byte (message m))
-    ∙ ap (λ (b : Bool). cond b (number_at w8 (message m)) (Err fault) >>= λ kind. of_kind layout kind.0 (message m) kind.1) (eq-eqb layout.byte layout.byte refl)
-    ∙ ap (λ (r : Field ℕ). r >>= λ kind. of_kind layout kind.0 (message m) kind.1) (byte_again (kind m) (body m))
-    ∙ body_again layout m (message m) text wide fits
+    ap (λ (r : Field ℕ). r >>= λ byte. kind_at byte.1 >>= λ kind. of_kind layout kind.0 kind.1) (layout_again layout (message m))
+    ∙ ap (λ (r : Field Kind). r >>= λ kind. of_kind layout kind.0 kind.1) (kind_again m (body m))
+    ∙ body_again layout m text wide fits
 
-pub frame_is_read : (m : Message) (rest : List ℕ) → Fits LAYOUT_1 m → frame_at LAYOUT_1 (frame LAYOUT_1 m ++ rest) ≡ Ok (Some (m, length (frame LAYOUT_1 m)))
-frame_is_read m rest fits =
-    let spelled = inside LAYOUT_1 m in
-    let short : length spelled ≤ LAYOUT_1.length = omega (arith, inside_short m fits) in
-    let long : 4 + length spelled ≡ length (frame LAYOUT_1 m) = omega (arith, length-append (four_bytes (length spelled)) spelled, length-four_bytes (length spelled)) in
-    frame_again LAYOUT_1 spelled rest m short (omega arith) (inside_again LAYOUT_1 m (omega arith) (omega arith) fits)
+pub frame_is_read : (layout : Layout) → IsLayout layout → (m : Message) (rest : List ℕ) → Fits layout m → frame_at layout (frame layout m ++ rest) ≡ Ok (Some (m, length (frame layout m)))
+frame_is_read layout is m rest fits =
+    let spelled = inside layout m in
+    let short : length spelled ≤ layout.length = le_trans (inside_short layout m fits) is.room in
+    let long : 4 + length spelled ≡ length (frame layout m) = omega (arith, length-append (four_bytes (length spelled)) spelled, length-four_bytes (length spelled)) in
+    frame_again layout spelled rest m short is.length (inside_again layout m is.text is.members fits)
     ∙ ap (λ (n : ℕ). Ok (Some (m, n))) long
 
-pub each_spelled_is_read : (bytes : List ℕ) (result : Result (Option (Message × ℕ)) Fault) → Answers (λ (x : Option (Message × ℕ)). x) (frame_at LAYOUT_1 bytes) result → GivesEachSpelled LAYOUT_1 bytes result
-each_spelled_is_read bytes result answers m rest fits is =
-    subst (λ (due : Result (Option (Message × ℕ)) Fault). Answers (λ (x : Option (Message × ℕ)). x) due result) (ap (frame_at LAYOUT_1) is ∙ frame_is_read m rest fits) answers
+pub each_spelled_is_read : (layout : Layout) → IsLayout layout → (bytes : List ℕ) (result : Result (Option (Message × ℕ)) Fault) → Answers (λ (x : Option (Message × ℕ)). x) (frame_at layout bytes) result → GivesEachSpelled layout bytes result
+each_spelled_is_read layout is bytes result answers m rest fits spelled =
+    subst (λ (due : Result (Option (Message × ℕ)) Fault). Answers (λ (x : Option (Message × ℕ)). x) due result) (ap (frame_at layout) spelled ∙ frame_is_read layout is m rest fits) answers
 
 -- ---- no two messages have one spelling
 
@@ -166,11 +192,20 @@ same_inside a b rest short few e =
     let none : rest ≡ [] = no_more rest (omega (arith, ap length behind, length-append a rest, sizes)) in
     (sym (append-nil a) ∙ ap (λ (ys : List ℕ). a ++ ys) (sym none) ∙ behind, none)
 
-pub no_spelling_begins_another : NoSpellingBeginsAnother LAYOUT_1
-no_spelling_begins_another m n rest fits other e =
-    let short = inside_short m fits in
-    let few = inside_short n other in
-    let same = same_inside (inside LAYOUT_1 m) (inside LAYOUT_1 n) rest (omega (arith, short)) (omega (arith, few)) e in
+-- What stands behind a length fits into its bytes.
+pub inside_fits : (layout : Layout) → IsLayout layout → (m : Message) → Fits layout m → length (inside layout m) < 2 ^ 32
+inside_fits layout is m fits =
+    let short : length (inside layout m) ≤ layout.length = le_trans (inside_short layout m fits) is.room in
+    omega (arith, short, is.length)
+
+pub no_spelling_begins_another : (layout : Layout) → IsLayout layout → NoSpellingBeginsAnother layout
+no_spelling_begins_another layout is m n rest fits other e =
+    let same = same_inside (inside layout m) (inside layout n) rest (inside_fits layout is m fits) (inside_fits layout is n other) e in
     let read : ◌≡◌ {A = Result Message Misread} (Ok m) (Ok n) =
-    sym (inside_again LAYOUT_1 m (omega arith) (omega arith) fits) ∙ ap (inside_at LAYOUT_1) same.0 ∙ inside_again LAYOUT_1 n (omega arith) (omega arith) other in
+    sym (inside_again layout m is.text is.members fits) ∙ ap (inside_at layout) same.0 ∙ inside_again layout n is.text is.members other in
     (ok_is m n read, same.1)
+
+-- ---- the layout of this version
+
+pub first_is_layout : IsLayout LAYOUT_1
+first_is_layout = record { members = omega arith; text = omega arith; length = omega arith; room = omega arith }

@@ -1,5 +1,5 @@
 -- How long spellings are.
-use Rattle.std.proofs.Common.{◌≡◌, ℕ, ◌+◌, ◌*◌, ◌≤◌, List, [], ◌∷◌, ◌++◌, length, refl, sym, ap, ◌∙◌, Option, Some, None, take, arith, length-append}
+use Rattle.std.proofs.Common.{◌≡◌, ℕ, ◌*◌, ◌≤◌, List, [], ◌∷◌, ◌++◌, length, refl, sym, ap, ◌∙◌, Option, Some, None, take, arith, length-append}
 use Rattle.std.proofs.lemmas.List.{take_all}
 use Rattle.cg_types.specs.declared.limits.TheConstants.{STATE_LIMIT}
 use Rattle.cg_entry.specs.declared.state.State.{State}
@@ -7,7 +7,7 @@ use Rattle.cg_entry.specs.State.{pair, pairs}
 use Rattle.std.specs.List.{flat_map}
 use Rattle.std.proofs.lemmas.List.Concat.{flat_map-cons}
 use Rattle.cg_table.specs.declared.digest.Digest.{Digest}
-use Rattle.cg_frames.specs.Spelling.{two_bytes, four_bytes, endpoint, digest, request, state, text}
+use Rattle.cg_frames.specs.Spelling.{two_bytes, four_bytes, endpoint, digest, request, state}
 use Rattle.cg_exchange.specs.Values.{RequestValue}
 
 pub length-two_bytes : (n : ℕ) → length (two_bytes n) ≡ 2
@@ -51,17 +51,3 @@ spelled_pairs (s ∷ ss) = flat_map-cons (λ (t : State). state (pair t)) s ss �
 
 pub all_spelled : (i : ℕ) (ss : List State) → length ss ≤ i → flat_map (λ (s : State). state (pair s)) (take i ss) ≡ flat_map state (pairs ss)
 all_spelled i ss le = ap (flat_map (λ (s : State). state (pair s))) (take_all i ss le) ∙ spelled_pairs ss
-
--- ---- how much a write adds
-
-pub two_more : (a b : List ℕ) (n : ℕ) → a ≡ b ++ two_bytes n → length a ≡ length b + 2
-two_more a b n e = omega (arith, ap length e, length-append b (two_bytes n), length-two_bytes n)
-
-pub four_more : (a b : List ℕ) (n : ℕ) → a ≡ b ++ four_bytes n → length a ≡ length b + 4
-four_more a b n e = omega (arith, ap length e, length-append b (four_bytes n), length-four_bytes n)
-
-pub endpoint_more : (a b : List ℕ) (n : ℕ) → a ≡ b ++ endpoint n → length a ≡ length b + 6
-endpoint_more a b n e = omega (arith, ap length e, length-append b (endpoint n), length-endpoint n)
-
-pub text_more : (a b t : List ℕ) → a ≡ b ++ text t → length a ≡ length b + 2 + length t
-text_more a b t e = omega (arith, ap length e, length-append b (text t), length-append (two_bytes (length t)) t, length-two_bytes (length t))

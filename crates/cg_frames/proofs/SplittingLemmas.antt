@@ -8,6 +8,7 @@ use Rattle.cg_exchange.specs.declared.message.Message.{Message}
 use Rattle.cg_frames.specs.declared.layout.Layout.{Layout}
 use Rattle.cg_frames.specs.Reading.{size_of, frame_at}
 use Rattle.cg_frames.specs.Spelling.{frame}
+use Rattle.cg_frames.specs.Fits.{Fits}
 use Rattle.cg_frames.specs.Feeding.{cut_by, frames_in, Splits}
 use Rattle.cg_frames.specs.Laws.{AreBytes}
 use Rattle.cg_frames.proofs.FrameLemmas.{frame_parts}
@@ -16,25 +17,27 @@ use Rattle.cg_frames.proofs.FoundFrames.{frame_found}
 use Rattle.cg_frames.proofs.FeedingLemmas.{frames_by}
 
 module _ (layout : Layout) where
-  front_found : (xs : List ℕ) (p : Message × ℕ) → AreBytes xs → frame_at layout xs ≡ Ok (Some p) → xs ≡ frame layout p.0 ++ drop p.1 xs
+  front_found : (xs : List ℕ) (p : Message × ℕ) → AreBytes xs → frame_at layout xs ≡ Ok (Some p) → (xs ≡ frame layout p.0 ++ drop p.1 xs) × Fits layout p.0
   front_found xs p bytes some =
       let f = frame_found layout xs p.0 p.1 bytes some in
-      sym (take-append-drop p.1 xs) ∙ ap (λ (l : List ℕ). l ++ drop p.1 xs) f.spelled
+      (sym (take-append-drop p.1 xs) ∙ ap (λ (l : List ℕ). l ++ drop p.1 xs) f.spelled, f.fits)
 
   splits_by : (xs : List ℕ) (r : Result (Option (Message × ℕ)) Fault) → AreBytes xs → frame_at layout xs ≡ r
       → ((p : Message × ℕ) → r ≡ Ok (Some p) → Splits layout (drop p.1 xs) (frames_in layout (drop p.1 xs)))
       → Splits layout xs (cut_by (frames_in layout) xs r)
-  splits_by xs (Err f) bytes is next = record { rest = xs; whole = refl; stands = is }
-  splits_by xs (Ok None) bytes is next = record { rest = xs; whole = refl; stands = (refl, is) }
+  splits_by xs (Err f) bytes is next = record { rest = xs; whole = refl; fit = tt; stands = is }
+  splits_by xs (Ok None) bytes is next = record { rest = xs; whole = refl; fit = tt; stands = (refl, is) }
   splits_by xs (Ok (Some p)) bytes is next =
       let s = next p refl in
       let ms = (frames_in layout (drop p.1 xs)).messages in
+      let front = front_found xs p bytes is in
       record {
         rest = s.rest;
-        whole = front_found xs p bytes is
+        whole = front.0
             ∙ ap (λ l. frame layout p.0 ++ l) s.whole
             ∙ sym (append_assoc (frame layout p.0) (flat_map (frame layout) ms) s.rest)
             ∙ ap (λ l. l ++ s.rest) (sym (flat_map-cons (frame layout) p.0 ms));
+        fit = (front.1, s.fit);
         stands = s.stands;
       }
 

@@ -1,12 +1,13 @@
 -- Bytes that come in pieces, cut into messages.
 use Rattle.std.specs.Prelude.{◌≡◌, ℕ, zero, suc, ◌+◌, ◌-◌, ◌≤◌, List, [], ◌∷◌, ◌++◌, length, drop, Option, Some, None, Result, Ok, Err, nat_lt, if◌then◌else◌}
-use Rattle.std.specs.List.{flat_map}
+use Rattle.std.specs.List.{flat_map, AllByRecursion}
 use Rattle.cg_types.specs.declared.fault.Fault.{Fault}
 use Rattle.cg_types.specs.declared.fault.Fault.TheVariants.{Truncated}
 use Rattle.cg_exchange.specs.declared.message.Message.{Message}
 use Rattle.cg_frames.specs.declared.layout.Layout.{Layout}
 use Rattle.cg_frames.specs.Reading.{size_of, frame_at}
 use Rattle.cg_frames.specs.Spelling.{frame}
+use Rattle.cg_frames.specs.Fits.{Fits}
 
 -- How many bytes the present length or frame lacks.
 unfoldable pub lack_of : List ℕ → ℕ
@@ -60,10 +61,11 @@ abbrev pub StandsAt : Layout → Standing → List ℕ → Type 0
 StandsAt layout (Ok held) rest = (rest ≡ held) × (frame_at layout held ≡ Ok None)
 StandsAt layout (Err f) rest = frame_at layout rest ≡ Err f
 
--- The bytes are the spellings of these messages, and then a rest.
+-- The bytes are the spellings of these messages, which the layout can spell, and then a rest.
 pub record Splits (layout : Layout) (bytes : List ℕ) (c : Cut) : Type 0 where
   pub rest : List ℕ
   pub whole : bytes ≡ flat_map (frame layout) c.messages ++ rest
+  pub fit : AllByRecursion (Fits layout) c.messages
   pub stands : StandsAt layout c.rest rest
 
 -- What is held and then the piece is split so; after a fault nothing is given, and the fault stands.

@@ -4,7 +4,7 @@ use Rattle.std.specs.List.{AllByRecursion}
 use Rattle.std.specs.FinMap as map
 use Rattle.cg_types.specs.Numbers.{IsEndpoint, IsGeneration, IsVersion, IsVersionHeld, IsKey}
 use Rattle.cg_types.specs.Rising.{Rises}
-use Rattle.cg_types.specs.Text.{plain, IsClusterName}
+use Rattle.cg_types.specs.Text.{plain, IsClusterName, IsStateText}
 use Rattle.cg_entry.specs.Versioned.{Versioned}
 use Rattle.cg_entry.specs.Entry.{greatest}
 use Rattle.cg_table.specs.declared.digest.Digest.{Digest}
@@ -24,6 +24,12 @@ pub record FitsRequest (r : RequestValue) : Type 0 where
   pub endpoint : IsEndpoint r.endpoint
   pub generation : IsGeneration r.generation
   pub version : IsVersionHeld r.version
+
+-- a state, as its type keeps it
+pub record IsState (s : ℕ × Versioned) : Type 0 where
+  pub key : IsKey s.0
+  pub version : IsVersion s.1.version
+  pub text : IsStateText s.1.text
 
 -- a state of a delta above a version
 pub record FitsState (layout : Layout) (above : ℕ) (s : ℕ × Versioned) : Type 0 where

@@ -1,6 +1,6 @@
 -- What is said of spelling, reading and feeding as a whole.
 use Rattle.std.specs.Prelude.{◌≡◌, ℕ, ◌<◌, ◌≤◌, List, [], ◌++◌, length, take, slice_index, Some, None, Result, Ok, Option, IfOk, IfSome}
-use Rattle.std.specs.List.{flat_map, AllByRecursion}
+use Rattle.std.specs.List.{flat_map}
 use Rattle.cg_types.specs.declared.fault.Fault.{Fault}
 use Rattle.cg_types.specs.Answer.{Answers}
 use Rattle.cg_exchange.specs.declared.message.Message.{Message}
@@ -33,9 +33,9 @@ NoSpellingBeginsAnother layout =
     (m n : Message) (rest : List ℕ) → Fits layout m → Fits layout n → frame layout m ++ rest ≡ frame layout n
     → (m ≡ n) × (rest ≡ [])
 
--- What stands behind the length of a message's frame is never longer than the greatest, which the layout allows.
+-- What stands behind the length of a message's frame is never longer than the greatest.
 abbrev pub EachIsShort : Layout → Type 0
-EachIsShort layout = (m : Message) → Fits layout m → (length (inside layout m) ≤ greatest_length) × (greatest_length ≤ layout.length)
+EachIsShort layout = (m : Message) → Fits layout m → length (inside layout m) ≤ greatest_length layout
 
 -- ---- of feeding
 
@@ -75,4 +75,4 @@ AllIsSpelled layout = (bytes : List ℕ) → AreBytes bytes → Splits layout by
 
 -- No other messages and no other rest stand in the bytes.
 abbrev pub NothingElseIsSpelled : Layout → Type 0
-NothingElseIsSpelled layout = (bytes : List ℕ) (c : Cut) → AllByRecursion (Fits layout) c.messages → Splits layout bytes c → frames_in layout bytes ≡ c
+NothingElseIsSpelled layout = (bytes : List ℕ) (c : Cut) → Splits layout bytes c → frames_in layout bytes ≡ c

@@ -2,5 +2,6 @@ pub mod Reading
 pub mod Spelling
 pub mod Fits
 pub mod Lengths
+pub mod Layouts
 pub mod Laws
 pub mod Feeding

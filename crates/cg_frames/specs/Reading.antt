@@ -19,6 +19,8 @@ use Rattle.cg_exchange.specs.declared.owner_delta.OwnerDelta.{OwnerDelta}
 use Rattle.cg_exchange.specs.Values.{RequestValue, SynValue, AckValue, Ack2Value}
 use Rattle.cg_frames.specs.declared.layout.Layout.{Layout}
 use Rattle.cg_frames.specs.declared.misread.Misread.{Misread}
+use Rattle.cg_frames.specs.declared.reader.Kind.{Kind}
+use Rattle.cg_frames.specs.declared.reader.Kind.TheVariants as kinds
 use Rattle.cg_frames.specs.declared.misread.ReadError.{ReadError}
 use Rattle.cg_frames.specs.declared.misread.ReadError.TheVariants as errors
 
@@ -226,7 +228,7 @@ Passes (Ok x) rest read = behind read ≡ Ok rest
 Passes (Err m) rest read = behind read ≡ Err m
 
 -- A reader that needs memory gives what reading gives, unless memory ran out.
-abbrev pub Fails : {Y : Type 0} → ReadError → Field Y → Type 0
+abbrev pub Fails : {Y : Type 0} → ReadError → Result Y Misread → Type 0
 Fails errors.Memory read = Unit {0}
 Fails (errors.Misread m) read = read ≡ Err m
 
@@ -271,33 +273,46 @@ abbrev pub told : {A : Type 0} → (A → Message) → Result A Misread → Resu
 told message (Ok x) = Ok (message x)
 told message (Err m) = Err m
 
--- The body of a message, by its kind, which stands at `place`.
-abbrev pub of_kind : Layout → ℕ → List ℕ → List ℕ → Result Message Misread
-of_kind layout kind place bytes =
-    if kind == 1 then told messages.Syn (ended (syn_at layout bytes))
-    else if kind == 2 then told messages.Ack (ended (ack_at layout bytes))
-    else if kind == 3 then told messages.Ack2 (ended (ack2_at layout bytes))
-    else wrong causes.Kind place
+-- the byte that names the layout
+abbrev pub layout_at : Layout → List ℕ → Field ℕ
+layout_at layout bytes = do
+  byte ← number_at w8 bytes
+  if byte.0 == layout.byte then Ok byte else wrong causes.Layout bytes
+
+-- the kind of a message, by its number
+abbrev pub kind_from : List ℕ → ℕ → List ℕ → Field Kind
+kind_from bytes number rest =
+    if number == 1 then Ok (kinds.Syn, rest)
+    else if number == 2 then Ok (kinds.Ack, rest)
+    else if number == 3 then Ok (kinds.Ack2, rest)
+    else wrong causes.Kind bytes
+
+abbrev pub kind_at : List ℕ → Field Kind
+kind_at bytes = do
+  number ← number_at w8 bytes
+  kind_from bytes number.0 number.1
+
+-- the body of a message of this kind, and nothing behind it
+abbrev pub of_kind : Layout → Kind → List ℕ → Result Message Misread
+of_kind layout kinds.Syn bytes = told messages.Syn (ended (syn_at layout bytes))
+of_kind layout kinds.Ack bytes = told messages.Ack (ended (ack_at layout bytes))
+of_kind layout kinds.Ack2 bytes = told messages.Ack2 (ended (ack2_at layout bytes))
 
 -- all that stands behind the length of a frame
 unfoldable pub inside_at : Layout → List ℕ → Result Message Misread
 inside_at layout bytes = do
-  byte ← number_at w8 bytes
-  kind ← (if byte.0 == layout.byte then number_at w8 byte.1 else wrong causes.Layout bytes)
-  of_kind layout kind.0 byte.1 kind.1
+  byte ← layout_at layout bytes
+  kind ← kind_at byte.1
+  of_kind layout kind.0 kind.1
 
 -- What is checked is read, or has this fault.
 abbrev pub Checks : {X Y : Type 0} → Result X Misread → Result Y Misread → Type 0
 Checks (Ok x) read = IsOk read
 Checks (Err m) read = read ≡ Err m
 
-abbrev pub FailsWhole : {Y : Type 0} → ReadError → Result Y Misread → Type 0
-FailsWhole errors.Memory read = Unit {0}
-FailsWhole (errors.Misread m) read = read ≡ Err m
-
 abbrev pub GivesWhole : {X Y : Type 0} → (X → Y) → Result X ReadError → Result Y Misread → Type 0
 GivesWhole view (Ok x) read = read ≡ Ok (view x)
-GivesWhole view (Err e) read = FailsWhole e read
+GivesWhole view (Err e) read = Fails e read
 
 -- ---- frames
 

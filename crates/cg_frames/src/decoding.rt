@@ -1,9 +1,9 @@
 //! Frames at the front of bytes.
 
-ghost use Rattle.std.specs.Prelude.{◌≡◌, ◌<◌, ◌≤◌, ◌^◌, length, Ok, None};
-ghost use Rattle.cg_types.specs.declared.limits.TheConstants.{MEMBER_LIMIT, TEXT_LIMIT};
+ghost use Rattle.std.specs.Prelude.{◌≡◌, ◌<◌, ◌^◌, length, Ok, None};
 ghost use Rattle.cg_frames.specs.declared.layout.TheConstants.{LAYOUT_1};
 ghost use Rattle.cg_types.specs.Answer.{Answers};
+ghost use Rattle.cg_frames.specs.Layouts.{IsRead};
 ghost use Rattle.cg_frames.specs.Reading as spec;
 ghost use Rattle.cg_frames.specs.Laws.{TakesOnlySpelled, GivesEachSpelled};
 
@@ -16,7 +16,7 @@ use std::alloc::Global;
 
 // The fault of a frame with so many bytes behind its length.
 fn fault_at(size: usize, misread: Misread) -> Fault
-    requires { size < 2 ^ 62 }
+    requires { size < 2 ^ 32 }
     ensures { result ≡ spec.fault_at size misread }
 {
     Fault::BadFrame {
@@ -27,9 +27,8 @@ fn fault_at(size: usize, misread: Misread) -> Fault
 
 // What stands behind the length. Faults are found before memory is asked for.
 fn read_inside(alloc: Global, layout: &Layout, inside: &[u8]) -> Result<Message, Fault>
-    requires short { length inside.now < 2 ^ 62 }
-    requires members { layout.now.members ≤ MEMBER_LIMIT }
-    requires text { layout.now.text ≤ TEXT_LIMIT }
+    requires short { length inside.now < 2 ^ 32 }
+    requires layout { IsRead layout.now }
     ensures { Answers (λ m. m)
         (spec.located (length inside.now) (spec.inside_at layout.now inside.now)) result }
 {
@@ -43,15 +42,14 @@ fn read_inside(alloc: Global, layout: &Layout, inside: &[u8]) -> Result<Message,
     }
 }
 
+/// As `decode`, in any layout that messages can hold.
 #[tactic(auto, unfolding(crate::specs::Reading::frame_at))]
-fn decode_in(
+pub fn decode_in(
     alloc: Global,
     layout: &Layout,
     bytes: &[u8],
 ) -> Result<Option<(Message, usize)>, Fault>
-    requires short { layout.now.length < 2 ^ 62 }
-    requires members { layout.now.members ≤ MEMBER_LIMIT }
-    requires text { layout.now.text ≤ TEXT_LIMIT }
+    requires { IsRead layout.now }
     ensures exact { Answers (λ x. x) (spec.frame_at layout.now bytes.now) result }
     ensures more { spec.frame_at layout.now bytes.now ≡ Ok None → result ≡ Ok None }
 {

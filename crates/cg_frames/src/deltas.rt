@@ -1,8 +1,8 @@
 //! Deltas and their states, which rise: checked with no memory, and read.
 
-ghost use Rattle.std.specs.Prelude.{◌≡◌, ◌≤◌, Ok, None};
-ghost use Rattle.cg_types.specs.declared.limits.TheConstants.{TEXT_LIMIT};
+ghost use Rattle.std.specs.Prelude.{◌≡◌, Ok, None};
 ghost use Rattle.cg_types.specs.Text.{state_text_of};
+ghost use Rattle.cg_frames.specs.Layouts.{IsRead};
 ghost use Rattle.cg_frames.specs.Reading as spec;
 
 use crate::layout::Layout;
@@ -104,7 +104,7 @@ fn state_of(
     reader: &mut Reader<'_>,
     last: Option<StateKey>,
 ) -> Result<State, ReadError>
-    requires { layout.now.text ≤ TEXT_LIMIT }
+    requires { IsRead layout.now }
     ensures { spec.Gives (λ s. s) result reader.new (spec.state_at layout.now above last reader.old) }
 {
     let key = reader.key(last)?;
@@ -122,7 +122,7 @@ fn states_of(
     reader: &mut Reader<'_>,
     count: u8,
 ) -> Result<Vec<State>, ReadError>
-    requires { layout.now.text ≤ TEXT_LIMIT }
+    requires { IsRead layout.now }
     ensures { spec.Gives (λ v. v.items) result reader.new (spec.states_at layout.now above count None reader.old) }
 {
     let mut states = Vec::new(alloc);
@@ -143,7 +143,7 @@ fn delta_of(
     reader: &mut Reader<'_>,
     last: Option<Endpoint>,
 ) -> Result<OwnerDelta, ReadError>
-    requires { layout.now.text ≤ TEXT_LIMIT }
+    requires { IsRead layout.now }
     ensures { spec.Gives (λ d. d) result reader.new (spec.delta_at layout.now last reader.old) }
 {
     let left = reader.left();
@@ -169,7 +169,7 @@ pub fn deltas_of(
     reader: &mut Reader<'_>,
     count: u16,
 ) -> Result<Vec<OwnerDelta>, ReadError>
-    requires { layout.now.text ≤ TEXT_LIMIT }
+    requires { IsRead layout.now }
     ensures { spec.Gives (λ v. v.items) result reader.new (spec.deltas_at layout.now count None reader.old) }
 {
     let mut deltas = Vec::new(alloc);

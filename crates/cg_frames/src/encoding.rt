@@ -1,24 +1,22 @@
 //! Messages written as frames.
 
-ghost use Rattle.std.specs.Prelude.{◌≡◌, ◌++◌, ◌∷◌, [], ◌+◌, ◌<◌, ◌≤◌, ◌^◌, length, IfOk, OnOk};
-ghost use Rattle.cg_types.specs.declared.limits.TheConstants.{MEMBER_LIMIT, STATE_LIMIT};
+ghost use Rattle.std.specs.Prelude.{◌≡◌, ◌++◌, ◌∷◌, ◌<◌, ◌^◌, length, IfOk, OnOk};
+ghost use Rattle.cg_types.specs.Numbers.{address_of};
 ghost use Rattle.cg_entry.specs.State.{KeysRise, pair, pairs};
-ghost use Rattle.std.specs.Int.{w32, to_be_bytes};
-ghost use Rattle.std.specs.List.{flat_map, AllByRecursion};
+ghost use Rattle.std.specs.List.{flat_map};
 ghost use Rattle.cg_exchange.specs.declared.message.Message.TheVariants as messages;
-ghost use Rattle.cg_types.specs.Numbers.{address_of, IsEndpoint};
-ghost use Rattle.cg_types.specs.Text.{IsClusterName, IsStateText};
-ghost use Rattle.cg_frames.specs.Fits.{FitsDigest, FitsRequest, FitsState, FitsDelta, FitsSyn, FitsAck, FitsAck2, Fits};
 ghost use Rattle.cg_frames.specs.declared.layout.TheConstants.{LAYOUT_1};
+ghost use Rattle.cg_frames.specs.Fits.{Fits};
+ghost use Rattle.cg_frames.specs.Layouts.{IsLayout, IsWritten};
 ghost use Rattle.cg_frames.specs.Spelling as spelling;
-ghost use Rattle.cg_frames.specs.Lengths as lengths;
 
+use crate::fitting::{count_states, message_fits};
 use crate::layout::{LAYOUT_1, Layout};
 use bytes::{BufMut, Bytes, BytesMut};
 use cg_entry::State;
 use cg_exchange::{Ack, Ack2, Message, OwnerDelta, Request, Syn};
 use cg_table::Digest;
-use cg_types::{Cluster, Endpoint, StateKey, StateText};
+use cg_types::{Cluster, Endpoint, StateText};
 use std::alloc::{AllocError, Global};
 
 #[tactic(auto, unfolding(crate::specs::Spelling::two_bytes))]
@@ -43,8 +41,7 @@ fn put_address(out: &mut BytesMut, endpoint: Endpoint) -> Result<(), AllocError>
 }
 
 fn put_endpoint(out: &mut BytesMut, endpoint: Endpoint) -> Result<(), AllocError>
-    ensures written { OnOk result (out.new.items ≡ out.old.items ++ spelling.endpoint endpoint) }
-    ensures fits { OnOk result (IsEndpoint endpoint) }
+    ensures { OnOk result (out.new.items ≡ out.old.items ++ spelling.endpoint endpoint) }
 {
     put_address(out, endpoint)?;
     put_two(out, endpoint.port())?;
@@ -52,8 +49,7 @@ fn put_endpoint(out: &mut BytesMut, endpoint: Endpoint) -> Result<(), AllocError
 }
 
 fn put_digest(out: &mut BytesMut, digest: &Digest) -> Result<(), AllocError>
-    ensures written { OnOk result (out.new.items ≡ out.old.items ++ spelling.digest digest.now) }
-    ensures fits { OnOk result (FitsDigest digest.now) }
+    ensures { OnOk result (out.new.items ≡ out.old.items ++ spelling.digest digest.now) }
 {
     put_endpoint(out, digest.endpoint)?;
     put_four(out, digest.generation.get())?;
@@ -62,8 +58,7 @@ fn put_digest(out: &mut BytesMut, digest: &Digest) -> Result<(), AllocError>
 }
 
 fn put_request(out: &mut BytesMut, request: Request) -> Result<(), AllocError>
-    ensures written { OnOk result (out.new.items ≡ out.old.items ++ spelling.request request) }
-    ensures fits { OnOk result (FitsRequest request) }
+    ensures { OnOk result (out.new.items ≡ out.old.items ++ spelling.request request) }
 {
     put_endpoint(out, request.endpoint())?;
     put_four(out, request.generation().get())?;
@@ -72,9 +67,7 @@ fn put_request(out: &mut BytesMut, request: Request) -> Result<(), AllocError>
 }
 
 fn put_cluster(out: &mut BytesMut, cluster: &Cluster) -> Result<(), AllocError>
-    ensures written { OnOk result (out.new.items ≡ out.old.items ++ spelling.cluster cluster.now) }
-    ensures name { IsClusterName cluster.now.name }
-    ensures partitioner { OnOk result (cluster.now.partitioner < 2 ^ 8) }
+    ensures { OnOk result (out.new.items ≡ out.old.items ++ spelling.cluster cluster.now) }
 {
     out.put_u8(cluster.name().len() as u8)?;
     out.put_slice(cluster.name().as_bytes())?;
@@ -84,8 +77,7 @@ fn put_cluster(out: &mut BytesMut, cluster: &Cluster) -> Result<(), AllocError>
 
 fn put_digests(out: &mut BytesMut, digests: &[Digest]) -> Result<(), AllocError>
     requires { length digests.now < 2 ^ 16 }
-    ensures written { OnOk result (out.new.items ≡ out.old.items ++ spelling.members spelling.digest digests.now) }
-    ensures fit { OnOk result (AllByRecursion FitsDigest digests.now) }
+    ensures { OnOk result (out.new.items ≡ out.old.items ++ spelling.members spelling.digest digests.now) }
 {
     put_two(out, digests.len() as u16)?;
     for digest in digests {
@@ -96,8 +88,7 @@ fn put_digests(out: &mut BytesMut, digests: &[Digest]) -> Result<(), AllocError>
 
 fn put_requests(out: &mut BytesMut, requests: &[Request]) -> Result<(), AllocError>
     requires { length requests.now < 2 ^ 16 }
-    ensures written { OnOk result (out.new.items ≡ out.old.items ++ spelling.members spelling.request requests.now) }
-    ensures fit { OnOk result (AllByRecursion FitsRequest requests.now) }
+    ensures { OnOk result (out.new.items ≡ out.old.items ++ spelling.members spelling.request requests.now) }
 {
     put_two(out, requests.len() as u16)?;
     for request in requests {
@@ -107,8 +98,7 @@ fn put_requests(out: &mut BytesMut, requests: &[Request]) -> Result<(), AllocErr
 }
 
 fn put_text(out: &mut BytesMut, text: &StateText) -> Result<(), AllocError>
-    ensures written { OnOk result (out.new.items ≡ out.old.items ++ spelling.text text.now) }
-    ensures fits { IsStateText text.now }
+    ensures { OnOk result (out.new.items ≡ out.old.items ++ spelling.text text.now) }
 {
     put_two(out, text.as_str().len() as u16)?;
     out.put_slice(text.as_str().as_bytes())?;
@@ -116,9 +106,7 @@ fn put_text(out: &mut BytesMut, text: &StateText) -> Result<(), AllocError>
 }
 
 fn put_state(out: &mut BytesMut, state: &State) -> Result<(), AllocError>
-    ensures written { OnOk result (out.new.items ≡ out.old.items ++ spelling.state (pair state.now)) }
-    ensures short { OnOk result (length out.new.items ≤ length out.old.items + lengths.state_most) }
-    ensures fits { OnOk result (FitsState LAYOUT_1 0 (pair state.now)) }
+    ensures { OnOk result (out.new.items ≡ out.old.items ++ spelling.state (pair state.now)) }
 {
     out.put_u8(state.key.get())?;
     put_four(out, state.version.get())?;
@@ -126,35 +114,12 @@ fn put_state(out: &mut BytesMut, state: &State) -> Result<(), AllocError>
     Ok(())
 }
 
-// How many states there are: no more than there are keys.
-fn count_of(states: &[State]) -> u8
-    requires { KeysRise states.now }
-    ensures value { result ≡ length states.now }
-    ensures few { length states.now ≤ STATE_LIMIT }
-{
-    let mut last: Option<StateKey> = None;
-    let mut count: u8 = 0;
-    for state in states {
-        if let Some(before) = last
-            && state.key <= before
-        {
-            unreachable!();
-        }
-        let _key = state.key.get();
-        last = Some(state.key);
-        count += 1;
-    }
-    count
-}
-
 fn put_states(out: &mut BytesMut, states: &[State]) -> Result<(), AllocError>
     requires { KeysRise states.now }
-    ensures written { OnOk result (out.new.items ≡ out.old.items
+    ensures { OnOk result (out.new.items ≡ out.old.items
         ++ (length states.now ∷ flat_map spelling.state (pairs states.now))) }
-    ensures short { OnOk result (length out.new.items ≤ length out.old.items + lengths.states_most) }
-    ensures fit { OnOk result (AllByRecursion (FitsState LAYOUT_1 0) (pairs states.now)) }
 {
-    out.put_u8(count_of(states))?;
+    out.put_u8(count_states(states))?;
     for state in states {
         put_state(out, state)?;
     }
@@ -162,9 +127,7 @@ fn put_states(out: &mut BytesMut, states: &[State]) -> Result<(), AllocError>
 }
 
 fn put_delta(out: &mut BytesMut, delta: &OwnerDelta) -> Result<(), AllocError>
-    ensures written { OnOk result (out.new.items ≡ out.old.items ++ spelling.delta delta.now) }
-    ensures short { OnOk result (length out.new.items ≤ length out.old.items + lengths.delta_most) }
-    ensures fits { OnOk result (FitsDelta LAYOUT_1 delta.now) }
+    ensures { OnOk result (out.new.items ≡ out.old.items ++ spelling.delta delta.now) }
 {
     put_endpoint(out, delta.endpoint)?;
     put_four(out, delta.delta.generation().get())?;
@@ -175,10 +138,8 @@ fn put_delta(out: &mut BytesMut, delta: &OwnerDelta) -> Result<(), AllocError>
 }
 
 fn put_deltas(out: &mut BytesMut, deltas: &[OwnerDelta]) -> Result<(), AllocError>
-    requires { length deltas.now ≤ MEMBER_LIMIT }
-    ensures written { OnOk result (out.new.items ≡ out.old.items ++ spelling.members spelling.delta deltas.now) }
-    ensures short { OnOk result (length out.new.items ≤ length out.old.items + lengths.deltas_most) }
-    ensures fit { OnOk result (AllByRecursion (FitsDelta LAYOUT_1) deltas.now) }
+    requires { length deltas.now < 2 ^ 16 }
+    ensures { OnOk result (out.new.items ≡ out.old.items ++ spelling.members spelling.delta deltas.now) }
 {
     put_two(out, deltas.len() as u16)?;
     for delta in deltas {
@@ -189,9 +150,7 @@ fn put_deltas(out: &mut BytesMut, deltas: &[OwnerDelta]) -> Result<(), AllocErro
 
 // The kind and the body of a SYN.
 fn put_syn(out: &mut BytesMut, syn: &Syn) -> Result<(), AllocError>
-    ensures written { OnOk result (out.new.items ≡ out.old.items ++ spelling.message (messages.Syn syn.now)) }
-    ensures short { OnOk result (length out.new.items ≤ length out.old.items + lengths.message_most) }
-    ensures fits { OnOk result (FitsSyn LAYOUT_1 syn.now) }
+    ensures { OnOk result (out.new.items ≡ out.old.items ++ spelling.message (messages.Syn syn.now)) }
 {
     out.put_u8(1)?;
     put_cluster(out, syn.cluster())?;
@@ -200,9 +159,7 @@ fn put_syn(out: &mut BytesMut, syn: &Syn) -> Result<(), AllocError>
 }
 
 fn put_ack(out: &mut BytesMut, ack: &Ack) -> Result<(), AllocError>
-    ensures written { OnOk result (out.new.items ≡ out.old.items ++ spelling.message (messages.Ack ack.now)) }
-    ensures short { OnOk result (length out.new.items ≤ length out.old.items + lengths.message_most) }
-    ensures fits { OnOk result (FitsAck LAYOUT_1 ack.now) }
+    ensures { OnOk result (out.new.items ≡ out.old.items ++ spelling.message (messages.Ack ack.now)) }
 {
     out.put_u8(2)?;
     put_requests(out, ack.requests())?;
@@ -211,9 +168,7 @@ fn put_ack(out: &mut BytesMut, ack: &Ack) -> Result<(), AllocError>
 }
 
 fn put_ack2(out: &mut BytesMut, ack2: &Ack2) -> Result<(), AllocError>
-    ensures written { OnOk result (out.new.items ≡ out.old.items ++ spelling.message (messages.Ack2 ack2.now)) }
-    ensures short { OnOk result (length out.new.items ≤ length out.old.items + lengths.message_most) }
-    ensures fits { OnOk result (FitsAck2 LAYOUT_1 ack2.now) }
+    ensures { OnOk result (out.new.items ≡ out.old.items ++ spelling.message (messages.Ack2 ack2.now)) }
 {
     out.put_u8(3)?;
     put_deltas(out, ack2.deltas())?;
@@ -221,9 +176,7 @@ fn put_ack2(out: &mut BytesMut, ack2: &Ack2) -> Result<(), AllocError>
 }
 
 fn put_message(out: &mut BytesMut, message: &Message) -> Result<(), AllocError>
-    ensures written { OnOk result (out.new.items ≡ out.old.items ++ spelling.message message.now) }
-    ensures short { OnOk result (length out.new.items ≤ length out.old.items + lengths.message_most) }
-    ensures fits { OnOk result (Fits LAYOUT_1 message.now) }
+    ensures { OnOk result (out.new.items ≡ out.old.items ++ spelling.message message.now) }
 {
     match message {
         Message::Syn(syn) => put_syn(out, syn)?,
@@ -233,10 +186,14 @@ fn put_message(out: &mut BytesMut, message: &Message) -> Result<(), AllocError>
     Ok(())
 }
 
-fn encode_in(alloc: Global, layout: &Layout, message: &Message) -> Result<Bytes, AllocError>
+/// As `encode`, in any layout that allows what messages hold. The message fits it, so its length fits into four bytes.
+pub fn encode_in(alloc: Global, layout: &Layout, message: &Message) -> Result<Bytes, AllocError>
+    requires layout { IsLayout layout.now }
+    requires written { IsWritten layout.now }
     ensures written { IfOk result (λ b. b ≡ spelling.frame layout.now message.now) }
-    ensures fits { OnOk result (Fits LAYOUT_1 message.now) }
+    ensures fits { Fits layout.now message.now }
 {
+    message_fits(layout, message);
     let mut inside = BytesMut::new(alloc);
     inside.put_u8(layout.byte)?;
     put_message(&mut inside, message)?;
@@ -248,11 +205,12 @@ fn encode_in(alloc: Global, layout: &Layout, message: &Message) -> Result<Bytes,
 
 /// The message as a frame: its length in four bytes, and what stands behind it.
 ///
-/// Refused for want of memory alone, since each message is short enough for its length.
+/// `AllocError` where memory is short, and no other refusal, since each message is short enough for its length: at most
+/// 4,231,430 bytes stand behind it (`laws::each_is_short`).
 pub fn encode(alloc: Global, message: &Message) -> Result<Bytes, AllocError>
     ensures written { IfOk result (λ b. b ≡ spelling.frame LAYOUT_1 message.now) }
     // So what is written is read again.
-    ensures fits { OnOk result (Fits LAYOUT_1 message.now) }
+    ensures fits { Fits LAYOUT_1 message.now }
 {
     encode_in(alloc, &LAYOUT_1, message)
 }

@@ -1,4 +1,4 @@
-//! The first fault of a frame, field by field.
+//! The first fault of a frame, field by field, from both sides of each limit.
 
 use super::*;
 use crate::tests::{bytes_of, fault_of};
@@ -6,13 +6,43 @@ use cg_types::Cause;
 use std::alloc::Global;
 use std::test::Fail;
 
+// A SYN of the cluster c1 with a digest of A.
+const SYN: &str = "00000016 0101 026331 01 0001 0a0000011b58 00000009 00000001";
+
+// A SYN with digests of A and B.
+const TWO_DIGESTS: &str =
+    "00000024 0101 026331 01 0002 0a0000011b58 00000009 00000001 0a0000021b58 00000009 00000001";
+
 // An ACK with a request of A, and a delta of B with nothing but its heartbeat.
 const ACK: &str =
     "00000027 0102 0001 0a0000011b58 00000009 00000000 0001 0a0000021b58 00000005 00000000 00000001 00";
 
+// An ACK with a request of A, and a delta of B above 2 that has one state, of key 1 at version 4.
+const ACK_WITH_STATE: &str =
+    "0000002f 0102 0001 0a0000011b58 00000009 00000000 0001 0a0000021b58 00000005 00000002 00000003 01 01 00000004 0001 4e";
+
+// An ACK with a request of A, and a delta of B with two empty states, of keys 1 and 2.
+const ACK_WITH_STATES: &str =
+    "00000035 0102 0001 0a0000011b58 00000009 00000000 0001 0a0000021b58 00000005 00000000 00000001 02 01 00000002 0000 02 00000002 0000";
+
+// An ACK with requests and deltas of A and B.
+const TWO_OF_EACH: &str =
+    "00000048 0102 0002 0a0000011b58 00000009 00000000 0a0000021b58 00000009 00000000 0002 0a0000011b58 00000009 00000000 00000001 00 0a0000021b58 00000009 00000000 00000001 00";
+
 // An ACK2 with a delta of A above 2 that has one state, of key 1 at version 4.
 const ACK2: &str =
     "0000001f 0103 0001 0a0000011b58 00000009 00000002 00000003 01 01 00000004 0001 4e";
+
+// An ACK2 with a delta of A above 2 that has its heartbeat alone.
+const ACK2_WITHOUT_STATE: &str = "00000017 0103 0001 0a0000011b58 00000009 00000002 00000003 00";
+
+// An ACK2 with a delta of A that has two empty states, of keys 1 and 2.
+const ACK2_WITH_STATES: &str =
+    "00000025 0103 0001 0a0000011b58 00000009 00000000 00000001 02 01 00000002 0000 02 00000002 0000";
+
+// An ACK2 with deltas of A and B.
+const TWO_DELTAS: &str =
+    "0000002a 0103 0002 0a0000011b58 00000009 00000000 00000001 00 0a0000021b58 00000009 00000000 00000001 00";
 
 // The frame with other bytes at a place.
 fn with_part(alloc: Global, frame: &str, place: usize, part: &str) -> Result<Vec<u8>, Fail> {
@@ -49,13 +79,173 @@ fn fault_within(alloc: Global, frame: &str, size: u8) -> Result<Option<(usize, C
     Ok(fault_of(alloc, bytes.as_slice()))
 }
 
+// Whether each shorter frame is Short at the last of these places that it reaches.
+fn is_short_in_each_field(
+    alloc: Global,
+    frame: &str,
+    size: u8,
+    starts: &[u8],
+) -> Result<bool, Fail> {
+    for shorter in 4..size {
+        let start = starts
+            .iter()
+            .rev()
+            .find(|start| **start <= shorter)
+            .copied();
+        let place = start.ok_or("a field")? as usize;
+        if fault_within(alloc, frame, shorter)? != Some((place, Cause::Short)) {
+            return Ok(false);
+        }
+    }
+    Ok(true)
+}
+
 #[test]
-fn faults_of_an_ack2(rt: HostRuntime) -> Result<(), Fail> {
+fn fields_of_a_syn_that_do_not_fit(rt: HostRuntime) -> Result<(), Fail> {
+    let starts = [4, 5, 6, 7, 9, 10, 12, 18, 22];
+    assert!(rt; is_short_in_each_field(rt.alloc(), SYN, 26, &starts)?);
+    Ok(())
+}
+
+#[test]
+fn fields_of_an_ack_that_do_not_fit(rt: HostRuntime) -> Result<(), Fail> {
+    let starts = [4, 5, 6, 8, 14, 18, 22, 24, 30, 34, 38, 42, 43, 44, 48, 50];
+    assert!(rt; is_short_in_each_field(rt.alloc(), ACK_WITH_STATE, 51, &starts)?);
+    Ok(())
+}
+
+#[test]
+fn fields_of_an_ack2_that_do_not_fit(rt: HostRuntime) -> Result<(), Fail> {
+    let starts = [4, 5, 6, 8, 14, 18, 22, 26, 27, 28, 32, 34];
+    assert!(rt; is_short_in_each_field(rt.alloc(), ACK2, 35, &starts)?);
+    Ok(())
+}
+
+#[test]
+fn faults_of_a_syn(rt: HostRuntime) -> Result<(), Fail> {
     for (place, part, fault) in [
         (4, "00", Some((4, Cause::Layout))),
         (4, "02", Some((4, Cause::Layout))),
         (5, "00", Some((5, Cause::Kind))),
         (5, "04", Some((5, Cause::Kind))),
+        (6, "00", Some((6, Cause::Name))),
+        (6, "30", Some((7, Cause::Short))),
+        (6, "31", Some((6, Cause::Name))),
+        (7, "1f", Some((7, Cause::Name))),
+        (7, "20", None),
+        (7, "7e", None),
+        (7, "7f", Some((7, Cause::Name))),
+        (8, "7f", Some((7, Cause::Name))),
+        (8, "80", Some((7, Cause::Name))),
+        (9, "00", None),
+        (9, "ff", None),
+        (10, "0101", Some((10, Cause::Count))),
+        (10, "0100", Some((26, Cause::Short))),
+        (10, "0000", Some((12, Cause::Rest))),
+    ] {
+        let found = fault_with(rt.alloc(), SYN, place, part)?;
+        assert_eq!(rt; found, fault, "{part} at {place}");
+    }
+    Ok(())
+}
+
+#[test]
+fn faults_of_a_digest(rt: HostRuntime) -> Result<(), Fail> {
+    for (place, part, fault) in [
+        (16, "0000", Some((12, Cause::Endpoint))),
+        (16, "0001", None),
+        (18, "00000000", Some((18, Cause::Generation))),
+        (18, "00000001", None),
+        (18, "7fffffff", None),
+        (18, "80000000", Some((18, Cause::Generation))),
+        (22, "00000000", Some((22, Cause::Version))),
+        (22, "00000001", None),
+        (22, "7fffffff", None),
+        (22, "80000000", Some((22, Cause::Version))),
+    ] {
+        let found = fault_with(rt.alloc(), SYN, place, part)?;
+        assert_eq!(rt; found, fault, "{part} at {place}");
+    }
+    Ok(())
+}
+
+#[test]
+fn faults_of_a_request(rt: HostRuntime) -> Result<(), Fail> {
+    for (place, part, fault) in [
+        (6, "0000", Some((8, Cause::Count))),
+        (6, "0100", Some((22, Cause::Order))),
+        (6, "0101", Some((6, Cause::Count))),
+        (12, "0000", Some((8, Cause::Endpoint))),
+        (12, "0001", None),
+        (14, "00000000", Some((14, Cause::Generation))),
+        (14, "00000001", None),
+        (14, "7fffffff", None),
+        (14, "80000000", Some((14, Cause::Generation))),
+        (18, "7fffffff", None),
+        (18, "80000000", Some((18, Cause::Version))),
+    ] {
+        let found = fault_with(rt.alloc(), ACK, place, part)?;
+        assert_eq!(rt; found, fault, "{part} at {place}");
+    }
+    Ok(())
+}
+
+#[test]
+fn faults_of_a_delta_in_an_ack(rt: HostRuntime) -> Result<(), Fail> {
+    for (place, part, fault) in [
+        (22, "0000", Some((24, Cause::Rest))),
+        (22, "0100", Some((51, Cause::Short))),
+        (22, "0101", Some((22, Cause::Count))),
+        (28, "0000", Some((24, Cause::Endpoint))),
+        (28, "0001", None),
+        (30, "00000000", Some((30, Cause::Generation))),
+        (30, "00000001", None),
+        (30, "7fffffff", None),
+        (30, "80000000", Some((30, Cause::Generation))),
+        (34, "00000000", None),
+        (34, "7fffffff", Some((44, Cause::Version))),
+        (34, "80000000", Some((34, Cause::Above))),
+        (38, "00000000", Some((38, Cause::Heartbeat))),
+        (38, "00000001", None),
+        (38, "7fffffff", None),
+        (38, "80000000", Some((38, Cause::Heartbeat))),
+    ] {
+        let found = fault_with(rt.alloc(), ACK_WITH_STATE, place, part)?;
+        assert_eq!(rt; found, fault, "{part} at {place}");
+    }
+    Ok(())
+}
+
+#[test]
+fn faults_of_a_state_in_an_ack(rt: HostRuntime) -> Result<(), Fail> {
+    for (place, part, fault) in [
+        (42, "00", Some((43, Cause::Rest))),
+        (42, "10", Some((51, Cause::Short))),
+        (42, "11", Some((42, Cause::Count))),
+        (43, "00", Some((43, Cause::Key))),
+        (43, "10", None),
+        (43, "11", Some((43, Cause::Key))),
+        (44, "00000000", Some((44, Cause::Version))),
+        (44, "00000002", Some((44, Cause::Version))),
+        (44, "00000003", None),
+        (44, "80000000", Some((44, Cause::Version))),
+        (48, "0000", Some((50, Cause::Rest))),
+        (48, "0400", Some((50, Cause::Short))),
+        (48, "0401", Some((48, Cause::Text))),
+        (50, "1f", Some((50, Cause::Text))),
+        (50, "20", None),
+        (50, "7e", None),
+        (50, "7f", Some((50, Cause::Text))),
+    ] {
+        let found = fault_with(rt.alloc(), ACK_WITH_STATE, place, part)?;
+        assert_eq!(rt; found, fault, "{part} at {place}");
+    }
+    Ok(())
+}
+
+#[test]
+fn faults_of_an_ack2(rt: HostRuntime) -> Result<(), Fail> {
+    for (place, part, fault) in [
         (6, "0101", Some((6, Cause::Count))),
         (6, "0100", Some((35, Cause::Short))),
         (6, "0000", Some((8, Cause::Rest))),
@@ -71,7 +261,6 @@ fn faults_of_an_ack2(rt: HostRuntime) -> Result<(), Fail> {
         (18, "7fffffff", Some((28, Cause::Version))),
         (18, "80000000", Some((18, Cause::Above))),
         (22, "00000000", Some((22, Cause::Heartbeat))),
-        (22, "00000001", None),
         (22, "7fffffff", None),
         (22, "80000000", Some((22, Cause::Heartbeat))),
     ] {
@@ -111,105 +300,82 @@ fn faults_of_a_state(rt: HostRuntime) -> Result<(), Fail> {
     Ok(())
 }
 
+// A heartbeat that is not above `above` is no fault beside a state; alone, it leaves the delta empty.
 #[test]
-fn faults_of_a_request(rt: HostRuntime) -> Result<(), Fail> {
-    for (place, part, fault) in [
-        (6, "0101", Some((6, Cause::Count))),
-        (6, "0002", Some((22, Cause::Order))),
-        (6, "0000", Some((8, Cause::Count))),
-        (12, "0000", Some((8, Cause::Endpoint))),
-        (14, "00000000", Some((14, Cause::Generation))),
-        (14, "80000000", Some((14, Cause::Generation))),
-        (18, "7fffffff", None),
-        (18, "80000000", Some((18, Cause::Version))),
-        (22, "0101", Some((22, Cause::Count))),
-        (22, "0000", Some((24, Cause::Rest))),
+fn faults_of_a_heartbeat(rt: HostRuntime) -> Result<(), Fail> {
+    for (frame, place, part, fault) in [
+        (ACK2, 22, "00000001", None),
+        (ACK2, 22, "00000002", None),
+        (ACK2_WITHOUT_STATE, 22, "00000001", Some((8, Cause::Empty))),
+        (ACK2_WITHOUT_STATE, 22, "00000002", Some((8, Cause::Empty))),
+        (ACK2_WITHOUT_STATE, 22, "00000003", None),
+        (ACK, 34, "00000001", Some((24, Cause::Empty))),
+        (ACK, 34, "0000000100000002", None),
+        (ACK, 34, "0000000200000001", Some((24, Cause::Empty))),
     ] {
-        let found = fault_with(rt.alloc(), ACK, place, part)?;
+        let found = fault_with(rt.alloc(), frame, place, part)?;
         assert_eq!(rt; found, fault, "{part} at {place}");
     }
     Ok(())
 }
 
 #[test]
-fn fields_that_do_not_fit(rt: HostRuntime) -> Result<(), Fail> {
-    let starts = [4, 5, 6, 8, 14, 18, 22, 26, 27, 28, 32, 34];
-    for size in 4..35 {
-        let start = starts.iter().rev().find(|start| **start <= size).copied();
-        let place = start.ok_or("a field")? as usize;
-        assert_eq!(rt;
-            fault_within(rt.alloc(), ACK2, size)?,
-            Some((place, Cause::Short))
-        );
+fn endpoints_rise(rt: HostRuntime) -> Result<(), Fail> {
+    for (frame, place) in [
+        (TWO_DIGESTS, 26),
+        (TWO_OF_EACH, 22),
+        (TWO_OF_EACH, 57),
+        (TWO_DELTAS, 27),
+    ] {
+        for (endpoint, fault) in [
+            ("0a0000011b57", Some((place, Cause::Order))),
+            ("0a0000011b58", Some((place, Cause::Order))),
+            ("0a0000011b59", None),
+            ("090000021b59", Some((place, Cause::Order))),
+            ("0a0000010000", Some((place, Cause::Endpoint))),
+        ] {
+            let found = fault_with(rt.alloc(), frame, place, endpoint)?;
+            assert_eq!(rt; found, fault, "{endpoint} at {place}");
+        }
     }
     Ok(())
 }
 
 #[test]
-fn lists_rise(rt: HostRuntime) -> Result<(), Fail> {
-    for (frame, place, cause) in [
-        (
-            "00000022 0102 0002 0a0000011b58 00000009 00000000 0a0000011b58 00000009 00000000 0000",
-            22,
-            Cause::Order,
-        ),
-        (
-            "00000022 0102 0002 0a0000021b58 00000009 00000000 0a0000011b58 00000009 00000000 0000",
-            22,
-            Cause::Order,
-        ),
-        (
-            "00000022 0102 0002 0a0000011b58 00000009 00000000 0a0000010000 00000009 00000000 0000",
-            22,
-            Cause::Endpoint,
-        ),
-        (
-            "0000002a 0103 0002 0a0000011b58 00000009 00000000 00000001 00 0a0000011b58 00000009 00000000 00000001 00",
-            27,
-            Cause::Order,
-        ),
-        (
-            "00000025 0103 0001 0a0000011b58 00000009 00000000 00000001 02 01 00000002 0000 01 00000002 0000",
-            34,
-            Cause::Order,
-        ),
-        (
-            "00000025 0103 0001 0a0000011b58 00000009 00000000 00000001 02 02 00000002 0000 01 00000002 0000",
-            34,
-            Cause::Order,
-        ),
-        (
-            "00000025 0103 0001 0a0000011b58 00000009 00000000 00000001 02 02 00000002 0000 11 00000002 0000",
-            34,
-            Cause::Key,
-        ),
-        (
-            "0000001f 0103 0001 0a0000011b58 00000009 00000002 00000003 01 01 00000002 0001 4e",
-            28,
-            Cause::Version,
-        ),
-        (
-            "00000017 0103 0001 0a0000011b58 00000009 00000001 00000001 00",
-            8,
-            Cause::Empty,
-        ),
-        (
-            "00000017 0103 0001 0a0000010000 00000009 00000000 00000001 00",
-            8,
-            Cause::Endpoint,
-        ),
+fn keys_rise(rt: HostRuntime) -> Result<(), Fail> {
+    for (frame, place) in [(ACK_WITH_STATES, 50), (ACK2_WITH_STATES, 34)] {
+        for (key, fault) in [
+            ("00", Some((place, Cause::Key))),
+            ("01", Some((place, Cause::Order))),
+            ("02", None),
+            ("10", None),
+            ("11", Some((place, Cause::Key))),
+        ] {
+            let found = fault_with(rt.alloc(), frame, place, key)?;
+            assert_eq!(rt; found, fault, "{key} at {place}");
+        }
+    }
+    for (frame, place) in [(ACK_WITH_STATES, 43), (ACK2_WITH_STATES, 27)] {
+        let found = fault_with(rt.alloc(), frame, place, "03")?;
+        assert_eq!(rt; found, Some((place + 7, Cause::Order)));
+    }
+    Ok(())
+}
+
+#[test]
+fn bytes_behind_the_last_field(rt: HostRuntime) -> Result<(), Fail> {
+    for (frame, place) in [
+        ("00000009 0101 026331 01 0000 00", 12),
+        ("00000007 0102 0000 0000 00", 10),
+        ("00000005 0103 0000 00", 8),
         (
             "00000018 0103 0001 0a0000011b58 00000009 00000000 00000001 00 00",
             27,
-            Cause::Rest,
         ),
     ] {
         let bytes = bytes_of(rt.alloc(), frame)?;
-        assert_eq!(rt;
-            fault_of(rt.alloc(), bytes.as_slice()),
-            Some((place, cause)),
-            "{frame}"
-        );
+        let found = fault_of(rt.alloc(), bytes.as_slice());
+        assert_eq!(rt; found, Some((place, Cause::Rest)), "{frame}");
     }
     Ok(())
 }

@@ -1,12 +1,14 @@
 //! Bytes that come in pieces, cut into messages.
 
-ghost use Rattle.std.specs.Prelude.{◌≡◌, ℕ, ◌<◌, ◌≤◌, ◌+◌, List, [], ◌++◌, length, drop, IfOk, IfErr, OnErr, OnOk, IsOk, IsErr};
+ghost use Rattle.std.specs.Prelude.{◌≡◌, ◌<◌, ◌≤◌, [], ◌++◌, length, IfOk, IfErr, OnErr, OnOk, IsOk, IsErr};
 ghost use Rattle.cg_types.specs.declared.fault.Fault.TheVariants as faults;
 ghost use Rattle.cg_frames.specs.declared.layout.TheConstants.{LAYOUT_1};
+ghost use Rattle.cg_frames.specs.Layouts.{IsRead};
 ghost use Rattle.cg_frames.specs.Feeding as spec;
 ghost use Rattle.cg_frames.specs.Laws.{AreBytes};
 
-use crate::decoding::decode;
+use crate::decoding::decode_in;
+use crate::layout::{LAYOUT_1, Layout};
 use cg_exchange::Message;
 use cg_types::Fault;
 use std::alloc::Global;
@@ -29,8 +31,9 @@ struct Cutting {
 }
 
 // Cuts off all messages at the front. Only memory may run out.
-fn cut(alloc: Global, bytes: &[u8]) -> Result<Cutting, Fault>
-    ensures ok { IfOk result (λ c. spec.IsCut LAYOUT_1 bytes.now c.fed.messages.items c.taken c.fed.fault) }
+fn cut(alloc: Global, layout: &Layout, bytes: &[u8]) -> Result<Cutting, Fault>
+    requires { IsRead layout.now }
+    ensures ok { IfOk result (λ c. spec.IsCut layout.now bytes.now c.fed.messages.items c.taken c.fed.fault) }
     ensures err { IfErr result (λ f. f ≡ faults.OutOfMemory) }
     ensures bytes { AreBytes bytes.now }
 {
@@ -38,7 +41,7 @@ fn cut(alloc: Global, bytes: &[u8]) -> Result<Cutting, Fault>
     let mut taken: usize = 0;
     loop {
         let (_, rest) = bytes.split_at(taken);
-        match decode(alloc, rest) {
+        match decode_in(alloc, layout, rest) {
             Ok(Some((message, size))) => {
                 messages.push(message)?;
                 taken += size;
@@ -63,8 +66,9 @@ fn cut(alloc: Global, bytes: &[u8]) -> Result<Cutting, Fault>
 }
 
 // Appends the piece and cuts off all messages; a refusal changes nothing.
-fn extend(alloc: Global, held: &mut Vec<u8>, piece: &[u8]) -> Result<Fed, Fault>
-    ensures ok { IfOk result (λ fed. spec.frames_in LAYOUT_1 (held.old.items ++ piece.now)
+fn extend(alloc: Global, layout: &Layout, held: &mut Vec<u8>, piece: &[u8]) -> Result<Fed, Fault>
+    requires { IsRead layout.now }
+    ensures ok { IfOk result (λ fed. spec.frames_in layout.now (held.old.items ++ piece.now)
         ≡ record { messages = fed.messages.items; rest = spec.standing_of held.new.items fed.fault }) }
     ensures bytes { OnOk result (AreBytes (held.old.items ++ piece.now)) }
     ensures same { OnErr result (held.new.items ≡ held.old.items) }
@@ -72,7 +76,7 @@ fn extend(alloc: Global, held: &mut Vec<u8>, piece: &[u8]) -> Result<Fed, Fault>
 {
     let before = held.len();
     held.extend_from_slice(piece)?;
-    let Ok(cutting) = cut(alloc, held.as_slice()) else {
+    let Ok(cutting) = cut(alloc, layout, held.as_slice()) else {
         held.truncate(before);
         return Err(Fault::OutOfMemory);
     };
@@ -122,7 +126,7 @@ impl Feed {
 
     /// Takes the next piece of the stream, of any length, and gives the messages that are whole now.
     ///
-    /// What was held and the piece are the spellings of these messages, then a rest: what is held from now on, or
+    /// What was held and the piece are the spellings of these messages, each of which fits, then a rest: what is held from now on, or
     /// bytes that begin with the fault. After a fault each piece is dropped, and gives no message and that fault. A
     /// piece no longer than `wants` gives at most one message, and if it gives one, nothing is held after it.
     /// `OutOfMemory` leaves the feed as it was; there is no other refusal, and after a fault there is none.
@@ -142,7 +146,7 @@ impl Feed {
                 fault: Some(fault),
             });
         }
-        let fed = extend(self.alloc, &mut self.held, piece)?;
+        let fed = extend(self.alloc, &LAYOUT_1, &mut self.held, piece)?;
         self.fault = fed.fault;
         Ok(fed)
     }

@@ -2,19 +2,18 @@
 
 use cg_types::{LENGTH_LIMIT, MEMBER_LIMIT, TEXT_LIMIT};
 
-/// What tells one layout of frames from another.
+/// What tells one layout of frames from another: its byte and its limits. The fields of a frame, and their order, are
+/// the same in each.
 #[derive(Clone, Copy, Debug, PartialEq, Eq)]
 pub struct Layout {
-    /// The byte that names the layout.
+    /// The byte that names the layout, behind the length.
     pub byte: u8,
-    /// Members of a list.
+    /// The most members of a list; the count has two bytes.
     pub members: usize,
-    /// Bytes of a state's text.
+    /// The most bytes of a state's text; its length has two bytes.
     pub text: usize,
-    /// Bytes after the length.
+    /// The most bytes after the length, which has four bytes.
     pub length: usize,
-    /// Whether a state may be a mark.
-    pub marks: bool,
 }
 
 /// The layout of this version.
@@ -23,5 +22,4 @@ pub const LAYOUT_1: Layout = Layout {
     members: MEMBER_LIMIT,
     text: TEXT_LIMIT,
     length: LENGTH_LIMIT,
-    marks: false,
 };

@@ -1,6 +1,6 @@
 //! Lists of digests and requests, which rise: checked with no memory, and read.
 
-ghost use Rattle.std.specs.Prelude.{◌≡◌, None};
+ghost use Rattle.std.specs.Prelude.{None};
 ghost use Rattle.cg_frames.specs.Reading as spec;
 
 use crate::misread::{Misread, ReadError};

@@ -1,18 +1,18 @@
 //! What stands behind the length of a frame: checked with no memory, and read.
 
-ghost use Rattle.std.specs.Prelude.{◌≡◌, ◌≤◌, Ok, IfOk};
-ghost use Rattle.cg_types.specs.declared.limits.TheConstants.{MEMBER_LIMIT, TEXT_LIMIT};
+ghost use Rattle.std.specs.Prelude.{◌≡◌, Ok};
 ghost use Rattle.cg_types.specs.Text.{cluster_of as cluster_due};
 ghost use Rattle.cg_exchange.specs.declared.message.Message.TheVariants as kinds;
+ghost use Rattle.cg_frames.specs.Layouts.{IsRead};
 ghost use Rattle.cg_frames.specs.Reading as spec;
 
 use crate::deltas::{check_deltas, deltas_of};
 use crate::layout::Layout;
 use crate::lists::{check_digests, check_requests, digests_of, requests_of};
 use crate::misread::{Misread, ReadError};
-use crate::reader::Reader;
+use crate::reader::{Kind, Reader};
 use cg_exchange::{Ack, Ack2, Message, OwnerDelta, Request, Syn};
-use cg_types::{Cause, Cluster, Fault};
+use cg_types::{Cluster, Fault};
 use std::alloc::Global;
 
 #[tactic(auto, unfolding(crate::specs::Reading::syn_at))]
@@ -84,22 +84,11 @@ pub fn check(layout: &Layout, inside: &[u8]) -> Result<(), Misread>
     ensures { spec.Checks result (spec.inside_at layout.now inside.now) }
 {
     let mut reader = Reader::new(inside);
-    let left = reader.left();
-    if reader.byte()? != layout.byte {
-        return Err(Misread {
-            cause: Cause::Layout,
-            left,
-        });
-    }
-    let left = reader.left();
-    match reader.byte()? {
-        1 => check_whole_syn(layout, &mut reader),
-        2 => check_whole_ack(layout, &mut reader),
-        3 => check_whole_ack2(layout, &mut reader),
-        _ => Err(Misread {
-            cause: Cause::Kind,
-            left,
-        }),
+    reader.layout(layout)?;
+    match reader.kind()? {
+        Kind::Syn => check_whole_syn(layout, &mut reader),
+        Kind::Ack => check_whole_ack(layout, &mut reader),
+        Kind::Ack2 => check_whole_ack2(layout, &mut reader),
     }
 }
 
@@ -116,7 +105,7 @@ fn cluster_of(alloc: Global, name: &str, partitioner: u8) -> Result<Cluster, Rea
 
 #[tactic(auto, unfolding(crate::specs::Reading::syn_at))]
 fn syn_of(alloc: Global, layout: &Layout, reader: &mut Reader<'_>) -> Result<Syn, ReadError>
-    requires { layout.now.members ≤ MEMBER_LIMIT }
+    requires { IsRead layout.now }
     ensures { spec.Gives (λ s. s) result reader.new (spec.syn_at layout.now reader.old) }
 {
     let name = reader.name()?;
@@ -146,7 +135,7 @@ fn listed_deltas_of(
     layout: &Layout,
     reader: &mut Reader<'_>,
 ) -> Result<Vec<OwnerDelta>, ReadError>
-    requires { layout.now.text ≤ TEXT_LIMIT }
+    requires { IsRead layout.now }
     ensures { spec.Gives (λ v. v.items) result reader.new (spec.listed_deltas_at layout.now reader.old) }
 {
     let count = reader.count(layout)?;
@@ -155,8 +144,7 @@ fn listed_deltas_of(
 
 #[tactic(auto, unfolding(crate::specs::Reading::ack_at))]
 fn ack_of(alloc: Global, layout: &Layout, reader: &mut Reader<'_>) -> Result<Ack, ReadError>
-    requires members { layout.now.members ≤ MEMBER_LIMIT }
-    requires text { layout.now.text ≤ TEXT_LIMIT }
+    requires { IsRead layout.now }
     ensures { spec.Gives (λ a. a) result reader.new (spec.ack_at layout.now reader.old) }
 {
     let requests = listed_requests_of(alloc, layout, reader)?;
@@ -169,8 +157,7 @@ fn ack_of(alloc: Global, layout: &Layout, reader: &mut Reader<'_>) -> Result<Ack
 
 #[tactic(auto, unfolding(crate::specs::Reading::ack2_at))]
 fn ack2_of(alloc: Global, layout: &Layout, reader: &mut Reader<'_>) -> Result<Ack2, ReadError>
-    requires members { layout.now.members ≤ MEMBER_LIMIT }
-    requires text { layout.now.text ≤ TEXT_LIMIT }
+    requires { IsRead layout.now }
     ensures { spec.Gives (λ a. a) result reader.new (spec.ack2_at layout.now reader.old) }
 {
     let deltas = listed_deltas_of(alloc, layout, reader)?;
@@ -181,7 +168,7 @@ fn ack2_of(alloc: Global, layout: &Layout, reader: &mut Reader<'_>) -> Result<Ac
 }
 
 fn whole_syn_of(alloc: Global, layout: &Layout, reader: &mut Reader<'_>) -> Result<Syn, ReadError>
-    requires { layout.now.members ≤ MEMBER_LIMIT }
+    requires { IsRead layout.now }
     ensures { spec.GivesWhole (λ s. s) result (spec.ended (spec.syn_at layout.now reader.old)) }
 {
     let syn = syn_of(alloc, layout, reader)?;
@@ -190,8 +177,7 @@ fn whole_syn_of(alloc: Global, layout: &Layout, reader: &mut Reader<'_>) -> Resu
 }
 
 fn whole_ack_of(alloc: Global, layout: &Layout, reader: &mut Reader<'_>) -> Result<Ack, ReadError>
-    requires members { layout.now.members ≤ MEMBER_LIMIT }
-    requires text { layout.now.text ≤ TEXT_LIMIT }
+    requires { IsRead layout.now }
     ensures { spec.GivesWhole (λ a. a) result (spec.ended (spec.ack_at layout.now reader.old)) }
 {
     let ack = ack_of(alloc, layout, reader)?;
@@ -200,8 +186,7 @@ fn whole_ack_of(alloc: Global, layout: &Layout, reader: &mut Reader<'_>) -> Resu
 }
 
 fn whole_ack2_of(alloc: Global, layout: &Layout, reader: &mut Reader<'_>) -> Result<Ack2, ReadError>
-    requires members { layout.now.members ≤ MEMBER_LIMIT }
-    requires text { layout.now.text ≤ TEXT_LIMIT }
+    requires { IsRead layout.now }
     ensures { spec.GivesWhole (λ a. a) result (spec.ended (spec.ack2_at layout.now reader.old)) }
 {
     let ack2 = ack2_of(alloc, layout, reader)?;
@@ -212,26 +197,14 @@ fn whole_ack2_of(alloc: Global, layout: &Layout, reader: &mut Reader<'_>) -> Res
 /// The message that stands behind the length.
 #[tactic(auto, unfolding(crate::specs::Reading::inside_at))]
 pub fn read(alloc: Global, layout: &Layout, inside: &[u8]) -> Result<Message, ReadError>
-    requires members { layout.now.members ≤ MEMBER_LIMIT }
-    requires text { layout.now.text ≤ TEXT_LIMIT }
+    requires { IsRead layout.now }
     ensures { spec.GivesWhole (λ m. m) result (spec.inside_at layout.now inside.now) }
 {
     let mut reader = Reader::new(inside);
-    let left = reader.left();
-    if reader.byte()? != layout.byte {
-        return Err(ReadError::Misread(Misread {
-            cause: Cause::Layout,
-            left,
-        }));
-    }
-    let left = reader.left();
-    match reader.byte()? {
-        1 => Ok(Message::Syn(whole_syn_of(alloc, layout, &mut reader)?)),
-        2 => Ok(Message::Ack(whole_ack_of(alloc, layout, &mut reader)?)),
-        3 => Ok(Message::Ack2(whole_ack2_of(alloc, layout, &mut reader)?)),
-        _ => Err(ReadError::Misread(Misread {
-            cause: Cause::Kind,
-            left,
-        })),
+    reader.layout(layout)?;
+    match reader.kind()? {
+        Kind::Syn => Ok(Message::Syn(whole_syn_of(alloc, layout, &mut reader)?)),
+        Kind::Ack => Ok(Message::Ack(whole_ack_of(alloc, layout, &mut reader)?)),
+        Kind::Ack2 => Ok(Message::Ack2(whole_ack2_of(alloc, layout, &mut reader)?)),
     }
 }

@@ -15,6 +15,14 @@ use cg_types::{
 };
 use std::marker::Model;
 
+/// The kinds of messages, which the numbers 1, 2 and 3 name.
+#[derive(Clone, Copy, Debug, PartialEq, Eq)]
+pub enum Kind {
+    Syn,
+    Ack,
+    Ack2,
+}
+
 /// What is left of a frame.
 #[derive(Drop)]
 pub struct Reader<'a> {
@@ -76,6 +84,37 @@ impl<'a> Reader<'a> {
     {
         let front = self.bytes(1)?;
         Ok(u8::from_be_bytes([front[0]]))
+    }
+
+    /// The byte that names the layout.
+    pub fn layout(&mut self, layout: &Layout) -> Result<u8, Misread>
+        ensures { spec.Reads (λ x. x) result self.new (spec.layout_at layout.now self.old) }
+    {
+        let left = self.left();
+        let byte = self.byte()?;
+        if byte != layout.byte {
+            return Err(Misread {
+                cause: Cause::Layout,
+                left,
+            });
+        }
+        Ok(byte)
+    }
+
+    /// The kind of the message.
+    pub fn kind(&mut self) -> Result<Kind, Misread>
+        ensures { spec.Reads (λ x. x) result self.new (spec.kind_at self.old) }
+    {
+        let left = self.left();
+        match self.byte()? {
+            1 => Ok(Kind::Syn),
+            2 => Ok(Kind::Ack),
+            3 => Ok(Kind::Ack2),
+            _ => Err(Misread {
+                cause: Cause::Kind,
+                left,
+            }),
+        }
     }
 
     fn two(&mut self) -> Result<u16, Misread>

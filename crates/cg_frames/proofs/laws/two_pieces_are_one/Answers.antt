@@ -1,6 +1,5 @@
-use Rattle.cg_frames.specs.declared.layout.TheConstants.{LAYOUT_1}
 use Rattle.cg_frames.proofs.FeedingLemmas.{fed_twice}
 use Rattle.cg_frames.proofs.laws.two_pieces_are_one.Goals as goal
 
 pub returns : goal.returns
-returns c = fed_twice LAYOUT_1
+returns c = fed_twice
