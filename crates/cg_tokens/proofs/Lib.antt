@@ -3,3 +3,4 @@ pub mod TextLemmas
 pub mod TokenTextLemmas
 pub mod RingLemmas
 pub mod ClaimLemmas
+pub mod RingLaws

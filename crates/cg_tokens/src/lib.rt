@@ -5,6 +5,7 @@
 #![tactic(auto)]
 
 mod claims;
+pub mod laws;
 mod limits;
 mod ring;
 #[cfg(test)]

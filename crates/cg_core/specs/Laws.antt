@@ -1,0 +1,94 @@
+-- What holds of the steps of a node.
+use Rattle.std.specs.Prelude.{◌≡◌, ◌≤◌, ℕ, Bool, true, false, List, [], ◌∷◌, Some, Ok}
+use Rattle.std.specs.FinMap as map
+use Rattle.cg_types.specs.Rising.{Rises}
+use Rattle.cg_types.specs.declared.limits.TheConstants.{MEMBER_LIMIT}
+use Rattle.cg_shared.specs.Rows.{keys_of}
+use Rattle.cg_entry.specs.Entry.{newest, beaten, with_state}
+use Rattle.cg_table.specs.Values.{TableValue, IsTable}
+use Rattle.cg_table.specs.Own.{own_entry, with_own}
+use Rattle.cg_exchange.specs.declared.owner_delta.OwnerDelta.{OwnerDelta}
+use Rattle.cg_exchange.specs.Taking.{table_after, held_after}
+use Rattle.cg_core.specs.declared.event.Event.{Event}
+use Rattle.cg_core.specs.declared.event.Event.TheVariants as event
+use Rattle.cg_core.specs.declared.reply.Reply.{Reply}
+use Rattle.cg_core.specs.declared.reply.Reply.TheVariants as reply
+use Rattle.cg_core.specs.Values.{SettingsValue, NodeValue}
+use Rattle.cg_core.specs.Step.{begun, node_step, replay}
+use Rattle.cg_core.specs.Puts.{puts, with_puts, keep_order}
+
+-- The table is one that a member may hold: its own endpoint is held, and few are.
+abbrev pub IsSmall : NodeValue → Type 0
+IsSmall n = IsTable n.table.own n.table.entries
+
+-- The event leads from one node to another with this reply.
+abbrev pub Leads : NodeValue → Event → NodeValue → Reply → Type 0
+Leads n e after answer = node_step n e ≡ Ok (after, answer)
+
+-- The table after deltas for which there was room.
+pub record IsAfter (before : TableValue) (deltas : List OwnerDelta) (after : TableValue) : Type 0 where
+  pub is : after ≡ table_after before deltas
+  pub room : held_after before deltas ≤ MEMBER_LIMIT
+
+-- what an event leaves of a table
+abbrev pub TableAfter : TableValue → Event → TableValue → Type 0
+TableAfter t event.Beat after = after ≡ with_own (beaten (own_entry t)) t
+TableAfter t (event.Set key text) after = after ≡ with_own (with_state key text (own_entry t)) t
+TableAfter t (event.Tick now words) after = after ≡ with_own (beaten (own_entry t)) t
+TableAfter t event.Opening after = after ≡ t
+TableAfter t (event.Syn syn) after = after ≡ t
+TableAfter t (event.Ack now ack) after = IsAfter t ack.deltas after
+TableAfter t (event.Ack2 now ack2) after = IsAfter t ack2.deltas after
+
+-- The table part of a step is the rule of tables and messages.
+abbrev pub TablesGoByTheirRules : Type 0
+TablesGoByTheirRules = (n : NodeValue) (e : Event) (after : NodeValue) (answer : Reply) → Leads n e after answer → TableAfter n.table e after.table
+
+-- What the puts between two tables do.
+pub record ArePuts (before after : TableValue) : Type 0 where
+  -- they lead from the one to the other
+  pub lead : with_puts before (puts before after) ≡ after
+  -- their owners rise
+  pub rise : Rises (keys_of (puts before after))
+  -- each is later than what stands, and the own one goes on from it
+  pub order : keep_order before (puts before after) ≡ true
+
+-- The puts of a step keep their order, and lead from its old table to its new one.
+abbrev pub PutsKeepTheirOrder : Type 0
+PutsKeepTheirOrder = (n : NodeValue) (e : Event) (after : NodeValue) (answer : Reply) → IsSmall n → Leads n e after answer → ArePuts n.table after.table
+
+-- What a Set puts.
+pub record PutsIts (key : ℕ) (text : List ℕ) (n after : NodeValue) (answer : Reply) : Type 0 where
+  pub version : ℕ
+  -- the reply has the version
+  pub told : answer ≡ reply.Done version
+  -- the own entry, and nothing else
+  pub only : puts n.table after.table ≡ (n.table.own, with_state key text (own_entry n.table)) ∷ []
+  -- it has the key's text at that version, which is its newest
+  pub given : map.get (with_state key text (own_entry n.table)).states key ≡ Some (record { text = text; version = version })
+  pub is_newest : newest (with_state key text (own_entry n.table)) ≡ version
+
+-- A Set puts the own entry, with the key's text at the reply's version.
+abbrev pub SetsPutTheirText : Type 0
+SetsPutTheirText = (n : NodeValue) (key : ℕ) (text : List ℕ) (after : NodeValue) (answer : Reply) → IsSmall n → Leads n (event.Set key text) after answer → PutsIts key text n after answer
+
+-- the events that change the own entry
+abbrev pub is_own_change : Event → Bool
+is_own_change event.Beat = true
+is_own_change (event.Set key text) = true
+is_own_change (event.Tick now words) = true
+is_own_change event.Opening = false
+is_own_change (event.Syn syn) = false
+is_own_change (event.Ack now ack) = false
+is_own_change (event.Ack2 now ack2) = false
+
+-- No other event changes the own entry.
+abbrev pub OnlyOwnEventsChangeTheOwnEntry : Type 0
+OnlyOwnEventsChangeTheOwnEntry =
+    (n : NodeValue) (e : Event) (after : NodeValue) (answer : Reply) → Leads n e after answer → is_own_change e ≡ false → map.get after.table.entries after.table.own ≡ map.get n.table.entries n.table.own
+
+-- A node that starts is small, and stays so, whatever comes.
+pub record NodesStaySmall : Type 0 where
+  pub starts : (own generation : ℕ) (settings : SettingsValue) → IsSmall (begun own generation settings)
+  pub steps : (n : NodeValue) (e : Event) (after : NodeValue) (answer : Reply) → IsSmall n → Leads n e after answer → IsSmall after
+  pub runs : (n : NodeValue) (events : List Event) (after : NodeValue) (answers : List Reply) → IsSmall n → replay n events ≡ Ok (after, answers) → IsSmall after

@@ -1,0 +1,8 @@
+pub mod Values
+pub mod Codes
+pub mod Windows
+pub mod Round
+pub mod Step
+pub mod Parts
+pub mod Puts
+pub mod Laws

@@ -1,0 +1,46 @@
+-- What a step changes in a table.
+use Rattle.std.specs.Prelude.{ℕ, ◌==◌, Bool, true, false, ◌&&◌, ◌||◌, not, nat_le, List, [], ◌∷◌, Option, Some, None}
+use Rattle.std.specs.List.{list_all}
+use Rattle.std.specs.FinMap as map
+use Rattle.cg_shared.specs.Map.{put_each}
+use Rattle.cg_entry.specs.Versioned.{Versioned, States}
+use Rattle.cg_entry.specs.Values.{EntryValue}
+use Rattle.cg_table.specs.Values.{TableValue}
+use Rattle.cg_table.specs.Merge.{is_ahead, later_entries}
+
+-- The puts that lead from a table to a later one: the owners whose entry changed, rising, each with the whole new entry. An entry changes only to a later one.
+abbrev pub puts : TableValue → TableValue → List (ℕ × EntryValue)
+puts before after = later_entries before.entries after.entries
+
+-- the table with an entry put
+abbrev pub with_put : TableValue → ℕ × EntryValue → TableValue
+with_put t put = record { own = t.own; entries = map.insert t.entries put.0 put.1 }
+
+-- the table with entries put, one after the other
+abbrev pub with_puts : TableValue → List (ℕ × EntryValue) → TableValue
+with_puts t ps = record { own = t.own; entries = put_each ps t.entries }
+
+-- whether something is held, and not at a smaller version
+abbrev pub is_held_from : ℕ → Option Versioned → Bool
+is_held_from version None = false
+is_held_from version (Some s) = nat_le version s.version
+
+-- whether each key of the old states is among the new ones, and not at a smaller version
+abbrev pub keeps_keys : States → States → Bool
+keeps_keys old new = list_all (λ s. is_held_from s.1.version (map.get new s.0)) (map.entries old)
+
+-- whether an owner's entry goes on from what is held: in the same generation, and keeping its keys
+abbrev pub goes_on : Option EntryValue → EntryValue → Bool
+goes_on None new = false
+goes_on (Some old) new = (new.generation == old.generation) && keeps_keys old.states new.states
+
+-- whether a put is later than what the table holds, and goes on from it where it is the table's own
+abbrev pub is_in_order : TableValue → ℕ × EntryValue → Bool
+is_in_order t put =
+    let held = map.get t.entries put.0 in
+    is_ahead held put.1 && (not (put.0 == t.own) || goes_on held put.1)
+
+-- whether puts keep the order, one after the other
+abbrev pub keep_order : TableValue → List (ℕ × EntryValue) → Bool
+keep_order t [] = true
+keep_order t (put ∷ ps) = is_in_order t put && keep_order (with_put t put) ps
