@@ -1,0 +1,221 @@
+-- Exchanges between nodes that run.
+use Rattle.std.proofs.Common.{◌≡◌, ℕ, List, [], ◌∷◌, ◌++◌, length, refl, sym, ◌∙◌, ap, subst, arith, true, Option, Some, None, Result, Ok, Err, max}
+use Rattle.std.specs.Prelude.{is_some}
+use Rattle.std.specs.Option.{option_map}
+use Rattle.std.specs.Cmp.{nat_cmp_total}
+use Rattle.std.specs.FinMap as map
+use Rattle.std.specs.FinMap.{same_map, nat_cmp-IsAntisymmetric}
+use Rattle.cg_entry.specs.Values.{EntryValue}
+use Rattle.cg_entry.specs.History.{at_place}
+use Rattle.cg_table.specs.Values.{Entries}
+use Rattle.cg_table.specs.Merge.{merged}
+use Rattle.cg_table.specs.Spelling.{SpellsPlaces}
+use Rattle.cg_table.proofs.MergeLemmas.{merge_is_the_join}
+use Rattle.cg_exchange.specs.declared.message.Message.{Message}
+use Rattle.cg_exchange.specs.PlaceMessages.{PlaceMessage, Stand}
+use Rattle.cg_tokens.specs.Ring.{ring}
+use Rattle.cg_types.specs.Text.{ClusterValue}
+use Rattle.cg_types.specs.declared.fault.Fault.{Fault}
+use Rattle.cg_core.specs.Values.{NodeValue}
+use Rattle.cg_world.specs.World.{World, runs, act}
+use Rattle.cg_world.specs.World as world
+use Rattle.cg_world.specs.Join.{Within}
+use Rattle.cg_world.specs.Exchange.{Exchange, StartsNeither}
+use Rattle.cg_world.specs.Exchange as places
+use Rattle.cg_world.specs.Laws.{exchange_join, BothRun, ReachesTheJoin, EndsAtTheJoin}
+use Rattle.cg_world.specs.Refusals.{refusal, done_exchange}
+use Rattle.cg_world.specs.Spelling.{StaySpelled}
+use Rattle.cg_world.specs.Played.{PlayedAction, Local, Opening, Deliver, PlayedWorld, playing, or_unchanged, play, played_from, played, unplayed, plain, placed}
+use Rattle.cg_world.specs.PlayedLaws.{AllSent, Runs}
+use Rattle.cg_world.specs.PlayedExchange.{PlayedExchange, undisturbed, after_opening, at_syn, after_syn, at_ack, after_ack, at_ack2, exchanged, actions_of, PlayedExchangesAreLists, plain_exchange, IsPast, ExchangesEndAtTheJoin, UndisturbedExchangesMerge}
+use Rattle.cg_world.proofs.WorldLemmas.{IsSound}
+use Rattle.cg_world.proofs.OnwardLemmas.{Keeps, keeps_on, act_keeps, still_runs}
+use Rattle.cg_world.proofs.ExchangeLemmas.{to_at_syn, to_at_ack, to_at_ack2, opening_is_due, syn_is_due, ack_is_due, ack2_is_due, exchange_reaches}
+use Rattle.cg_world.proofs.UndisturbedLemmas.{undisturbed_ends}
+use Rattle.cg_world.proofs.ListLemmas.{done_neither}
+use Rattle.cg_world.proofs.FollowLemmas.{spelling_stays}
+use Rattle.cg_world.proofs.PlayedLemmas.{entries_in}
+use Rattle.cg_world.proofs.PlayedSteps.{AgreesBy, action_agrees, running}
+use Rattle.cg_world.proofs.PlayedLaws.{Joined, done_joined, joined_from, joined}
+
+-- ---- the list of an exchange
+
+both_from : (c : PlayedWorld) (xs ys : List PlayedAction) → played_from c (xs ++ ys) ≡ played_from (played_from c xs) ys
+both_from c [] ys = refl
+both_from c (x ∷ xs) ys = both_from (play c x) xs ys
+
+module _ (c : PlayedWorld) (x : PlayedExchange) where
+  -- what is left to do from each message on
+  abbrev last : List PlayedAction
+  last = Deliver (length (after_ack c x).sent) x.answerer x.ack2_at ∷ []
+
+  abbrev from_ack : List PlayedAction
+  from_ack = Deliver (length (after_syn c x).sent) x.opener x.ack_at ∷ (x.before_ack2 ++ last)
+
+  abbrev from_syn : List PlayedAction
+  from_syn = Deliver (length (after_opening c x).sent) x.answerer x.syn_at ∷ (x.before_ack ++ from_ack)
+
+  listed_from : played_from c (actions_of c x) ≡ exchanged c x
+  listed_from = both_from (after_opening c x) x.before_syn from_syn ∙ both_from (after_syn c x) x.before_ack from_ack ∙ both_from (after_ack c x) x.before_ack2 last
+
+pub played_exchanges_are_lists : PlayedExchangesAreLists
+played_exchanges_are_lists settings actions x =
+    both_from (unplayed settings) actions (actions_of (played settings actions) x) ∙ listed_from (played settings actions) x
+
+-- ---- an exchange by places
+
+as_many : (cluster : ClusterValue) (histories : ℕ → List EntryValue) (ms : List Message) (more : List PlaceMessage) → AllSent cluster histories ms more → length ms ≡ length more
+as_many cluster histories [] [] a = refl
+as_many cluster histories [] (said ∷ more) a = absurd a
+as_many cluster histories (m ∷ ms) [] a = absurd a
+as_many cluster histories (m ∷ ms) (said ∷ more) a = omega (arith, as_many cluster histories ms more a.1)
+
+pub same_number_sent : {c : PlayedWorld} {w : World} → Joined c w → length c.sent ≡ length w.sent
+same_number_sent {c} {w} j = as_many c.settings.cluster w.histories c.sent w.sent j.tied.is.messages
+
+-- an action that is not refused
+play_joined : (c : PlayedWorld) (w : World) (action : PlayedAction) → Joined c w → refusal w (plain action) ≡ None → Joined (play c action) (act w (plain action))
+play_joined c w action j free = go (playing c action) (action_agrees c w j.tied j.bounded action)
+  where
+    go : (left : Result PlayedWorld Fault) → AgreesBy (refusal w (plain action)) (act w (plain action)) left → Joined (or_unchanged c left) (act w (plain action))
+    go (Ok d) a = done_joined c w action d j a
+    go (Err fault) a = absurd (let due = a in cc)
+
+-- a delivery of the message that was sent last in an earlier world
+deliver_joined : (c : PlayedWorld) (w : World) (sent : ℕ) (to now number : ℕ) → sent ≡ number → Joined c w → refusal w (world.Deliver number to) ≡ None → Joined (play c (Deliver sent to now)) (act w (world.Deliver number to))
+deliver_joined c w sent to now number same j free = subst (λ k. Joined (play c (Deliver k to now)) (act w (world.Deliver number to))) (sym same) (play_joined c w (Deliver number to now) j free)
+
+module _ (c : PlayedWorld) (w : World) (x : PlayedExchange) (j : Joined c w) (both : BothRun w (plain_exchange x)) (neither : StartsNeither (plain_exchange x)) where
+  abbrev pub y : Exchange
+  y = done_exchange w (plain_exchange x)
+
+  pub never : StartsNeither y
+  never = done_neither w (plain_exchange x) neither
+
+  pub both_run : BothRun w y
+  both_run = record { opener = both.opener; answerer = both.answerer }
+
+  after_opening_joined : Joined (after_opening c x) (places.after_opening w y)
+  after_opening_joined = play_joined c w (Local x.opener Opening) j (opening_is_due w y j.tied.sound both_run never)
+
+  pub at_syn_joined : Joined (at_syn c x) (places.at_syn w y)
+  at_syn_joined = joined_from (after_opening c x) (places.after_opening w y) x.before_syn after_opening_joined
+
+  after_syn_joined : Joined (after_syn c x) (places.after_syn w y)
+  after_syn_joined = deliver_joined (at_syn c x) (places.at_syn w y) (length (after_opening c x).sent) x.answerer x.syn_at (length (places.after_opening w y).sent) (same_number_sent after_opening_joined) at_syn_joined
+      (syn_is_due w y j.tied.sound both_run never)
+
+  at_ack_joined : Joined (at_ack c x) (places.at_ack w y)
+  at_ack_joined = joined_from (after_syn c x) (places.after_syn w y) x.before_ack after_syn_joined
+
+  after_ack_joined : Joined (after_ack c x) (places.after_ack w y)
+  after_ack_joined = deliver_joined (at_ack c x) (places.at_ack w y) (length (after_syn c x).sent) x.opener x.ack_at (length (places.after_syn w y).sent) (same_number_sent after_syn_joined) at_ack_joined
+      (ack_is_due w y j.tied.sound both_run never)
+
+  at_ack2_joined : Joined (at_ack2 c x) (places.at_ack2 w y)
+  at_ack2_joined = joined_from (after_ack c x) (places.after_ack w y) x.before_ack2 after_ack_joined
+
+  pub exchanged_joined : Joined (exchanged c x) (places.exchanged w y)
+  exchanged_joined = deliver_joined (at_ack2 c x) (places.at_ack2 w y) (length (after_ack c x).sent) x.answerer x.ack2_at (length (places.after_ack w y).sent) (same_number_sent after_ack_joined) at_ack2_joined
+      (ack2_is_due w y j.tied.sound both_run never)
+
+  pub from_at_syn : Keeps (places.at_syn w y) (places.exchanged w y)
+  from_at_syn =
+      keeps_on (keeps_on (to_at_ack w y j.tied.sound both_run never) (to_at_ack2 w y j.tied.sound both_run never)) (act_keeps (places.at_ack2 w y) (world.Deliver (length (places.after_ack w y).sent) x.answerer))
+
+  pub from_start : Keeps w (places.exchanged w y)
+  from_start = keeps_on (to_at_syn w y j.tied.sound both_run never) from_at_syn
+
+-- ---- nodes that run, and what they hold
+
+found : (o : Option NodeValue) → is_some o ≡ true → (n : NodeValue) × (o ≡ Some n)
+found None e = absurd cc
+found (Some n) e = (n, refl)
+
+-- a node that runs by places
+pub node_of : (c : PlayedWorld) (w : World) → Joined c w → (node : ℕ) → runs w node ≡ true → (n : NodeValue) × Runs c node n
+node_of c w j node e = found (map.get c.nodes node) (running c w j.tied node ∙ e)
+
+runs_by : (c : PlayedWorld) (w : World) → Joined c w → (node : ℕ) (n : NodeValue) → Runs c node n → runs w node ≡ true
+runs_by c w j node n e = sym (running c w j.tied node) ∙ ap is_some e
+
+holds : (c : PlayedWorld) (w : World) → Joined c w → (node : ℕ) (n : NodeValue) → Runs c node n → SpellsPlaces w.histories n.table.entries (w.places node)
+holds c w j node n e = j.tied.is.tables.spelled node n.table.entries (ap (option_map entries_in) e)
+
+-- and goes on to spell
+holds_on : (c : PlayedWorld) (w v : World) → Joined c w → Keeps w v → (node : ℕ) (n : NodeValue) → Runs c node n → SpellsPlaces v.histories n.table.entries (w.places node)
+holds_on c w v j keeps node n e = let st : StaySpelled w.histories v.histories = spelling_stays w.histories v.histories keeps.histories in st.tables n.table.entries (w.places node) (j.tied.sound.stands node) (holds c w j node n e)
+
+-- tables that spell the same places are the same
+same_spelled : (histories : ℕ → List EntryValue) (one other : Entries) (mine theirs : ℕ → ℕ) → SpellsPlaces histories one mine → SpellsPlaces histories other theirs → ((owner : ℕ) → mine owner ≡ theirs owner) → one ≡ other
+same_spelled histories one other mine theirs a b same = same_map nat_cmp_total nat_cmp-IsAntisymmetric one other (λ owner. a.at owner ∙ ap (at_place (histories owner)) (same owner) ∙ sym (b.at owner))
+
+-- a table past the places that another spells is past that one
+past_by : (v : World) → IsSound v → (one other : Entries) (mine theirs : ℕ → ℕ) → Stand v.histories mine → Stand v.histories theirs → SpellsPlaces v.histories one mine → SpellsPlaces v.histories other theirs → Within theirs mine → IsPast one other
+past_by v s one other mine theirs sm st a b within =
+    same_spelled v.histories (merged one other) one (λ owner. max (mine owner) (theirs owner)) mine (merge_is_the_join v.histories s.histories one other mine theirs sm st a b) a (λ owner. omega (arith, within owner))
+
+pub exchanges_end_at_the_join : ExchangesEndAtTheJoin
+exchanges_end_at_the_join settings actions x opening other ro ra neither =
+    let c : PlayedWorld = played settings actions in
+    let w : World = placed actions in
+    let j : Joined c w = joined settings actions in
+    let both : BothRun w (plain_exchange x) = record { opener = runs_by c w j x.opener opening ro; answerer = runs_by c w j x.answerer other ra } in
+    let z : Exchange = y c w x j both neither in
+    let v : World = places.exchanged w z in
+    let k : Joined (exchanged c x) v = exchanged_joined c w x j both neither in
+    let m : Joined (at_syn c x) (places.at_syn w z) = at_syn_joined c w x j both neither in
+    let late : Keeps (places.at_syn w z) v = from_at_syn c w x j both neither in
+    let all : Keeps w v = from_start c w x j both neither in
+    let reach : ReachesTheJoin w z = exchange_reaches w z j.tied.sound (both_run c w x j both neither) (never c w x j both neither) in
+    let answering = node_of (at_syn c x) (places.at_syn w z) m x.answerer (still_runs (to_at_syn w z j.tied.sound (both_run c w x j both neither) (never c w x j both neither)) x.answerer both.answerer) in
+    let opener = node_of (exchanged c x) v k x.opener (still_runs all x.opener both.opener) in
+    let answerer = node_of (exchanged c x) v k x.answerer (still_runs all x.answerer both.answerer) in
+    let mine : Stand v.histories ((places.at_syn w z).places x.answerer) = λ owner. omega (arith, m.tied.sound.stands x.answerer owner, (late.histories owner).longer) in
+    let theirs : Stand v.histories (w.places x.opener) = λ owner. omega (arith, j.tied.sound.stands x.opener owner, (all.histories owner).longer) in
+    let both_held : SpellsPlaces v.histories (merged answering.0.table.entries opening.table.entries) (exchange_join w z) =
+    merge_is_the_join v.histories k.tied.sound.histories answering.0.table.entries opening.table.entries ((places.at_syn w z).places x.answerer) (w.places x.opener) mine theirs
+    (holds_on (at_syn c x) (places.at_syn w z) v m late x.answerer answering.0 answering.1) (holds_on c w v j all x.opener opening ro) in
+    let stands : Stand v.histories (exchange_join w z) = λ owner. omega (arith, mine owner, theirs owner) in
+    record {
+      answering = answering.0;
+      answers = answering.1;
+      opener = opener.0;
+      opener_runs = opener.1;
+      answerer = answerer.0;
+      answerer_runs = answerer.1;
+      opener_past = past_by v k.tied.sound opener.0.table.entries _ (v.places x.opener) (exchange_join w z) (k.tied.sound.stands x.opener) stands (holds (exchanged c x) v k x.opener opener.0 opener.1) both_held reach.opener;
+      answerer_past = past_by v k.tied.sound answerer.0.table.entries _ (v.places x.answerer) (exchange_join w z) (k.tied.sound.stands x.answerer) stands (holds (exchanged c x) v k x.answerer answerer.0 answerer.1) both_held reach.answerer;
+    }
+
+pub undisturbed_exchanges_merge : UndisturbedExchangesMerge
+undisturbed_exchanges_merge settings actions a b syn_at ack_at ack2_at opening answering ro ra =
+    let c : PlayedWorld = played settings actions in
+    let w : World = placed actions in
+    let j : Joined c w = joined settings actions in
+    let x : PlayedExchange = undisturbed a b syn_at ack_at ack2_at in
+    let both : BothRun w (plain_exchange x) = record { opener = runs_by c w j a opening ro; answerer = runs_by c w j b answering ra } in
+    let neither : StartsNeither (plain_exchange x) = record { opener = (tt, tt, tt); answerer = (tt, tt, tt) } in
+    let z : Exchange = y c w x j both neither in
+    let v : World = places.exchanged w z in
+    let k : Joined (exchanged c x) v = exchanged_joined c w x j both neither in
+    let all : Keeps w v = from_start c w x j both neither in
+    let ends : EndsAtTheJoin w a b = undisturbed_ends w a b j.tied.sound both in
+    let opener = node_of (exchanged c x) v k a (still_runs all a both.opener) in
+    let answerer = node_of (exchanged c x) v k b (still_runs all b both.answerer) in
+    let mine : Stand v.histories (w.places b) = λ owner. omega (arith, j.tied.sound.stands b owner, (all.histories owner).longer) in
+    let theirs : Stand v.histories (w.places a) = λ owner. omega (arith, j.tied.sound.stands a owner, (all.histories owner).longer) in
+    let merge : SpellsPlaces v.histories (merged answering.table.entries opening.table.entries) (λ owner. max (w.places b owner) (w.places a owner)) =
+    merge_is_the_join v.histories k.tied.sound.histories answering.table.entries opening.table.entries (w.places b) (w.places a) mine theirs (holds_on c w v j all b answering ra) (holds_on c w v j all a opening ro) in
+    let at_opener : SpellsPlaces v.histories opener.0.table.entries (v.places a) = holds (exchanged c x) v k a opener.0 opener.1 in
+    let at_answerer : SpellsPlaces v.histories answerer.0.table.entries (v.places b) = holds (exchanged c x) v k b answerer.0 answerer.1 in
+    let same : opener.0.table.entries ≡ answerer.0.table.entries =
+    same_spelled v.histories opener.0.table.entries answerer.0.table.entries (v.places a) (v.places b) at_opener at_answerer (λ owner. ends.opened owner ∙ sym (ends.answered owner)) in
+    record {
+      opener = opener.0;
+      opener_runs = opener.1;
+      answerer = answerer.0;
+      answerer_runs = answerer.1;
+      is_merge = same_spelled v.histories opener.0.table.entries _ (v.places a) (λ owner. max (w.places b owner) (w.places a owner)) at_opener merge ends.opened;
+      equal = record { entries = same; rings = ap ring same };
+    }

@@ -1,0 +1,5 @@
+use Rattle.cg_world.proofs.PlayedWhole.{entries_are_whole}
+use Rattle.cg_world.proofs.laws.entries_are_whole.Goals as goal
+
+pub returns : goal.returns
+returns c = entries_are_whole

@@ -1,0 +1,5 @@
+use Rattle.cg_world.proofs.PlayedLaws.{reached_worlds}
+use Rattle.cg_world.proofs.laws.reached_worlds.Goals as goal
+
+pub returns : goal.returns
+returns c = reached_worlds

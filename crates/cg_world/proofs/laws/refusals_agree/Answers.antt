@@ -1,0 +1,5 @@
+use Rattle.cg_world.proofs.PlayedLaws.{refusals_agree}
+use Rattle.cg_world.proofs.laws.refusals_agree.Goals as goal
+
+pub returns : goal.returns
+returns c = refusals_agree

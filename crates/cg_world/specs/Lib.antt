@@ -1,0 +1,11 @@
+pub mod World
+pub mod Join
+pub mod Exchange
+pub mod Refusals
+pub mod Laws
+pub mod Spelling
+pub mod TableLaws
+pub mod Played
+pub mod PlayedLaws
+pub mod PlayedExchange
+pub mod WorkedRuns

@@ -1,0 +1,177 @@
+-- The nodes of a cluster as they run, and what they sent, after a list of actions.
+use Rattle.std.specs.Prelude.{ℕ, ◌+◌, ◌||◌, Bool, List, [], ◌∷◌, ◌++◌, length, Option, Some, None, Result, Ok, Err, nat_lt, map as map_list, if◌then◌else◌}
+use Rattle.std.specs.Option.{option_map, option_and_then}
+use Rattle.std.specs.Ordering.{nat_cmp}
+use Rattle.std.specs.FinMap as map
+use Rattle.cg_types.specs.declared.fault.Fault.{Fault}
+use Rattle.cg_types.specs.declared.fault.Fault.TheVariants.{TableFull, NotRising, NoSuchMessage, NoSuchNode}
+use Rattle.cg_types.specs.declared.limits.TheConstants.{MEMBER_LIMIT}
+use Rattle.cg_entry.specs.History.{at_place}
+use Rattle.cg_table.specs.Values.{Entries}
+use Rattle.cg_table.specs.Own.{own_entry}
+use Rattle.cg_exchange.specs.declared.message.Message.{Message}
+use Rattle.cg_exchange.specs.declared.message.Message.TheVariants as message
+use Rattle.cg_core.specs.declared.event.Event.{Event}
+use Rattle.cg_core.specs.declared.event.Event.TheVariants as event
+use Rattle.cg_core.specs.declared.reply.Reply.{Reply}
+use Rattle.cg_core.specs.declared.reply.Reply.TheVariants as reply
+use Rattle.cg_core.specs.Values.{SettingsValue, NodeValue}
+use Rattle.cg_core.specs.Step.{Step, begun, node_step}
+pub use Rattle.cg_world.specs.declared.action.Action.{Action as PlayedAction}
+pub use Rattle.cg_world.specs.declared.action.Action.TheVariants.{Start, Local, Deliver}
+pub use Rattle.cg_world.specs.declared.action.LocalEvent.{LocalEvent}
+pub use Rattle.cg_world.specs.declared.action.LocalEvent.TheVariants.{Beat, Set, Opening, Tick}
+use Rattle.cg_world.specs.World.{World, Action, nobody, run}
+use Rattle.cg_world.specs.World as places
+use Rattle.cg_world.specs.Refusals.{done_from}
+
+pub record PlayedWorld : Type 0 where
+  -- all nodes start with these
+  pub settings : SettingsValue
+  -- the nodes that run, by their endpoints
+  pub nodes : map.FinMap nat_cmp NodeValue
+  -- each message that was ever sent, the first one first; they are numbered from 1
+  pub sent : List Message
+
+-- no node runs
+abbrev pub unplayed : SettingsValue → PlayedWorld
+unplayed settings = record { settings = settings; nodes = map.empty; sent = [] }
+
+-- what each node holds
+abbrev pub tables_of : PlayedWorld → ℕ → Option Entries
+tables_of c node = option_map (λ n. n.table.entries) (map.get c.nodes node)
+
+-- ---- what a step leaves
+
+-- the node is now this one
+abbrev pub with_node : PlayedWorld → ℕ → NodeValue → PlayedWorld
+with_node c node n = record { settings = c.settings; nodes = map.insert c.nodes node n; sent = c.sent }
+
+-- this was sent, if anything was
+abbrev pub with_sent : PlayedWorld → Option Message → PlayedWorld
+with_sent c None = c
+with_sent c (Some m) = record { settings = c.settings; nodes = c.nodes; sent = c.sent ++ m ∷ [] }
+
+-- the message that a reply sends
+abbrev pub message_of : Reply → Option Message
+message_of (reply.Done version) = None
+message_of (reply.Round peers syn) = Some (message.Syn syn)
+message_of (reply.Sent m) = Some m
+message_of (reply.Both outcomes ack2) = Some (message.Ack2 ack2)
+message_of (reply.Took outcomes) = None
+
+-- A node's step leaves the new node, and what it answers is sent.
+abbrev pub after_step : PlayedWorld → ℕ → Step → Result PlayedWorld Fault
+after_step c node (Ok x) = Ok (with_sent (with_node c node x.0) (message_of x.1))
+after_step c node (Err fault) = Err fault
+
+-- a node is handed an event, if it runs
+abbrev pub handed : PlayedWorld → ℕ → Option NodeValue → Event → Result PlayedWorld Fault
+handed c node None e = Err NoSuchNode
+handed c node (Some n) e = after_step c node (node_step n e)
+
+abbrev pub handing : PlayedWorld → ℕ → Event → Result PlayedWorld Fault
+handing c node e = handed c node (map.get c.nodes node) e
+
+-- ---- actions
+
+-- the generation of a node's own entry, and 0 where it never started
+abbrev pub generation_held : Option NodeValue → ℕ
+generation_held None = 0
+generation_held (Some n) = (own_entry n.table).generation
+
+-- whether the node runs, or there may be one more
+abbrev pub has_room : PlayedWorld → ℕ → Bool
+has_room c node = map.contains_key c.nodes node || nat_lt (map.len c.nodes) MEMBER_LIMIT
+
+-- A start makes the node anew, in a generation that rises.
+abbrev pub starting : PlayedWorld → ℕ → ℕ → Result PlayedWorld Fault
+starting c node generation =
+    if nat_lt (generation_held (map.get c.nodes node)) generation
+    then if has_room c node then Ok (with_node c node (begun node generation c.settings)) else Err TableFull
+    else Err NotRising
+
+abbrev pub event_of : LocalEvent → Event
+event_of Beat = event.Beat
+event_of (Set key text) = event.Set key text
+event_of Opening = event.Opening
+event_of (Tick now words) = event.Tick now words
+
+-- a message, as it comes at a moment
+abbrev pub arrival_of : ℕ → Message → Event
+arrival_of now (message.Syn syn) = event.Syn syn
+arrival_of now (message.Ack ack) = event.Ack now ack
+arrival_of now (message.Ack2 ack2) = event.Ack2 now ack2
+
+abbrev pub delivering : PlayedWorld → ℕ → ℕ → Option Message → Result PlayedWorld Fault
+delivering c to now None = Err NoSuchMessage
+delivering c to now (Some m) = handing c to (arrival_of now m)
+
+-- the world after an action, or why the action is refused
+abbrev pub playing : PlayedWorld → PlayedAction → Result PlayedWorld Fault
+playing c (Start node generation) = starting c node generation
+playing c (Local node change) = handing c node (event_of change)
+playing c (Deliver number to now) = delivering c to now (at_place c.sent number)
+
+-- A refused action changes nothing.
+abbrev pub or_unchanged : PlayedWorld → Result PlayedWorld Fault → PlayedWorld
+or_unchanged c (Ok d) = d
+or_unchanged c (Err fault) = c
+
+abbrev pub play : PlayedWorld → PlayedAction → PlayedWorld
+play c action = or_unchanged c (playing c action)
+
+-- the world after actions, one after the other
+abbrev pub played_from : PlayedWorld → List PlayedAction → PlayedWorld
+played_from c [] = c
+played_from c (action ∷ actions) = played_from (play c action) actions
+
+abbrev pub played : SettingsValue → List PlayedAction → PlayedWorld
+played settings actions = played_from (unplayed settings) actions
+
+-- ---- what an action shows
+
+-- the reply of a step that is done
+abbrev pub reply_of : Step → Option Reply
+reply_of (Ok x) = Some x.1
+reply_of (Err fault) = None
+
+abbrev pub reply_by : Option NodeValue → Event → Option Reply
+reply_by None e = None
+reply_by (Some n) e = reply_of (node_step n e)
+
+abbrev pub reply_on : PlayedWorld → ℕ → ℕ → Option Message → Option Reply
+reply_on c to now None = None
+reply_on c to now (Some m) = reply_by (map.get c.nodes to) (arrival_of now m)
+
+-- the node's reply, if a node makes a step
+abbrev pub reply_to : PlayedWorld → PlayedAction → Option Reply
+reply_to c (Start node generation) = None
+reply_to c (Local node change) = reply_by (map.get c.nodes node) (event_of change)
+reply_to c (Deliver number to now) = reply_on c to now (at_place c.sent number)
+
+-- the message that an action sends, if it sends one
+abbrev pub message_to : PlayedWorld → PlayedAction → Option Message
+message_to c action = option_and_then message_of (reply_to c action)
+
+-- and its number
+abbrev pub number_to : PlayedWorld → PlayedAction → Option ℕ
+number_to c action = option_map (λ m. length c.sent + 1) (message_to c action)
+
+-- ---- the same by places
+
+abbrev pub plain_local : ℕ → LocalEvent → Action
+plain_local node Beat = places.Beat node
+plain_local node (Set key text) = places.Set node key text
+plain_local node Opening = places.Opening node
+plain_local node (Tick now words) = places.Tick node
+
+-- the action without its moment and words
+abbrev pub plain : PlayedAction → Action
+plain (Start node generation) = places.Start node generation
+plain (Local node change) = plain_local node change
+plain (Deliver number to now) = places.Deliver number to
+
+-- the world of places after actions, of which the refused ones are left out
+abbrev pub placed : List PlayedAction → World
+placed actions = run (done_from nobody (map_list plain actions))

@@ -1,0 +1,115 @@
+-- A whole exchange between two nodes that run, with other actions between its messages, and where it ends.
+use Rattle.std.specs.Prelude.{ℕ, ◌≡◌, List, [], ◌∷◌, ◌++◌, length, map as map_list}
+use Rattle.cg_table.specs.Values.{Entries}
+use Rattle.cg_table.specs.Merge.{merged}
+use Rattle.cg_core.specs.Values.{SettingsValue, NodeValue}
+use Rattle.cg_world.specs.Exchange.{Exchange, StartsNeither}
+use Rattle.cg_world.specs.TableLaws.{AreEqual}
+use Rattle.cg_world.specs.Played.{PlayedAction, Local, Opening, Deliver, PlayedWorld, play, played_from, played, plain}
+use Rattle.cg_world.specs.PlayedLaws.{Runs}
+
+-- who opens, who answers, what is done before each of the three messages is handed to its addressee, and when that is
+pub record PlayedExchange : Type 0 where
+  pub opener : ℕ
+  pub answerer : ℕ
+  pub before_syn : List PlayedAction
+  pub syn_at : ℕ
+  pub before_ack : List PlayedAction
+  pub ack_at : ℕ
+  pub before_ack2 : List PlayedAction
+  pub ack2_at : ℕ
+
+-- an exchange with nothing between its messages
+abbrev pub undisturbed : ℕ → ℕ → ℕ → ℕ → ℕ → PlayedExchange
+undisturbed opener answerer syn_at ack_at ack2_at =
+    record { opener = opener; answerer = answerer; before_syn = []; syn_at = syn_at; before_ack = []; ack_at = ack_at; before_ack2 = []; ack2_at = ack2_at }
+
+-- the opener has sent its SYN
+abbrev pub after_opening : PlayedWorld → PlayedExchange → PlayedWorld
+after_opening c x = play c (Local x.opener Opening)
+
+-- the SYN is about to be handed to the answerer
+abbrev pub at_syn : PlayedWorld → PlayedExchange → PlayedWorld
+at_syn c x = played_from (after_opening c x) x.before_syn
+
+-- the answerer has sent its ACK
+abbrev pub after_syn : PlayedWorld → PlayedExchange → PlayedWorld
+after_syn c x = play (at_syn c x) (Deliver (length (after_opening c x).sent) x.answerer x.syn_at)
+
+-- the ACK is about to be handed to the opener
+abbrev pub at_ack : PlayedWorld → PlayedExchange → PlayedWorld
+at_ack c x = played_from (after_syn c x) x.before_ack
+
+-- the opener has sent its ACK2
+abbrev pub after_ack : PlayedWorld → PlayedExchange → PlayedWorld
+after_ack c x = play (at_ack c x) (Deliver (length (after_syn c x).sent) x.opener x.ack_at)
+
+-- the ACK2 is about to be handed to the answerer
+abbrev pub at_ack2 : PlayedWorld → PlayedExchange → PlayedWorld
+at_ack2 c x = played_from (after_ack c x) x.before_ack2
+
+-- the answerer has the ACK2
+abbrev pub exchanged : PlayedWorld → PlayedExchange → PlayedWorld
+exchanged c x = play (at_ack2 c x) (Deliver (length (after_ack c x).sent) x.answerer x.ack2_at)
+
+-- the actions of an exchange, in their order
+abbrev pub actions_of : PlayedWorld → PlayedExchange → List PlayedAction
+actions_of c x =
+    Local x.opener Opening ∷ (x.before_syn ++ (Deliver (length (after_opening c x).sent) x.answerer x.syn_at ∷ (x.before_ack ++ (Deliver (length (after_syn c x).sent) x.opener x.ack_at
+    ∷ (x.before_ack2 ++ (Deliver (length (after_ack c x).sent) x.answerer x.ack2_at ∷ []))))))
+
+-- An exchange is the list of its actions.
+abbrev pub PlayedExchangesAreLists : Type 0
+PlayedExchangesAreLists =
+    (settings : SettingsValue) (actions : List PlayedAction) (x : PlayedExchange) → played settings (actions ++ actions_of (played settings actions) x) ≡ exchanged (played settings actions) x
+
+-- the same exchange without moments and words
+abbrev pub plain_exchange : PlayedExchange → Exchange
+plain_exchange x = record {
+  opener = x.opener;
+  answerer = x.answerer;
+  before_syn = map_list plain x.before_syn;
+  before_ack = map_list plain x.before_ack;
+  before_ack2 = map_list plain x.before_ack2;
+}
+
+-- ---- where it ends
+
+-- The entries are at or past the others: a merge with those changes nothing.
+abbrev pub IsPast : Entries → Entries → Type 0
+IsPast entries others = merged entries others ≡ entries
+
+-- Both nodes end at or past the merge of what the opener held when it opened and the answerer when it answered.
+pub record ReachesTheMerge (c : PlayedWorld) (x : PlayedExchange) (opening : NodeValue) : Type 0 where
+  -- the answerer when it answers
+  pub answering : NodeValue
+  pub answers : Runs (at_syn c x) x.answerer answering
+  -- both at the end
+  pub opener : NodeValue
+  pub opener_runs : Runs (exchanged c x) x.opener opener
+  pub answerer : NodeValue
+  pub answerer_runs : Runs (exchanged c x) x.answerer answerer
+  pub opener_past : IsPast opener.table.entries (merged answering.table.entries opening.table.entries)
+  pub answerer_past : IsPast answerer.table.entries (merged answering.table.entries opening.table.entries)
+
+-- An exchange takes both of its nodes to the join, whatever is done between its messages but a start of the two.
+abbrev pub ExchangesEndAtTheJoin : Type 0
+ExchangesEndAtTheJoin =
+    (settings : SettingsValue) (actions : List PlayedAction) (x : PlayedExchange) (opening other : NodeValue) → Runs (played settings actions) x.opener opening → Runs (played settings actions) x.answerer other
+    → StartsNeither (plain_exchange x) → ReachesTheMerge (played settings actions) x opening
+
+-- Both nodes end with equal tables and rings, and each table is the merge of what the two held.
+pub record EndsAtTheMerge (c : PlayedWorld) (x : PlayedExchange) (opening answering : NodeValue) : Type 0 where
+  -- both at the end
+  pub opener : NodeValue
+  pub opener_runs : Runs (exchanged c x) x.opener opener
+  pub answerer : NodeValue
+  pub answerer_runs : Runs (exchanged c x) x.answerer answerer
+  pub is_merge : opener.table.entries ≡ merged answering.table.entries opening.table.entries
+  pub equal : AreEqual opener.table.entries answerer.table.entries
+
+-- With nothing between its messages, an exchange leaves both nodes with the merge of their tables.
+abbrev pub UndisturbedExchangesMerge : Type 0
+UndisturbedExchangesMerge =
+    (settings : SettingsValue) (actions : List PlayedAction) (a b syn_at ack_at ack2_at : ℕ) (opening answering : NodeValue) → Runs (played settings actions) a opening → Runs (played settings actions) b answering
+    → EndsAtTheMerge (played settings actions) (undisturbed a b syn_at ack_at ack2_at) opening answering
