@@ -1,6 +1,5 @@
 use crate::{Digest, Table, Took};
 use cg_entry::{Delta, Entry};
-use cg_shared::Row;
 use cg_types::{Endpoint, Fault, Generation, Version};
 use std::alloc::Global;
 use std::test::Fail;
@@ -210,17 +209,6 @@ fn merged_tables_hold_the_later_entries(rt: HostRuntime) -> Result<(), Fail> {
     let there = two.merge(rt.alloc(), &one)?;
     assert_eq!(rt; there.own(), endpoint(2)?);
     assert!(rt; here.same_entries(&there));
-    Ok(())
-}
-
-#[test]
-fn rows_are_put_in_one_walk(rt: HostRuntime) -> Result<(), Fail> {
-    let entry = Entry::of_delta(rt.alloc(), &delta(9, 0, 3, rt.alloc())?)?.ok_or("an entry")?;
-    let row = Row::new(rt.alloc(), endpoint(1)?, entry)?;
-    let after = table(rt.alloc())?.with_rows(rt.alloc(), &[row])?;
-    assert_eq!(rt; after.owners().len(), 2);
-    assert_eq!(rt; newest_of(&after, 1), Some(3));
-    assert_eq!(rt; newest_of(&after, 2), Some(1));
     Ok(())
 }
 
