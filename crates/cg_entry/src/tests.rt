@@ -12,65 +12,82 @@ fn version(number: u32) -> Result<Version, Fail> {
     Ok(Version::new(number).ok_or("a version")?)
 }
 
+fn state_key(key: u8) -> Result<StateKey, Fail> {
+    Ok(StateKey::new(key).ok_or("a key")?)
+}
+
+// ---- states and deltas
+
 // Key `key` at `at`, with the text "N".
 fn state(alloc: Global, key: u8, at: u32) -> Result<State, Fail> {
-    Ok(State {
-        key: StateKey::new(key).ok_or("a key")?,
-        version: version(at)?,
-        text: StateText::new(alloc, "N")?,
-    })
+    let key = state_key(key)?;
+    let version = version(at)?;
+    let text = StateText::new(alloc, "N")?;
+    Ok(State { key, version, text })
 }
 
-#[test]
-fn an_entry_starts_at_version_1(rt: HostRuntime) -> Result<(), Fail> {
-    let entry = Entry::start(rt.alloc(), generation(9)?).copy(rt.alloc())?;
-    assert_eq!(rt; entry.generation(), generation(9)?);
-    assert_eq!(rt; entry.heartbeat(), version(1)?);
-    assert_eq!(rt; entry.newest(), version(1)?);
-    Ok(())
-}
-
-#[test]
-fn what_is_above_a_version(rt: HostRuntime) -> Result<(), Fail> {
-    let entry = Entry::start(rt.alloc(), generation(9)?);
-    let whole = entry.above(rt.alloc(), 0)?.ok_or("something")?;
-    assert_eq!(rt; whole.generation(), generation(9)?);
-    assert_eq!(rt; whole.above(), 0);
-    assert_eq!(rt; whole.heartbeat(), version(1)?);
-    assert!(rt; whole.states().is_empty());
-    assert!(rt; entry.above(rt.alloc(), 1)?.is_none());
-    Ok(())
-}
-
-#[test]
-fn a_delta_has_its_parts(rt: HostRuntime) -> Result<(), Fail> {
-    let states = vec![in rt.alloc(); state(rt.alloc(), 2, 4)?, state(rt.alloc(), 3, 6)?]?;
-    let made = Delta::new(generation(9)?, 2, version(5)?, states).ok_or("a delta")?;
-    let delta = made.copy(rt.alloc())?;
-    assert_eq!(rt; delta.generation(), generation(9)?);
-    assert_eq!(rt; delta.above(), 2);
-    assert_eq!(rt; delta.heartbeat(), version(5)?);
-    assert_eq!(rt; delta.newest(), version(6)?);
-    assert_eq!(rt; delta.states().len(), 2);
-    Ok(())
+fn parts_of_state(state: &State) -> (u8, u32, &str) {
+    (state.key.get(), state.version.get(), state.text.as_str())
 }
 
 #[test]
 fn a_state_is_copied(rt: HostRuntime) -> Result<(), Fail> {
     let copy = state(rt.alloc(), 2, 4)?.copy()?;
-    assert_eq!(rt; copy.key.get(), 2);
-    assert_eq!(rt; copy.version, version(4)?);
-    assert_eq!(rt; copy.text.as_str(), "N");
+    assert_eq!(rt; parts_of_state(&copy), (2, 4, "N"));
     Ok(())
 }
 
-// Whether two states, each with its key and its version, make a delta above version 2.
-fn makes_a_delta(alloc: Global, first: (u8, u32), second: (u8, u32)) -> Result<bool, Fail> {
-    let states = vec![in alloc;
-        state(alloc, first.0, first.1)?,
-        state(alloc, second.0, second.1)?,
-    ]?;
-    Ok(Delta::new(generation(9)?, 2, version(1)?, states).is_some())
+fn one_state(alloc: Global, key: u8, at: u32) -> Result<Vec<State>, Fail> {
+    Ok(vec![in alloc; state(alloc, key, at)?]?)
+}
+
+// Two states, each with its key and its version.
+fn two_states(alloc: Global, first: (u8, u32), second: (u8, u32)) -> Result<Vec<State>, Fail> {
+    let mut states = one_state(alloc, first.0, first.1)?;
+    states.push(state(alloc, second.0, second.1)?)?;
+    Ok(states)
+}
+
+fn delta(of: u32, above: u32, heartbeat: u32, states: Vec<State>) -> Result<Delta, Fail> {
+    let delta = Delta::new(generation(of)?, above, version(heartbeat)?, states);
+    Ok(delta.ok_or("a delta")?)
+}
+
+// A delta with no states.
+fn bare_delta(alloc: Global, of: u32, above: u32, heartbeat: u32) -> Result<Delta, Fail> {
+    delta(of, above, heartbeat, Vec::new(alloc))
+}
+
+// A delta of generation 9 with key 2 at 4.
+fn delta_with_key_2(alloc: Global, above: u32, heartbeat: u32) -> Result<Delta, Fail> {
+    delta(9, above, heartbeat, one_state(alloc, 2, 4)?)
+}
+
+// The generation, the version that it stands above, the heartbeat version, the newest version, and the number of
+// states.
+type Parts = (u32, u32, u32, u32, usize);
+
+fn parts_of(delta: &Delta) -> Parts {
+    (
+        delta.generation().get(),
+        delta.above(),
+        delta.heartbeat().get(),
+        delta.newest().get(),
+        delta.states().len(),
+    )
+}
+
+#[test]
+fn a_delta_has_its_parts(rt: HostRuntime) -> Result<(), Fail> {
+    let states = two_states(rt.alloc(), (2, 4), (3, 6))?;
+    let copy = delta(9, 2, 5, states)?.copy(rt.alloc())?;
+    assert_eq!(rt; parts_of(&copy), (9, 2, 5, 6, 2));
+    Ok(())
+}
+
+// Whether these states make a delta above version 2.
+fn makes_a_delta(heartbeat: u32, states: Vec<State>) -> Result<bool, Fail> {
+    Ok(Delta::new(generation(9)?, 2, version(heartbeat)?, states).is_some())
 }
 
 #[test]
@@ -82,7 +99,8 @@ fn states_of_a_delta_rise_and_are_newer(rt: HostRuntime) -> Result<(), Fail> {
         ((1, 4), (2, 2), false),
     ];
     for (first, second, made) in rows {
-        assert_eq!(rt; makes_a_delta(rt.alloc(), first, second)?, made);
+        let states = two_states(rt.alloc(), first, second)?;
+        assert_eq!(rt; makes_a_delta(1, states)?, made);
     }
     Ok(())
 }
@@ -90,10 +108,38 @@ fn states_of_a_delta_rise_and_are_newer(rt: HostRuntime) -> Result<(), Fail> {
 #[test]
 fn a_delta_with_no_state_has_a_later_heartbeat(rt: HostRuntime) -> Result<(), Fail> {
     for (heartbeat, made) in [(3, true), (2, false)] {
-        let delta = Delta::new(generation(9)?, 2, version(heartbeat)?, Vec::new(rt.alloc()));
-        assert_eq!(rt; delta.is_some(), made);
+        assert_eq!(rt; makes_a_delta(heartbeat, Vec::new(rt.alloc()))?, made);
     }
     Ok(())
+}
+
+// Whether deltas at generation 9 above 2, with key 2 at this version and heartbeat 5, are the same as one at 4.
+fn is_like_one_at_4(alloc: Global, at: u32) -> Result<bool, Fail> {
+    let like = delta(9, 2, 5, one_state(alloc, 2, at)?)?;
+    Ok(like.is_same(&delta_with_key_2(alloc, 2, 5)?))
+}
+
+#[test]
+fn deltas_are_compared(rt: HostRuntime) -> Result<(), Fail> {
+    assert!(rt; is_like_one_at_4(rt.alloc(), 4)?);
+    assert!(rt; !is_like_one_at_4(rt.alloc(), 5)?);
+    Ok(())
+}
+
+// ---- entries
+
+// An entry that starts at generation 9.
+fn started(alloc: Global) -> Result<Entry, Fail> {
+    Ok(Entry::start(alloc, generation(9)?))
+}
+
+// The generation, the heartbeat version and the newest version.
+fn numbers_of(entry: &Entry) -> (u32, u32, u32) {
+    (
+        entry.generation().get(),
+        entry.heartbeat().get(),
+        entry.newest().get(),
+    )
 }
 
 fn text_at(entry: &Entry, key: u8) -> Option<&str> {
@@ -110,20 +156,139 @@ fn version_at(entry: &Entry, key: u8) -> Option<u32> {
     }
 }
 
-// The heartbeat version and the newest version.
-fn numbers_of(entry: &Entry) -> (u32, u32) {
-    (entry.heartbeat().get(), entry.newest().get())
+#[test]
+fn an_entry_starts_at_version_1(rt: HostRuntime) -> Result<(), Fail> {
+    let entry = started(rt.alloc())?.copy(rt.alloc())?;
+    assert_eq!(rt; numbers_of(&entry), (9, 1, 1));
+    Ok(())
 }
 
-fn delta(of: u32, above: u32, heartbeat: u32, states: Vec<State>) -> Result<Delta, Fail> {
-    let delta = Delta::new(generation(of)?, above, version(heartbeat)?, states);
-    Ok(delta.ok_or("a delta")?)
+// Generation 9 sets key 1 to NORMAL, and beats.
+fn set_and_beaten(alloc: Global) -> Result<Entry, Fail> {
+    let key = state_key(1)?;
+    let text = StateText::new(alloc, "NORMAL")?;
+    let mut entry = started(alloc)?;
+    let mut versions = Versions::after(entry.newest());
+    entry.set(&mut versions, key, text)?;
+    entry.beat(&mut versions)?;
+    Ok(entry)
 }
 
-// A delta of generation 9 with key 2 at 4.
-fn delta_with_key_2(alloc: Global, above: u32, heartbeat: u32) -> Result<Delta, Fail> {
-    let states = vec![in alloc; state(alloc, 2, 4)?]?;
-    delta(9, above, heartbeat, states)
+#[test]
+fn a_set_and_a_beat(rt: HostRuntime) -> Result<(), Fail> {
+    let entry = set_and_beaten(rt.alloc())?;
+    let versions = (version_at(&entry, 1), version_at(&entry, 2));
+    let shown = (numbers_of(&entry), text_at(&entry, 1), versions);
+    assert_eq!(rt; shown, ((9, 3, 3), Some("NORMAL"), (Some(2), None)));
+    Ok(())
+}
+
+// The parts of what is above a version.
+fn above(alloc: Global, entry: &Entry, version: u32) -> Result<Option<Parts>, Fail> {
+    match entry.above(alloc, version)? {
+        Some(delta) => Ok(Some(parts_of(&delta))),
+        None => Ok(None),
+    }
+}
+
+#[test]
+fn above_a_start(rt: HostRuntime) -> Result<(), Fail> {
+    let entry = started(rt.alloc())?;
+    for (version, parts) in [(0, Some((9, 0, 1, 1, 0))), (1, None)] {
+        assert_eq!(rt; above(rt.alloc(), &entry, version)?, parts);
+    }
+    Ok(())
+}
+
+#[test]
+fn above_by_version(rt: HostRuntime) -> Result<(), Fail> {
+    let entry = set_and_beaten(rt.alloc())?;
+    for (version, parts) in [
+        (0, Some((9, 0, 3, 3, 1))),
+        (2, Some((9, 2, 3, 3, 0))),
+        (3, None),
+    ] {
+        assert_eq!(rt; above(rt.alloc(), &entry, version)?, parts);
+    }
+    Ok(())
+}
+
+// Generation 9 at heartbeat 1 with key 1 at 2, as a whole delta carried it.
+fn held_entry(alloc: Global) -> Result<Entry, Fail> {
+    let whole = delta(9, 0, 1, one_state(alloc, 1, 2)?)?;
+    Ok(Entry::of_delta(alloc, &whole)?.ok_or("an entry")?)
+}
+
+// An entry whose newest version is the last.
+fn spent_entry(alloc: Global) -> Result<Entry, Fail> {
+    let last = bare_delta(alloc, 9, 0, 2147483647)?;
+    Ok(Entry::of_delta(alloc, &last)?.ok_or("an entry")?)
+}
+
+#[test]
+fn a_part_is_no_entry(rt: HostRuntime) -> Result<(), Fail> {
+    let part = delta_with_key_2(rt.alloc(), 2, 5)?;
+    assert!(rt; Entry::of_delta(rt.alloc(), &part)?.is_none());
+    Ok(())
+}
+
+// Where no version is left: what refuses a set, what refuses a beat, the last version then, and whether the entry is
+// as before.
+type Refused = (Option<Fault>, Option<Fault>, u32, bool);
+
+fn refused(alloc: Global) -> Result<Refused, Fail> {
+    let key = state_key(1)?;
+    let text = StateText::new(alloc, "N")?;
+    let before = spent_entry(alloc)?;
+    let mut entry = before.copy(alloc)?;
+    let mut versions = Versions::after(entry.newest());
+    let set = entry.set(&mut versions, key, text).err();
+    let beat = entry.beat(&mut versions).err();
+    Ok((set, beat, versions.last(), entry.is_same(&before)))
+}
+
+#[test]
+fn versions_spent(rt: HostRuntime) -> Result<(), Fail> {
+    let spent = Some(Fault::VersionsSpent);
+    assert_eq!(rt; refused(rt.alloc())?, (spent, spent, 2147483647, true));
+    Ok(())
+}
+
+// Of two entries: whether each is later than the other, and whether they are the same.
+fn compared(one: &Entry, other: &Entry) -> (bool, bool, bool) {
+    (one.is_later(other), other.is_later(one), one.is_same(other))
+}
+
+#[test]
+fn entries_are_compared(rt: HostRuntime) -> Result<(), Fail> {
+    let held = held_entry(rt.alloc())?;
+    let beaten = set_and_beaten(rt.alloc())?;
+    let both = (compared(&beaten, &held), held.is_same(&held));
+    assert_eq!(rt; both, ((true, false, false), true));
+    Ok(())
+}
+
+// ---- what becomes of a delta
+
+fn name_of(what: &Absorbed) -> &'static str {
+    match what {
+        Absorbed::Taken(_) => "taken",
+        Absorbed::Old => "old",
+        Absorbed::Gap => "gap",
+    }
+}
+
+// Where nothing is held, of a delta of generation 9 with no states.
+fn met_by_nothing(alloc: Global, above: u32) -> Result<&'static str, Fail> {
+    let delta = bare_delta(alloc, 9, above, 5)?;
+    Ok(name_of(&met(alloc, None, &delta)?))
+}
+
+#[test]
+fn deltas_that_meet_nothing(rt: HostRuntime) -> Result<(), Fail> {
+    assert_eq!(rt; met_by_nothing(rt.alloc(), 0)?, "taken");
+    assert_eq!(rt; met_by_nothing(rt.alloc(), 1)?, "gap");
+    Ok(())
 }
 
 // The entry that a delta leads to.
@@ -134,100 +299,34 @@ fn taken(alloc: Global, entry: &Entry, delta: &Delta) -> Result<Entry, Fail> {
     }
 }
 
-// What becomes of a delta.
-fn outcome(alloc: Global, entry: &Entry, delta: &Delta) -> Result<&'static str, Fail> {
-    match entry.absorb(alloc, delta)? {
-        Absorbed::Taken(_) => Ok("taken"),
-        Absorbed::Old => Ok("old"),
-        Absorbed::Gap => Ok("gap"),
-    }
-}
-
-// What becomes of a delta where nothing is held.
-fn bare(alloc: Global, delta: &Delta) -> Result<&'static str, Fail> {
-    match met(alloc, None, delta)? {
-        Absorbed::Taken(_) => Ok("taken"),
-        Absorbed::Old => Ok("old"),
-        Absorbed::Gap => Ok("gap"),
-    }
-}
-
-#[test]
-fn deltas_that_meet_nothing(rt: HostRuntime) -> Result<(), Fail> {
-    let whole = delta(9, 0, 5, Vec::new(rt.alloc()))?;
-    let part = delta(9, 1, 5, Vec::new(rt.alloc()))?;
-    assert_eq!(rt; bare(rt.alloc(), &whole)?, "taken");
-    assert_eq!(rt; bare(rt.alloc(), &part)?, "gap");
-    Ok(())
-}
-
-// Whether deltas at generation 9 above 2, with key 2 at this version and heartbeat 5, are the same as one at 4.
-fn is_like_one_at_4(alloc: Global, at: u32) -> Result<bool, Fail> {
-    let states = vec![in alloc; state(alloc, 2, at)?]?;
-    let like = delta(9, 2, 5, states)?;
-    Ok(like.is_same(&delta_with_key_2(alloc, 2, 5)?))
-}
-
-#[test]
-fn deltas_are_compared(rt: HostRuntime) -> Result<(), Fail> {
-    assert!(rt; is_like_one_at_4(rt.alloc(), 4)?);
-    assert!(rt; !is_like_one_at_4(rt.alloc(), 5)?);
-    Ok(())
-}
-
-// A at generation 9 sets key 1 to NORMAL, and beats.
-fn set_and_beaten(alloc: Global) -> Result<Entry, Fail> {
-    let mut entry = Entry::start(alloc, generation(9)?);
-    let mut versions = Versions::after(entry.newest());
-    let key = StateKey::new(1).ok_or("a key")?;
-    entry.set(&mut versions, key, StateText::new(alloc, "NORMAL")?)?;
-    entry.beat(&mut versions)?;
-    Ok(entry)
-}
-
-// The heartbeat version and the number of states above a version.
-fn above(alloc: Global, entry: &Entry, above: u32) -> Result<Option<(u32, usize)>, Fail> {
-    let delta = entry.above(alloc, above)?;
-    Ok(delta.map(|delta| (delta.heartbeat().get(), delta.states().len())))
-}
-
-#[test]
-fn above_by_version(rt: HostRuntime) -> Result<(), Fail> {
-    let entry = set_and_beaten(rt.alloc())?;
-    assert_eq!(rt; numbers_of(&entry), (3, 3));
-    assert_eq!(rt; text_at(&entry, 1), Some("NORMAL"));
-    assert_eq!(rt; version_at(&entry, 1), Some(2));
-    assert_eq!(rt; version_at(&entry, 2), None);
-    assert_eq!(rt; above(rt.alloc(), &entry, 0)?, Some((3, 1)));
-    assert_eq!(rt; above(rt.alloc(), &entry, 2)?, Some((3, 0)));
-    assert_eq!(rt; above(rt.alloc(), &entry, 3)?, None);
-    Ok(())
-}
-
-// A at (9, heartbeat 1, key 1 at 2), as a whole delta carried it.
-fn held_entry(alloc: Global) -> Result<Entry, Fail> {
-    let states = vec![in alloc; state(alloc, 1, 2)?]?;
-    Ok(Entry::of_delta(alloc, &delta(9, 0, 1, states)?)?.ok_or("an entry")?)
+// What is held after a part of generation 9 with key 2 at 4, heartbeat 5, above version 2.
+fn with_a_part(alloc: Global) -> Result<Entry, Fail> {
+    let part = delta_with_key_2(alloc, 2, 5)?;
+    taken(alloc, &held_entry(alloc)?, &part)
 }
 
 #[test]
 fn partial_delta_taken(rt: HostRuntime) -> Result<(), Fail> {
-    let held = held_entry(rt.alloc())?;
-    let part = delta_with_key_2(rt.alloc(), 2, 5)?;
-    assert!(rt; Entry::of_delta(rt.alloc(), &part)?.is_none());
-    let after = taken(rt.alloc(), &held, &part)?;
-    assert_eq!(rt; numbers_of(&after), (5, 5));
-    assert_eq!(rt; version_at(&after, 1), Some(2));
-    assert_eq!(rt; version_at(&after, 2), Some(4));
-    assert_eq!(rt; outcome(rt.alloc(), &after, &part)?, "old");
+    let after = with_a_part(rt.alloc())?;
+    let versions = (version_at(&after, 1), version_at(&after, 2));
+    let shown = (numbers_of(&after), versions);
+    assert_eq!(rt; shown, ((9, 5, 5), (Some(2), Some(4))));
     Ok(())
 }
 
-// What becomes of a delta with no states at A at (9, newest 2).
+#[test]
+fn partial_delta_taken_again(rt: HostRuntime) -> Result<(), Fail> {
+    let after = with_a_part(rt.alloc())?;
+    let part = delta_with_key_2(rt.alloc(), 2, 5)?;
+    assert_eq!(rt; name_of(&after.absorb(rt.alloc(), &part)?), "old");
+    Ok(())
+}
+
+// Of a delta with no states, where the entry is at generation 9, newest 2.
 fn bare_outcome(alloc: Global, of: u32, above: u32, heartbeat: u32) -> Result<&'static str, Fail> {
     let held = held_entry(alloc)?;
-    let bare = delta(of, above, heartbeat, Vec::new(alloc))?;
-    outcome(alloc, &held, &bare)
+    let bare = bare_delta(alloc, of, above, heartbeat)?;
+    Ok(name_of(&held.absorb(alloc, &bare)?))
 }
 
 #[test]
@@ -245,45 +344,19 @@ fn deltas_across_generations(rt: HostRuntime) -> Result<(), Fail> {
     Ok(())
 }
 
+// Generation 9 at heartbeat 3 with key 1 at 2.
+fn held_and_beaten(alloc: Global) -> Result<Entry, Fail> {
+    let mut held = held_entry(alloc)?;
+    let mut versions = Versions::after(held.newest());
+    held.beat(&mut versions)?;
+    Ok(held)
+}
+
 // A delta may carry a heartbeat at or below what it stands above, beside a newer state.
 #[test]
 fn a_heartbeat_may_fall(rt: HostRuntime) -> Result<(), Fail> {
-    let mut held = held_entry(rt.alloc())?;
-    let mut versions = Versions::after(held.newest());
-    held.beat(&mut versions)?;
+    let held = held_and_beaten(rt.alloc())?;
     let after = taken(rt.alloc(), &held, &delta_with_key_2(rt.alloc(), 3, 1)?)?;
-    assert_eq!(rt; numbers_of(&after), (1, 4));
-    Ok(())
-}
-
-// An entry whose newest version is the last.
-fn spent_entry(alloc: Global) -> Result<Entry, Fail> {
-    let last = delta(9, 0, 2147483647, Vec::new(alloc))?;
-    Ok(Entry::of_delta(alloc, &last)?.ok_or("an entry")?)
-}
-
-#[test]
-fn versions_spent(rt: HostRuntime) -> Result<(), Fail> {
-    let mut entry = spent_entry(rt.alloc())?;
-    let before = entry.copy(rt.alloc())?;
-    let mut versions = Versions::after(entry.newest());
-    let key = StateKey::new(1).ok_or("a key")?;
-    let text = StateText::new(rt.alloc(), "N")?;
-    let refusal = entry.set(&mut versions, key, text).err();
-    assert_eq!(rt; refusal, Some(Fault::VersionsSpent));
-    assert_eq!(rt; entry.beat(&mut versions).err(), Some(Fault::VersionsSpent));
-    assert!(rt; entry.is_same(&before));
-    assert_eq!(rt; versions.last(), 2147483647);
-    Ok(())
-}
-
-#[test]
-fn entries_are_compared(rt: HostRuntime) -> Result<(), Fail> {
-    let held = held_entry(rt.alloc())?;
-    let beaten = set_and_beaten(rt.alloc())?;
-    assert!(rt; beaten.is_later(&held));
-    assert!(rt; !held.is_later(&beaten));
-    assert!(rt; !held.is_same(&beaten));
-    assert!(rt; held.is_same(&held));
+    assert_eq!(rt; numbers_of(&after), (9, 1, 4));
     Ok(())
 }

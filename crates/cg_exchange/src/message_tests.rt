@@ -7,11 +7,11 @@ use std::test::Fail;
 
 #[test]
 fn a_request_has_its_parts(rt: HostRuntime) -> Result<(), Fail> {
+    let (owner, at) = (endpoint(A)?, generation(9)?);
     let request = request(A, 9, 2)?;
-    assert_eq!(rt; request.endpoint(), endpoint(A)?);
-    assert_eq!(rt; request.generation(), generation(9)?);
-    assert_eq!(rt; request.version(), 2);
-    assert!(rt; Request::new(endpoint(A)?, generation(9)?, NUMBER_LIMIT).is_none());
+    let parts = (request.endpoint(), request.generation(), request.version());
+    assert_eq!(rt; parts, (owner, at, 2));
+    assert_eq!(rt; Request::new(owner, at, NUMBER_LIMIT), None);
     Ok(())
 }
 
@@ -58,8 +58,8 @@ fn digests_of_a_syn_are_few(rt: HostRuntime) -> Result<(), Fail> {
 #[test]
 fn a_syn_has_its_parts(rt: HostRuntime) -> Result<(), Fail> {
     let syn = syn_of(rt.alloc(), "c1", 1, digests_below(rt.alloc(), 256)?)?;
-    assert_eq!(rt; syn.cluster().name(), "c1");
-    assert_eq!(rt; syn.digests().len(), MEMBER_LIMIT);
+    let parts = (syn.cluster().name(), syn.digests().len());
+    assert_eq!(rt; parts, ("c1", MEMBER_LIMIT));
     Ok(())
 }
 
@@ -257,18 +257,18 @@ fn an_ack2_equals_its_copy(rt: HostRuntime) -> Result<(), Fail> {
     Ok(())
 }
 
-fn equals_its_copy(alloc: Global, message: &Message) -> Result<bool, Fail> {
-    Ok(message.copy(alloc)? == *message)
+fn equals_its_copy(alloc: Global, message: Message) -> Result<bool, Fail> {
+    Ok(message.copy(alloc)? == message)
 }
 
 #[test]
 fn messages_equal_their_copies(rt: HostRuntime) -> Result<(), Fail> {
-    let syn = a_syn(rt.alloc())?;
-    assert!(rt; equals_its_copy(rt.alloc(), &Message::Syn(syn))?);
-    let ack = an_ack(rt.alloc(), 2, 3)?;
-    assert!(rt; equals_its_copy(rt.alloc(), &Message::Ack(ack))?);
-    let ack2 = an_ack2(rt.alloc(), 3)?;
-    assert!(rt; equals_its_copy(rt.alloc(), &Message::Ack2(ack2))?);
+    let syn = Message::Syn(a_syn(rt.alloc())?);
+    assert!(rt; equals_its_copy(rt.alloc(), syn)?);
+    let ack = Message::Ack(an_ack(rt.alloc(), 2, 3)?);
+    assert!(rt; equals_its_copy(rt.alloc(), ack)?);
+    let ack2 = Message::Ack2(an_ack2(rt.alloc(), 3)?);
+    assert!(rt; equals_its_copy(rt.alloc(), ack2)?);
     Ok(())
 }
 

@@ -1,7 +1,9 @@
-use crate::tests::{A, B, C, ack_of, ack2_of, alone, delta, digest, endpoint, request, syn_of};
-use crate::{Ack, Ack2, Outcome, OwnerDelta, Syn, answer_syn, syn, take_ack, take_ack2};
+use crate::tests::{
+    A, B, C, ack_of, ack2_of, alone, answer_of_b, delta, digest, endpoint, request, syn_of,
+};
+use crate::{Ack, Ack2, Outcome, OwnerDelta, Syn, syn, take_ack, take_ack2};
 use cg_table::{Table, Took};
-use cg_types::{Cluster, Fault};
+use cg_types::{Cluster, Endpoint, Fault};
 use std::alloc::Global;
 use std::test::Fail;
 
@@ -23,9 +25,11 @@ fn with_a(alloc: Global, owner: u16, of: (u32, u32, u32)) -> Result<Table, Fail>
 }
 
 // The generation and the newest version that are held of an endpoint.
-fn held(table: &Table, owner: u16) -> Result<Option<(u32, u32)>, Fail> {
-    let entry = table.get(endpoint(owner)?);
-    Ok(entry.map(|entry| (entry.generation().get(), entry.newest().get())))
+fn held(table: &Table, owner: Endpoint) -> Option<(u32, u32)> {
+    match table.get(owner) {
+        Some(entry) => Some((entry.generation().get(), entry.newest().get())),
+        None => None,
+    }
 }
 
 // The only delta: its generation, the version that it stands above, and the heartbeat version.
@@ -65,60 +69,70 @@ fn became(outcomes: &[Outcome]) -> Option<Outcome> {
     }
 }
 
+fn opening(alloc: Global, table: &Table) -> Result<Syn, Fail> {
+    let cluster = Cluster::with(alloc, "c1", 1)?;
+    Ok(syn(alloc, table, &cluster)?)
+}
+
 #[test]
 fn first_exchange_opens(rt: HostRuntime) -> Result<(), Fail> {
-    let cluster = Cluster::with(rt.alloc(), "c1", 1)?;
-    let a = alone(rt.alloc(), A, 9)?;
-    let opening = syn(rt.alloc(), &a, &cluster)?;
+    let opening = opening(rt.alloc(), &alone(rt.alloc(), A, 9)?)?;
     assert_eq!(rt; opening, first_syn(rt.alloc())?);
     Ok(())
 }
 
 #[test]
 fn first_exchange_is_answered(rt: HostRuntime) -> Result<(), Fail> {
-    let cluster = Cluster::with(rt.alloc(), "c1", 1)?;
-    let b = alone(rt.alloc(), B, 5)?;
-    let ack = answer_syn(rt.alloc(), &b, &cluster, &first_syn(rt.alloc())?)?;
+    let ack = answer_of_b(rt.alloc(), &first_syn(rt.alloc())?)??;
     assert_eq!(rt; ack, first_ack(rt.alloc())?);
+    Ok(())
+}
+
+// What a table sends for an ACK.
+fn sent_for(alloc: Global, table: &Table, ack: &Ack) -> Result<Ack2, Fail> {
+    let (_after, ack2, _outcomes) = take_ack(alloc, table, ack)?;
+    Ok(ack2)
+}
+
+#[test]
+fn first_exchange_sends_what_is_asked_for(rt: HostRuntime) -> Result<(), Fail> {
+    let a = alone(rt.alloc(), A, 9)?;
+    let ack2 = sent_for(rt.alloc(), &a, &first_ack(rt.alloc())?)?;
+    assert_eq!(rt; ack2, first_ack2(rt.alloc())?);
     Ok(())
 }
 
 #[test]
 fn first_exchange_is_taken(rt: HostRuntime) -> Result<(), Fail> {
-    let a = alone(rt.alloc(), A, 9)?;
-    let ack = first_ack(rt.alloc())?;
-    let (a, ack2, outcomes) = take_ack(rt.alloc(), &a, &ack)?;
     let (endpoint, took) = (endpoint(B)?, Took::Taken);
-    assert_eq!(rt; ack2, first_ack2(rt.alloc())?);
-    assert_eq!(rt; became(&outcomes), Some(Outcome { endpoint, took }));
-    assert_eq!(rt; held(&a, B)?, Some((5, 1)));
+    let a = alone(rt.alloc(), A, 9)?;
+    let (a, _ack2, outcomes) = take_ack(rt.alloc(), &a, &first_ack(rt.alloc())?)?;
+    let shown = (became(&outcomes), held(&a, endpoint));
+    assert_eq!(rt; shown, (Some(Outcome { endpoint, took }), Some((5, 1))));
     Ok(())
 }
 
 #[test]
 fn first_exchange_ends(rt: HostRuntime) -> Result<(), Fail> {
-    let b = alone(rt.alloc(), B, 5)?;
-    let ack2 = first_ack2(rt.alloc())?;
-    let (b, outcomes) = take_ack2(rt.alloc(), &b, &ack2)?;
     let (endpoint, took) = (endpoint(A)?, Took::Taken);
-    assert_eq!(rt; became(&outcomes), Some(Outcome { endpoint, took }));
-    assert_eq!(rt; held(&b, A)?, Some((9, 1)));
+    let b = alone(rt.alloc(), B, 5)?;
+    let (b, outcomes) = take_ack2(rt.alloc(), &b, &first_ack2(rt.alloc())?)?;
+    let shown = (became(&outcomes), held(&b, endpoint));
+    assert_eq!(rt; shown, (Some(Outcome { endpoint, took }), Some((9, 1))));
     Ok(())
 }
 
-// Both tables after the exchange that A opens.
-fn exchanged(alloc: Global, a: &Table, b: &Table) -> Result<(Table, Table), Fail> {
-    let ack = first_ack(alloc)?;
-    let (a, ack2, _outcomes) = take_ack(alloc, a, &ack)?;
-    let b = after(alloc, b, &ack2)?;
-    Ok((a, b))
+// A's table after B's ACK, and the ACK2 that it sends.
+fn a_answered(alloc: Global) -> Result<(Table, Ack2), Fail> {
+    let a = alone(alloc, A, 9)?;
+    let (a, ack2, _outcomes) = take_ack(alloc, &a, &first_ack(alloc)?)?;
+    Ok((a, ack2))
 }
 
 #[test]
 fn first_exchange_equals_the_tables(rt: HostRuntime) -> Result<(), Fail> {
-    let a = alone(rt.alloc(), A, 9)?;
-    let b = alone(rt.alloc(), B, 5)?;
-    let (a, b) = exchanged(rt.alloc(), &a, &b)?;
+    let (a, ack2) = a_answered(rt.alloc())?;
+    let b = after(rt.alloc(), &alone(rt.alloc(), B, 5)?, &ack2)?;
     assert!(rt; a.same_entries(&b));
     Ok(())
 }
@@ -131,41 +145,32 @@ fn asks(alloc: Global, owner: u16, at: u32, version: u32) -> Result<Ack, Fail> {
     )
 }
 
-fn sent_for(alloc: Global, table: &Table, ack: &Ack) -> Result<Ack2, Fail> {
-    let (_after, ack2, _outcomes) = take_ack(alloc, table, ack)?;
-    Ok(ack2)
-}
-
-// What C sends for a request of A at generation 9 above version 2, after one delta about A.
-fn granted(alloc: Global, of: (u32, u32, u32)) -> Result<Ack2, Fail> {
+// What C sends for a request of A at generation 9 above version 2, after one delta about A: how many deltas, and the
+// only one.
+fn granted(alloc: Global, of: (u32, u32, u32)) -> Result<(usize, Option<(u32, u32, u32)>), Fail> {
     let table = with_a(alloc, C, of)?;
-    let ack = asks(alloc, A, 9, 2)?;
-    sent_for(alloc, &table, &ack)
+    let ack2 = sent_for(alloc, &table, &asks(alloc, A, 9, 2)?)?;
+    Ok((ack2.deltas().len(), only(&ack2)))
 }
 
 #[test]
 fn request_by_generation(rt: HostRuntime) -> Result<(), Fail> {
-    let newer = granted(rt.alloc(), (10, 0, 1))?;
-    assert_eq!(rt; only(&newer), Some((10, 0, 1)));
-    let older = granted(rt.alloc(), (8, 0, 7))?;
-    assert!(rt; older.deltas().is_empty());
+    assert_eq!(rt; granted(rt.alloc(), (10, 0, 1))?, (1, Some((10, 0, 1))));
+    assert_eq!(rt; granted(rt.alloc(), (8, 0, 7))?, (0, None));
     Ok(())
 }
 
 #[test]
 fn request_by_version(rt: HostRuntime) -> Result<(), Fail> {
-    let further = granted(rt.alloc(), (9, 0, 7))?;
-    assert_eq!(rt; only(&further), Some((9, 2, 7)));
-    let as_far = granted(rt.alloc(), (9, 0, 2))?;
-    assert!(rt; as_far.deltas().is_empty());
+    assert_eq!(rt; granted(rt.alloc(), (9, 0, 7))?, (1, Some((9, 2, 7))));
+    assert_eq!(rt; granted(rt.alloc(), (9, 0, 2))?, (0, None));
     Ok(())
 }
 
 #[test]
 fn request_of_what_is_not_held(rt: HostRuntime) -> Result<(), Fail> {
     let table = alone(rt.alloc(), C, 5)?;
-    let ack = asks(rt.alloc(), A, 9, 2)?;
-    let ack2 = sent_for(rt.alloc(), &table, &ack)?;
+    let ack2 = sent_for(rt.alloc(), &table, &asks(rt.alloc(), A, 9, 2)?)?;
     assert!(rt; ack2.deltas().is_empty());
     Ok(())
 }
@@ -195,11 +200,12 @@ fn crowding(alloc: Global, of: (u32, u32, u32)) -> Result<Vec<OwnerDelta>, Fail>
 
 #[test]
 fn table_full(rt: HostRuntime) -> Result<(), Fail> {
+    let a = endpoint(A)?;
     let table = crowded(rt.alloc())?;
     let ack2 = ack2_of(crowding(rt.alloc(), (5, 0, 1))?)?;
     let refusal = take_ack2(rt.alloc(), &table, &ack2).err();
-    assert_eq!(rt; refusal, Some(Fault::TableFull));
-    assert_eq!(rt; held(&table, A)?, Some((5, 1)));
+    let shown = (refusal, held(&table, a));
+    assert_eq!(rt; shown, (Some(Fault::TableFull), Some((5, 1))));
     Ok(())
 }
 
@@ -221,23 +227,21 @@ fn both(outcomes: &[Outcome]) -> Option<(Took, Took)> {
 
 #[test]
 fn a_full_table_takes_what_needs_no_room(rt: HostRuntime) -> Result<(), Fail> {
-    let table = crowded(rt.alloc())?;
+    let (a, stranger) = (endpoint(A)?, endpoint(256)?);
     let ack2 = ack2_of(crowding(rt.alloc(), (5, 1, 3))?)?;
-    let (after, outcomes) = take_ack2(rt.alloc(), &table, &ack2)?;
-    assert_eq!(rt; both(&outcomes), Some((Took::Taken, Took::Gap)));
-    assert_eq!(rt; held(&after, A)?, Some((5, 3)));
-    assert_eq!(rt; held(&after, 256)?, None);
+    let (after, outcomes) = take_ack2(rt.alloc(), &crowded(rt.alloc())?, &ack2)?;
+    let shown = (both(&outcomes), held(&after, a), held(&after, stranger));
+    assert_eq!(rt; shown, (Some((Took::Taken, Took::Gap)), Some((5, 3)), None));
     Ok(())
 }
 
 #[test]
 fn a_delta_about_the_receiver(rt: HostRuntime) -> Result<(), Fail> {
-    let table = alone(rt.alloc(), B, 5)?;
-    let ack2 = one(rt.alloc(), B, (9, 0, 7))?;
-    let (after, outcomes) = take_ack2(rt.alloc(), &table, &ack2)?;
     let (endpoint, took) = (endpoint(B)?, Took::Own);
-    assert_eq!(rt; became(&outcomes), Some(Outcome { endpoint, took }));
-    assert!(rt; after.same_entries(&table));
+    let table = alone(rt.alloc(), B, 5)?;
+    let (after, outcomes) = take_ack2(rt.alloc(), &table, &one(rt.alloc(), B, (9, 0, 7))?)?;
+    let shown = (became(&outcomes), after.same_entries(&table));
+    assert_eq!(rt; shown, (Some(Outcome { endpoint, took }), true));
     Ok(())
 }
 

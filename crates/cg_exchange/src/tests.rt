@@ -69,7 +69,7 @@ pub(crate) fn ack2_of(deltas: Vec<OwnerDelta>) -> Result<Ack2, Fail> {
 }
 
 // What B at generation 5, alone in its table and in the cluster c1, answers.
-fn answer_of_b(alloc: Global, syn: &Syn) -> Result<Result<Ack, Fault>, Fail> {
+pub(crate) fn answer_of_b(alloc: Global, syn: &Syn) -> Result<Result<Ack, Fault>, Fail> {
     let table = alone(alloc, B, 5)?;
     let cluster = Cluster::with(alloc, "c1", 1)?;
     Ok(answer_syn(alloc, &table, &cluster, syn))
@@ -97,20 +97,15 @@ fn answer_to_one(alloc: Global, owner: u16, at: u32, newest: u32) -> Result<Ack,
 // and how many deltas are sent.
 #[test]
 fn what_is_held_is_answered_by_how_far_it_came(rt: HostRuntime) -> Result<(), Fail> {
-    let rows = [
-        (5, 1, None, 0),
-        (5, 4, Some((5, 1)), 0),
-        (6, 2, Some((6, 0)), 0),
-        (4, 9, None, 1),
-    ];
     let owner = endpoint(B)?;
-    for (at, newest, wanted, sent) in rows {
+    for (at, newest, wanted, sent) in [
+        (5, 1, None, 0),
+        (5, 4, Some((owner, 5, 1)), 0),
+        (6, 2, Some((owner, 6, 0)), 0),
+        (4, 9, None, 1),
+    ] {
         let ack = answer_to_one(rt.alloc(), B, at, newest)?;
-        assert_eq!(rt;
-            asked(&ack),
-            wanted.map(|(at, version)| (owner, at, version))
-        );
-        assert_eq!(rt; ack.deltas().len(), sent);
+        assert_eq!(rt; (asked(&ack), ack.deltas().len()), (wanted, sent));
     }
     Ok(())
 }
