@@ -23,7 +23,7 @@ newest_stands x = greatest_stands x.heartbeat x.states
 
 -- ---- the newest version of the next entry
 
-newest_started : (g : ℕ) → newest (started g) ≡ 1
+pub newest_started : (g : ℕ) → newest (started g) ≡ 1
 newest_started g = go (newest_stands (started g))
   where
     go : Stands (started g).heartbeat (started g).states → newest (started g) ≡ 1

@@ -15,7 +15,8 @@ next_by : (b : Bool) (n v : ℕ) → cond {A = Result ℕ Fault} b (Ok n) (Err V
 next_by true n v e = cc
 next_by false n v e = absurd cc
 
-next_is : (last v : ℕ) → next_version last ≡ Ok v → v ≡ last + 1
+-- a version that is given is the next one
+pub next_is : (last v : ℕ) → next_version last ≡ Ok v → v ≡ last + 1
 next_is last v e = next_by (nat_lt (last + 1) NUMBER_LIMIT) (last + 1) v e
 
 module _ (generation heartbeat last v : ℕ) (states : States) (e : EntryValue) (is : record { generation = generation; heartbeat = heartbeat; states = states } ≡ e) (at : last ≡ newest e) (next : next_version last ≡ Ok v) where

@@ -38,16 +38,7 @@ impl Model for States {
 pub(crate) fn keys_rise(items: &[State]) -> bool
     ensures { result ≡ keys_rise_of items.now }
 {
-    let mut last: Option<StateKey> = None;
-    for state in items {
-        if let Some(before) = last
-            && state.key <= before
-        {
-            return false;
-        }
-        last = Some(state.key);
-    }
-    true
+    items.is_sorted_by(|state, next| state.key < next.key)
 }
 
 // The state of a key, if there is one.

@@ -2,6 +2,7 @@
 use Rattle.std.proofs.Common.{◌≡◌, ℕ, suc, ◌+◌, ◌<◌, ◌≤◌, Bool, true, false, cond, List, [], ◌∷◌, ◌++◌, map, length, take, get_or, Option, Some, None, refl, sym, ap, subst, ◌∙◌, arith, nat_lt}
 use Rattle.std.specs.List.{filter_map}
 use Rattle.std.specs.Option.{option_to_list}
+use Rattle.std.proofs.lemmas.Option.{same_Some}
 use Rattle.std.proofs.lemmas.List.{take_more, length-map, map-append}
 use Rattle.std.proofs.lemmas.List.Elements.{filter_map-append}
 use Rattle.std.specs.Prelude.{◌&&◌, ◌==◌, find}
@@ -59,22 +60,19 @@ module _ {X Y : Type 0} (f : X → Option Y) where
 
 -- ---- the two lists of an answer to a SYN
 
-some_is : {A : Type 0} (x y : A) → Some x ≡ Some y → x ≡ y
-some_is x y e = cc
-
 -- what holds of both items of a choice holds of the one that is chosen
 chosen : {A : Type 0} (P : A → Type 0) (b c : Bool) (x y z : A) → P x → P y → cond b (Some x) (cond c (Some y) None) ≡ Some z → P z
-chosen P true c x y z px py e = subst P (some_is x z e) px
-chosen P false true x y z px py e = subst P (some_is y z e) py
+chosen P true c x y z px py e = subst P (same_Some x z e) px
+chosen P false true x y z px py e = subst P (same_Some y z e) py
 chosen P false false x y z px py e = absurd cc
 
 asked_endpoint : (d : Digest) (held : Option EntryValue) (r : RequestValue) → asked d held ≡ Some r → r.endpoint ≡ d.endpoint
-asked_endpoint d None r e = ap (λ (r : RequestValue). r.endpoint) (sym (some_is _ _ e))
+asked_endpoint d None r e = ap (λ (r : RequestValue). r.endpoint) (sym (same_Some _ _ e))
 asked_endpoint d (Some x) r e = chosen (λ (r : RequestValue). r.endpoint ≡ d.endpoint) (nat_lt x.generation d.generation) (x.generation == d.generation && nat_lt (newest x) d.newest) _ _ r refl refl e
 
 mapped_endpoint : (o : ℕ) (sent : Option DeltaValue) (d : OwnerDelta) → option_map (λ x. record { endpoint = o; delta = x }) sent ≡ Some d → d.endpoint ≡ o
 mapped_endpoint o None d e = absurd cc
-mapped_endpoint o (Some x) d e = ap (λ (d : OwnerDelta). d.endpoint) (sym (some_is _ _ e))
+mapped_endpoint o (Some x) d e = ap (λ (d : OwnerDelta). d.endpoint) (sym (same_Some _ _ e))
 
 pub asked_same : (entries : Entries) (d : Digest) (r : RequestValue) → asked d (table.get entries d.endpoint) ≡ Some r → r.endpoint ≡ d.endpoint
 asked_same entries d r e = asked_endpoint d (table.get entries d.endpoint) r e

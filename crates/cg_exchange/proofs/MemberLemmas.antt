@@ -1,20 +1,16 @@
 -- Lists whose owners rise, read at an owner.
-use Rattle.std.proofs.Common.{◌≡◌, ◌==◌, ℕ, Bool, true, false, cond, List, [], ◌∷◌, map, Option, Some, None, refl, sym, ap, ◌∙◌, arith}
+use Rattle.std.proofs.Common.{◌≡◌, ◌==◌, ℕ, Bool, true, false, cond, List, [], ◌∷◌, map, Option, Some, None, refl, sym, ap, ◌∙◌, arith, eqb-true}
 use Rattle.std.specs.Prelude.{find}
 use Rattle.std.specs.List.{filter_map, cons_option}
 use Rattle.std.specs.Option.{option_map, option_and_then}
 use Rattle.std.specs.Ordering.{nat_cmp}
 use Rattle.std.specs.FinMap as table
 use Rattle.std.specs.FinMap.Entries as entries
-use Rattle.std.proofs.lemmas.Bool.Decides.{nat_tests}
 use Rattle.cg_types.specs.Rising.{is_past, rise_past, Rises}
 use Rattle.cg_types.proofs.RisingLemmas.{second_of}
 use Rattle.cg_entry.specs.Values.{EntryValue}
 use Rattle.cg_table.specs.Values.{Entries}
 use Rattle.cg_exchange.proofs.WalkLemmas.{find_none, same_test}
-
-same_number : (x k : ℕ) → (x == k) ≡ true → x ≡ k
-same_number x k e = grind (arith, nat_tests)
 
 module _ {X Y : Type 0} (key : X → ℕ) (kept : Y → ℕ) (f : X → Option Y) (same : (x : X) (y : Y) → f x ≡ Some y → kept y ≡ key x) where
   abbrev FoundMapped : ℕ → List X → Type 0
@@ -22,7 +18,7 @@ module _ {X Y : Type 0} (key : X → ℕ) (kept : Y → ℕ) (f : X → Option Y
 
   found_by : (q : ℕ) (x : X) (xs : List X) → rise_past (Some (key x)) (map key xs) ≡ true → FoundMapped q xs → (o : Option Y) → f x ≡ o → (b : Bool) → (key x == q) ≡ b
       → find (λ y. kept y == q) (cons_option o (filter_map f xs)) ≡ option_and_then f (cond b (Some x) (find (λ x. key x == q) xs))
-  found_by q x xs rise rest None e true t = rest ∙ ap (option_and_then f) (find_none key q (key x) xs (omega (arith, same_number (key x) q t)) rise) ∙ sym e
+  found_by q x xs rise rest None e true t = rest ∙ ap (option_and_then f) (find_none key q (key x) xs (omega (arith, eqb-true (key x) q t)) rise) ∙ sym e
   found_by q x xs rise rest None e false t = rest
   found_by q x xs rise rest (Some y) e true t = rw (same x y e, t) (sym e)
   found_by q x xs rise rest (Some y) e false t = rw (same x y e, t) rest
@@ -47,7 +43,7 @@ found_map {X} {Y} key kept g same q (x ∷ xs) =
 
 row_by : (q : ℕ) (r : ℕ × EntryValue) (b : Bool) → (r.0 == q) ≡ b → (rest : Option (ℕ × EntryValue)) (held : Option EntryValue) → rest ≡ option_map (λ e. (q, e)) held
     → cond b (Some r) rest ≡ option_map (λ e. (q, e)) (cond b (Some r.1) held)
-row_by q r true t rest held is = ap (λ k. Some (k, r.1)) (same_number r.0 q t)
+row_by q r true t rest held is = ap (λ k. Some (k, r.1)) (eqb-true r.0 q t)
 row_by q r false t rest held is = is
 
 row_at : (q : ℕ) (rows : List (ℕ × EntryValue)) → find (λ r. r.0 == q) rows ≡ option_map (λ e. (q, e)) (entries.find nat_cmp q rows)

@@ -1,16 +1,14 @@
 -- The deltas of a message are about owners that rise: each meets the table as it was.
-use Rattle.std.proofs.Common.{◌≡◌, ◌+◌, ◌≤◌, ◌==◌, ℕ, Bool, true, false, cond, List, [], ◌∷◌, map, Option, Some, None, refl, sym, ap, subst, ◌∙◌, arith, nat_lt}
+use Rattle.std.proofs.Common.{◌≡◌, ◌+◌, ◌≤◌, ◌==◌, ℕ, Bool, true, false, cond, List, [], ◌∷◌, map, Option, Some, None, refl, sym, ap, subst, arith}
 use Rattle.std.specs.Prelude.{not, is_some, count_by, ◌&&◌}
 use Rattle.std.specs.List.{filter_map, cons_option}
-use Rattle.std.specs.Ordering.{nat_cmp, eq_by_cmp}
-use Rattle.std.specs.Cmp.{nat_cmp_total}
-use Rattle.std.specs.FinMap.{get, insert, len, contains_key, get-insert}
-use Rattle.std.proofs.lemmas.Bool.{ltb-true}
+use Rattle.std.specs.FinMap.{get, insert, len, contains_key}
 use Rattle.cg_types.specs.declared.limits.TheConstants.{MEMBER_LIMIT}
 use Rattle.cg_types.specs.Rising.{is_past, rise_past, Rises}
-use Rattle.cg_types.proofs.RisingLemmas.{first_of, second_of, past_trans, same_tied}
+use Rattle.cg_types.proofs.RisingLemmas.{first_of, second_of}
 use Rattle.cg_shared.specs.Rows.{keys_of}
 use Rattle.cg_shared.specs.Map.{put_each}
+use Rattle.cg_shared.proofs.PastLemmas.{AgreePast, still_agree, agree_later}
 use Rattle.cg_entry.specs.declared.entry.Absorbed.{Absorbed}
 use Rattle.cg_entry.specs.declared.entry.Absorbed.TheVariants as absorbed
 use Rattle.cg_entry.specs.Values.{EntryValue, DeltaValue}
@@ -26,10 +24,6 @@ use Rattle.cg_exchange.specs.Taking.{table_after, outcomes_of, held_after}
 use Rattle.cg_exchange.specs.Changes.{row_of, row_changed, outcome_of, endpoints_of_outcomes}
 use Rattle.cg_exchange.proofs.AnswerLemmas.{rise_mapped}
 
-other_key : (e k : ℕ) → nat_lt e k ≡ true → (b : Bool) → eq_by_cmp nat_cmp k e ≡ b → b ≡ false
-other_key e k lt true is = absurd (omega (arith, ltb-true e k lt, same_tied k e is))
-other_key e k lt false is = refl
-
 -- the table that a table's member holds, with these entries
 abbrev pub holding : TableValue → Entries → TableValue
 holding t m = record { own = t.own; entries = m }
@@ -40,36 +34,26 @@ pub record AreTakenAtOnce (t : TableValue) (m : Entries) (ds : List OwnerDelta) 
   pub outcomes : outcomes_of (holding t m) ds ≡ map (outcome_of t) ds
 
 module _ (t : TableValue) where
-  -- the entries past an owner are those of t
-  abbrev pub AgreePast : Option ℕ → Entries → Type 0
-  AgreePast last m = (k : ℕ) → is_past last k ≡ true → get m k ≡ get t.entries k
-
-  still_agree : (m : Entries) (e : ℕ) (x : EntryValue) → AgreePast (Some e) m → AgreePast (Some e) (insert m e x)
-  still_agree m e x same k p = get-insert nat_cmp_total m e x k ∙ rw (other_key e k p (eq_by_cmp nat_cmp k e) refl) (same k p)
-
-  agree_later : (m : Entries) (last : Option ℕ) (e : ℕ) → is_past last e ≡ true → AgreePast last m → AgreePast (Some e) m
-  agree_later m last e here same k p = same k (past_trans last e k here (ltb-true e k p))
-
   -- one delta and those after it, by whether it is about the own endpoint and by what it makes of what is held
   record AreTakenWith (m : Entries) (d : OwnerDelta) (ds : List OwnerDelta) (own : Bool) (a : Absorbed) : Type 0 where
     after : table_after (cond own (holding t m, took.Own) (taken (holding t m) d.endpoint a)).0 ds ≡ holding t (put_each (cons_option (cond own None (row_of d.endpoint a)) (filter_map (row_changed t) ds)) m)
     outcomes : ◌≡◌ {A = List Outcome} (record { endpoint = d.endpoint; took = (cond own (holding t m, took.Own) (taken (holding t m) d.endpoint a)).1 } ∷ outcomes_of (cond own (holding t m, took.Own) (taken (holding t m) d.endpoint a)).0 ds)
         (record { endpoint = d.endpoint; took = (cond own (t, took.Own) (taken t d.endpoint a)).1 } ∷ map (outcome_of t) ds)
 
-  step : (m : Entries) (d : OwnerDelta) (ds : List OwnerDelta) (own : Bool) (a : Absorbed) → AgreePast (Some d.endpoint) m
-      → ((n : Entries) → AgreePast (Some d.endpoint) n → AreTakenAtOnce t n ds) → AreTakenWith m d ds own a
+  step : (m : Entries) (d : OwnerDelta) (ds : List OwnerDelta) (own : Bool) (a : Absorbed) → AgreePast t.entries (Some d.endpoint) m
+      → ((n : Entries) → AgreePast t.entries (Some d.endpoint) n → AreTakenAtOnce t n ds) → AreTakenWith m d ds own a
   step m d ds true a same rest = let r = rest m same in record { after = r.after; outcomes = ap (λ (os : List Outcome). record { endpoint = d.endpoint; took = took.Own } ∷ os) r.outcomes }
   step m d ds false (absorbed.Taken x) same rest =
-      let r = rest (insert m d.endpoint x) (still_agree m d.endpoint x same) in record { after = r.after; outcomes = ap (λ (os : List Outcome). record { endpoint = d.endpoint; took = took.Taken } ∷ os) r.outcomes }
+      let r = rest (insert m d.endpoint x) (still_agree t.entries m d.endpoint x same) in record { after = r.after; outcomes = ap (λ (os : List Outcome). record { endpoint = d.endpoint; took = took.Taken } ∷ os) r.outcomes }
   step m d ds false absorbed.Old same rest = let r = rest m same in record { after = r.after; outcomes = ap (λ (os : List Outcome). record { endpoint = d.endpoint; took = took.Old } ∷ os) r.outcomes }
   step m d ds false absorbed.Gap same rest = let r = rest m same in record { after = r.after; outcomes = ap (λ (os : List Outcome). record { endpoint = d.endpoint; took = took.Gap } ∷ os) r.outcomes }
 
-  taken_past : (m : Entries) (last : Option ℕ) (ds : List OwnerDelta) → rise_past last (endpoints_of_deltas ds) ≡ true → AgreePast last m → AreTakenAtOnce t m ds
+  taken_past : (m : Entries) (last : Option ℕ) (ds : List OwnerDelta) → rise_past last (endpoints_of_deltas ds) ≡ true → AgreePast t.entries last m → AreTakenAtOnce t m ds
   taken_past m last [] h same = record { after = refl; outcomes = refl }
   taken_past m last (d ∷ ds) h same =
       let here = first_of (is_past last d.endpoint) (rise_past (Some d.endpoint) (endpoints_of_deltas ds)) h in
       let rest = second_of (is_past last d.endpoint) (rise_past (Some d.endpoint) (endpoints_of_deltas ds)) h in
-      let s = step m d ds (d.endpoint == t.own) (met (get t.entries d.endpoint) d.delta) (agree_later m last d.endpoint here same) (λ n agree. taken_past n (Some d.endpoint) ds rest agree) in
+      let s = step m d ds (d.endpoint == t.own) (met (get t.entries d.endpoint) d.delta) (agree_later t.entries m last d.endpoint here same) (λ n agree. taken_past n (Some d.endpoint) ds rest agree) in
       record { after = rw (same d.endpoint here) s.after; outcomes = rw (same d.endpoint here) s.outcomes }
 
   -- deltas about owners that rise, taken one after the other, are taken against the table as it was

@@ -76,14 +76,6 @@ module _ {X : Type 0} (owner : X → ℕ) where
       let later = rise_from k last ys (rise_earlier last (owner y) (map owner ys) here rest) in
       elim (nat_lt (owner y) k) as (λ b. rise_past last (map owner (cond b (from_owner owner k ys) (y ∷ ys))) ≡ true) [ true ↦ later | false ↦ h ]
 
-  -- ---- one step of the search for an owner
-
-  pub from_step : (k : ℕ) (ys : List X) (i : ℕ) (y : X) → i < length ys → y ≡ get_or ys i y → owner y < k → from_owner owner k (drop i ys) ≡ from_owner owner k (drop (i + 1) ys)
-  from_step k ys i y lt is less = rw (one_dropped ys i y lt is, is_less (owner y) k less) refl
-
-  pub from_here : (k : ℕ) (ys : List X) (i : ℕ) (y : X) → i < length ys → y ≡ get_or ys i y → k ≤ owner y → from_owner owner k (drop i ys) ≡ drop i ys
-  from_here k ys i y lt is le = rw (one_dropped ys i y lt is, not_less (owner y) k le) refl
-
 module _ {X Y Z : Type 0} (key : X → ℕ) (owner : Y → ℕ) (f : X → Option Y → Option Z) where
   walked_past : (all : List Y) (last : Option ℕ) (xs : List X) (ys : List Y) → rise_past last (map key xs) ≡ true → Rises (map owner ys)
       → ((k : ℕ) → is_past last k ≡ true → find (λ y. owner y == k) ys ≡ find (λ y. owner y == k) all)

@@ -2,7 +2,7 @@
 use Rattle.std.specs.Prelude.{ℕ, List, refl}
 use Rattle.std.specs.Coded.{Coded, code_by, coded×, coded_ℕ, coded_list}
 use Rattle.cg_entry.specs.Values.{DeltaValue, delta_code}
-use Rattle.cg_types.specs.Text.{ClusterValue}
+use Rattle.cg_types.specs.Text.{ClusterValue, cluster_code}
 use Rattle.cg_exchange.specs.declared.owner_delta.OwnerDelta.{OwnerDelta}
 use Rattle.cg_table.specs.declared.digest.Digest.{Digest}
 
@@ -25,9 +25,6 @@ pub record AckValue : Type 0 where
 -- the codes that models of such values ask for
 abbrev pub request_code : Coded RequestValue
 request_code = code_by (ℕ × (ℕ × ℕ)) (coded× coded_ℕ (coded× coded_ℕ coded_ℕ)) (λ r. (r.endpoint, (r.generation, r.version))) (λ p. record { endpoint = p.0; generation = p.1.0; version = p.1.1 }) (λ _. refl)
-
-abbrev cluster_code : Coded ClusterValue
-cluster_code = code_by (List ℕ × ℕ) (coded× (coded_list coded_ℕ) coded_ℕ) (λ c. (c.name, c.partitioner)) (λ p. record { name = p.0; partitioner = p.1 }) (λ _. refl)
 
 abbrev digest_code : Coded Digest
 digest_code = code_by (ℕ × (ℕ × ℕ)) (coded× coded_ℕ (coded× coded_ℕ coded_ℕ)) (λ d. (d.endpoint, (d.generation, d.newest))) (λ p. record { endpoint = p.0; generation = p.1.0; newest = p.1.1 }) (λ _. refl)

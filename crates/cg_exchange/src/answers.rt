@@ -9,11 +9,11 @@ ghost use Rattle.cg_exchange.specs.Walking.{asked_by as asked_by_of, sent_by as 
 
 use crate::ack::Ack;
 use crate::opening::Syn;
-use crate::owned::{first_about, from_owner, push_some};
+use crate::owned::{first_about, from_owner};
 use crate::owner_delta::OwnerDelta;
 use crate::request::Request;
 use cg_entry::{Delta, Entry};
-use cg_shared::Row;
+use cg_shared::{Row, push_some};
 use cg_table::{Digest, Table};
 use cg_types::{Cluster, Fault};
 use std::alloc::{AllocError, Global};

@@ -1,7 +1,6 @@
 //! What the members of a message's lists have in common.
 
-ghost use Rattle.std.specs.Prelude.{◌≡◌, ◌++◌, ℕ, OnOk, None, map, option_copied};
-ghost use Rattle.std.specs.Option.{option_to_list};
+ghost use Rattle.std.specs.Prelude.{◌≡◌, ℕ, None, map, option_copied};
 ghost use Rattle.cg_types.specs.Rising.{rise_past};
 ghost use Rattle.cg_exchange.specs.Members.{listed};
 ghost use Rattle.cg_exchange.specs.Walking.{from_owner as from_owner_of, first_about as first_about_of};
@@ -12,7 +11,6 @@ use cg_entry::Entry;
 use cg_shared::Row;
 use cg_table::Digest;
 use cg_types::{Endpoint, MEMBER_LIMIT};
-use std::alloc::AllocError;
 
 /// Something about an endpoint, its owner.
 pub(crate) trait Owned {
@@ -58,17 +56,7 @@ impl Owned for Row<Entry> {
 fn owners_rise<M: Owned>(members: &[M]) -> bool
     ensures { result ≡ rise_past None (map M.owner_of members.now) }
 {
-    let mut last: Option<Endpoint> = None;
-    for member in members {
-        let owner = member.owner();
-        if let Some(before) = last
-            && owner <= before
-        {
-            return false;
-        }
-        last = Some(owner);
-    }
-    true
+    members.is_sorted_by(|member, next| member.owner() < next.owner())
 }
 
 /// Whether the members can stand in one list of a message.
@@ -76,16 +64,6 @@ pub(crate) fn are_listed<M: Owned>(members: &[M]) -> bool
     ensures { result ≡ listed (map M.owner_of members.now) }
 {
     members.len() <= MEMBER_LIMIT && owners_rise(members)
-}
-
-/// Puts an item at the end, if there is one.
-pub(crate) fn push_some<T: Drop>(items: &mut Vec<T>, item: Option<T>) -> Result<(), AllocError>
-    ensures { OnOk result (items.new.items ≡ items.old.items ++ option_to_list item) }
-{
-    if let Some(item) = item {
-        items.push(item)?;
-    }
-    Ok(())
 }
 
 /// The members from an owner on. It looks at those that it leaves out, and at one more.

@@ -12,11 +12,10 @@ ghost use Rattle.cg_exchange.specs.Changes.{row_changed, outcome_of, endpoints_o
 use crate::ack::Ack;
 use crate::ack2::Ack2;
 use crate::outcome::Outcome;
-use crate::owned::push_some;
 use crate::owner_delta::OwnerDelta;
 use crate::request::Request;
 use cg_entry::{Absorbed, Delta, Entry, met};
-use cg_shared::Row;
+use cg_shared::{Row, push_some};
 use cg_table::{Table, Took};
 use cg_types::{Fault, MEMBER_LIMIT};
 use std::alloc::{AllocError, Global};

@@ -81,8 +81,8 @@ impl<T: Drop> SharedMap<T> {
         Ok(SharedMap { rows })
     }
 
-    /// A map with each of the rows put, in one walk. It shares all values. The rows have to rise by endpoint. `AllocError`
-    /// where the list of rows finds no memory.
+    /// A map with each of the rows put, in one walk. It shares all values. The rows have to rise by endpoint.
+    /// `AllocError` where the list of rows finds no memory.
     pub fn with_rows(&self, alloc: Global, changes: &[Row<T>]) -> Result<SharedMap<T>, AllocError>
         requires { Rises (keys_of changes.now) }
         ensures { IfOk result (λ m. m ≡ put_each changes.now self.now) }

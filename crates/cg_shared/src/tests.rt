@@ -1,4 +1,4 @@
-use crate::{Row, SharedMap};
+use crate::{Row, SharedMap, push_some};
 use cg_types::Endpoint;
 use std::alloc::Global;
 use std::test::Fail;
@@ -37,5 +37,14 @@ fn a_row_is_put_in_place_of_one_with_its_endpoint(rt: HostRuntime) -> Result<(),
         assert_eq!(rt; row.endpoint(), endpoint(last)?);
         assert_eq!(rt; *row.value(), value);
     }
+    Ok(())
+}
+
+#[test]
+fn an_item_is_put_at_the_end(rt: HostRuntime) -> Result<(), Fail> {
+    let mut items = vec![in rt.alloc(); 1]?;
+    push_some(&mut items, None)?;
+    push_some(&mut items, Some(2))?;
+    assert_eq!(rt; items.as_slice(), [1, 2].as_slice());
     Ok(())
 }

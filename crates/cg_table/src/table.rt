@@ -125,8 +125,8 @@ impl Table {
         self.entries.rows()
     }
 
-    /// A digest of each entry, rising by endpoint (Cassandra's list of `GossipDigest`). `AllocError` where the list finds
-    /// no memory.
+    /// A digest of each entry, rising by endpoint (Cassandra's list of `GossipDigest`). `AllocError` where the list
+    /// finds no memory.
     pub fn digests(&self, alloc: Global) -> Result<Vec<Digest>, AllocError>
         ensures value { IfOk result (λ ds. ds.items ≡ digests_of self.now.entries) }
         ensures few { IfOk result (λ ds. length ds.items ≤ MEMBER_LIMIT) }
@@ -280,9 +280,9 @@ impl Table {
         Ok(later)
     }
 
-    /// A table with each of the rows put, in one walk over both lists. All entries are shared, the new ones too. The rows
-    /// have to rise by endpoint, and with them at most `MEMBER_LIMIT` endpoints to be held. `AllocError` where the list of
-    /// rows finds no memory.
+    /// A table with each of the rows put, in one walk over both lists. All entries are shared, the new ones too. The
+    /// rows have to rise by endpoint, and with them at most `MEMBER_LIMIT` endpoints to be held. `AllocError` where the
+    /// list of rows finds no memory.
     pub fn with_rows(&self, alloc: Global, changes: &[Row<Entry>]) -> Result<Table, AllocError>
         requires rise { Rises (keys_of changes.now) }
         requires room { table.len (put_each changes.now self.now.entries) ≤ MEMBER_LIMIT }

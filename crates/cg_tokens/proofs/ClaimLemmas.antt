@@ -8,6 +8,7 @@ use Rattle.std.specs.declared.cmp.Ordering.TheVariants.{Less, Equal, Greater}
 use Rattle.std.specs.Cmp.{IsTotalOrder, nat_cmp_total}
 use Rattle.std.specs.FinMap.{from_sorted, from_entries, same_map, nat_cmp-IsAntisymmetric, get-from_entries}
 use Rattle.std.specs.FinMap.Entries.{find}
+use Rattle.std.proofs.lemmas.Option.{same_Some}
 use Rattle.std.proofs.lemmas.Cmp.{then_total, on_total, back_total}
 use Rattle.std.proofs.lemmas.List.Sorted.{sorted_far, ranks_by, All-permutation, Contains-permutation, IsPermutation-sym}
 use Rattle.std.proofs.lemmas.List.Elements.{All-nil, All-cons, All-head, All-tail, All-contains}
@@ -124,9 +125,6 @@ found-heads last t (c ∷ cs) other =
 
 -- ---- who wins
 
-some_is : (x y : ℕ) → Some x ≡ Some y → x ≡ y
-some_is x y e = cc
-
 none_some : (x : ℕ) → Some x ≡ None → ⊥
 none_some x e = cc
 
@@ -156,7 +154,7 @@ first_by true t e c cs h tie is rest = record {
   claim = c;
   held = (0, omega arith, refl);
   of_token = sym (same_tied t c.token tie);
-  endpoint = some_is c.endpoint e is;
+  endpoint = same_Some c.endpoint e is;
   so = λ k d lt. (in_order-head c cs h k d lt).no_better;
 }
 first_by false t e c cs h tie is rest =
@@ -176,7 +174,7 @@ module _ (p : Claim → Bool) (t : ℕ) where
     claim = c;
     held = (0, omega arith, refl);
     of_token = sym (same_tied t c.token tie);
-    endpoint = some_is c.endpoint e (rw tie at is);
+    endpoint = same_Some c.endpoint e (rw tie at is);
     so = passed;
   }
   kept_by true false e c cs passed tie is rest = let g = rest (rw tie at is) in gives_later t e c cs g g.so

@@ -5,11 +5,11 @@ use Rattle.std.specs.Ordering.{nat_cmp, ordering_then}
 use Rattle.std.specs.declared.cmp.Ordering.{Ordering}
 use Rattle.std.specs.Str.{bytes_eq}
 use Rattle.std.specs.FinMap as table
+use Rattle.cg_types.specs.declared.limits.TheConstants.{STATUS_KEY, TOKENS_KEY}
 use Rattle.cg_entry.specs.Versioned.{Versioned, States}
 use Rattle.cg_entry.specs.Values.{EntryValue}
 use Rattle.cg_table.specs.Values.{Entries}
 use Rattle.cg_tokens.specs.declared.claims.Claim.{Claim}
-use Rattle.cg_tokens.specs.declared.limits.TheConstants.{STATUS, TOKENS}
 use Rattle.cg_tokens.specs.Text.{is_comma, tokens_of}
 
 -- the text that is held, empty where none is
@@ -24,12 +24,12 @@ text_at states key = text_of (table.get states key)
 -- The status, up to its first comma, is NORMAL or LEAVING.
 abbrev pub is_member : States → Bool
 is_member states =
-    let status = before_first is_comma (text_at states STATUS) in
+    let status = before_first is_comma (text_at states STATUS_KEY) in
     bytes_eq status (codes "NORMAL") || bytes_eq status (codes "LEAVING")
 
 -- the tokens that an endpoint claims by its states; none where their text can't be read
 abbrev pub claimed_tokens : States → List ℕ
-claimed_tokens states = if is_member states then unwrap_or (tokens_of (text_at states TOKENS)) [] else []
+claimed_tokens states = if is_member states then unwrap_or (tokens_of (text_at states TOKENS_KEY)) [] else []
 
 -- an endpoint's claim to a token
 abbrev pub claim : ℕ × EntryValue → ℕ → Claim

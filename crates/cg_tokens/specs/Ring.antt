@@ -1,8 +1,8 @@
 -- The ring of what is held, and replicas on it.
-use Rattle.std.specs.Prelude.{ℕ, ◌==◌, Bool, not, nat_lt, nat_le, List, [], ◌∷◌, ◌++◌, length, map as map_list, take, filter, if◌then◌else◌}
-use Rattle.std.specs.List.{list_any}
+use Rattle.std.specs.Prelude.{ℕ, ◌==◌, not, nat_lt, nat_le, List, [], ◌∷◌, ◌++◌, length, map as map_list, take, filter, if◌then◌else◌}
 use Rattle.std.specs.Ordering.{nat_cmp}
 use Rattle.std.specs.FinMap as map
+use Rattle.cg_types.specs.Rising.{is_among}
 use Rattle.cg_table.specs.Values.{Entries}
 use Rattle.cg_tokens.specs.Claims.{claims, wins, position}
 
@@ -33,10 +33,6 @@ abbrev pub replicas : List (ℕ × ℕ) → ℕ → ℕ → List ℕ
 replicas positions token rf = take rf (firsts (walk positions token))
 
 -- ---- how they are taken
-
--- whether an endpoint was taken
-abbrev pub is_among : List ℕ → ℕ → Bool
-is_among taken e = list_any (λ f. f == e) taken
 
 -- what is taken after one more endpoint
 abbrev pub with_one : List ℕ → ℕ → List ℕ

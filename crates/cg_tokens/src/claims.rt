@@ -7,13 +7,12 @@ ghost use Rattle.cg_types.specs.Numbers.{IsKey};
 ghost use Rattle.cg_tokens.specs.Text.{is_comma};
 ghost use Rattle.cg_tokens.specs.Claims.{text_at, is_member as is_member_of, claimed_tokens, claim, claims_of, claims, rank};
 
-use crate::limits::{STATUS, TOKENS};
 use crate::text::{first_piece, tokens_in};
 use crate::token::Token;
 use cg_entry::Entry;
 use cg_shared::Row;
 use cg_table::Table;
-use cg_types::{Endpoint, Generation, StateKey};
+use cg_types::{Endpoint, Generation, STATUS_KEY, StateKey, TOKENS_KEY};
 use std::alloc::{AllocError, Global};
 use std::cmp::Reverse;
 
@@ -51,7 +50,7 @@ fn first_word(text: &[u8]) -> &[u8]
 fn is_member(entry: &Entry) -> bool
     ensures { result ≡ is_member_of entry.now.states }
 {
-    let status = first_word(text_at(entry, STATUS));
+    let status = first_word(text_at(entry, STATUS_KEY));
     status == b"NORMAL".as_slice() || status == b"LEAVING".as_slice()
 }
 
@@ -62,7 +61,7 @@ fn claimed_tokens(alloc: Global, entry: &Entry) -> Result<Vec<Token>, AllocError
     if !is_member(entry) {
         return Ok(Vec::new(alloc));
     }
-    match tokens_in(alloc, text_at(entry, TOKENS))? {
+    match tokens_in(alloc, text_at(entry, TOKENS_KEY))? {
         Some(tokens) => Ok(tokens),
         None => Ok(Vec::new(alloc)),
     }

@@ -1,4 +1,4 @@
-//! The limits of tokens and of their texts, and where a table has them.
+//! The limits of tokens and of their texts.
 
 /// The greatest token: 2 to the 127.
 pub const TOKEN_LIMIT: u128 = 170141183460469231731687303715884105728;
@@ -11,9 +11,3 @@ pub const TOKEN_COUNT_LIMIT: usize = 16;
 
 // What stands between tokens, and behind the first word of a status.
 pub(crate) const COMMA: u8 = b',';
-
-// The key of an endpoint's status.
-pub(crate) const STATUS: u8 = 1;
-
-// The key of an endpoint's tokens.
-pub(crate) const TOKENS: u8 = 2;

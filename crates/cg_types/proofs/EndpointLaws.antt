@@ -5,6 +5,7 @@ use Rattle.std.specs.List.{list_all}
 use Rattle.std.specs.Char.{is_ascii_digit}
 use Rattle.std.proofs.lemmas.Bool.{and_parts}
 use Rattle.std.proofs.lemmas.Grind.{common_steps}
+use Rattle.std.proofs.lemmas.Option.{same_Some}
 use Rattle.cg_types.specs.Words.{cut_at, with_first, number_of}
 use Rattle.cg_types.specs.Numbers.{IsEndpoint, address_of, port_of}
 use Rattle.cg_types.specs.EndpointText.{dotted, joined, endpoint_text, endpoint_in, octet_before, port_in, ◌>>=◌}
@@ -15,12 +16,6 @@ pub bind_some : {A B : Type 0} (o : Option A) (f : A → Option B) (y : B) → (
 bind_some None f y e = absurd cc
 bind_some (Some x) f y e = (x, refl, e)
 
-abbrev some : {A : Type 0} → A → Option A
-some x = Some x
-
-some_is : {A : Type 0} (x y : A) → some x ≡ some y → x ≡ y
-some_is x y e = cc
-
 -- ---- parts
 
 abbrev IsCut : ℕ → List ℕ → List ℕ × List ℕ → Type 0
@@ -28,11 +23,11 @@ IsCut c text p = text ≡ p.0 ++ (c ∷ p.1)
 
 cut_first : (c b : ℕ) (bs : List ℕ) (rest : Option (List ℕ × List ℕ)) (p : List ℕ × List ℕ) → ((q : List ℕ × List ℕ) → rest ≡ Some q → IsCut c bs q) → with_first b rest ≡ Some p → IsCut c (b ∷ bs) p
 cut_first c b bs None p h e = absurd cc
-cut_first c b bs (Some q) p h e = subst (IsCut c (b ∷ bs)) (some_is (b ∷ q.0, q.1) p e) (ap (λ (l : List ℕ). b ∷ l) (h q refl))
+cut_first c b bs (Some q) p h e = subst (IsCut c (b ∷ bs)) (same_Some (b ∷ q.0, q.1) p e) (ap (λ (l : List ℕ). b ∷ l) (h q refl))
 
 cut_step : (t : Bool) (c b : ℕ) (bs : List ℕ) (rest : Option (List ℕ × List ℕ)) (p : List ℕ × List ℕ) → (b == c) ≡ t → ((q : List ℕ × List ℕ) → rest ≡ Some q → IsCut c bs q)
     → cond t (Some ([], bs)) (with_first b rest) ≡ Some p → IsCut c (b ∷ bs) p
-cut_step true c b bs rest p is h e = subst (IsCut c (b ∷ bs)) (some_is ([], bs) p e) (ap (λ (k : ℕ). k ∷ bs) (eqb-true b c is))
+cut_step true c b bs rest p is h e = subst (IsCut c (b ∷ bs)) (same_Some ([], bs) p e) (ap (λ (k : ℕ). k ∷ bs) (eqb-true b c is))
 cut_step false c b bs rest p is h e = cut_first c b bs rest p h e
 
 -- what was cut is the text
@@ -65,7 +60,7 @@ octet_before-some c text p e =
     let number = number_of-some 255 b.0.0 n.0 (omega arith) n.1 in
     let parts = cut_at-some c text b.0 b.1 in
     let octet : n.0 < 256 = omega (arith, number.1) in
-    subst (λ (q : ℕ × List ℕ). (text ≡ decimal q.0 ++ (c ∷ q.1)) × (q.0 < 256)) (some_is (n.0, b.0.1) p n.2)
+    subst (λ (q : ℕ × List ℕ). (text ≡ decimal q.0 ++ (c ∷ q.1)) × (q.0 < 256)) (same_Some (n.0, b.0.1) p n.2)
     (parts ∙ ap (λ (l : List ℕ). l ++ (c ∷ b.0.1)) number.0, octet)
 
 pub port_in-text : (n : ℕ) → 1 ≤ n → n ≤ 65535 → port_in (decimal n) ≡ Some n
@@ -137,7 +132,7 @@ endpoint_in-some text e found =
     let pc = octet_before-some 46 b.0.1 c.0 c.1 in
     let pd = octet_before-some 58 c.0.1 d.0 d.1 in
     let pp = port_in-some d.0.1 p.0 p.1 in
-    let same : joined a.0.0 b.0.0 c.0.0 d.0.0 p.0 ≡ e = some_is (joined a.0.0 b.0.0 c.0.0 d.0.0 p.0) e p.2 in
+    let same : joined a.0.0 b.0.0 c.0.0 d.0.0 p.0 ≡ e = same_Some (joined a.0.0 b.0.0 c.0.0 d.0.0 p.0) e p.2 in
     let whole : text ≡ dotted a.0.0 b.0.0 c.0.0 d.0.0 p.0 =
     pa.0 ∙ ap (λ (l : List ℕ). decimal a.0.0 ++ (46 ∷ l)) (pb.0 ∙ ap (λ (l : List ℕ). decimal b.0.0 ++ (46 ∷ l)) (pc.0 ∙ ap (λ (l : List ℕ). decimal c.0.0 ++ (46 ∷ l))
     (pd.0 ∙ ap (λ (l : List ℕ). decimal d.0.0 ++ (58 ∷ l)) pp.0))) in

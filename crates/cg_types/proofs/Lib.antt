@@ -2,3 +2,4 @@ pub mod RisingLemmas
 pub mod WordLemmas
 pub mod EndpointLaws
 pub mod PlainLemmas
+pub mod NeighbourLemmas

@@ -10,11 +10,8 @@ use Rattle.std.specs.Option.{option_or}
 use Rattle.std.specs.declared.cmp.Ordering.{Ordering}
 use Rattle.std.specs.declared.cmp.Ordering.TheVariants.{Less, Equal, Greater}
 use Rattle.std.proofs.lemmas.Bool.{ltb-true, lt-ltb}
-use Rattle.std.specs.List.{AllByRecursion as ByRecursion}
-use Rattle.std.specs.List.Sorted.{IsStrictlySortedBy}
 use Rattle.std.specs.Map.{lookup}
 use Rattle.std.specs.BTreeMap.{is_at}
-use Rattle.std.proofs.lemmas.Map.Keys.{sorted_head, sorted_tail}
 use Rattle.cg_types.specs.Rising.{is_past, rise_past, Rises}
 
 pub both : (a b : Bool) → a ≡ true → b ≡ true → (a && b) ≡ true
@@ -109,6 +106,10 @@ same_ranked x y Greater e p = absurd cc
 pub same_tied : (x y : ℕ) → eq_by_cmp nat_cmp x y ≡ true → x ≡ y
 same_tied x y p = same_ranked x y (nat_cmp x y) refl p
 
+-- a key past another does not tie with it
+pub other_key : (e k : ℕ) → nat_lt e k ≡ true → eq_by_cmp nat_cmp k e ≡ false
+other_key e k past = ap is_eq (sym (nat_cmp_is k e Greater (ltb-true e k past)))
+
 not_tied : (q x y : ℕ) → eq_by_cmp nat_cmp q x ≡ true → x < y → eq_by_cmp nat_cmp q y ≡ false
 not_tied q x y e lt =
     let same = same_tied q x e in
@@ -147,24 +148,6 @@ module _ {X : Type 0} where
         | true ↦ refl
         | false ↦ find-before q xs ys
       ]
-
--- ---- keys of a tree
-
-later_than : (k : ℕ) (ks : List ℕ) → ByRecursion (λ y. nat_cmp k y ≡ Less) ks → ByRecursion (λ y. nat_lt k y ≡ true) ks
-later_than k [] all = tt
-later_than k (y ∷ ys) all = (lt-ltb k y (ranked k y Less (sym all.0)), later_than k ys all.1)
-
-rise_listed : (last : Option ℕ) (ks : List ℕ) → ByRecursion (λ k. is_past last k ≡ true) ks → IsStrictlySortedBy nat_cmp ks → rise_past last ks ≡ true
-rise_listed last [] all s = refl
-rise_listed last (k ∷ ks) all s =
-    both (is_past last k) (rise_past (Some k) ks) all.0 (rise_listed (Some k) ks (later_than k ks (sorted_head nat_cmp k ks s)) (sorted_tail nat_cmp k ks s))
-
-all_past : (ks : List ℕ) → ByRecursion (λ k. is_past None k ≡ true) ks
-all_past [] = tt
-all_past (k ∷ ks) = (refl, all_past ks)
-
-pub rise_ordered : (ks : List ℕ) → IsStrictlySortedBy nat_cmp ks → Rises ks
-rise_ordered ks s = rise_listed None ks (all_past ks) s
 
 -- what a tree finds
 pub find_looked_up : {X : Type 0} (es : List (ℕ × X)) (q : ℕ) → find nat_cmp q es ≡ lookup (is_at (nat_cmp q)) es

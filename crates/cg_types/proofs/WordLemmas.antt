@@ -1,15 +1,14 @@
 -- Laws of parts and numbers.
 use Rattle.std.proofs.Common.{◌≡◌, ◌≢◌, ℕ, ◌^◌, ◌<◌, ◌≤◌, Bool, true, false, cond, List, ◌++◌, length, get_or, Option, Some, None, refl, sym, ap, ◌∙◌, arith, decimal, rules, inl, inr, IfSome, IfNone}
-use Rattle.std.specs.Prelude.{◌&&◌, nat_le, Result, Ok, Err, IsUtf8}
+use Rattle.std.specs.Prelude.{◌&&◌, nat_le, Result, Err, IsUtf8}
 use Rattle.std.specs.List.{list_all}
 use Rattle.std.specs.Char.{is_ascii_digit}
 use Rattle.std.specs.Str.Parse.{ParsesUnsigned, digits_value}
 use Rattle.std.proofs.lemmas.Bool.{cases_lt, and_parts}
 use Rattle.std.proofs.lemmas.Fmt.{IsAscii-from_digits, decimal-digits_value, digits_decimal, digits_value-decimal, decimal_nonempty, first_decimal, decimal_digit}
 use Rattle.std.proofs.lemmas.Grind.{common_steps}
-use Rattle.std.proofs.lemmas.Result.{OkIff-at_ok, OkIff-at_err}
-use Rattle.std.specs.Str.{is_utf8}
-use Rattle.std.proofs.lemmas.Str.{IsUtf8-from_ascii, IsUtf8-from_is_utf8}
+use Rattle.std.proofs.lemmas.Result.{OkIff-at_err}
+use Rattle.std.proofs.lemmas.Str.{IsUtf8-from_ascii}
 use Rattle.std.proofs.lemmas.Str.Parse.{IsNumeralModel, IsDigitsTest, numerals_by_value, parse_digits}
 use Rattle.cg_types.specs.Words.{number_of, is_number}
 
@@ -40,15 +39,7 @@ is_number-parts text h = record { digits = (and_parts _ _ h).0; some = grind (ar
 pub is_number-from : (text : List ℕ) → Canonical text → is_number text ≡ true
 is_number-from text h = let d = h.digits in let s = h.some in let f = h.first in grind (arith, common_steps)
 
--- what a parse of a number gives
-pub number_of-ok : {E : Type 0} (most : ℕ) (text : List ℕ) (r : Result ℕ E) (n : ℕ) → ParsesUnsigned 64 10 text r → is_number text ≡ true → r ≡ Ok n
-    → number_of most text ≡ (cond (nat_le n most) (Some n) None)
-unfolding number_of
-number_of-ok most text r n h is e =
-    let c = is_number-parts text is in
-    let p = OkIff-at_ok r _ _ n (parse_digits own 64 text r h c.digits) e in
-    rw (is, ← p.1) refl
-
+-- what a parse of a number that fails says
 pub number_of-err : {E : Type 0} (most : ℕ) (text : List ℕ) (r : Result ℕ E) (d : E) → most < 2 ^ 64 → ParsesUnsigned 64 10 text r → is_number text ≡ true → r ≡ Err d
     → number_of most text ≡ None
 unfolding number_of
@@ -101,13 +92,6 @@ numbers_found most text (Some n) small e = number_of-some most text n small (sym
 pub numbers_missed : (most : ℕ) (text : List ℕ) (r : Option ℕ) → most < 2 ^ 64 → r ≡ number_of most text → IfNone r ((n : ℕ) → n ≤ most → text ≢ decimal n)
 numbers_missed most text (Some n) small e = tt
 numbers_missed most text None small e = λ n le is. let found = number_of-decimal most n small le in let lost : number_of most (decimal n) ≡ None = rw (← is) (sym e) in absurd cc
-
-not_utf8-by : (bs : List ℕ) (b : Bool) → is_utf8 bs ≡ b → (IsUtf8 bs → ⊥) → is_utf8 bs ≡ false
-not_utf8-by bs false e h = e
-not_utf8-by bs true e h = absurd (h (IsUtf8-from_is_utf8 bs e))
-
-pub not_utf8 : (bs : List ℕ) → (IsUtf8 bs → ⊥) → is_utf8 bs ≡ false
-not_utf8 bs h = not_utf8-by bs (is_utf8 bs) refl h
 
 pub digits_of_decimal : (n : ℕ) → n < 2 ^ 64 → list_all is_ascii_digit (decimal n) ≡ true
 digits_of_decimal n lt = digits_decimal own n lt

@@ -1,11 +1,12 @@
 -- The names of the state keys.
 use Rattle.std.specs.Prelude.{ℕ, ◌==◌, List, codes, if◌then◌else◌}
+use Rattle.cg_types.specs.declared.limits.TheConstants.{STATUS_KEY, TOKENS_KEY}
 
 -- the name of a key from 1 to 16
 unfoldable pub key_name : ℕ → List ℕ
 key_name k =
-    if k == 1 then codes "STATUS"
-    else if k == 2 then codes "TOKENS"
+    if k == STATUS_KEY then codes "STATUS"
+    else if k == TOKENS_KEY then codes "TOKENS"
     else if k == 3 then codes "LOAD"
     else if k == 4 then codes "SCHEMA"
     else if k == 5 then codes "DC"

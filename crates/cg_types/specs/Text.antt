@@ -1,7 +1,8 @@
 -- Plain text, and what texts of states and clusters are.
-use Rattle.std.specs.Prelude.{ℕ, ◌<◌, ◌≤◌, ◌≡◌, Bool, true, ◌&&◌, not, nat_le, nat_lt, ◌==◌, List, length, Result, Ok, Err, if◌then◌else◌}
+use Rattle.std.specs.Prelude.{ℕ, ◌<◌, ◌≤◌, ◌≡◌, Bool, true, ◌&&◌, not, nat_le, nat_lt, ◌==◌, List, length, Result, Ok, Err, if◌then◌else◌, refl}
 use Rattle.cg_types.specs.declared.fault.Fault.{Fault}
 use Rattle.cg_types.specs.declared.fault.Fault.TheVariants.{TooLong, BadText}
+use Rattle.std.specs.Coded.{Coded, code_by, coded×, coded_ℕ, coded_list}
 use Rattle.std.specs.List.{list_all}
 use Rattle.std.specs.Str.{is_utf8}
 use Rattle.cg_types.specs.declared.limits.TheConstants.{TEXT_LIMIT, NAME_LIMIT}
@@ -26,6 +27,10 @@ pub record IsClusterName (name : List ℕ) : Type 0 where
 pub record ClusterValue : Type 0 where
   pub name : List ℕ
   pub partitioner : ℕ
+
+-- the code that models of values with a cluster ask for
+abbrev pub cluster_code : Coded ClusterValue
+cluster_code = code_by (List ℕ × ℕ) (coded× (coded_list coded_ℕ) coded_ℕ) (λ c. (c.name, c.partitioner)) (λ p. record { name = p.0; partitioner = p.1 }) (λ _. refl)
 
 pub record IsCluster (c : ClusterValue) : Type 0 where
   pub is_named : IsClusterName c.name

@@ -1,4 +1,4 @@
-//! The limits of this version, each in one place.
+//! The limits of this version, and the keys that it reads, each in one place.
 
 /// Endpoints in a table, and members of a list in a message.
 pub const MEMBER_LIMIT: usize = 256;
@@ -11,6 +11,12 @@ pub const NAME_LIMIT: usize = 48;
 
 /// State keys are 1 to this.
 pub const STATE_LIMIT: u8 = 16;
+
+/// The key of an endpoint's status.
+pub const STATUS_KEY: u8 = 1;
+
+/// The key of an endpoint's tokens.
+pub const TOKENS_KEY: u8 = 2;
 
 /// Generations and versions are below this.
 pub const NUMBER_LIMIT: u32 = 2147483648;

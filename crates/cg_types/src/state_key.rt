@@ -4,7 +4,7 @@ ghost use Rattle.std.specs.Prelude.{◌≡◌, ◌↔◌, IsSome, IfSome};
 ghost use Rattle.cg_types.specs.Numbers.{IsKey};
 ghost use Rattle.cg_types.specs.Key.{key_name};
 
-use crate::limits::STATE_LIMIT;
+use crate::limits::{STATE_LIMIT, STATUS_KEY, TOKENS_KEY};
 use std::marker::Model;
 
 /// The key of a state, 1 to 16, as Cassandra's ApplicationState. The numbers are this project's own.
@@ -52,8 +52,8 @@ impl StateKey {
         ensures { result.now ≡ key_name self }
     {
         match self.number {
-            1 => "STATUS",
-            2 => "TOKENS",
+            STATUS_KEY => "STATUS",
+            TOKENS_KEY => "TOKENS",
             3 => "LOAD",
             4 => "SCHEMA",
             5 => "DC",

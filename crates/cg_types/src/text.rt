@@ -11,11 +11,16 @@ use bytes::ByteStr;
 use std::alloc::{AllocError, Global};
 use std::marker::Model;
 
-// Whether the bytes have no control character: none below 32, and no 127.
+// Whether the bytes have no control character: none below 32, and no 127. It looks at each byte, also after a bad one, so
+// that many are compared at once.
 fn is_printable(bytes: &[u8]) -> bool
     ensures { result ≡ printable bytes.now }
 {
-    bytes.iter().all(|b| *b >= 32 && *b != 127)
+    let mut printable = true;
+    for b in bytes {
+        printable &= *b >= 32 && *b != 127;
+    }
+    printable
 }
 
 /// Whether a text is plain: with none of the bytes 0 to 31 and 127.
@@ -55,6 +60,14 @@ impl StateText {
         if !is_plain(text) {
             return Err(Fault::BadText);
         }
+        Ok(StateText::of_plain(alloc, text)?)
+    }
+
+    /// As `new`, of a text that is known to be one: it is not tested again.
+    pub fn of_plain(alloc: Global, text: &str) -> Result<StateText, AllocError>
+        requires { IsStateText text.now }
+        ensures { IfOk result (λ t. t ≡ text.now) }
+    {
         Ok(StateText {
             text: ByteStr::copy_from_str(alloc, text)?,
         })

@@ -1,4 +1,4 @@
-//! The worked rows, and each call once.
+//! The worked examples, and each call once.
 
 use super::*;
 use cg_types::{Fault, Generation, Version};
