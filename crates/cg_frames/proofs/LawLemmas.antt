@@ -35,15 +35,14 @@ use Rattle.cg_frames.specs.Laws.{GivesEachSpelled, NoSpellingBeginsAnother, Each
 use Rattle.cg_frames.proofs.AgainLemmas.{byte_again, length_keys, syn_again}
 use Rattle.cg_frames.proofs.SpelledDeltas.{states_few}
 use Rattle.cg_frames.proofs.SpelledLists.{ack_again, ack2_again}
-use Rattle.cg_frames.proofs.LengthLemmas.{length-endpoint, length-two_bytes, length-four_bytes, length-digests, length-requests}
+use Rattle.cg_frames.proofs.LengthLemmas.{length-two_bytes, length-four_bytes, length-state, length-delta, length-digests, length-requests}
 use Rattle.cg_frames.proofs.FrameLemmas.{frame_again}
 use Rattle.cg_frames.proofs.TakenLemmas.{ok_is}
 
 -- ---- lengths
 
 state_short : (layout : Layout) (above : ℕ) (s : ℕ × Versioned) → FitsState layout above s → length (state s) ≤ state_most layout
-state_short layout above s fits =
-    omega (arith, length-append (four_bytes s.1.version) (text s.1.text), length-append (two_bytes (length s.1.text)) s.1.text, length-four_bytes s.1.version, length-two_bytes (length s.1.text), fits.short)
+state_short layout above s fits = omega (arith, length-state s, fits.short)
 
 -- members of which each is short
 each_short : {X : Type 0} (spell : X → List ℕ) (Fits : X → Type 0) (most : ℕ) → ((x : X) → Fits x → length (spell x) ≤ most) → (xs : List X) → AllByRecursion Fits xs → length (flat_map spell xs) ≤ length xs * most
@@ -60,22 +59,7 @@ delta_short layout d fits =
     let es = entries d.delta.states in
     let few = states_few layout d.delta.above es fits.states (rise_sorted es (entries_sorted d.delta.states)) in
     let states = short_members state (FitsState layout d.delta.above) (state_most layout) (state_short layout d.delta.above) STATE_LIMIT es fits.states few in
-    let counted : List ℕ = length es ∷ flat_map state es in
-    let from_heartbeat = four_bytes d.delta.heartbeat ++ counted in
-    let from_above = four_bytes d.delta.above ++ from_heartbeat in
-    let from_generation = four_bytes d.delta.generation ++ from_above in
-    omega (
-      arith,
-      states,
-      length-append (endpoint d.endpoint) from_generation,
-      length-append (four_bytes d.delta.generation) from_above,
-      length-append (four_bytes d.delta.above) from_heartbeat,
-      length-append (four_bytes d.delta.heartbeat) counted,
-      length-endpoint d.endpoint,
-      length-four_bytes d.delta.generation,
-      length-four_bytes d.delta.above,
-      length-four_bytes d.delta.heartbeat,
-    )
+    omega (arith, states, length-delta d)
 
 -- sums of lengths, of which one may be a product
 counted_short : (n most whole : ℕ) → n ≤ most → whole ≡ 2 + n → whole ≤ 2 + most

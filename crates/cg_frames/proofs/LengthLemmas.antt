@@ -1,14 +1,17 @@
 -- How long spellings are.
-use Rattle.std.proofs.Common.{◌≡◌, ℕ, ◌*◌, ◌≤◌, List, [], ◌∷◌, ◌++◌, length, refl, sym, ap, ◌∙◌, Option, Some, None, take, arith, length-append}
+use Rattle.std.proofs.Common.{◌≡◌, ℕ, ◌+◌, ◌*◌, ◌≤◌, List, [], ◌∷◌, ◌++◌, length, refl, sym, ap, ◌∙◌, Option, Some, None, take, arith, length-append}
+use Rattle.std.specs.FinMap.{entries}
 use Rattle.std.proofs.lemmas.List.{take_all}
 use Rattle.cg_types.specs.declared.limits.TheConstants.{STATE_LIMIT}
 use Rattle.cg_entry.specs.declared.state.State.{State}
 use Rattle.cg_entry.specs.State.{pair, pairs}
 use Rattle.std.specs.List.{flat_map}
 use Rattle.std.proofs.lemmas.List.Concat.{flat_map-cons}
+use Rattle.cg_entry.specs.Versioned.{Versioned}
 use Rattle.cg_table.specs.declared.digest.Digest.{Digest}
-use Rattle.cg_frames.specs.Spelling.{two_bytes, four_bytes, endpoint, digest, request, state}
+use Rattle.cg_exchange.specs.declared.owner_delta.OwnerDelta.{OwnerDelta}
 use Rattle.cg_exchange.specs.Values.{RequestValue}
+use Rattle.cg_frames.specs.Spelling.{two_bytes, four_bytes, endpoint, digest, request, text, state, delta}
 
 pub length-two_bytes : (n : ℕ) → length (two_bytes n) ≡ 2
 unfolding two_bytes
@@ -37,6 +40,29 @@ length-request r = refl
 pub length-requests : (rs : List RequestValue) → length (flat_map request rs) ≡ 14 * length rs
 length-requests [] = refl
 length-requests (r ∷ rs) = rw (flat_map-cons request r rs) (omega (arith, length-append (request r) (flat_map request rs), length-request r, length-requests rs))
+
+pub length-state : (s : ℕ × Versioned) → length (state s) ≡ 7 + length s.1.text
+length-state s =
+    omega (arith, length-append (four_bytes s.1.version) (text s.1.text), length-append (two_bytes (length s.1.text)) s.1.text, length-four_bytes s.1.version, length-two_bytes (length s.1.text))
+
+pub length-delta : (d : OwnerDelta) → length (delta d) ≡ 19 + length (flat_map state (entries d.delta.states))
+length-delta d =
+    let es = entries d.delta.states in
+    let counted : List ℕ = length es ∷ flat_map state es in
+    let from_heartbeat = four_bytes d.delta.heartbeat ++ counted in
+    let from_above = four_bytes d.delta.above ++ from_heartbeat in
+    let from_generation = four_bytes d.delta.generation ++ from_above in
+    omega (
+      arith,
+      length-append (endpoint d.endpoint) from_generation,
+      length-append (four_bytes d.delta.generation) from_above,
+      length-append (four_bytes d.delta.above) from_heartbeat,
+      length-append (four_bytes d.delta.heartbeat) counted,
+      length-endpoint d.endpoint,
+      length-four_bytes d.delta.generation,
+      length-four_bytes d.delta.above,
+      length-four_bytes d.delta.heartbeat,
+    )
 
 -- ---- states: no more than there are keys
 

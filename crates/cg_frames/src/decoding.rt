@@ -44,7 +44,7 @@ fn read_inside(alloc: Global, layout: &Layout, inside: &[u8]) -> Result<Message,
 
 /// As `decode`, in any layout that messages can hold.
 #[tactic(auto, unfolding(crate::specs::Reading::frame_at))]
-pub fn decode_in(
+pub(crate) fn decode_in(
     alloc: Global,
     layout: &Layout,
     bytes: &[u8],

@@ -1,7 +1,7 @@
 //! Deltas and their states, which rise: checked with no memory, and read.
 
-ghost use Rattle.std.specs.Prelude.{◌≡◌, Ok, None};
-ghost use Rattle.cg_types.specs.Text.{state_text_of};
+ghost use Rattle.std.specs.Prelude.{Ok, None};
+ghost use Rattle.cg_types.specs.Text.{IsStateText};
 ghost use Rattle.cg_frames.specs.Layouts.{IsRead};
 ghost use Rattle.cg_frames.specs.Reading as spec;
 
@@ -10,7 +10,7 @@ use crate::misread::{Misread, ReadError};
 use crate::reader::Reader;
 use cg_entry::{Delta, State};
 use cg_exchange::OwnerDelta;
-use cg_types::{Cause, Endpoint, Fault, StateKey, StateText};
+use cg_types::{Cause, Endpoint, StateKey, StateText};
 use std::alloc::Global;
 
 // Reads past a state of a delta above a version, and keeps its key.
@@ -72,7 +72,7 @@ fn check_delta(
 }
 
 /// Reads past so many deltas, rising by endpoint.
-pub fn check_deltas(layout: &Layout, reader: &mut Reader<'_>, count: u16) -> Result<(), Misread>
+pub(crate) fn check_deltas(layout: &Layout, reader: &mut Reader<'_>, count: u16) -> Result<(), Misread>
     ensures { spec.Passes result reader.new (spec.deltas_at layout.now count None reader.old) }
 {
     let mut last: Option<Endpoint> = None;
@@ -85,14 +85,10 @@ pub fn check_deltas(layout: &Layout, reader: &mut Reader<'_>, count: u16) -> Res
 
 // A text of a state, copied, so that it keeps no frame alive.
 fn text_of(alloc: Global, text: &str) -> Result<StateText, ReadError>
-    requires { state_text_of text.now ≡ Ok text.now }
+    requires { IsStateText text.now }
     ensures { spec.GivesWhole (λ t. t) result (Ok text.now) }
 {
-    match StateText::new(alloc, text) {
-        Ok(text) => Ok(text),
-        Err(Fault::OutOfMemory) => Err(ReadError::Memory),
-        Err(_) => unreachable!(),
-    }
+    Ok(StateText::of_plain(alloc, text)?)
 }
 
 // A state of a delta above a version.
@@ -125,7 +121,7 @@ fn states_of(
     requires { IsRead layout.now }
     ensures { spec.Gives (λ v. v.items) result reader.new (spec.states_at layout.now above count None reader.old) }
 {
-    let mut states = Vec::new(alloc);
+    let mut states = Vec::with_capacity(alloc, usize::from(count))?;
     let mut last: Option<StateKey> = None;
     for _ in 0..count {
         let state = state_of(alloc, layout, above, reader, last)?;
@@ -163,7 +159,7 @@ fn delta_of(
 }
 
 /// So many deltas, rising by endpoint.
-pub fn deltas_of(
+pub(crate) fn deltas_of(
     alloc: Global,
     layout: &Layout,
     reader: &mut Reader<'_>,
@@ -172,7 +168,7 @@ pub fn deltas_of(
     requires { IsRead layout.now }
     ensures { spec.Gives (λ v. v.items) result reader.new (spec.deltas_at layout.now count None reader.old) }
 {
-    let mut deltas = Vec::new(alloc);
+    let mut deltas = Vec::with_capacity(alloc, usize::from(count))?;
     let mut last: Option<Endpoint> = None;
     for _ in 0..count {
         let delta = delta_of(alloc, layout, reader, last)?;

@@ -10,9 +10,9 @@ ghost use Rattle.cg_frames.specs.Fits.{Fits};
 ghost use Rattle.cg_frames.specs.Layouts.{IsLayout, IsWritten};
 ghost use Rattle.cg_frames.specs.Spelling as spelling;
 
-use crate::fitting::{count_states, message_fits};
+use crate::fitting::{count_states, message_length};
 use crate::layout::{LAYOUT_1, Layout};
-use bytes::{BufMut, Bytes, BytesMut};
+use bytes::{BufMut, Bytes};
 use cg_entry::State;
 use cg_exchange::{Ack, Ack2, Message, OwnerDelta, Request, Syn};
 use cg_table::Digest;
@@ -20,27 +20,27 @@ use cg_types::{Cluster, Endpoint, StateText};
 use std::alloc::{AllocError, Global};
 
 #[tactic(auto, unfolding(crate::specs::Spelling::two_bytes))]
-fn put_two(out: &mut BytesMut, n: u16) -> Result<(), AllocError>
+fn put_two(out: &mut Vec<u8>, n: u16) -> Result<(), AllocError>
     ensures { OnOk result (out.new.items ≡ out.old.items ++ spelling.two_bytes n) }
 {
     out.put_u16(n)
 }
 
 #[tactic(auto, unfolding(crate::specs::Spelling::four_bytes))]
-fn put_four(out: &mut BytesMut, n: u32) -> Result<(), AllocError>
+fn put_four(out: &mut Vec<u8>, n: u32) -> Result<(), AllocError>
     ensures { OnOk result (out.new.items ≡ out.old.items ++ spelling.four_bytes n) }
 {
     out.put_u32(n)
 }
 
 #[tactic(auto, unfolding(crate::specs::Spelling::four_bytes))]
-fn put_address(out: &mut BytesMut, endpoint: Endpoint) -> Result<(), AllocError>
+fn put_address(out: &mut Vec<u8>, endpoint: Endpoint) -> Result<(), AllocError>
     ensures { OnOk result (out.new.items ≡ out.old.items ++ spelling.four_bytes (address_of endpoint)) }
 {
     out.put_slice(&endpoint.address())
 }
 
-fn put_endpoint(out: &mut BytesMut, endpoint: Endpoint) -> Result<(), AllocError>
+fn put_endpoint(out: &mut Vec<u8>, endpoint: Endpoint) -> Result<(), AllocError>
     ensures { OnOk result (out.new.items ≡ out.old.items ++ spelling.endpoint endpoint) }
 {
     put_address(out, endpoint)?;
@@ -48,7 +48,7 @@ fn put_endpoint(out: &mut BytesMut, endpoint: Endpoint) -> Result<(), AllocError
     Ok(())
 }
 
-fn put_digest(out: &mut BytesMut, digest: &Digest) -> Result<(), AllocError>
+fn put_digest(out: &mut Vec<u8>, digest: &Digest) -> Result<(), AllocError>
     ensures { OnOk result (out.new.items ≡ out.old.items ++ spelling.digest digest.now) }
 {
     put_endpoint(out, digest.endpoint)?;
@@ -57,7 +57,7 @@ fn put_digest(out: &mut BytesMut, digest: &Digest) -> Result<(), AllocError>
     Ok(())
 }
 
-fn put_request(out: &mut BytesMut, request: Request) -> Result<(), AllocError>
+fn put_request(out: &mut Vec<u8>, request: Request) -> Result<(), AllocError>
     ensures { OnOk result (out.new.items ≡ out.old.items ++ spelling.request request) }
 {
     put_endpoint(out, request.endpoint())?;
@@ -66,7 +66,7 @@ fn put_request(out: &mut BytesMut, request: Request) -> Result<(), AllocError>
     Ok(())
 }
 
-fn put_cluster(out: &mut BytesMut, cluster: &Cluster) -> Result<(), AllocError>
+fn put_cluster(out: &mut Vec<u8>, cluster: &Cluster) -> Result<(), AllocError>
     ensures { OnOk result (out.new.items ≡ out.old.items ++ spelling.cluster cluster.now) }
 {
     out.put_u8(cluster.name().len() as u8)?;
@@ -75,7 +75,7 @@ fn put_cluster(out: &mut BytesMut, cluster: &Cluster) -> Result<(), AllocError>
     Ok(())
 }
 
-fn put_digests(out: &mut BytesMut, digests: &[Digest]) -> Result<(), AllocError>
+fn put_digests(out: &mut Vec<u8>, digests: &[Digest]) -> Result<(), AllocError>
     requires { length digests.now < 2 ^ 16 }
     ensures { OnOk result (out.new.items ≡ out.old.items ++ spelling.members spelling.digest digests.now) }
 {
@@ -86,7 +86,7 @@ fn put_digests(out: &mut BytesMut, digests: &[Digest]) -> Result<(), AllocError>
     Ok(())
 }
 
-fn put_requests(out: &mut BytesMut, requests: &[Request]) -> Result<(), AllocError>
+fn put_requests(out: &mut Vec<u8>, requests: &[Request]) -> Result<(), AllocError>
     requires { length requests.now < 2 ^ 16 }
     ensures { OnOk result (out.new.items ≡ out.old.items ++ spelling.members spelling.request requests.now) }
 {
@@ -97,7 +97,7 @@ fn put_requests(out: &mut BytesMut, requests: &[Request]) -> Result<(), AllocErr
     Ok(())
 }
 
-fn put_text(out: &mut BytesMut, text: &StateText) -> Result<(), AllocError>
+fn put_text(out: &mut Vec<u8>, text: &StateText) -> Result<(), AllocError>
     ensures { OnOk result (out.new.items ≡ out.old.items ++ spelling.text text.now) }
 {
     put_two(out, text.as_str().len() as u16)?;
@@ -105,7 +105,7 @@ fn put_text(out: &mut BytesMut, text: &StateText) -> Result<(), AllocError>
     Ok(())
 }
 
-fn put_state(out: &mut BytesMut, state: &State) -> Result<(), AllocError>
+fn put_state(out: &mut Vec<u8>, state: &State) -> Result<(), AllocError>
     ensures { OnOk result (out.new.items ≡ out.old.items ++ spelling.state (pair state.now)) }
 {
     out.put_u8(state.key.get())?;
@@ -114,7 +114,7 @@ fn put_state(out: &mut BytesMut, state: &State) -> Result<(), AllocError>
     Ok(())
 }
 
-fn put_states(out: &mut BytesMut, states: &[State]) -> Result<(), AllocError>
+fn put_states(out: &mut Vec<u8>, states: &[State]) -> Result<(), AllocError>
     requires { KeysRise states.now }
     ensures { OnOk result (out.new.items ≡ out.old.items
         ++ (length states.now ∷ flat_map spelling.state (pairs states.now))) }
@@ -126,7 +126,7 @@ fn put_states(out: &mut BytesMut, states: &[State]) -> Result<(), AllocError>
     Ok(())
 }
 
-fn put_delta(out: &mut BytesMut, delta: &OwnerDelta) -> Result<(), AllocError>
+fn put_delta(out: &mut Vec<u8>, delta: &OwnerDelta) -> Result<(), AllocError>
     ensures { OnOk result (out.new.items ≡ out.old.items ++ spelling.delta delta.now) }
 {
     put_endpoint(out, delta.endpoint)?;
@@ -137,7 +137,7 @@ fn put_delta(out: &mut BytesMut, delta: &OwnerDelta) -> Result<(), AllocError>
     Ok(())
 }
 
-fn put_deltas(out: &mut BytesMut, deltas: &[OwnerDelta]) -> Result<(), AllocError>
+fn put_deltas(out: &mut Vec<u8>, deltas: &[OwnerDelta]) -> Result<(), AllocError>
     requires { length deltas.now < 2 ^ 16 }
     ensures { OnOk result (out.new.items ≡ out.old.items ++ spelling.members spelling.delta deltas.now) }
 {
@@ -149,7 +149,7 @@ fn put_deltas(out: &mut BytesMut, deltas: &[OwnerDelta]) -> Result<(), AllocErro
 }
 
 // The kind and the body of a SYN.
-fn put_syn(out: &mut BytesMut, syn: &Syn) -> Result<(), AllocError>
+fn put_syn(out: &mut Vec<u8>, syn: &Syn) -> Result<(), AllocError>
     ensures { OnOk result (out.new.items ≡ out.old.items ++ spelling.message (messages.Syn syn.now)) }
 {
     out.put_u8(1)?;
@@ -158,7 +158,7 @@ fn put_syn(out: &mut BytesMut, syn: &Syn) -> Result<(), AllocError>
     Ok(())
 }
 
-fn put_ack(out: &mut BytesMut, ack: &Ack) -> Result<(), AllocError>
+fn put_ack(out: &mut Vec<u8>, ack: &Ack) -> Result<(), AllocError>
     ensures { OnOk result (out.new.items ≡ out.old.items ++ spelling.message (messages.Ack ack.now)) }
 {
     out.put_u8(2)?;
@@ -167,7 +167,7 @@ fn put_ack(out: &mut BytesMut, ack: &Ack) -> Result<(), AllocError>
     Ok(())
 }
 
-fn put_ack2(out: &mut BytesMut, ack2: &Ack2) -> Result<(), AllocError>
+fn put_ack2(out: &mut Vec<u8>, ack2: &Ack2) -> Result<(), AllocError>
     ensures { OnOk result (out.new.items ≡ out.old.items ++ spelling.message (messages.Ack2 ack2.now)) }
 {
     out.put_u8(3)?;
@@ -175,7 +175,7 @@ fn put_ack2(out: &mut BytesMut, ack2: &Ack2) -> Result<(), AllocError>
     Ok(())
 }
 
-fn put_message(out: &mut BytesMut, message: &Message) -> Result<(), AllocError>
+fn put_message(out: &mut Vec<u8>, message: &Message) -> Result<(), AllocError>
     ensures { OnOk result (out.new.items ≡ out.old.items ++ spelling.message message.now) }
 {
     match message {
@@ -187,20 +187,18 @@ fn put_message(out: &mut BytesMut, message: &Message) -> Result<(), AllocError>
 }
 
 /// As `encode`, in any layout that allows what messages hold. The message fits it, so its length fits into four bytes.
-pub fn encode_in(alloc: Global, layout: &Layout, message: &Message) -> Result<Bytes, AllocError>
+pub(crate) fn encode_in(alloc: Global, layout: &Layout, message: &Message) -> Result<Bytes, AllocError>
     requires layout { IsLayout layout.now }
     requires written { IsWritten layout.now }
     ensures written { IfOk result (λ b. b ≡ spelling.frame layout.now message.now) }
     ensures fits { Fits layout.now message.now }
 {
-    message_fits(layout, message);
-    let mut inside = BytesMut::new(alloc);
-    inside.put_u8(layout.byte)?;
-    put_message(&mut inside, message)?;
-    let mut frame = BytesMut::new(alloc);
-    put_four(&mut frame, inside.len() as u32)?;
-    frame.put_slice(&inside)?;
-    Ok(frame.freeze()?)
+    let length = 1 + message_length(layout, message);
+    let mut frame = Vec::with_capacity(alloc, 4 + length)?;
+    put_four(&mut frame, length as u32)?;
+    frame.put_u8(layout.byte)?;
+    put_message(&mut frame, message)?;
+    Ok(Bytes::from_vec(frame)?)
 }
 
 /// The message as a frame: its length in four bytes, and what stands behind it.

@@ -126,9 +126,10 @@ impl Feed {
 
     /// Takes the next piece of the stream, of any length, and gives the messages that are whole now.
     ///
-    /// What was held and the piece are the spellings of these messages, each of which fits, then a rest: what is held from now on, or
-    /// bytes that begin with the fault. After a fault each piece is dropped, and gives no message and that fault. A
-    /// piece no longer than `wants` gives at most one message, and if it gives one, nothing is held after it.
+    /// What was held and the piece are the spellings of these messages, each of which fits, then a rest: what is held
+    /// from now on, or bytes that begin with the fault. After a fault each piece is dropped, and gives no message and
+    /// that fault. A piece no longer than `wants` gives at most one message, and if it gives one, nothing is held after
+    /// it.
     /// `OutOfMemory` leaves the feed as it was; there is no other refusal, and after a fault there is none.
     pub fn push(&mut self, piece: &[u8]) -> Result<Fed, Fault>
         ensures given { IfOk result (λ fed. fed.messages.items ≡ (spec.fed LAYOUT_1 self.old piece.now).messages) }

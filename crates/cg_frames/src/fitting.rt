@@ -1,14 +1,17 @@
-//! That messages in hand fit a layout: walks over their parts, each of which shows its range when it is read. They
-//! take no memory and write nothing.
+//! That messages in hand fit a layout, and how long their spellings are: walks over their parts, each of which shows its
+//! range when it is read. They take no memory and write nothing.
 
-ghost use Rattle.std.specs.Prelude.{◌≡◌, ◌≤◌, length};
-ghost use Rattle.std.specs.List.{AllByRecursion};
-ghost use Rattle.cg_types.specs.declared.limits.TheConstants.{STATE_LIMIT};
+ghost use Rattle.std.specs.Prelude.{◌≡◌, ◌<◌, ◌≤◌, ◌+◌, ◌*◌, length};
+ghost use Rattle.std.specs.List.{AllByRecursion, flat_map};
+ghost use Rattle.cg_types.specs.declared.limits.TheConstants.{MEMBER_LIMIT, STATE_LIMIT};
 ghost use Rattle.cg_types.specs.Numbers.{IsEndpoint};
 ghost use Rattle.cg_entry.specs.State.{KeysRise, pair, pairs};
+ghost use Rattle.cg_exchange.specs.declared.message.Message.TheVariants as messages;
 ghost use Rattle.cg_frames.specs.declared.layout.TheConstants.{LAYOUT_1};
 ghost use Rattle.cg_frames.specs.Fits.{FitsDigest, FitsRequest, IsState, FitsDelta, FitsSyn, FitsAck, FitsAck2, Fits};
 ghost use Rattle.cg_frames.specs.Layouts.{IsWritten};
+ghost use Rattle.cg_frames.specs.Lengths.{state_most, delta_most, deltas_most, digests_most, syn_most, ack_most, greatest_length};
+ghost use Rattle.cg_frames.specs.Spelling as spelling;
 
 use crate::layout::{LAYOUT_1, Layout};
 use cg_entry::State;
@@ -31,12 +34,16 @@ fn digest_fits(digest: &Digest)
     let _newest = digest.newest.get();
 }
 
-fn digests_fit(digests: &[Digest])
-    ensures { AllByRecursion FitsDigest digests.now }
+fn digests_length(digests: &[Digest]) -> usize
+    requires { length digests.now ≤ MEMBER_LIMIT }
+    ensures fit { AllByRecursion FitsDigest digests.now }
+    ensures value { result ≡ length (spelling.members spelling.digest digests.now) }
+    ensures short { result ≤ digests_most LAYOUT_1 }
 {
     for digest in digests {
         digest_fits(digest);
     }
+    2 + 14 * digests.len()
 }
 
 fn request_fits(request: Request)
@@ -47,28 +54,33 @@ fn request_fits(request: Request)
     let _version = request.version();
 }
 
-fn requests_fit(requests: &[Request])
-    ensures { AllByRecursion FitsRequest requests.now }
+fn requests_length(requests: &[Request]) -> usize
+    requires { length requests.now ≤ MEMBER_LIMIT }
+    ensures fit { AllByRecursion FitsRequest requests.now }
+    ensures value { result ≡ length (spelling.members spelling.request requests.now) }
+    ensures short { result ≤ digests_most LAYOUT_1 }
 {
     for request in requests {
         request_fits(*request);
     }
+    2 + 14 * requests.len()
 }
 
-fn is_state(state: &State)
-    ensures { IsState (pair state.now) }
+fn state_length(state: &State) -> usize
+    ensures is { IsState (pair state.now) }
+    ensures value { result ≡ length (spelling.state (pair state.now)) }
+    ensures short { result ≤ state_most LAYOUT_1 }
 {
     let _key = state.key.get();
     let _version = state.version.get();
-    let _text = state.text.as_str();
+    7 + state.text.as_str().len()
 }
 
 /// How many states there are: no more than there are keys.
-pub fn count_states(states: &[State]) -> u8
+pub(crate) fn count_states(states: &[State]) -> u8
     requires { KeysRise states.now }
     ensures value { result ≡ length states.now }
     ensures few { length states.now ≤ STATE_LIMIT }
-    ensures are { AllByRecursion IsState (pairs states.now) }
 {
     let mut last: Option<StateKey> = None;
     let mut count: u8 = 0;
@@ -78,66 +90,95 @@ pub fn count_states(states: &[State]) -> u8
         {
             unreachable!();
         }
-        is_state(state);
+        let _key = state.key.get();
         last = Some(state.key);
         count += 1;
     }
     count
 }
 
-fn delta_fits(layout: &Layout, delta: &OwnerDelta)
+// The states and their count.
+fn states_length(states: &[State]) -> usize
+    requires { KeysRise states.now }
+    ensures are { AllByRecursion IsState (pairs states.now) }
+    ensures value { result ≡ 1 + length (flat_map spelling.state (pairs states.now)) }
+    ensures short { result ≤ 1 + STATE_LIMIT * state_most LAYOUT_1 }
+{
+    count_states(states);
+    let mut length = 1;
+    for state in states {
+        length += state_length(state);
+    }
+    length
+}
+
+fn delta_length(layout: &Layout, delta: &OwnerDelta) -> usize
     requires { IsWritten layout.now }
-    ensures { FitsDelta layout.now delta.now }
+    ensures fits { FitsDelta layout.now delta.now }
+    ensures value { result ≡ length (spelling.delta delta.now) }
+    ensures short { result ≤ delta_most LAYOUT_1 }
 {
     endpoint_fits(delta.endpoint);
     let _generation = delta.delta.generation().get();
     let _above = delta.delta.above();
     let _heartbeat = delta.delta.heartbeat().get();
-    count_states(delta.delta.states());
+    18 + states_length(delta.delta.states())
 }
 
-fn deltas_fit(layout: &Layout, deltas: &[OwnerDelta])
-    requires { IsWritten layout.now }
-    ensures { AllByRecursion (FitsDelta layout.now) deltas.now }
+fn deltas_length(layout: &Layout, deltas: &[OwnerDelta]) -> usize
+    requires written { IsWritten layout.now }
+    requires few { length deltas.now ≤ MEMBER_LIMIT }
+    ensures fit { AllByRecursion (FitsDelta layout.now) deltas.now }
+    ensures value { result ≡ length (spelling.members spelling.delta deltas.now) }
+    ensures short { result ≤ deltas_most LAYOUT_1 }
 {
+    let mut length = 2;
     for delta in deltas {
-        delta_fits(layout, delta);
+        length += delta_length(layout, delta);
     }
+    length
 }
 
-fn syn_fits(layout: &Layout, syn: &Syn)
+fn syn_length(layout: &Layout, syn: &Syn) -> usize
     requires { IsWritten layout.now }
-    ensures { FitsSyn layout.now syn.now }
+    ensures fits { FitsSyn layout.now syn.now }
+    ensures value { result ≡ length (spelling.message (messages.Syn syn.now)) }
+    ensures short { result ≤ 1 + syn_most LAYOUT_1 }
 {
-    let _name = syn.cluster().name();
+    let name = syn.cluster().name();
     let _partitioner = syn.cluster().partitioner();
-    digests_fit(syn.digests());
+    3 + name.len() + digests_length(syn.digests())
 }
 
-fn ack_fits(layout: &Layout, ack: &Ack)
+fn ack_length(layout: &Layout, ack: &Ack) -> usize
     requires { IsWritten layout.now }
-    ensures { FitsAck layout.now ack.now }
+    ensures fits { FitsAck layout.now ack.now }
+    ensures value { result ≡ length (spelling.message (messages.Ack ack.now)) }
+    ensures short { result ≤ 1 + ack_most LAYOUT_1 }
 {
-    requests_fit(ack.requests());
-    deltas_fit(layout, ack.deltas());
+    1 + requests_length(ack.requests()) + deltas_length(layout, ack.deltas())
 }
 
-fn ack2_fits(layout: &Layout, ack2: &Ack2)
+fn ack2_length(layout: &Layout, ack2: &Ack2) -> usize
     requires { IsWritten layout.now }
-    ensures { FitsAck2 layout.now ack2.now }
+    ensures fits { FitsAck2 layout.now ack2.now }
+    ensures value { result ≡ length (spelling.message (messages.Ack2 ack2.now)) }
+    ensures short { result ≤ 1 + ack_most LAYOUT_1 }
 {
-    deltas_fit(layout, ack2.deltas());
+    1 + deltas_length(layout, ack2.deltas())
 }
 
-/// The message fits the layout.
-pub fn message_fits(layout: &Layout, message: &Message)
+/// How long the message is, with its kind. It fits the layout, which this shows on the way.
+pub(crate) fn message_length(layout: &Layout, message: &Message) -> usize
     requires { IsWritten layout.now }
-    ensures { Fits layout.now message.now }
+    ensures fits { Fits layout.now message.now }
+    ensures value { result ≡ length (spelling.message message.now) }
+    ensures short { result < greatest_length LAYOUT_1 }
 {
     match message {
-        Message::Syn(syn) => syn_fits(layout, syn),
-        Message::Ack(ack) => ack_fits(layout, ack),
-        Message::Ack2(ack2) => ack2_fits(layout, ack2),
+        Message::Syn(syn) => syn_length(layout, syn),
+        Message::Ack(ack) => ack_length(layout, ack),
+        Message::Ack2(ack2) => ack2_length(layout, ack2),
     }
 }
 
@@ -146,5 +187,5 @@ pub fn message_fits(layout: &Layout, message: &Message)
 pub fn every_message_fits(message: &Message)
     ensures { Fits LAYOUT_1 message.now }
 {
-    message_fits(&LAYOUT_1, message);
+    message_length(&LAYOUT_1, message);
 }

@@ -11,7 +11,7 @@ use cg_types::Endpoint;
 use std::alloc::Global;
 
 /// Reads past so many digests, rising by endpoint.
-pub fn check_digests(reader: &mut Reader<'_>, count: u16) -> Result<(), Misread>
+pub(crate) fn check_digests(reader: &mut Reader<'_>, count: u16) -> Result<(), Misread>
     ensures { spec.Passes result reader.new (spec.digests_at count None reader.old) }
 {
     let mut last: Option<Endpoint> = None;
@@ -23,14 +23,14 @@ pub fn check_digests(reader: &mut Reader<'_>, count: u16) -> Result<(), Misread>
 }
 
 /// So many digests, rising by endpoint.
-pub fn digests_of(
+pub(crate) fn digests_of(
     alloc: Global,
     reader: &mut Reader<'_>,
     count: u16,
 ) -> Result<Vec<Digest>, ReadError>
     ensures { spec.Gives (λ v. v.items) result reader.new (spec.digests_at count None reader.old) }
 {
-    let mut digests = Vec::new(alloc);
+    let mut digests = Vec::with_capacity(alloc, usize::from(count))?;
     let mut last: Option<Endpoint> = None;
     for _ in 0..count {
         let digest = reader.digest(last)?;
@@ -41,7 +41,7 @@ pub fn digests_of(
 }
 
 /// Reads past so many requests, rising by endpoint.
-pub fn check_requests(reader: &mut Reader<'_>, count: u16) -> Result<(), Misread>
+pub(crate) fn check_requests(reader: &mut Reader<'_>, count: u16) -> Result<(), Misread>
     ensures { spec.Passes result reader.new (spec.requests_at count None reader.old) }
 {
     let mut last: Option<Endpoint> = None;
@@ -53,14 +53,14 @@ pub fn check_requests(reader: &mut Reader<'_>, count: u16) -> Result<(), Misread
 }
 
 /// So many requests, rising by endpoint.
-pub fn requests_of(
+pub(crate) fn requests_of(
     alloc: Global,
     reader: &mut Reader<'_>,
     count: u16,
 ) -> Result<Vec<Request>, ReadError>
     ensures { spec.Gives (λ v. v.items) result reader.new (spec.requests_at count None reader.old) }
 {
-    let mut requests = Vec::new(alloc);
+    let mut requests = Vec::with_capacity(alloc, usize::from(count))?;
     let mut last: Option<Endpoint> = None;
     for _ in 0..count {
         let request = reader.request(last)?;

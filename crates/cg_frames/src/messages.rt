@@ -80,7 +80,7 @@ fn check_whole_ack2(layout: &Layout, reader: &mut Reader<'_>) -> Result<(), Misr
 
 /// Whether what stands behind the length is a message.
 #[tactic(auto, unfolding(crate::specs::Reading::inside_at))]
-pub fn check(layout: &Layout, inside: &[u8]) -> Result<(), Misread>
+pub(crate) fn check(layout: &Layout, inside: &[u8]) -> Result<(), Misread>
     ensures { spec.Checks result (spec.inside_at layout.now inside.now) }
 {
     let mut reader = Reader::new(inside);
@@ -196,7 +196,7 @@ fn whole_ack2_of(alloc: Global, layout: &Layout, reader: &mut Reader<'_>) -> Res
 
 /// The message that stands behind the length.
 #[tactic(auto, unfolding(crate::specs::Reading::inside_at))]
-pub fn read(alloc: Global, layout: &Layout, inside: &[u8]) -> Result<Message, ReadError>
+pub(crate) fn read(alloc: Global, layout: &Layout, inside: &[u8]) -> Result<Message, ReadError>
     requires { IsRead layout.now }
     ensures { spec.GivesWhole (λ m. m) result (spec.inside_at layout.now inside.now) }
 {

@@ -38,20 +38,20 @@ impl<'a> Model for Reader<'a> {
 }
 
 impl<'a> Reader<'a> {
-    pub fn new(rest: &'a [u8]) -> Reader<'a>
+    pub(crate) fn new(rest: &'a [u8]) -> Reader<'a>
         ensures { result ≡ rest.now }
     {
         Reader { rest }
     }
 
-    pub fn left(&self) -> usize
+    pub(crate) fn left(&self) -> usize
         ensures { result ≡ length self.now }
     {
         self.rest.len()
     }
 
     /// Nothing is left.
-    pub fn end(&self) -> Result<(), Misread>
+    pub(crate) fn end(&self) -> Result<(), Misread>
         ensures { spec.Ends result self.now }
     {
         if self.rest.len() != 0 {
@@ -79,7 +79,7 @@ impl<'a> Reader<'a> {
         Ok(front)
     }
 
-    pub fn byte(&mut self) -> Result<u8, Misread>
+    pub(crate) fn byte(&mut self) -> Result<u8, Misread>
         ensures { spec.Reads (λ x. x) result self.new (spec.number_at w8 self.old) }
     {
         let front = self.bytes(1)?;
@@ -87,7 +87,7 @@ impl<'a> Reader<'a> {
     }
 
     /// The byte that names the layout.
-    pub fn layout(&mut self, layout: &Layout) -> Result<u8, Misread>
+    pub(crate) fn layout(&mut self, layout: &Layout) -> Result<u8, Misread>
         ensures { spec.Reads (λ x. x) result self.new (spec.layout_at layout.now self.old) }
     {
         let left = self.left();
@@ -102,7 +102,7 @@ impl<'a> Reader<'a> {
     }
 
     /// The kind of the message.
-    pub fn kind(&mut self) -> Result<Kind, Misread>
+    pub(crate) fn kind(&mut self) -> Result<Kind, Misread>
         ensures { spec.Reads (λ x. x) result self.new (spec.kind_at self.old) }
     {
         let left = self.left();
@@ -125,7 +125,7 @@ impl<'a> Reader<'a> {
     }
 
     /// How many members a list has.
-    pub fn count(&mut self, layout: &Layout) -> Result<u16, Misread>
+    pub(crate) fn count(&mut self, layout: &Layout) -> Result<u16, Misread>
         ensures { spec.Reads (λ x. x) result self.new (spec.count_at layout.now self.old) }
     {
         let left = self.left();
@@ -147,7 +147,7 @@ impl<'a> Reader<'a> {
     }
 
     /// An endpoint, which has to come after the last one of its list.
-    pub fn endpoint(&mut self, last: Option<Endpoint>) -> Result<Endpoint, Misread>
+    pub(crate) fn endpoint(&mut self, last: Option<Endpoint>) -> Result<Endpoint, Misread>
         ensures { spec.Reads (λ x. x) result self.new (spec.endpoint_at last self.old) }
     {
         let left = self.left();
@@ -170,7 +170,7 @@ impl<'a> Reader<'a> {
         Ok(endpoint)
     }
 
-    pub fn generation(&mut self) -> Result<Generation, Misread>
+    pub(crate) fn generation(&mut self) -> Result<Generation, Misread>
         ensures { spec.Reads (λ x. x) result self.new (spec.generation_at self.old) }
     {
         let left = self.left();
@@ -184,7 +184,7 @@ impl<'a> Reader<'a> {
         }
     }
 
-    pub fn version(&mut self) -> Result<Version, Misread>
+    pub(crate) fn version(&mut self) -> Result<Version, Misread>
         ensures { spec.Reads (λ x. x) result self.new (spec.version_at self.old) }
     {
         let left = self.left();
@@ -199,7 +199,7 @@ impl<'a> Reader<'a> {
     }
 
     /// A heartbeat version.
-    pub fn heartbeat(&mut self) -> Result<Version, Misread>
+    pub(crate) fn heartbeat(&mut self) -> Result<Version, Misread>
         ensures { spec.Reads (λ x. x) result self.new (spec.heartbeat_at self.old) }
     {
         let left = self.left();
@@ -214,7 +214,7 @@ impl<'a> Reader<'a> {
     }
 
     /// A version, or 0.
-    pub fn held(&mut self, cause: Cause) -> Result<u32, Misread>
+    pub(crate) fn held(&mut self, cause: Cause) -> Result<u32, Misread>
         ensures value { spec.Reads (λ x. x) result self.new (spec.held_at cause self.old) }
         ensures range { IfOk result (λ n. n < NUMBER_LIMIT) }
     {
@@ -227,7 +227,7 @@ impl<'a> Reader<'a> {
     }
 
     /// A version that is greater than `above`.
-    pub fn version_above(&mut self, above: u32) -> Result<Version, Misread>
+    pub(crate) fn version_above(&mut self, above: u32) -> Result<Version, Misread>
         ensures { spec.Reads (λ x. x) result self.new (spec.version_above_at above self.old) }
     {
         let left = self.left();
@@ -242,7 +242,7 @@ impl<'a> Reader<'a> {
     }
 
     /// A key, which has to come after the last one of its delta.
-    pub fn key(&mut self, last: Option<StateKey>) -> Result<StateKey, Misread>
+    pub(crate) fn key(&mut self, last: Option<StateKey>) -> Result<StateKey, Misread>
         ensures { spec.Reads (λ x. x) result self.new (spec.key_at last self.old) }
     {
         let left = self.left();
@@ -265,7 +265,7 @@ impl<'a> Reader<'a> {
     }
 
     /// How many states a delta has.
-    pub fn state_count(&mut self) -> Result<u8, Misread>
+    pub(crate) fn state_count(&mut self) -> Result<u8, Misread>
         ensures { spec.Reads (λ x. x) result self.new (spec.state_count_at self.old) }
     {
         let left = self.left();
@@ -281,7 +281,7 @@ impl<'a> Reader<'a> {
 
     /// A request, which has to come after the last one of its list.
     #[tactic(auto, unfolding(crate::specs::Reading::request_at))]
-    pub fn request(&mut self, last: Option<Endpoint>) -> Result<Request, Misread>
+    pub(crate) fn request(&mut self, last: Option<Endpoint>) -> Result<Request, Misread>
         ensures { spec.Reads (λ x. x) result self.new (spec.request_at last self.old) }
     {
         let endpoint = self.endpoint(last)?;
@@ -295,7 +295,7 @@ impl<'a> Reader<'a> {
 
     /// A digest, which has to come after the last one of its list.
     #[tactic(auto, unfolding(crate::specs::Reading::digest_at))]
-    pub fn digest(&mut self, last: Option<Endpoint>) -> Result<Digest, Misread>
+    pub(crate) fn digest(&mut self, last: Option<Endpoint>) -> Result<Digest, Misread>
         ensures { spec.Reads (λ x. x) result self.new (spec.digest_at last self.old) }
     {
         Ok(Digest {
@@ -324,7 +324,7 @@ impl<'a> Reader<'a> {
 
     /// The name of a cluster, with its length before it.
     #[tactic(auto, unfolding(crate::specs::Reading::name_at))]
-    pub fn name(&mut self) -> Result<&'a str, Misread>
+    pub(crate) fn name(&mut self) -> Result<&'a str, Misread>
         ensures value { spec.Reads (λ x. x.now) result self.new (spec.name_at self.old) }
         ensures some { IfOk result (λ x. 0 < length x.now) }
         ensures short { IfOk result (λ x. length x.now ≤ NAME_LIMIT) }
@@ -343,7 +343,7 @@ impl<'a> Reader<'a> {
 
     /// A state's text, with its length before it.
     #[tactic(auto, unfolding(crate::specs::Reading::text_at))]
-    pub fn text(&mut self, layout: &Layout) -> Result<&'a str, Misread>
+    pub(crate) fn text(&mut self, layout: &Layout) -> Result<&'a str, Misread>
         ensures value { spec.Reads (λ x. x.now) result self.new (spec.text_at layout.now self.old) }
         ensures short { IfOk result (λ x. length x.now ≤ layout.now.text) }
         ensures plain { IfOk result (λ x. plain x.now ≡ true) }

@@ -7,7 +7,7 @@ use Rattle.cg_frames.proofs.deltas.deltas_of.Goals as goal
 
 pub returns-in_err-delta : goal.returns-in_err-delta
 returns-in_err-delta c =
-    let p = err_from_is_err_and c.from_residual.result c.from_residual.ensures.1 in
+    let p = err_from_is_err_and c.from_residual-in_err-delta.result c.from_residual-in_err-delta.ensures.1 in
     rw (p.1, p.2) (ends (λ (d : OwnerDelta). d.endpoint) (delta_at c.args.layout.now) c.in_err-delta.field-0.0 c.loop.deltas.items c.args.count c.loop.counter c.loop.last c.loop.reader (deltas_at c.args.layout.now c.args.count None c.args.reader.now) c.loop-test.true c.in_err-delta.ensures c.loop.invariant)
 
 pub loop-preserved : goal.loop-preserved

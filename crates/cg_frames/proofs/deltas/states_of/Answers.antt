@@ -7,7 +7,7 @@ use Rattle.cg_frames.proofs.deltas.states_of.Goals as goal
 
 pub returns-in_err-state : goal.returns-in_err-state
 returns-in_err-state c =
-    let p = err_from_is_err_and c.from_residual.result c.from_residual.ensures.1 in
+    let p = err_from_is_err_and c.from_residual-in_err-state.result c.from_residual-in_err-state.ensures.1 in
     rw (p.1, p.2) (ends (λ (s : State). s.key) (state_at c.args.layout.now c.args.above) c.in_err-state.field-0.0 c.loop.states.items c.args.count c.loop.counter c.loop.last c.loop.reader (states_at c.args.layout.now c.args.above c.args.count None c.args.reader.now) c.loop-test.true c.in_err-state.ensures c.loop.invariant)
 
 pub loop-preserved : goal.loop-preserved

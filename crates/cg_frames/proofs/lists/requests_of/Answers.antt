@@ -8,7 +8,7 @@ use Rattle.cg_frames.proofs.lists.requests_of.Goals as goal
 
 pub returns-in_err-request : goal.returns-in_err-request
 returns-in_err-request c =
-    let p = err_from_is_err_and c.from_residual.result c.from_residual.ensures.1 in
+    let p = err_from_is_err_and c.from_residual-in_err-request.result c.from_residual-in_err-request.ensures.1 in
     rw (p.1, p.2) (ends (λ (r : RequestValue). r.endpoint) request_at (errors.Misread c.in_err-request.field-0.0) c.loop.requests.items c.args.count c.loop.counter c.loop.last c.loop.reader (requests_at c.args.count None c.args.reader.now) c.loop-test.true c.in_err-request.ensures c.loop.invariant)
 
 pub loop-preserved : goal.loop-preserved

@@ -1,0 +1,10 @@
+use Rattle.std.proofs.Common.{arith, length, length-append}
+use Rattle.std.specs.List.{flat_map}
+use Rattle.cg_frames.specs.Spelling.{two_bytes, request}
+use Rattle.cg_frames.proofs.LengthLemmas.{length-two_bytes, length-requests}
+use Rattle.cg_frames.proofs.fitting.requests_length.Goals as goal
+
+pub returns-clause-value : goal.returns-clause-value
+returns-clause-value c =
+    let ms = c.args.requests.now in
+    omega (arith, length-append (two_bytes (length ms)) (flat_map request ms), length-two_bytes (length ms), length-requests ms)
