@@ -4,4 +4,5 @@ pub mod StepLemmas
 pub mod OrderLemmas
 pub mod PutLemmas
 pub mod SizeLemmas
+pub mod HearingLemmas
 pub mod NodeLaws

@@ -3,19 +3,21 @@ use Rattle.std.proofs.Common.{◌≡◌, ℕ, ◌+◌, ◌≤◌, inl, inr, Bool
 use Rattle.std.specs.Prelude.{is_some, unwrap_or}
 use Rattle.std.specs.Ordering.{nat_cmp, eq_by_cmp}
 use Rattle.std.specs.Cmp.{nat_cmp_total, eq_by_cmp_equiv}
-use Rattle.std.specs.FinMap.{get, insert, get-insert}
+use Rattle.std.specs.FinMap.{get, insert, get-insert, get-empty}
 use Rattle.std.proofs.lemmas.Bool.{ltb-false}
 use Rattle.cg_types.specs.declared.fault.Fault.{Fault}
-use Rattle.cg_types.specs.declared.fault.Fault.TheVariants.{TableFull, VersionsSpent}
-use Rattle.cg_types.specs.declared.limits.TheConstants.{MEMBER_LIMIT, NUMBER_LIMIT}
+use Rattle.cg_types.specs.declared.fault.Fault.TheVariants.{TableFull}
+use Rattle.cg_types.specs.declared.limits.TheConstants.{MEMBER_LIMIT}
 use Rattle.cg_types.proofs.RisingLemmas.{same_tied}
 use Rattle.cg_entry.specs.Values.{EntryValue}
 use Rattle.cg_entry.specs.Entry.{newest, started, beaten, with_state, is_later}
 use Rattle.cg_entry.proofs.HistoryLemmas.{newest_given}
+use Rattle.cg_entry.proofs.StandingLemmas.{next_is}
 use Rattle.cg_table.specs.Values.{TableValue, IsTable}
 use Rattle.cg_table.specs.Own.{own_entry, with_own}
 use Rattle.cg_table.specs.Merge.{is_ahead}
 use Rattle.cg_table.proofs.TableLemmas.{alone_valid, put_valid, own_fits}
+use Rattle.cg_exchange.specs.declared.outcome.Outcome.{Outcome}
 use Rattle.cg_exchange.specs.declared.owner_delta.OwnerDelta.{OwnerDelta}
 use Rattle.cg_exchange.specs.Values.{Ack2Value}
 use Rattle.cg_exchange.specs.Answering.{answer_to_syn}
@@ -26,13 +28,15 @@ use Rattle.cg_core.specs.declared.event.Event.TheVariants as event
 use Rattle.cg_core.specs.declared.reply.Reply.{Reply}
 use Rattle.cg_core.specs.declared.reply.Reply.TheVariants as reply
 use Rattle.cg_core.specs.Values.{NodeValue}
-use Rattle.cg_core.specs.Step.{Run, next_of, beating, setting, opening, round_of, after_taking, node_step, replay, on_step, with_reply}
+use Rattle.cg_core.specs.Windows.{arrivals}
+use Rattle.cg_core.specs.Step.{Step, Run, next_of, beating, setting, opening, round_of, after_taking, node_step, left, after_event, after_events, replay, on_step, with_reply}
 use Rattle.cg_core.specs.Puts.{puts, goes_on}
-use Rattle.cg_core.specs.Laws.{IsSmall, Leads, IsAfter, TableAfter, TablesGoByTheirRules, PutsKeepTheirOrder, SetsPutTheirText, OnlyOwnEventsChangeTheOwnEntry, NodesStaySmall, is_own_change}
+use Rattle.cg_core.specs.Laws.{IsSmall, Leads, TableAfter, TablesGoByTheirRules, PutsKeepTheirOrder, SetsPutTheirText, OnlyOwnEventsChangeTheOwnEntry, NodesStaySmall, HearsOthersAlone, NodesHearOthersAlone, RunsGoEventByEvent, is_own_change}
 use Rattle.cg_core.proofs.StepLemmas.{then_gave}
 use Rattle.cg_core.proofs.OrderLemmas.{beaten_later, given_later, beaten_goes_on, given_goes_on, same_goes_on}
 use Rattle.cg_core.proofs.PutLemmas.{Moves, GoesOn, stays_put, are_puts, only_put}
 use Rattle.cg_core.proofs.SizeLemmas.{own_stays, own_held_stays, all_move, len_after}
+use Rattle.cg_core.proofs.HearingLemmas.{own_unheard}
 
 -- ---- the table after a step
 
@@ -120,16 +124,12 @@ puts_keep_their_order n e after answer small is = are_puts n.table after.table (
 
 -- ---- what a Set puts
 
-next_by : (b : Bool) (n v : ℕ) → cond {A = Result ℕ Fault} b (Ok n) (Err VersionsSpent) ≡ Ok v → v ≡ n
-next_by true n v e = cc
-next_by false n v e = absurd cc
-
 pub sets_put_their_text : SetsPutTheirText
 sets_put_their_text n key text after answer small is =
     let t = n.table in
     let own = own_entry t in
     let gave = then_gave (λ v. (setting key text n, reply.Done v)) (next_of n) (after, answer) is in
-    let next : gave.0 ≡ newest own + 1 = next_by (nat_lt (newest own + 1) NUMBER_LIMIT) (newest own + 1) gave.0 gave.1.0 in
+    let next : gave.0 ≡ newest own + 1 = next_is (newest own) gave.0 gave.1.0 in
     let here = get-insert nat_cmp_total own.states key (record { text = text; version = newest own + 1 }) key in
     record {
       version = newest own + 1;
@@ -183,25 +183,80 @@ table_small t (event.Ack2 now ack2) after small is = subst Small (sym is.is) (de
 steps_small : (n : NodeValue) (e : Event) (after : NodeValue) (answer : Reply) → IsSmall n → Leads n e after answer → IsSmall after
 steps_small n e after answer small is = table_small n.table e after.table small (tables_go_by_their_rules n e after answer is)
 
+-- ---- many events
+
+-- what a step keeps is kept by what it leaves
+kept_by : (P : NodeValue → Type 0) (n : NodeValue) (s : Step) → P n → ((after : NodeValue) (answer : Reply) → s ≡ Ok (after, answer) → P after) → P (left n s)
+kept_by P n (Ok x) holds go = go x.0 x.1 refl
+kept_by P n (Err fault) holds go = holds
+
+-- what each step keeps is kept by all
+kept : (P : NodeValue → Type 0) → ((n : NodeValue) (e : Event) (after : NodeValue) (answer : Reply) → P n → Leads n e after answer → P after) → (n : NodeValue) (es : List Event) → P n → P (after_events n es)
+kept P step n [] holds = holds
+kept P step n (e ∷ es) holds = kept P step (after_event n e) es (kept_by P n (node_step n e) holds (λ after answer is. step n e after answer holds is))
+
+pub nodes_stay_small : NodesStaySmall
+nodes_stay_small = record {
+  starts = λ own generation settings. alone_valid own (started generation);
+  steps = steps_small;
+  stays = kept IsSmall steps_small;
+}
+
+-- ---- the own window
+
+taken_unheard : (n : NodeValue) (now : ℕ) (ds : List OwnerDelta) → HearsOthersAlone n → HearsOthersAlone (after_taking n now (table_after n.table ds) (outcomes_of n.table ds))
+taken_unheard n now ds unheard =
+    let windows = arrivals n.settings.silence now n.windows (outcomes_of n.table ds) in
+    ap (get windows) (own_stays n.table ds) ∙ own_unheard n.settings.silence now n.windows n.table ds ∙ unheard
+
+steps_hear : (n : NodeValue) (e : Event) (after : NodeValue) (answer : Reply) → HearsOthersAlone n → Leads n e after answer → HearsOthersAlone after
+steps_hear n event.Beat after answer unheard is =
+    let gave = then_gave (λ v. (beating n, reply.Done v)) (next_of n) (after, answer) is in
+    subst HearsOthersAlone (ap (λ (p : NodeValue × Reply). p.0) gave.1.1) unheard
+steps_hear n (event.Set key text) after answer unheard is =
+    let gave = then_gave (λ v. (setting key text n, reply.Done v)) (next_of n) (after, answer) is in
+    subst HearsOthersAlone (ap (λ (p : NodeValue × Reply). p.0) gave.1.1) unheard
+steps_hear n (event.Tick now words) after answer unheard is =
+    let gave = then_gave (λ v. (beating n, reply.Round (round_of (beating n) now words) (opening (beating n)))) (next_of n) (after, answer) is in
+    subst HearsOthersAlone (ap (λ (p : NodeValue × Reply). p.0) gave.1.1) unheard
+steps_hear n event.Opening after answer unheard is =
+    let same : ◌≡◌ {A = NodeValue × Reply} (n, reply.Sent (message.Syn (opening n))) (after, answer) = cc in
+    subst HearsOthersAlone (ap (λ (p : NodeValue × Reply). p.0) same) unheard
+steps_hear n (event.Syn syn) after answer unheard is =
+    let gave = then_gave (λ ack. (n, reply.Sent (message.Ack ack))) (answer_to_syn n.table n.settings.cluster syn) (after, answer) is in
+    subst HearsOthersAlone (ap (λ (p : NodeValue × Reply). p.0) gave.1.1) unheard
+steps_hear n (event.Ack now ack) after answer unheard is =
+    let t = n.table in
+    let gave = then_gave (λ (x : TableValue × Ack2Value × List Outcome). (after_taking n now x.0 x.2, reply.Both x.2 x.1)) (taking_ack t ack) (after, answer) is in
+    let due = room_by (held_after t ack.deltas) (table_after t ack.deltas, record { deltas = deltas_granted (table_after t ack.deltas).entries ack.requests }, outcomes_of t ack.deltas) gave.0 (nat_lt MEMBER_LIMIT (held_after t ack.deltas)) refl gave.1.0 in
+    let is_after = ap (λ (x : TableValue × Ack2Value × List Outcome). after_taking n now x.0 x.2) due.0 ∙ ap (λ (p : NodeValue × Reply). p.0) gave.1.1 in
+    subst HearsOthersAlone is_after (taken_unheard n now ack.deltas unheard)
+steps_hear n (event.Ack2 now ack2) after answer unheard is =
+    let t = n.table in
+    let gave = then_gave (λ (x : TableValue × List Outcome). (after_taking n now x.0 x.1, reply.Took x.1)) (taking_ack2 t ack2) (after, answer) is in
+    let due = room_by (held_after t ack2.deltas) (table_after t ack2.deltas, outcomes_of t ack2.deltas) gave.0 (nat_lt MEMBER_LIMIT (held_after t ack2.deltas)) refl gave.1.0 in
+    let is_after = ap (λ (x : TableValue × List Outcome). after_taking n now x.0 x.1) due.0 ∙ ap (λ (p : NodeValue × Reply). p.0) gave.1.1 in
+    subst HearsOthersAlone is_after (taken_unheard n now ack2.deltas unheard)
+
+pub nodes_hear_others_alone : NodesHearOthersAlone
+nodes_hear_others_alone = record {
+  starts = λ own generation settings. get-empty nat_cmp own;
+  steps = steps_hear;
+  stays = kept HearsOthersAlone steps_hear;
+}
+
+-- ---- a whole run
+
 answered : (r : Reply) (run : Run) (x : NodeValue × List Reply) → with_reply r run ≡ Ok x → (rs : List Reply) × (run ≡ Ok (x.0, rs))
 answered r (Ok y) x is =
     let same : ◌≡◌ {A = NodeValue × List Reply} (y.0, r ∷ y.1) x = cc in
     (y.1, ap (λ (n : NodeValue). Ok (n, y.1)) (ap (λ (p : NodeValue × List Reply). p.0) same))
 answered r (Err fault) x is = absurd cc
 
-runs_by : (n : NodeValue) (e : Event) (es : List Event) (after : NodeValue) (answers : List Reply) (s : Result (NodeValue × Reply) Fault) → node_step n e ≡ s → on_step s (λ m. replay m es) ≡ Ok (after, answers)
-    → ((m : NodeValue) (r : Reply) (rs : List Reply) → node_step n e ≡ Ok (m, r) → replay m es ≡ Ok (after, rs) → IsSmall after) → IsSmall after
-runs_by n e es after answers (Ok x) led is rest = let left = answered x.1 (replay x.0 es) (after, answers) is in rest x.0 x.1 left.0 led left.1
-runs_by n e es after answers (Err fault) led is rest = absurd cc
+goes_by : (n after : NodeValue) (es : List Event) (answers : List Reply) (s : Step) → on_step s (λ m. replay m es) ≡ Ok (after, answers) → ((m : NodeValue) (rs : List Reply) → replay m es ≡ Ok (after, rs) → after ≡ after_events m es) → after ≡ after_events (left n s) es
+goes_by n after es answers (Ok x) is rest = let behind = answered x.1 (replay x.0 es) (after, answers) is in rest x.0 behind.0 behind.1
+goes_by n after es answers (Err fault) is rest = absurd cc
 
-runs_small : (n : NodeValue) (es : List Event) (after : NodeValue) (answers : List Reply) → IsSmall n → replay n es ≡ Ok (after, answers) → IsSmall after
-runs_small n [] after answers small is = let same : ◌≡◌ {A = NodeValue × List Reply} (n, []) (after, answers) = cc in subst IsSmall (ap (λ (p : NodeValue × List Reply). p.0) same) small
-runs_small n (e ∷ es) after answers small is =
-    runs_by n e es after answers (node_step n e) refl is (λ m r rs led left. runs_small m es after rs (steps_small n e m r small led) left)
-
-pub nodes_stay_small : NodesStaySmall
-nodes_stay_small = record {
-  starts = λ own generation settings. alone_valid own (started generation);
-  steps = steps_small;
-  runs = runs_small;
-}
+pub runs_go_event_by_event : RunsGoEventByEvent
+runs_go_event_by_event n [] after answers is = let same : ◌≡◌ {A = NodeValue × List Reply} (n, []) (after, answers) = cc in sym (ap (λ (p : NodeValue × List Reply). p.0) same)
+runs_go_event_by_event n (e ∷ es) after answers is = goes_by n after es answers (node_step n e) is (λ m rs behind. runs_go_event_by_event m es after rs behind)

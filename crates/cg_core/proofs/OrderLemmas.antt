@@ -3,14 +3,14 @@ use Rattle.std.proofs.Common.{◌≡◌, ℕ, ◌+◌, ◌<◌, ◌≤◌, inl, 
 use Rattle.std.specs.Prelude.{◌==◌, nat_le}
 use Rattle.std.specs.List.{list_all}
 use Rattle.std.specs.Option.{option_or}
-use Rattle.std.specs.Ordering.{nat_cmp, eq_by_cmp}
+use Rattle.std.specs.Ordering.{nat_cmp}
 use Rattle.std.specs.Cmp.{nat_cmp_total, eq_by_cmp_equiv}
 use Rattle.std.specs.FinMap.{get, entries, entries_sorted, get-entries}
 use Rattle.std.specs.FinMap.Entries.{find}
-use Rattle.std.proofs.lemmas.Bool.{le-leb}
+use Rattle.std.proofs.lemmas.Bool.{le-leb, ltb-true}
 use Rattle.std.proofs.lemmas.Bool.Decides.{nat_tests}
 use Rattle.cg_types.specs.Rising.{is_past, rise_past}
-use Rattle.cg_types.proofs.RisingLemmas.{keys_of, both, first_of, second_of, past_trans, same_tied, rise_sorted}
+use Rattle.cg_types.proofs.RisingLemmas.{keys_of, both, first_of, second_of, past_trans, other_key, rise_sorted}
 use Rattle.cg_entry.specs.declared.entry.Absorbed.TheVariants as absorbed
 use Rattle.cg_entry.specs.Versioned.{Versioned, States}
 use Rattle.cg_entry.specs.Values.{EntryValue, DeltaValue}
@@ -87,14 +87,7 @@ keeps_past new last (e ∷ es) rise held =
     let here = first_of (is_past last e.0) (rise_past (Some e.0) (keys_of es)) rise in
     let rest = second_of (is_past last e.0) (rise_past (Some e.0) (keys_of es)) rise in
     both _ _ (held e.0 e.1 here (rw ((eq_by_cmp_equiv nat_cmp_total).refl e.0) refl))
-    (keeps_past new (Some e.0) es rest (λ k s p is. held k s (past_trans last e.0 k here (omega (arith, after e.0 k p))) (rw (past_is_other e.0 k p (eq_by_cmp nat_cmp k e.0) refl) is)))
-  where
-    after : (e k : ℕ) → nat_lt e k ≡ true → e < k
-    after e k p = grind (arith, nat_tests)
-
-    past_is_other : (e k : ℕ) → nat_lt e k ≡ true → (b : Bool) → eq_by_cmp nat_cmp k e ≡ b → b ≡ false
-    past_is_other e k p true is = absurd (omega (arith, after e k p, same_tied k e is))
-    past_is_other e k p false is = refl
+    (keeps_past new (Some e.0) es rest (λ k s p is. held k s (past_trans last e.0 k here (ltb-true e.0 k p)) (rw (other_key e.0 k p) is)))
 
 pub keeps : (old new : States) → KeepsKeys old new → keeps_keys old new ≡ true
 keeps old new held = keeps_past new None (entries old) (rise_sorted (entries old) (entries_sorted old)) (λ k s p is. held k s (get-entries old k ∙ is))

@@ -1,15 +1,17 @@
 -- The puts between a table and one that goes on from it.
-use Rattle.std.proofs.Common.{◌≡◌, ℕ, ◌<◌, ◌⊎◌, inl, inr, Bool, true, false, cond, List, [], ◌∷◌, Option, Some, None, refl, sym, ap, subst, ◌∙◌, arith, nat_lt}
+use Rattle.std.proofs.Common.{◌≡◌, ℕ, ◌⊎◌, inl, inr, Bool, true, false, cond, List, [], ◌∷◌, Option, Some, None, refl, sym, ap, subst, ◌∙◌, arith, nat_lt, eqb-true}
 use Rattle.std.specs.Prelude.{◌||◌, ◌==◌, not}
 use Rattle.std.specs.List.{filter}
 use Rattle.std.specs.Ordering.{nat_cmp, eq_by_cmp}
 use Rattle.std.specs.Cmp.{nat_cmp_total, eq_by_cmp_equiv}
 use Rattle.std.specs.FinMap.{get, insert, entries, entries_sorted, from_sorted, get-entries, get-insert, same_map, nat_cmp-IsAntisymmetric}
 use Rattle.std.specs.FinMap.Entries.{find}
+use Rattle.std.proofs.lemmas.Bool.{ltb-true}
 use Rattle.std.proofs.lemmas.Bool.Decides.{nat_tests}
 use Rattle.std.proofs.lemmas.Map.Entries.{option_filter}
 use Rattle.cg_types.specs.Rising.{is_past, rise_past, Rises}
-use Rattle.cg_types.proofs.RisingLemmas.{keys_of, both, first_of, second_of, past_trans, same_tied, rise_sorted, entries_rising, get_rising}
+use Rattle.cg_types.proofs.RisingLemmas.{keys_of, both, first_of, second_of, past_trans, other_key, same_tied, rise_sorted, entries_rising, get_rising}
+use Rattle.cg_shared.proofs.PastLemmas.{AgreePast, still_agree, agree_later}
 use Rattle.cg_entry.specs.Values.{EntryValue}
 use Rattle.cg_entry.specs.Entry.{is_later}
 use Rattle.cg_entry.proofs.KeyLemmas.{find-filter}
@@ -63,43 +65,33 @@ put_leads before after g = same_map nat_cmp_total nat_cmp-IsAntisymmetric (merge
 
 -- ---- they keep the order
 
-other_key : (e k : ℕ) → nat_lt e k ≡ true → (b : Bool) → eq_by_cmp nat_cmp k e ≡ b → b ≡ false
-other_key e k lt true is = absurd (let less : e < k = grind (arith, nat_tests) in omega (arith, same_tied k e is))
-other_key e k lt false is = refl
-
-past_on : (last : Option ℕ) (e k : ℕ) → is_past last e ≡ true → nat_lt e k ≡ true → is_past last k ≡ true
-past_on last e k here lt = past_trans last e k here (grind (arith, nat_tests))
-
 module _ (before after : TableValue) (g : GoesOn before after) where
   -- past an owner, entries are those of the old table, and what is left of the new one's
   record Past (last : Option ℕ) (t : TableValue) (es : List (ℕ × EntryValue)) : Type 0 where
     own_is : t.own ≡ before.own
-    old : (k : ℕ) → is_past last k ≡ true → get t.entries k ≡ get before.entries k
+    old : AgreePast before.entries last t.entries
     new : (k : ℕ) → is_past last k ≡ true → find nat_cmp k es ≡ get after.entries k
 
   found_later : (e : ℕ × EntryValue) (es : List (ℕ × EntryValue)) (k : ℕ) → nat_lt e.0 k ≡ true → find nat_cmp k (e ∷ es) ≡ find nat_cmp k es
-  found_later e es k lt = rw (other_key e.0 k lt (eq_by_cmp nat_cmp k e.0) refl) refl
+  found_later e es k lt = rw (other_key e.0 k lt) refl
 
   past_skip : (last : Option ℕ) (t : TableValue) (e : ℕ × EntryValue) (es : List (ℕ × EntryValue)) → is_past last e.0 ≡ true → Past last t (e ∷ es) → Past (Some e.0) t es
   past_skip last t e es here p = record {
     own_is = p.own_is;
-    old = λ k lt. p.old k (past_on last e.0 k here lt);
-    new = λ k lt. sym (found_later e es k lt) ∙ p.new k (past_on last e.0 k here lt);
+    old = agree_later before.entries t.entries last e.0 here p.old;
+    new = λ k lt. sym (found_later e es k lt) ∙ p.new k (past_trans last e.0 k here (ltb-true e.0 k lt));
   }
 
   past_put : (last : Option ℕ) (t : TableValue) (e : ℕ × EntryValue) (es : List (ℕ × EntryValue)) → is_past last e.0 ≡ true → Past last t (e ∷ es) → Past (Some e.0) (with_put t e) es
   past_put last t e es here p = record {
     own_is = p.own_is;
-    old = λ k lt. get-insert nat_cmp_total t.entries e.0 e.1 k ∙ rw (other_key e.0 k lt (eq_by_cmp nat_cmp k e.0) refl) (p.old k (past_on last e.0 k here lt));
-    new = λ k lt. sym (found_later e es k lt) ∙ p.new k (past_on last e.0 k here lt);
+    old = still_agree before.entries t.entries e.0 e.1 (agree_later before.entries t.entries last e.0 here p.old);
+    new = λ k lt. sym (found_later e es k lt) ∙ p.new k (past_trans last e.0 k here (ltb-true e.0 k lt));
   }
-
-  same_number : (x k : ℕ) → (x == k) ≡ true → x ≡ k
-  same_number x k e = grind (arith, nat_tests)
 
   own_by : (t : TableValue) (e : ℕ × EntryValue) (b : Bool) → (e.0 == t.own) ≡ b → t.own ≡ before.own → get t.entries e.0 ≡ get before.entries e.0 → Some e.1 ≡ get after.entries e.0 → (not b || goes_on (get t.entries e.0) e.1) ≡ true
   own_by t e true is own old new =
-      let here : e.0 ≡ before.own = same_number e.0 t.own is ∙ own in
+      let here : e.0 ≡ before.own = eqb-true e.0 t.own is ∙ own in
       ap (λ (o : Option EntryValue). goes_on o e.1) (old ∙ ap (get before.entries) here) ∙ g.own_goes e.1 (sym (new ∙ ap (get after.entries) here))
   own_by t e false is own old new = refl
 

@@ -1,5 +1,5 @@
 -- What holds of the steps of a node.
-use Rattle.std.specs.Prelude.{◌≡◌, ◌≤◌, ℕ, Bool, true, false, List, [], ◌∷◌, Some, Ok}
+use Rattle.std.specs.Prelude.{◌≡◌, ◌≤◌, ℕ, Bool, true, false, List, [], ◌∷◌, Some, None, Ok}
 use Rattle.std.specs.FinMap as map
 use Rattle.cg_types.specs.Rising.{Rises}
 use Rattle.cg_types.specs.declared.limits.TheConstants.{MEMBER_LIMIT}
@@ -14,7 +14,7 @@ use Rattle.cg_core.specs.declared.event.Event.TheVariants as event
 use Rattle.cg_core.specs.declared.reply.Reply.{Reply}
 use Rattle.cg_core.specs.declared.reply.Reply.TheVariants as reply
 use Rattle.cg_core.specs.Values.{SettingsValue, NodeValue}
-use Rattle.cg_core.specs.Step.{begun, node_step, replay}
+use Rattle.cg_core.specs.Step.{begun, node_step, after_events, replay}
 use Rattle.cg_core.specs.Puts.{puts, with_puts, keep_order}
 
 -- The table is one that a member may hold: its own endpoint is held, and few are.
@@ -87,8 +87,22 @@ abbrev pub OnlyOwnEventsChangeTheOwnEntry : Type 0
 OnlyOwnEventsChangeTheOwnEntry =
     (n : NodeValue) (e : Event) (after : NodeValue) (answer : Reply) → Leads n e after answer → is_own_change e ≡ false → map.get after.table.entries after.table.own ≡ map.get n.table.entries n.table.own
 
--- A node that starts is small, and stays so, whatever comes.
+-- A node that starts is small, and stays so, whatever comes; events that are refused are among them.
 pub record NodesStaySmall : Type 0 where
   pub starts : (own generation : ℕ) (settings : SettingsValue) → IsSmall (begun own generation settings)
   pub steps : (n : NodeValue) (e : Event) (after : NodeValue) (answer : Reply) → IsSmall n → Leads n e after answer → IsSmall after
-  pub runs : (n : NodeValue) (events : List Event) (after : NodeValue) (answers : List Reply) → IsSmall n → replay n events ≡ Ok (after, answers) → IsSmall after
+  pub stays : (n : NodeValue) (events : List Event) → IsSmall n → IsSmall (after_events n events)
+
+-- No window is kept of the own endpoint, so that its verdict is Unheard.
+abbrev pub HearsOthersAlone : NodeValue → Type 0
+HearsOthersAlone n = map.get n.windows n.table.own ≡ None
+
+-- A node that starts hears others alone, and goes on so, whatever comes.
+pub record NodesHearOthersAlone : Type 0 where
+  pub starts : (own generation : ℕ) (settings : SettingsValue) → HearsOthersAlone (begun own generation settings)
+  pub steps : (n : NodeValue) (e : Event) (after : NodeValue) (answer : Reply) → HearsOthersAlone n → Leads n e after answer → HearsOthersAlone after
+  pub stays : (n : NodeValue) (events : List Event) → HearsOthersAlone n → HearsOthersAlone (after_events n events)
+
+-- A run leads to where its events lead, one after the other.
+abbrev pub RunsGoEventByEvent : Type 0
+RunsGoEventByEvent = (n : NodeValue) (events : List Event) (after : NodeValue) (answers : List Reply) → replay n events ≡ Ok (after, answers) → after ≡ after_events n events

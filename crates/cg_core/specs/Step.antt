@@ -99,7 +99,22 @@ node_step n (event.Syn syn) = then (answer_to_syn n.table n.settings.cluster syn
 node_step n (event.Ack now ack) = then (taking_ack n.table ack) (λ x. (after_taking n now x.0 x.2, reply.Both x.2 x.1))
 node_step n (event.Ack2 now ack2) = then (taking_ack2 n.table ack2) (λ x. (after_taking n now x.0 x.1, reply.Took x.1))
 
--- ---- a whole run
+-- ---- many events
+
+-- what a step leaves: a refused event leaves the node as it was
+abbrev pub left : NodeValue → Step → NodeValue
+left n (Ok x) = x.0
+left n (Err fault) = n
+
+abbrev pub after_event : NodeValue → Event → NodeValue
+after_event n e = left n (node_step n e)
+
+-- the node after events, one after the other
+abbrev pub after_events : NodeValue → List Event → NodeValue
+after_events n [] = n
+after_events n (e ∷ es) = after_events (after_event n e) es
+
+-- ---- a whole run, which no event is refused in
 
 -- where a run ends, with all replies, or the first refusal
 abbrev pub Run : Type 0

@@ -16,7 +16,7 @@ use std::test::Fail;
 // A's SYN at generation 9, of a cluster.
 fn syn(alloc: Global, name: &str) -> Result<Syn, Fail> {
     let digest = Digest {
-        endpoint: endpoint(A)?,
+        endpoint: endpoint(A),
         generation: generation(9)?,
         newest: version(1)?,
     };
@@ -44,16 +44,20 @@ fn sent(deltas: &[OwnerDelta]) -> Option<(u32, u32, u32)> {
     }
 }
 
+// What the ACK of a reply asks for and sends, where it has one request and one delta.
+fn acked(reply: &Reply) -> Option<((u32, u32), (u32, u32, u32))> {
+    match reply {
+        Reply::Sent(Message::Ack(ack)) => Some((asked(ack)?, sent(ack.deltas())?)),
+        _ => None,
+    }
+}
+
 #[test]
 fn a_syn_is_answered(rt: HostRuntime) -> Result<(), Fail> {
     let mut node = node(rt.alloc(), B, 5)?;
     let event = Event::Syn(syn(rt.alloc(), "c1")?);
     let reply = node.step(rt.alloc(), &event)?;
-    let Reply::Sent(Message::Ack(ack)) = reply else {
-        return Err("an ACK".into());
-    };
-    assert_eq!(rt; asked(&ack), Some((9, 0)));
-    assert_eq!(rt; sent(ack.deltas()), Some((5, 0, 1)));
+    assert_eq!(rt; acked(&reply), Some(((9, 0), (5, 0, 1))));
     Ok(())
 }
 
@@ -68,7 +72,7 @@ fn another_cluster_changes_nothing(rt: HostRuntime) -> Result<(), Fail> {
 
 // The event that an ACK comes which asks A for its entry of generation 9, above 0, and sends B's of generation 5.
 fn ack(alloc: Global, now: u64) -> Result<Event, Fail> {
-    let request = Request::new(endpoint(A)?, generation(9)?, 0).ok_or("a request")?;
+    let request = Request::new(endpoint(A), generation(9)?, 0).ok_or("a request")?;
     let requests = vec![in alloc; request]?;
     let deltas = vec![in alloc; about(alloc, B, (5, 0, 1))?]?;
     let ack = Ack::new(requests, deltas).ok_or("an ACK")?;
@@ -83,15 +87,36 @@ fn answered(reply: &Reply) -> Option<(u32, u32, u32)> {
     }
 }
 
+// What becomes of the only delta of an event, and of its owner: the generation and the newest version that the node
+// then holds, the verdict at a moment, and the number of owners.
+type Seen = (Option<Took>, Option<(u32, u32)>, Verdict, usize);
+
+fn seen_by(node: &Node, reply: &Reply, owner: u16, now: u64) -> Seen {
+    let verdict = node.verdict(endpoint(owner), now);
+    let owners = node.table().owners().len();
+    (took(reply), held(node, owner), verdict, owners)
+}
+
+fn seen(alloc: Global, node: &Node, event: &Event, owner: u16, now: u64) -> Result<Seen, Fail> {
+    let (after, reply) = node.stepped(alloc, event)?;
+    Ok(seen_by(&after, &reply, owner, now))
+}
+
 #[test]
-fn an_ack_is_taken_and_answered(rt: HostRuntime) -> Result<(), Fail> {
+fn an_ack_is_taken(rt: HostRuntime) -> Result<(), Fail> {
+    let node = node(rt.alloc(), A, 9)?;
+    let event = ack(rt.alloc(), 10000)?;
+    let seen = seen(rt.alloc(), &node, &event, B, 10000)?;
+    assert_eq!(rt; seen, (Some(Took::Taken), Some((5, 1)), Verdict::Alive, 2));
+    Ok(())
+}
+
+#[test]
+fn an_ack_is_answered(rt: HostRuntime) -> Result<(), Fail> {
     let mut node = node(rt.alloc(), A, 9)?;
     let event = ack(rt.alloc(), 10000)?;
     let reply = node.step(rt.alloc(), &event)?;
-    assert_eq!(rt; took(&reply), Some(Took::Taken));
     assert_eq!(rt; answered(&reply), Some((9, 0, 1)));
-    assert_eq!(rt; held(&node, B)?, Some((5, 1)));
-    assert_eq!(rt; node.verdict(endpoint(B)?, 10000), Verdict::Alive);
     Ok(())
 }
 
@@ -99,7 +124,7 @@ fn an_ack_is_taken_and_answered(rt: HostRuntime) -> Result<(), Fail> {
 fn partial(alloc: Global) -> Result<Event, Fail> {
     let states = vec![in alloc; state(alloc, 2, 4, "x")?]?;
     let delta = Delta::new(generation(9)?, 2, version(5)?, states).ok_or("a delta")?;
-    let endpoint = endpoint(A)?;
+    let endpoint = endpoint(A);
     let deltas = vec![in alloc; OwnerDelta { endpoint, delta }]?;
     let ack2 = Ack2::new(deltas).ok_or("an ACK2")?;
     Ok(Event::Ack2 { now: 10000, ack2 })
@@ -107,23 +132,19 @@ fn partial(alloc: Global) -> Result<Event, Fail> {
 
 #[test]
 fn gap_after_restart(rt: HostRuntime) -> Result<(), Fail> {
-    let mut node = node(rt.alloc(), B, 6)?;
-    let reply = node.step(rt.alloc(), &partial(rt.alloc())?)?;
-    assert_eq!(rt; took(&reply), Some(Took::Gap));
-    assert_eq!(rt; node.table().owners().len(), 1);
-    assert_eq!(rt; held(&node, A)?, None);
-    assert_eq!(rt; node.verdict(endpoint(A)?, 10000), Verdict::Unheard);
+    let node = node(rt.alloc(), B, 6)?;
+    let event = partial(rt.alloc())?;
+    let seen = seen(rt.alloc(), &node, &event, A, 10000)?;
+    assert_eq!(rt; seen, (Some(Took::Gap), None, Verdict::Unheard, 1));
     Ok(())
 }
 
 #[test]
 fn own_delta(rt: HostRuntime) -> Result<(), Fail> {
-    let mut node = node(rt.alloc(), B, 5)?;
+    let node = node(rt.alloc(), B, 5)?;
     let event = comes(rt.alloc(), 10000, B, (6, 0, 4))?;
-    let reply = node.step(rt.alloc(), &event)?;
-    assert_eq!(rt; took(&reply), Some(Took::Own));
-    assert_eq!(rt; held(&node, B)?, Some((5, 1)));
-    assert_eq!(rt; node.verdict(endpoint(B)?, 10000), Verdict::Unheard);
+    let seen = seen(rt.alloc(), &node, &event, B, 10000)?;
+    assert_eq!(rt; seen, (Some(Took::Own), Some((5, 1)), Verdict::Unheard, 1));
     Ok(())
 }
 
@@ -139,13 +160,8 @@ fn heard_twice(alloc: Global) -> Result<Node, Fail> {
 #[test]
 fn silence_threshold(rt: HostRuntime) -> Result<(), Fail> {
     let node = heard_twice(rt.alloc())?;
-    for (now, verdict) in [
-        (10500, Verdict::Alive),
-        (38631, Verdict::Alive),
-        (38632, Verdict::Silent),
-    ] {
-        assert_eq!(rt; node.verdict(endpoint(A)?, now), verdict);
-    }
+    let verdicts = [10500, 38631, 38632].map(|now| node.verdict(endpoint(A), now));
+    assert_eq!(rt; verdicts, [Verdict::Alive, Verdict::Alive, Verdict::Silent]);
     Ok(())
 }
 
@@ -153,27 +169,26 @@ fn silence_threshold(rt: HostRuntime) -> Result<(), Fail> {
 fn a_clock_that_goes_back(rt: HostRuntime) -> Result<(), Fail> {
     let node = heard_twice(rt.alloc())?;
     let node = hears(rt.alloc(), &node, 10400, A, (9, 2, 3))?;
-    assert_eq!(rt; node.verdict(endpoint(A)?, 29427), Verdict::Alive);
-    assert_eq!(rt; node.verdict(endpoint(A)?, 29428), Verdict::Silent);
+    let verdicts = [29427, 29428].map(|now| node.verdict(endpoint(A), now));
+    assert_eq!(rt; verdicts, [Verdict::Alive, Verdict::Silent]);
     Ok(())
 }
 
 #[test]
 fn an_old_delta_is_no_arrival(rt: HostRuntime) -> Result<(), Fail> {
-    let mut node = heard_twice(rt.alloc())?;
+    let node = heard_twice(rt.alloc())?;
     let event = comes(rt.alloc(), 38632, A, (9, 1, 2))?;
-    let reply = node.step(rt.alloc(), &event)?;
-    assert_eq!(rt; took(&reply), Some(Took::Old));
-    assert_eq!(rt; node.verdict(endpoint(A)?, 38632), Verdict::Silent);
+    let seen = seen(rt.alloc(), &node, &event, A, 38632)?;
+    assert_eq!(rt; seen, (Some(Took::Old), Some((9, 2)), Verdict::Silent, 2));
     Ok(())
 }
 
 #[test]
 fn a_new_generation_is_an_arrival(rt: HostRuntime) -> Result<(), Fail> {
     let node = heard_twice(rt.alloc())?;
-    let node = hears(rt.alloc(), &node, 38632, A, (10, 0, 1))?;
-    assert_eq!(rt; held(&node, A)?, Some((10, 1)));
-    assert_eq!(rt; node.verdict(endpoint(A)?, 38632), Verdict::Alive);
+    let event = comes(rt.alloc(), 38632, A, (10, 0, 1))?;
+    let seen = seen(rt.alloc(), &node, &event, A, 38632)?;
+    assert_eq!(rt; seen, (Some(Took::Taken), Some((10, 1)), Verdict::Alive, 2));
     Ok(())
 }
 
@@ -203,7 +218,7 @@ fn table_full(rt: HostRuntime) -> Result<(), Fail> {
     let event = comes(rt.alloc(), 20000, A, (9, 0, 1))?;
     let fault = refusal(rt.alloc(), &mut node, &event)?;
     assert_eq!(rt; fault, Some(Fault::TableFull));
-    assert_eq!(rt; node.verdict(endpoint(A)?, 20000), Verdict::Unheard);
+    assert_eq!(rt; node.verdict(endpoint(A), 20000), Verdict::Unheard);
     Ok(())
 }
 
@@ -300,7 +315,7 @@ fn the_reply_to_an_ack2_is_copied(rt: HostRuntime) -> Result<(), Fail> {
 
 #[test]
 fn outcomes_are_compared(rt: HostRuntime) -> Result<(), Fail> {
-    let endpoint = endpoint(A)?;
+    let endpoint = endpoint(A);
     let took = Took::Old;
     let one = Outcomes::of(vec![in rt.alloc(); Outcome { endpoint, took }]?);
     assert!(rt; one.copy(rt.alloc())? == one);
@@ -310,7 +325,7 @@ fn outcomes_are_compared(rt: HostRuntime) -> Result<(), Fail> {
 
 #[test]
 fn peers_are_compared(rt: HostRuntime) -> Result<(), Fail> {
-    let one = Peers::of(vec![in rt.alloc(); endpoint(B)?]?);
+    let one = Peers::of(vec![in rt.alloc(); endpoint(B)]?);
     assert!(rt; one.copy(rt.alloc())? == one);
     assert!(rt; one != Peers::of(Vec::new(rt.alloc())));
     Ok(())

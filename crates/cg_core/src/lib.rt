@@ -15,7 +15,6 @@ mod event;
 mod event_tests;
 pub mod laws;
 mod limits;
-mod lists;
 mod node;
 mod outcomes;
 mod own;

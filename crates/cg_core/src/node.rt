@@ -90,7 +90,8 @@ impl Node {
     }
 
     /// The verdict of an endpoint's window at a moment, in milliseconds of the clock of the events; `Unheard` where
-    /// there is no window, as of the node's own endpoint. It takes no memory.
+    /// there is no window, as there never is of the node's own endpoint (`laws::nodes_hear_others_alone`). It takes no
+    /// memory.
     pub fn verdict(&self, endpoint: Endpoint, now: u64) -> Verdict
         ensures { result ≡ verdict_of self.now endpoint now }
     {

@@ -1,11 +1,11 @@
-//! Worked rows of a node, and each call once with ample memory. A is 10.0.0.1:7000, B 10.0.0.2:7000 and C
+//! Worked examples of a node, and each call once with ample memory. A is 10.0.0.1:7000, B 10.0.0.2:7000 and C
 //! 10.0.0.3:7000; the cluster is c1.
 
 use crate::{Event, Node, Peers, Reply, SEED_LIMIT, Settings};
 use cg_entry::{Delta, Entry, State};
 use cg_exchange::{Ack2, Message, OwnerDelta};
 use cg_silence::{Silence, Verdict};
-use cg_table::{Digest, Table, Took};
+use cg_table::{Table, Took};
 use cg_types::{Cluster, Endpoint, Fault, Generation, StateKey, StateText, Version};
 use std::alloc::Global;
 use std::test::Fail;
@@ -17,9 +17,12 @@ pub(crate) const B: u16 = 2;
 pub(crate) const C: u16 = 3;
 
 // 10.0.HIGH.LOW:7000, of the two bytes of the number
-pub(crate) fn endpoint(number: u16) -> Result<Endpoint, Fail> {
+pub(crate) fn endpoint(number: u16) -> Endpoint {
     let [high, low] = number.to_be_bytes();
-    Ok(Endpoint::new([10, 0, high, low], 7000).ok_or("an endpoint")?)
+    match Endpoint::new([10, 0, high, low], 7000) {
+        Some(endpoint) => endpoint,
+        None => unreachable!(),
+    }
 }
 
 pub(crate) fn generation(number: u32) -> Result<Generation, Fail> {
@@ -46,7 +49,7 @@ pub(crate) fn state(alloc: Global, number: u8, at: u32, text: &str) -> Result<St
 fn seeds(alloc: Global, seed: Option<u16>) -> Result<Vec<Endpoint>, Fail> {
     let mut seeds = Vec::new(alloc);
     if let Some(seed) = seed {
-        seeds.push(endpoint(seed)?)?;
+        seeds.push(endpoint(seed))?;
     }
     Ok(seeds)
 }
@@ -61,7 +64,7 @@ fn settings(alloc: Global, seed: Option<u16>) -> Result<Settings, Fail> {
 // A node that starts in a generation.
 pub(crate) fn node(alloc: Global, own: u16, at: u32) -> Result<Node, Fail> {
     let settings = settings(alloc, None)?;
-    Ok(Node::start(alloc, endpoint(own)?, generation(at)?, settings)?)
+    Ok(Node::start(alloc, endpoint(own), generation(at)?, settings)?)
 }
 
 // A delta with no states: the generation, the version that it stands above, and the heartbeat version.
@@ -75,7 +78,7 @@ pub(crate) fn bare(alloc: Global, of: (u32, u32, u32)) -> Result<Delta, Fail> {
 // Such a delta about an endpoint.
 pub(crate) fn about(alloc: Global, owner: u16, of: (u32, u32, u32)) -> Result<OwnerDelta, Fail> {
     Ok(OwnerDelta {
-        endpoint: endpoint(owner)?,
+        endpoint: endpoint(owner),
         delta: bare(alloc, of)?,
     })
 }
@@ -133,9 +136,11 @@ pub(crate) fn took(reply: &Reply) -> Option<Took> {
 }
 
 // The generation and the newest version that a node holds of an endpoint.
-pub(crate) fn held(node: &Node, owner: u16) -> Result<Option<(u32, u32)>, Fail> {
-    let entry = node.table().get(endpoint(owner)?);
-    Ok(entry.map(|entry| (entry.generation().get(), entry.newest().get())))
+pub(crate) fn held(node: &Node, owner: u16) -> Option<(u32, u32)> {
+    match node.table().get(endpoint(owner)) {
+        Some(entry) => Some((entry.generation().get(), entry.newest().get())),
+        None => None,
+    }
 }
 
 // ---- settings
@@ -149,7 +154,7 @@ fn is_settings(alloc: Global, partitioner: u8, seeds: Vec<Endpoint>) -> Result<b
 fn rising(alloc: Global, count: u16) -> Result<Vec<Endpoint>, Fail> {
     let mut seeds = Vec::new(alloc);
     for number in 1..=count {
-        seeds.push(endpoint(number)?)?;
+        seeds.push(endpoint(number))?;
     }
     Ok(seeds)
 }
@@ -167,7 +172,7 @@ fn seeds_are_few(rt: HostRuntime) -> Result<(), Fail> {
 #[test]
 fn seeds_rise(rt: HostRuntime) -> Result<(), Fail> {
     for (first, second, valid) in [(A, B, true), (B, A, false), (A, A, false)] {
-        let seeds = vec![in rt.alloc(); endpoint(first)?, endpoint(second)?]?;
+        let seeds = vec![in rt.alloc(); endpoint(first), endpoint(second)]?;
         assert_eq!(rt; is_settings(rt.alloc(), 1, seeds)?, valid);
     }
     Ok(())
@@ -182,27 +187,44 @@ fn the_partitioner_is_the_one_in_use(rt: HostRuntime) -> Result<(), Fail> {
     Ok(())
 }
 
+// The cluster's name, the only seed, and how silence is judged.
+fn shown(settings: &Settings) -> (&str, Option<Endpoint>, Silence) {
+    let seed = match settings.seeds() {
+        [seed] => Some(*seed),
+        _ => None,
+    };
+    (settings.cluster().name(), seed, settings.silence())
+}
+
 #[test]
 fn settings_are_shown_and_copied(rt: HostRuntime) -> Result<(), Fail> {
-    let settings = settings(rt.alloc(), Some(B))?.copy(rt.alloc())?;
-    assert_eq!(rt; settings.cluster().name(), "c1");
-    assert_eq!(rt; settings.seeds().len(), 1);
-    assert_eq!(rt; settings.seeds().first().copied(), Some(endpoint(B)?));
-    assert_eq!(rt; settings.silence(), Silence::default());
+    let copy = settings(rt.alloc(), Some(B))?.copy(rt.alloc())?;
+    assert_eq!(rt; shown(&copy), ("c1", Some(endpoint(B)), Silence::default()));
     Ok(())
 }
 
 // ---- a node that starts
 
+// The own endpoint, the number of owners, the cluster's name, the number of positions, and the verdict of itself.
+fn outlook(node: &Node) -> (Endpoint, usize, &str, usize, Verdict) {
+    let own = node.table().own();
+    let owners = node.table().owners().len();
+    let cluster = node.settings().cluster().name();
+    (
+        own,
+        owners,
+        cluster,
+        node.ring().positions().len(),
+        node.verdict(own, 5),
+    )
+}
+
 #[test]
 fn a_node_that_starts(rt: HostRuntime) -> Result<(), Fail> {
     let node = node(rt.alloc(), A, 9)?.copy()?;
-    assert_eq!(rt; node.table().own(), endpoint(A)?);
-    assert_eq!(rt; node.table().owners().len(), 1);
-    assert_eq!(rt; held(&node, A)?, Some((9, 1)));
-    assert_eq!(rt; node.settings().cluster().name(), "c1");
-    assert!(rt; node.ring().positions().is_empty());
-    assert_eq!(rt; node.verdict(endpoint(A)?, 5), Verdict::Unheard);
+    let outlook = outlook(&node);
+    assert_eq!(rt; outlook, (endpoint(A), 1, "c1", 0, Verdict::Unheard));
+    assert_eq!(rt; held(&node, A), Some((9, 1)));
     Ok(())
 }
 
@@ -213,14 +235,21 @@ fn given(alloc: Global, node: &mut Node, event: &Event) -> Result<Option<u32>, F
     Ok(done(&node.step(alloc, event)?))
 }
 
+// The versions that a beat, this event and a beat are given at a node, one after the other.
+fn all_given(alloc: Global, node: &mut Node, event: &Event) -> Result<[Option<u32>; 3], Fail> {
+    let first = given(alloc, node, &Event::Beat)?;
+    let second = given(alloc, node, event)?;
+    let third = given(alloc, node, &Event::Beat)?;
+    Ok([first, second, third])
+}
+
 #[test]
 fn beats_and_sets_take_versions(rt: HostRuntime) -> Result<(), Fail> {
     let set = set_event(rt.alloc(), 3, "x")?;
     let mut node = node(rt.alloc(), A, 9)?;
-    assert_eq!(rt; given(rt.alloc(), &mut node, &Event::Beat)?, Some(2));
-    assert_eq!(rt; given(rt.alloc(), &mut node, &set)?, Some(3));
-    assert_eq!(rt; given(rt.alloc(), &mut node, &Event::Beat)?, Some(4));
-    assert_eq!(rt; held(&node, A)?, Some((9, 4)));
+    let versions = all_given(rt.alloc(), &mut node, &set)?;
+    assert_eq!(rt; versions, [Some(2), Some(3), Some(4)]);
+    assert_eq!(rt; held(&node, A), Some((9, 4)));
     Ok(())
 }
 
@@ -275,7 +304,7 @@ fn a_set_of_status_and_tokens_moves_the_ring(rt: HostRuntime) -> Result<(), Fail
     assert_eq!(rt; node.ring().positions().len(), 1);
     for (token, owner) in node.ring().positions() {
         assert_eq!(rt; token.number(), 16);
-        assert_eq!(rt; *owner, endpoint(A)?);
+        assert_eq!(rt; *owner, endpoint(A));
     }
     Ok(())
 }
@@ -291,7 +320,7 @@ fn a_member_that_leaves(rt: HostRuntime) -> Result<(), Fail> {
 // A node whose own entry has the last version.
 fn spent(alloc: Global) -> Result<Node, Fail> {
     let entry = Entry::of_delta(alloc, &bare(alloc, (9, 0, 2147483647))?)?.ok_or("an entry")?;
-    let table = Table::new(alloc, endpoint(A)?, entry)?;
+    let table = Table::new(alloc, endpoint(A), entry)?;
     Ok(node(alloc, A, 9)?.with_new_ring(alloc, table)?)
 }
 
@@ -350,7 +379,7 @@ fn a_spent_node_still_opens(rt: HostRuntime) -> Result<(), Fail> {
 // A with live B and silent C at 50,001: B was heard at 50,000 and C at 0.
 fn heard(alloc: Global, seed: Option<u16>) -> Result<Node, Fail> {
     let settings = settings(alloc, seed)?;
-    let node = Node::start(alloc, endpoint(A)?, generation(9)?, settings)?;
+    let node = Node::start(alloc, endpoint(A), generation(9)?, settings)?;
     let node = hears(alloc, &node, 0, C, (4, 0, 1))?;
     hears(alloc, &node, 50000, B, (5, 0, 1))
 }
@@ -358,9 +387,11 @@ fn heard(alloc: Global, seed: Option<u16>) -> Result<Node, Fail> {
 #[test]
 fn live_and_silent(rt: HostRuntime) -> Result<(), Fail> {
     let node = heard(rt.alloc(), None)?;
-    assert_eq!(rt; node.verdict(endpoint(A)?, 50001), Verdict::Unheard);
-    assert_eq!(rt; node.verdict(endpoint(B)?, 50001), Verdict::Alive);
-    assert_eq!(rt; node.verdict(endpoint(C)?, 50001), Verdict::Silent);
+    let verdicts = [A, B, C].map(|owner| node.verdict(endpoint(owner), 50001));
+    assert_eq!(rt;
+        verdicts,
+        [Verdict::Unheard, Verdict::Alive, Verdict::Silent]
+    );
     Ok(())
 }
 
@@ -378,7 +409,7 @@ fn round(alloc: Global, node: &Node, words: [u64; 4]) -> Result<Peers, Fail> {
 fn is_for(alloc: Global, seed: u16, words: [u64; 4], also_c: bool) -> Result<bool, Fail> {
     let node = heard(alloc, Some(seed))?;
     let peers = round(alloc, &node, words)?;
-    let (b, c) = (endpoint(B)?, endpoint(C)?);
+    let (b, c) = (endpoint(B), endpoint(C));
     Ok(match peers.endpoints() {
         [first] => *first == b && !also_c,
         [first, second] => *first == b && *second == c && also_c,
@@ -394,20 +425,21 @@ fn peers_of_a_round(rt: HostRuntime) -> Result<(), Fail> {
     Ok(())
 }
 
+// How many peers a round is for, and the first digest of its SYN: endpoint, generation and newest version.
+fn round_of(reply: &Reply) -> Option<(usize, Endpoint, u32, u32)> {
+    let Reply::Round { peers, syn } = reply else {
+        return None;
+    };
+    let digest = syn.digests().first()?;
+    let (generation, newest) = (digest.generation.get(), digest.newest.get());
+    Some((peers.endpoints().len(), digest.endpoint, generation, newest))
+}
+
 #[test]
 fn a_round_for_nobody(rt: HostRuntime) -> Result<(), Fail> {
     let mut node = node(rt.alloc(), A, 9)?;
     let words = [7, 3, 5, 9];
     let reply = node.step(rt.alloc(), &Event::Tick { now: 5, words })?;
-    let Reply::Round { peers, syn } = reply else {
-        return Err("a round".into());
-    };
-    assert!(rt; peers.endpoints().is_empty());
-    let wanted = Digest {
-        endpoint: endpoint(A)?,
-        generation: generation(9)?,
-        newest: version(2)?,
-    };
-    assert_eq!(rt; syn.digests().first().copied(), Some(wanted));
+    assert_eq!(rt; round_of(&reply), Some((0, endpoint(A), 9, 2)));
     Ok(())
 }

@@ -9,9 +9,8 @@ ghost use Rattle.cg_silence.specs.Values.{WindowValue};
 ghost use Rattle.cg_silence.specs.Silence.{heard};
 ghost use Rattle.cg_core.specs.Windows.{arrivals, arrival, verdict_by, is_taken as is_taken_of, any_taken as any_taken_of, window_after};
 
-use crate::lists::push_some;
 use cg_exchange::Outcome;
-use cg_shared::{Row, SharedMap};
+use cg_shared::{Row, SharedMap, push_some};
 use cg_silence::{Silence, Verdict, Window};
 use cg_table::Took;
 use cg_types::Endpoint;
