@@ -72,7 +72,11 @@ fn check_delta(
 }
 
 /// Reads past so many deltas, rising by endpoint.
-pub(crate) fn check_deltas(layout: &Layout, reader: &mut Reader<'_>, count: u16) -> Result<(), Misread>
+pub(crate) fn check_deltas(
+    layout: &Layout,
+    reader: &mut Reader<'_>,
+    count: u16,
+) -> Result<(), Misread>
     ensures { spec.Passes result reader.new (spec.deltas_at layout.now count None reader.old) }
 {
     let mut last: Option<Endpoint> = None;

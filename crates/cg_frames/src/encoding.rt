@@ -187,7 +187,11 @@ fn put_message(out: &mut Vec<u8>, message: &Message) -> Result<(), AllocError>
 }
 
 /// As `encode`, in any layout that allows what messages hold. The message fits it, so its length fits into four bytes.
-pub(crate) fn encode_in(alloc: Global, layout: &Layout, message: &Message) -> Result<Bytes, AllocError>
+pub(crate) fn encode_in(
+    alloc: Global,
+    layout: &Layout,
+    message: &Message,
+) -> Result<Bytes, AllocError>
     requires layout { IsLayout layout.now }
     requires written { IsWritten layout.now }
     ensures written { IfOk result (λ b. b ≡ spelling.frame layout.now message.now) }

@@ -16,7 +16,9 @@ pub mod TableLaws
 pub mod PlayedLemmas
 pub mod PlayedSteps
 pub mod PlayedLaws
+pub mod SingleActions
 pub mod PlayedExchanges
+pub mod TakenLaws
 pub mod PlayedWhole
 pub mod WorkedLemmas
 pub mod WorkedPlays

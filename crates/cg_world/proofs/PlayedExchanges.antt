@@ -1,6 +1,6 @@
 -- Exchanges between nodes that run.
 use Rattle.std.proofs.Common.{◌≡◌, ℕ, List, [], ◌∷◌, ◌++◌, length, refl, sym, ◌∙◌, ap, subst, arith, true, Option, Some, None, Result, Ok, Err, max}
-use Rattle.std.specs.Prelude.{is_some}
+use Rattle.std.specs.Prelude.{is_some, IsOk}
 use Rattle.std.specs.Option.{option_map}
 use Rattle.std.specs.Cmp.{nat_cmp_total}
 use Rattle.std.specs.FinMap as map
@@ -25,9 +25,9 @@ use Rattle.cg_world.specs.Exchange as places
 use Rattle.cg_world.specs.Laws.{exchange_join, BothRun, ReachesTheJoin, EndsAtTheJoin}
 use Rattle.cg_world.specs.Refusals.{refusal, done_exchange}
 use Rattle.cg_world.specs.Spelling.{StaySpelled}
-use Rattle.cg_world.specs.Played.{PlayedAction, Local, Opening, Deliver, PlayedWorld, playing, or_unchanged, play, played_from, played, unplayed, plain, placed}
-use Rattle.cg_world.specs.PlayedLaws.{AllSent, Runs}
-use Rattle.cg_world.specs.PlayedExchange.{PlayedExchange, undisturbed, after_opening, at_syn, after_syn, at_ack, after_ack, at_ack2, exchanged, actions_of, PlayedExchangesAreLists, plain_exchange, IsPast, ExchangesEndAtTheJoin, UndisturbedExchangesMerge}
+use Rattle.cg_world.specs.Played.{PlayedAction, Local, Beat, Opening, Tick, Deliver, PlayedWorld, playing, or_unchanged, play, played_from, played, unplayed, plain, placed}
+use Rattle.cg_world.specs.PlayedLaws.{AllSent, Runs, IsBeatAndOpening}
+use Rattle.cg_world.specs.PlayedExchange.{PlayedExchange, undisturbed, after_opening, at_syn, after_syn, at_ack, after_ack, at_ack2, exchanged, following, actions_of, PlayedExchangesAreLists, TickedExchangesFollowBeats, plain_exchange, IsPast, ExchangesEndAtTheJoin, UndisturbedExchangesMerge}
 use Rattle.cg_world.proofs.WorldLemmas.{IsSound}
 use Rattle.cg_world.proofs.OnwardLemmas.{Keeps, keeps_on, act_keeps, still_runs}
 use Rattle.cg_world.proofs.ExchangeLemmas.{to_at_syn, to_at_ack, to_at_ack2, opening_is_due, syn_is_due, ack_is_due, ack2_is_due, exchange_reaches}
@@ -36,7 +36,7 @@ use Rattle.cg_world.proofs.ListLemmas.{done_neither}
 use Rattle.cg_world.proofs.FollowLemmas.{spelling_stays}
 use Rattle.cg_world.proofs.PlayedLemmas.{entries_in}
 use Rattle.cg_world.proofs.PlayedSteps.{AgreesBy, action_agrees, running}
-use Rattle.cg_world.proofs.PlayedLaws.{Joined, done_joined, joined_from, joined}
+use Rattle.cg_world.proofs.PlayedLaws.{Joined, done_joined, joined_from, joined, played_one_by_one, ticks_are_beats_and_openings}
 
 -- ---- the list of an exchange
 
@@ -55,12 +55,30 @@ module _ (c : PlayedWorld) (x : PlayedExchange) where
   abbrev from_syn : List PlayedAction
   from_syn = Deliver (length (after_opening c x).sent) x.answerer x.syn_at ∷ (x.before_ack ++ from_ack)
 
-  listed_from : played_from c (actions_of c x) ≡ exchanged c x
-  listed_from = both_from (after_opening c x) x.before_syn from_syn ∙ both_from (after_syn c x) x.before_ack from_ack ∙ both_from (after_ack c x) x.before_ack2 last
+  pub followed_from : played_from (after_opening c x) (following c x) ≡ exchanged c x
+  followed_from = both_from (after_opening c x) x.before_syn from_syn ∙ both_from (after_syn c x) x.before_ack from_ack ∙ both_from (after_ack c x) x.before_ack2 last
 
 pub played_exchanges_are_lists : PlayedExchangesAreLists
 played_exchanges_are_lists settings actions x =
-    both_from (unplayed settings) actions (actions_of (played settings actions) x) ∙ listed_from (played settings actions) x
+    both_from (unplayed settings) actions (actions_of (played settings actions) x) ∙ followed_from (played settings actions) x
+
+-- a tick leaves what an opening leaves after the beat
+ticked_opening : (c : PlayedWorld) (x : PlayedExchange) (now : ℕ) (words : List ℕ) → IsOk (playing c (Local x.opener Beat)) → play c (Local x.opener (Tick now words)) ≡ after_opening (play c (Local x.opener Beat)) x
+ticked_opening c x now words ok = go (playing c (Local x.opener Beat)) (playing c (Local x.opener (Tick now words))) (ticks_are_beats_and_openings c x.opener now words) ok
+  where
+    go : (beat tick : Result PlayedWorld Fault) → IsBeatAndOpening x.opener beat tick → IsOk beat → or_unchanged c tick ≡ after_opening (or_unchanged c beat) x
+    go (Ok d) (Ok e) is ok = ap (or_unchanged d) (is.done d refl)
+    go (Ok d) (Err fault) is ok = absurd (let none = is.refused in cc)
+    go (Err fault) tick is ok = absurd cc
+
+pub ticked_exchanges_follow_beats : TickedExchangesFollowBeats
+ticked_exchanges_follow_beats settings actions x now words ok =
+    let c : PlayedWorld = played settings actions in
+    let d : PlayedWorld = play c (Local x.opener Beat) in
+    let beaten : played settings (actions ++ Local x.opener Beat ∷ []) ≡ d = played_one_by_one settings actions (Local x.opener Beat) in
+    subst (λ (d : PlayedWorld). played settings (actions ++ Local x.opener (Tick now words) ∷ following d x) ≡ exchanged d x) (sym beaten)
+    (both_from (unplayed settings) actions (Local x.opener (Tick now words) ∷ following d x)
+    ∙ ap (λ (e : PlayedWorld). played_from e (following d x)) (ticked_opening c x now words ok) ∙ followed_from d x)
 
 -- ---- an exchange by places
 

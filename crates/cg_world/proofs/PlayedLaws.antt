@@ -1,5 +1,5 @@
 -- The laws of the nodes of a cluster.
-use Rattle.std.proofs.Common.{◌≡◌, ◌⊎◌, inl, inr, ℕ, List, [], ◌∷◌, ◌++◌, refl, sym, ◌∙◌, ap, append-nil, Bool, true, false, Option, Result, Ok, Err, Some, None}
+use Rattle.std.proofs.Common.{◌≡◌, ◌⊎◌, inl, inr, ℕ, suc, ◌+◌, List, [], ◌∷◌, ◌++◌, length, refl, sym, ◌∙◌, ap, arith, append-nil, Bool, true, false, Option, Result, Ok, Err, Some, None}
 use Rattle.std.specs.Prelude.{IsOk, is_some, cond, nat_lt, map as map_list}
 use Rattle.std.specs.Option.{option_map, option_and_then, option_to_list}
 use Rattle.std.specs.FinMap as map
@@ -7,21 +7,25 @@ use Rattle.cg_types.specs.declared.fault.Fault.{Fault}
 use Rattle.cg_types.specs.declared.fault.Fault.TheVariants.{TableFull, NotRising, NoSuchMessage, NoSuchNode}
 use Rattle.cg_types.specs.Text.{ClusterValue}
 use Rattle.cg_entry.specs.History.{at_place}
+use Rattle.cg_entry.proofs.PlaceLemmas.{at_place_last}
 use Rattle.cg_exchange.specs.declared.message.Message.{Message}
+use Rattle.cg_exchange.specs.declared.message.Message.TheVariants as message
 use Rattle.cg_exchange.specs.PlaceMessages.{PlaceMessage}
 use Rattle.cg_core.specs.declared.event.Event.{Event}
-use Rattle.cg_core.specs.Step.{Step, begun, node_step}
+use Rattle.cg_core.specs.declared.event.Event.TheVariants as event
+use Rattle.cg_core.specs.declared.reply.Reply.TheVariants as reply
+use Rattle.cg_core.specs.Step.{Step, then, next_of, begun, beating, opening, round_of, node_step}
 use Rattle.cg_core.specs.Values.{SettingsValue, NodeValue}
 use Rattle.cg_world.specs.World.{World, Action, nobody, runs, act, run_from}
 use Rattle.cg_world.specs.Refusals.{fault_of, deliver_refusal, refusal, unless_refused, done_from}
 use Rattle.cg_world.specs.Spelling.{SpellsNode}
-use Rattle.cg_world.specs.Played.{PlayedAction, Start, Local, Deliver, PlayedWorld, with_node, with_sent, message_of, after_step, handed, generation_held, has_room, event_of, arrival_of, delivering, reply_of, reply_by, reply_on, playing, or_unchanged, play, played_from, played, unplayed, plain, placed}
-use Rattle.cg_world.specs.PlayedLaws.{Runs, PlayedOneByOne, MessagesAreNumbered, NodesSpellPlaces, RefusalsAgree, DeliveriesFindRoom, DeliveriesAreDone, ReachedWorlds, TablesAreTheJoin, EqualSetsGiveEqualTables, EqualDigestsGiveEqualTables, MergesOfNodesAreTheJoin}
+use Rattle.cg_world.specs.Played.{PlayedAction, Start, Local, Opening, Deliver, PlayedWorld, with_node, with_sent, message_of, after_step, handed, generation_held, has_room, event_of, arrival_of, delivering, reply_of, reply_by, reply_on, message_to, playing, or_unchanged, play, played_from, played, unplayed, plain, placed}
+use Rattle.cg_world.specs.PlayedLaws.{Runs, PlayedOneByOne, MessagesAreNumbered, IsBeatAndOpening, TicksAreBeatsAndOpenings, NodesSpellPlaces, RefusalsAgree, DeliveriesFindRoom, DeliveriesAreDone, ReachedWorlds, TablesAreTheJoin, EqualSetsGiveEqualTables, EqualDigestsGiveEqualTables, MergesOfNodesAreTheJoin}
 use Rattle.cg_world.proofs.WorldLemmas.{act_sound}
 use Rattle.cg_world.proofs.OwnerLemmas.{act_knows}
 use Rattle.cg_world.proofs.LimitLemmas.{act_limited}
 use Rattle.cg_world.proofs.TableLaws.{tables_are_joined, equal_sources_equal_tables, equal_digests_equal_tables, merges_are_joined}
-use Rattle.cg_world.proofs.PlayedLemmas.{Tied, Bounded, BothSent, both_at, unplayed_tied, nobody_bounded, entries_in}
+use Rattle.cg_world.proofs.PlayedLemmas.{Tied, Bounded, BothSent, both_at, node_here, node_itself, unplayed_tied, nobody_bounded, entries_in}
 use Rattle.cg_world.proofs.PlayedSteps.{AgreesBy, running, action_agrees}
 
 -- ---- lists of actions
@@ -88,10 +92,41 @@ started_sent c node generation true true = refl
 started_sent c node generation true false = refl
 started_sent c node generation false room = refl
 
+all_sent : (c : PlayedWorld) (action : PlayedAction) → (play c action).sent ≡ c.sent ++ option_to_list (message_to c action)
+all_sent c (Start node generation) = started_sent c node generation (nat_lt (generation_held (map.get c.nodes node)) generation) (has_room c node) ∙ sym (append-nil c.sent)
+all_sent c (Local node change) = handed_sent c node (map.get c.nodes node) (event_of change)
+all_sent c (Deliver number to now) = delivered_sent c to now (at_place c.sent number)
+
+-- what is added stands at the number after the last one
+last_number : (ms : List Message) (o : Option Message) → option_and_then (at_place (ms ++ option_to_list o)) (option_map (λ m. length ms + 1) o) ≡ o
+last_number ms None = refl
+last_number ms (Some m) = let last : length ms + 1 ≡ suc (length ms) = omega arith in rw last (at_place_last ms m)
+
 pub messages_are_numbered : MessagesAreNumbered
-messages_are_numbered c (Start node generation) = started_sent c node generation (nat_lt (generation_held (map.get c.nodes node)) generation) (has_room c node) ∙ sym (append-nil c.sent)
-messages_are_numbered c (Local node change) = handed_sent c node (map.get c.nodes node) (event_of change)
-messages_are_numbered c (Deliver number to now) = delivered_sent c to now (at_place c.sent number)
+messages_are_numbered c action = record {
+  sent = all_sent c action;
+  numbered = rw (all_sent c action) (last_number c.sent (message_to c action));
+}
+
+-- ---- ticks
+
+-- after a beat the opening is done, and sends what the tick does
+opened_after : (c : PlayedWorld) (node : ℕ) (n : NodeValue) → playing (with_node c node n) (Local node Opening) ≡ Ok (with_sent (with_node c node n) (Some (message.Syn (opening n))))
+opened_after c node n =
+    let here : map.get (with_node c node n).nodes node ≡ Some n = node_here c.nodes node n in
+    rw here (ap (λ (d : PlayedWorld). Ok (with_sent d (Some (message.Syn (opening n))))) (node_itself (with_node c node n) node n here))
+
+ticked_by : (c : PlayedWorld) (node now : ℕ) (words : List ℕ) (o : Option NodeValue) → IsBeatAndOpening node (handed c node o event.Beat) (handed c node o (event.Tick now words))
+ticked_by c node now words None = record { refused = refl; done = λ d e. absurd cc }
+ticked_by c node now words (Some n) = due_by (next_of n)
+  where
+    due_by : (due : Result ℕ Fault) → IsBeatAndOpening node (after_step c node (then due (λ v. (beating n, reply.Done v))))
+        (after_step c node (then due (λ v. (beating n, reply.Round (round_of (beating n) now words) (opening (beating n))))))
+    due_by (Ok v) = record { refused = refl; done = λ d e. let same : with_node c node (beating n) ≡ d = cc in sym (opened_after c node (beating n)) ∙ ap (λ (d : PlayedWorld). playing d (Local node Opening)) same }
+    due_by (Err fault) = record { refused = refl; done = λ d e. absurd cc }
+
+pub ticks_are_beats_and_openings : TicksAreBeatsAndOpenings
+ticks_are_beats_and_openings c node now words = ticked_by c node now words (map.get c.nodes node)
 
 pub nodes_spell_places : NodesSpellPlaces
 nodes_spell_places settings actions = (joined settings actions).tied.is
@@ -159,7 +194,7 @@ started_settings c node generation true true = refl
 started_settings c node generation true false = refl
 started_settings c node generation false room = refl
 
-same_settings : (c : PlayedWorld) (action : PlayedAction) → (play c action).settings ≡ c.settings
+pub same_settings : (c : PlayedWorld) (action : PlayedAction) → (play c action).settings ≡ c.settings
 same_settings c (Start node generation) = started_settings c node generation (nat_lt (generation_held (map.get c.nodes node)) generation) (has_room c node)
 same_settings c (Local node change) = handed_settings c node (map.get c.nodes node) (event_of change)
 same_settings c (Deliver number to now) = delivered_settings c to now (at_place c.sent number)

@@ -39,7 +39,7 @@ nodes_with m k n q = get-insert nat_cmp_total m k n q ∙ ap (λ b. cond b (Some
 pub node_here : (m : Nodes) (k : ℕ) (n : NodeValue) → map.get (map.insert m k n) k ≡ Some n
 node_here m k n = nodes_with m k n k ∙ ap (λ b. cond b (Some n) (map.get m k)) (test_same k)
 
-node_elsewhere : (m : Nodes) (k : ℕ) (n : NodeValue) (q : ℕ) → q ≢ k → map.get (map.insert m k n) q ≡ map.get m q
+pub node_elsewhere : (m : Nodes) (k : ℕ) (n : NodeValue) (q : ℕ) → q ≢ k → map.get (map.insert m k n) q ≡ map.get m q
 node_elsewhere m k n q apart = nodes_with m k n q ∙ ap (λ b. cond b (Some n) (map.get m q)) (test_other q k apart)
 
 -- a node that is put where it is

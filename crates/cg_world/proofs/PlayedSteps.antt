@@ -84,10 +84,10 @@ module _ (c : PlayedWorld) (w : World) (t : Tied c w) (node : ℕ) where
 
   -- of one that runs
   module _ (n : NodeValue) (e : map.get c.nodes node ≡ Some n) where
-    runs_here : runs w node ≡ true
+    pub runs_here : runs w node ≡ true
     runs_here = sym running ∙ ap is_some e
 
-    at_node : IsNodeAt c.settings node n
+    pub at_node : IsNodeAt c.settings node n
     at_node = t.is.each node n e
 
     table_here : tables_of c node ≡ Some n.table.entries
@@ -276,32 +276,48 @@ module _ (c : PlayedWorld) (w : World) (t : Tied c w) (b : Bounded w) (node : �
       subst (λ (row : ℕ → ℕ). Says w.histories (message.Ack2 ack2) (Ack2 (grants_at w.histories row asks))) (sym (put_at_here w.places node (λ owner. places_after node (w.places node) spans owner)))
       (subst (λ k. Says w.histories (message.Ack2 ack2) (Ack2 (grants_at w.histories (places_after k (w.places node) spans) asks))) at.its_endpoint s)
 
+  -- an ACK of the world fits, and is taken so
+  pub ack_fits : (ack : AckValue) (asks : ℕ → Option Ask) (spans : ℕ → Option Span) → IsSent c.settings.cluster w.histories (message.Ack ack) (Ack asks spans) → nat_lt MEMBER_LIMIT (held_after n.table ack.deltas) ≡ false
+  ack_fits ack asks spans s = room ack.deltas spans s.says.spells.deltas_rise s.says.spells.deltas s.says.stands.1
+
+  pub ack_moves : (ack : AckValue) (asks : ℕ → Option Ask) (spans : ℕ → Option Span) → IsSent c.settings.cluster w.histories (message.Ack ack) (Ack asks spans)
+      → AckMoves w.histories n.table (w.places node) asks spans (table_after n.table ack.deltas) (record { deltas = deltas_granted (table_after n.table ack.deltas).entries ack.requests }) (outcomes_of n.table ack.deltas)
+  ack_moves ack asks spans s =
+      let after : TableValue = table_after n.table ack.deltas in
+      let ack2 : Ack2Value = record { deltas = deltas_granted after.entries ack.requests } in
+      let outcomes : List Outcome = outcomes_of n.table ack.deltas in
+      let taken : taking_ack n.table ack ≡ Ok (after, ack2, outcomes) = rw (ack_fits ack asks spans s) refl in
+      ack_is_taken w.histories t.sound.histories n.table ack (w.places node) asks spans (stands_here c w t node n e) s.says after ack2 outcomes taken
+
   ack_agrees : (now : ℕ) (ack : AckValue) (asks : ℕ → Option Ask) (spans : ℕ → Option Span) → IsSent c.settings.cluster w.histories (message.Ack ack) (Ack asks spans)
       → AgreesBy (node_refusal w node) (cond (runs w node) (received w node (Ack asks spans)) w) (after_step c node (node_step n (event.Ack now ack)))
   ack_agrees now ack asks spans s =
       let after : TableValue = table_after n.table ack.deltas in
       let ack2 : Ack2Value = record { deltas = deltas_granted after.entries ack.requests } in
       let outcomes : List Outcome = outcomes_of n.table ack.deltas in
-      let fits : nat_lt MEMBER_LIMIT (held_after n.table ack.deltas) ≡ false = room ack.deltas spans s.says.spells.deltas_rise s.says.spells.deltas s.says.stands.1 in
-      let taken : taking_ack n.table ack ≡ Ok (after, ack2, outcomes) = rw fits refl in
-      let moves : AckMoves w.histories n.table (w.places node) asks spans after ack2 outcomes =
-      ack_is_taken w.histories t.sound.histories n.table ack (w.places node) asks spans (stands_here c w t node n e) s.says after ack2 outcomes taken in
-      rw (runs_here c w t node n e) (rw fits (
+      let moves : AckMoves w.histories n.table (w.places node) asks spans after ack2 outcomes = ack_moves ack asks spans s in
+      rw (runs_here c w t node n e) (rw (ack_fits ack asks spans s) (
         refl,
         message_played (with_node c node (after_taking n now after outcomes)) (with_spans w node spans) (message.Ack2 ack2) _ (spans_played spans now after outcomes moves.moved)
             (record { says = back_said asks spans ack2 moves.says; names = tt }),
       ))
 
+  -- so does an ACK2
+  pub ack2_fits : (ack2 : Ack2Value) (spans : ℕ → Option Span) → IsSent c.settings.cluster w.histories (message.Ack2 ack2) (Ack2 spans) → nat_lt MEMBER_LIMIT (held_after n.table ack2.deltas) ≡ false
+  ack2_fits ack2 spans s = room ack2.deltas spans s.says.spells.rise s.says.spells.deltas s.says.stands
+
+  pub ack2_moves : (ack2 : Ack2Value) (spans : ℕ → Option Span) → IsSent c.settings.cluster w.histories (message.Ack2 ack2) (Ack2 spans)
+      → IsMoved w.histories n.table (w.places node) spans (table_after n.table ack2.deltas) (outcomes_of n.table ack2.deltas)
+  ack2_moves ack2 spans s =
+      let after : TableValue = table_after n.table ack2.deltas in
+      let outcomes : List Outcome = outcomes_of n.table ack2.deltas in
+      let taken : taking_ack2 n.table ack2 ≡ Ok (after, outcomes) = rw (ack2_fits ack2 spans s) refl in
+      ack2_is_taken w.histories t.sound.histories n.table ack2 (w.places node) spans (stands_here c w t node n e) s.says after outcomes taken
+
   ack2_agrees : (now : ℕ) (ack2 : Ack2Value) (spans : ℕ → Option Span) → IsSent c.settings.cluster w.histories (message.Ack2 ack2) (Ack2 spans)
       → AgreesBy (node_refusal w node) (cond (runs w node) (received w node (Ack2 spans)) w) (after_step c node (node_step n (event.Ack2 now ack2)))
   ack2_agrees now ack2 spans s =
-      let after : TableValue = table_after n.table ack2.deltas in
-      let outcomes : List Outcome = outcomes_of n.table ack2.deltas in
-      let fits : nat_lt MEMBER_LIMIT (held_after n.table ack2.deltas) ≡ false = room ack2.deltas spans s.says.spells.rise s.says.spells.deltas s.says.stands in
-      let taken : taking_ack2 n.table ack2 ≡ Ok (after, outcomes) = rw fits refl in
-      let moved : IsMoved w.histories n.table (w.places node) spans after outcomes =
-      ack2_is_taken w.histories t.sound.histories n.table ack2 (w.places node) spans (stands_here c w t node n e) s.says after outcomes taken in
-      rw (runs_here c w t node n e) (rw fits (refl, spans_played spans now after outcomes moved))
+      rw (runs_here c w t node n e) (rw (ack2_fits ack2 spans s) (refl, spans_played spans now (table_after n.table ack2.deltas) (outcomes_of n.table ack2.deltas) (ack2_moves ack2 spans s)))
 
   message_agrees : (now : ℕ) (m : Message) (said : PlaceMessage) → IsSent c.settings.cluster w.histories m said
       → AgreesBy (node_refusal w node) (cond (runs w node) (received w node said) w) (after_step c node (node_step n (arrival_of now m)))

@@ -7,5 +7,7 @@ pub mod Spelling
 pub mod TableLaws
 pub mod Played
 pub mod PlayedLaws
+pub mod SingleActions
+pub mod Taken
 pub mod PlayedExchange
 pub mod WorkedRuns

@@ -1,11 +1,11 @@
 -- A whole exchange between two nodes that run, with other actions between its messages, and where it ends.
-use Rattle.std.specs.Prelude.{ℕ, ◌≡◌, List, [], ◌∷◌, ◌++◌, length, map as map_list}
+use Rattle.std.specs.Prelude.{ℕ, ◌≡◌, IsOk, List, [], ◌∷◌, ◌++◌, length, map as map_list}
 use Rattle.cg_table.specs.Values.{Entries}
 use Rattle.cg_table.specs.Merge.{merged}
 use Rattle.cg_core.specs.Values.{SettingsValue, NodeValue}
 use Rattle.cg_world.specs.Exchange.{Exchange, StartsNeither}
 use Rattle.cg_world.specs.TableLaws.{AreEqual}
-use Rattle.cg_world.specs.Played.{PlayedAction, Local, Opening, Deliver, PlayedWorld, play, played_from, played, plain}
+use Rattle.cg_world.specs.Played.{PlayedAction, Local, Beat, Opening, Tick, Deliver, PlayedWorld, playing, play, played_from, played, plain}
 use Rattle.cg_world.specs.PlayedLaws.{Runs}
 
 -- who opens, who answers, what is done before each of the three messages is handed to its addressee, and when that is
@@ -52,16 +52,26 @@ at_ack2 c x = played_from (after_ack c x) x.before_ack2
 abbrev pub exchanged : PlayedWorld → PlayedExchange → PlayedWorld
 exchanged c x = play (at_ack2 c x) (Deliver (length (after_ack c x).sent) x.answerer x.ack2_at)
 
--- the actions of an exchange, in their order
+-- the actions of an exchange that follow its opening, in their order
+abbrev pub following : PlayedWorld → PlayedExchange → List PlayedAction
+following c x =
+    x.before_syn ++ (Deliver (length (after_opening c x).sent) x.answerer x.syn_at ∷ (x.before_ack ++ (Deliver (length (after_syn c x).sent) x.opener x.ack_at
+    ∷ (x.before_ack2 ++ (Deliver (length (after_ack c x).sent) x.answerer x.ack2_at ∷ [])))))
+
+-- all actions of an exchange, in their order
 abbrev pub actions_of : PlayedWorld → PlayedExchange → List PlayedAction
-actions_of c x =
-    Local x.opener Opening ∷ (x.before_syn ++ (Deliver (length (after_opening c x).sent) x.answerer x.syn_at ∷ (x.before_ack ++ (Deliver (length (after_syn c x).sent) x.opener x.ack_at
-    ∷ (x.before_ack2 ++ (Deliver (length (after_ack c x).sent) x.answerer x.ack2_at ∷ []))))))
+actions_of c x = Local x.opener Opening ∷ following c x
 
 -- An exchange is the list of its actions.
 abbrev pub PlayedExchangesAreLists : Type 0
 PlayedExchangesAreLists =
     (settings : SettingsValue) (actions : List PlayedAction) (x : PlayedExchange) → played settings (actions ++ actions_of (played settings actions) x) ≡ exchanged (played settings actions) x
+
+-- An exchange whose SYN a tick sent is the exchange after a beat: the same actions follow, and the same is left.
+abbrev pub TickedExchangesFollowBeats : Type 0
+TickedExchangesFollowBeats =
+    (settings : SettingsValue) (actions : List PlayedAction) (x : PlayedExchange) (now : ℕ) (words : List ℕ) → IsOk (playing (played settings actions) (Local x.opener Beat))
+    → played settings (actions ++ Local x.opener (Tick now words) ∷ following (played settings (actions ++ Local x.opener Beat ∷ [])) x) ≡ exchanged (played settings (actions ++ Local x.opener Beat ∷ [])) x
 
 -- the same exchange without moments and words
 abbrev pub plain_exchange : PlayedExchange → Exchange

@@ -1,6 +1,6 @@
 -- What holds of the nodes of a cluster as they run, after every list of actions. A refused action may stand in the list: it changes nothing.
-use Rattle.std.specs.Prelude.{ℕ, ◌≡◌, ◌⊎◌, Err, IsOk, true, is_some, ⊤, List, [], ◌∷◌, ◌++◌, length, Some}
-use Rattle.std.specs.Option.{option_to_list}
+use Rattle.std.specs.Prelude.{ℕ, ◌≡◌, ◌⊎◌, Result, Ok, Err, IsOk, true, is_some, ⊤, List, [], ◌∷◌, ◌++◌, length, Some}
+use Rattle.std.specs.Option.{option_and_then, option_to_list}
 use Rattle.std.specs.FinMap as map
 use Rattle.cg_types.specs.declared.fault.Fault.{Fault}
 use Rattle.cg_types.specs.declared.fault.Fault.TheVariants.{NoSuchMessage, NoSuchNode}
@@ -20,15 +20,30 @@ use Rattle.cg_world.specs.Join.{sources, SamePlaces}
 use Rattle.cg_world.specs.Refusals.{fault_of, refusal}
 use Rattle.cg_world.specs.Spelling.{SpellsNodes}
 use Rattle.cg_world.specs.TableLaws.{IsJoined, AreEqual, IsMergedOf}
-use Rattle.cg_world.specs.Played.{PlayedAction, Deliver, PlayedWorld, unplayed, tables_of, message_to, playing, play, played_from, played, plain, placed}
+use Rattle.cg_world.specs.Played.{PlayedAction, Local, Beat, Opening, Tick, Deliver, PlayedWorld, unplayed, tables_of, message_to, number_to, playing, play, played_from, played, plain, placed}
 
 -- One more action is done after all others.
 abbrev pub PlayedOneByOne : Type 0
 PlayedOneByOne = (settings : SettingsValue) (actions : List PlayedAction) (action : PlayedAction) → played settings (actions ++ action ∷ []) ≡ play (played settings actions) action
 
--- The message that an action sends, if any, is added at the end, with the number after the last one, and nothing else is.
+-- What an action sends, and its number.
+pub record IsNumbered (c : PlayedWorld) (action : PlayedAction) : Type 0 where
+  -- the message that the action sends, if any, is added at the end, and nothing else is
+  pub sent : (play c action).sent ≡ c.sent ++ option_to_list (message_to c action)
+  -- it stands at its number
+  pub numbered : option_and_then (at_place (play c action).sent) (number_to c action) ≡ message_to c action
+
 abbrev pub MessagesAreNumbered : Type 0
-MessagesAreNumbered = (c : PlayedWorld) (action : PlayedAction) → (play c action).sent ≡ c.sent ++ option_to_list (message_to c action)
+MessagesAreNumbered = (c : PlayedWorld) (action : PlayedAction) → IsNumbered c action
+
+-- What a tick leaves of a world, by what a beat leaves of it: the tick is refused where the beat is, by the same fault; where the beat is done, it is the opening after the beat.
+pub record IsBeatAndOpening (node : ℕ) (beat tick : Result PlayedWorld Fault) : Type 0 where
+  pub refused : fault_of tick ≡ fault_of beat
+  pub done : (d : PlayedWorld) → beat ≡ Ok d → tick ≡ playing d (Local node Opening)
+
+-- A tick is a beat and then an opening, whatever its moment and words.
+abbrev pub TicksAreBeatsAndOpenings : Type 0
+TicksAreBeatsAndOpenings = (c : PlayedWorld) (node now : ℕ) (words : List ℕ) → IsBeatAndOpening node (playing c (Local node Beat)) (playing c (Local node (Tick now words)))
 
 -- The world is where some actions lead.
 pub record IsReached (c : PlayedWorld) : Type 0 where

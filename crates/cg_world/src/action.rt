@@ -1,6 +1,9 @@
 //! What is done to the nodes of a cluster.
 
+ghost use Rattle.std.specs.Prelude.{◌≡◌, IfOk};
+
 use cg_types::{Endpoint, Generation, StateKey, StateText};
+use std::alloc::AllocError;
 
 /// What a node is told to do by itself.
 #[derive(Debug, Drop)]
@@ -15,6 +18,26 @@ pub enum LocalEvent {
     Tick { now: u64, words: [u64; 4] },
 }
 
+impl LocalEvent {
+    /// The same event, which shares its text.
+    pub fn copy(&self) -> Result<LocalEvent, AllocError>
+        ensures { IfOk result (λ e. e ≡ self.now) }
+    {
+        Ok(match self {
+            LocalEvent::Beat => LocalEvent::Beat,
+            LocalEvent::Set { key, text } => LocalEvent::Set {
+                key: *key,
+                text: text.copy()?,
+            },
+            LocalEvent::Opening => LocalEvent::Opening,
+            LocalEvent::Tick { now, words } => LocalEvent::Tick {
+                now: *now,
+                words: *words,
+            },
+        })
+    }
+}
+
 /// One action of a run.
 #[derive(Debug, Drop)]
 pub enum Action {
@@ -24,4 +47,21 @@ pub enum Action {
     Local(Endpoint, LocalEvent),
     /// The message of a number is handed to a node at a moment, in milliseconds. A loss is a delivery that never comes.
     Deliver { number: u64, to: Endpoint, now: u64 },
+}
+
+impl Action {
+    /// The same action, which shares its text.
+    pub fn copy(&self) -> Result<Action, AllocError>
+        ensures { IfOk result (λ a. a ≡ self.now) }
+    {
+        Ok(match self {
+            Action::Start(node, generation) => Action::Start(*node, *generation),
+            Action::Local(node, event) => Action::Local(*node, event.copy()?),
+            Action::Deliver { number, to, now } => Action::Deliver {
+                number: *number,
+                to: *to,
+                now: *now,
+            },
+        })
+    }
 }

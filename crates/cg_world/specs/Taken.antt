@@ -1,0 +1,77 @@
+-- What a node took, by the outcomes that its replies have.
+use Rattle.std.specs.Prelude.{ℕ, ◌≡◌, ◌≢◌, ◌==◌, IsOk, Err, List, [], ◌∷◌, ◌++◌, Option, Some, None}
+use Rattle.std.specs.Option.{option_map}
+use Rattle.cg_types.specs.declared.fault.Fault.{Fault}
+use Rattle.cg_types.specs.Rising.{Rises}
+use Rattle.cg_entry.specs.History.{at_place}
+use Rattle.cg_entry.specs.Place.{Span}
+use Rattle.cg_exchange.specs.declared.message.Message.{Message}
+use Rattle.cg_exchange.specs.declared.message.Message.TheVariants as kinds
+use Rattle.cg_exchange.specs.declared.outcome.Outcome.{Outcome}
+use Rattle.cg_exchange.specs.declared.owner_delta.OwnerDelta.{OwnerDelta}
+use Rattle.cg_exchange.specs.Members.{endpoints_of_deltas}
+use Rattle.cg_exchange.specs.Changes.{endpoints_of_outcomes}
+use Rattle.cg_exchange.specs.Places.{took_for}
+use Rattle.cg_exchange.specs.PlaceMessages.{PlaceMessage, Syn, Ack, Ack2}
+use Rattle.cg_exchange.specs.Spelling.{SpellsSpans, outcome_about}
+use Rattle.cg_core.specs.declared.reply.Reply.{Reply}
+use Rattle.cg_core.specs.Values.{SettingsValue}
+use Rattle.cg_world.specs.World.{World, unless_gap}
+use Rattle.cg_world.specs.Played.{PlayedAction, Start, Local, Deliver, PlayedWorld, reply_to, playing, played, placed}
+use Rattle.cg_world.specs.SingleActions.{outcomes_in}
+
+-- the deltas that a message has
+abbrev pub deltas_in : Message → List OwnerDelta
+deltas_in (kinds.Syn syn) = []
+deltas_in (kinds.Ack ack) = ack.deltas
+deltas_in (kinds.Ack2 ack2) = ack2.deltas
+
+-- the spans that it has by places
+abbrev pub spans_in : PlaceMessage → ℕ → Option Span
+spans_in (Syn places) owner = None
+spans_in (Ack asks spans) owner = spans owner
+spans_in (Ack2 spans) owner = spans owner
+
+-- what was taken of an owner, with one more span where its outcome is Taken, Old or Own
+abbrev pub counted : List Span → Option Outcome → Option Span → List Span
+counted spans (Some outcome) (Some span) = unless_gap outcome.took spans span
+counted spans (Some outcome) None = spans
+counted spans None span = spans
+
+-- The outcomes of a delivery to a node are those of its spans at the places of w, and tell what the node took, as v has it.
+pub record AreCounted (c : PlayedWorld) (w v : World) (number node : ℕ) (outcomes : List Outcome) : Type 0 where
+  -- the message, and what it says by places: its deltas spell these spans, owner by owner
+  pub message : Message
+  pub is_message : at_place c.sent number ≡ Some message
+  pub said : PlaceMessage
+  pub is_said : at_place w.sent number ≡ Some said
+  pub spelled : SpellsSpans w.histories (deltas_in message) (spans_in said)
+  -- one outcome for each of its deltas, in their order; no two are about one owner
+  pub in_order : endpoints_of_outcomes outcomes ≡ endpoints_of_deltas (deltas_in message)
+  pub rise : Rises (endpoints_of_outcomes outcomes)
+  -- about each owner the outcome of the span about it
+  pub each : (owner : ℕ) → outcome_about owner outcomes ≡ option_map (λ span. record { endpoint = owner; took = took_for (owner == node) (w.places node owner) span }) (spans_in said owner)
+  -- what the node took since its start is now one span more about each owner whose outcome is no gap
+  pub taken : (owner : ℕ) → v.taken node owner ≡ counted (w.taken node owner) (outcome_about owner outcomes) (spans_in said owner)
+
+-- the node whose taken spans an action may change
+abbrev pub taker : PlayedAction → Option ℕ
+taker (Start node generation) = Some node
+taker (Local node change) = None
+taker (Deliver number to now) = Some to
+
+-- What one more action changes of what the nodes took.
+pub record IsTold (settings : SettingsValue) (actions : List PlayedAction) : Type 0 where
+  -- a delivery that is done adds what the outcomes in the node's reply tell
+  pub deliveries : (number to now : ℕ) (answer : Reply) → reply_to (played settings actions) (Deliver number to now) ≡ Some answer
+      → AreCounted (played settings actions) (placed actions) (placed (actions ++ Deliver number to now ∷ [])) number to (outcomes_in answer)
+  -- a start that is done forgets all that its node took
+  pub starts : (node generation owner : ℕ) → IsOk (playing (played settings actions) (Start node generation)) → (placed (actions ++ Start node generation ∷ [])).taken node owner ≡ []
+  -- what the other nodes took stays, as does what any took where a node does something by itself
+  pub others : (action : PlayedAction) (node owner : ℕ) → taker action ≢ Some node → (placed (actions ++ action ∷ [])).taken node owner ≡ (placed actions).taken node owner
+  -- a refused action changes nothing
+  pub refused : (action : PlayedAction) (fault : Fault) → playing (played settings actions) action ≡ Err fault → placed (actions ++ action ∷ []) ≡ placed actions
+
+-- What a node took since its start is what the outcomes in its replies tell.
+abbrev pub OutcomesTellWhatIsTaken : Type 0
+OutcomesTellWhatIsTaken = (settings : SettingsValue) (actions : List PlayedAction) → IsTold settings actions
