@@ -1,0 +1,307 @@
+//! The work of the core in plain Rust over std: a yardstick, and a second opinion. With no words it runs each case once and
+//! prints a digest of what it makes; with the word `time` it measures each.
+
+mod chance;
+mod md5;
+#[allow(dead_code)]
+mod model;
+mod naive;
+mod ring;
+#[allow(dead_code)]
+mod shared;
+mod silence;
+mod timing;
+mod world;
+
+use model::Endpoint;
+use naive::{Ack, Ack2, Message, Syn, Table};
+use std::hint::black_box;
+use timing::{case, Mode};
+use world::*;
+
+fn empty() -> Syn {
+    Syn {
+        cluster: cluster(),
+        digests: vec![],
+    }
+}
+
+/// All that a table holds, as the frame of the ACK that brings it.
+fn held(table: &Table) -> Vec<u8> {
+    naive::encode(&Message::Ack(naive::answer_syn(table, &cluster(), &empty()).unwrap()))
+}
+
+fn read(frame: &[u8]) -> Message {
+    naive::decode(frame).unwrap().unwrap().0
+}
+
+fn shown(endpoints: &[Endpoint]) -> Vec<u8> {
+    endpoints.iter().flat_map(|e| format!("{e}\n").into_bytes()).collect()
+}
+
+fn frames(mode: Mode, tag: &str, message: &Message) {
+    let frame = naive::encode(message);
+    let mut spoilt = (frame.len() as u32 - 3).to_be_bytes().to_vec();
+    spoilt.extend_from_slice(&frame[4..]);
+    spoilt.push(0);
+    case(mode, &format!("naive_encode_{tag}"), || naive::encode(message), |b| b.clone());
+    case(mode, &format!("naive_decode_{tag}"), || read(&frame), naive::encode);
+    case(
+        mode,
+        &format!("naive_check_{tag}"),
+        || naive::decode(black_box(&spoilt)).unwrap_err(),
+        |fault| format!("fault 12 BadFrame {} {:?}\n", fault.place, fault.cause).into_bytes(),
+    );
+}
+
+fn answer(mode: Mode, tag: &str, own: &Table, syn: Syn) {
+    let frame = naive::encode(&Message::Syn(syn));
+    case(
+        mode,
+        &format!("naive_answer_syn_bytes_{tag}"),
+        || {
+            let Message::Syn(syn) = read(&frame) else { panic!() };
+            naive::encode(&Message::Ack(naive::answer_syn(own, &cluster(), &syn).unwrap()))
+        },
+        |b| b.clone(),
+    );
+}
+
+fn take(mode: Mode, tag: &str, own: &Table, ack: Ack) {
+    let ack2 = Ack2 {
+        deltas: ack.deltas.clone(),
+    };
+    let frame = naive::encode(&Message::Ack(ack));
+    case(
+        mode,
+        &format!("naive_take_ack_bytes_{tag}"),
+        || {
+            let Message::Ack(ack) = read(&frame) else { panic!() };
+            let (after, ack2, _) = naive::take_ack(own, &ack).unwrap();
+            (after, naive::encode(&Message::Ack2(ack2)))
+        },
+        |(after, ack2)| [held(after), ack2.clone()].concat(),
+    );
+    case(
+        mode,
+        &format!("naive_take_ack2_{tag}"),
+        || naive::take_ack2(own, &ack2).unwrap().0,
+        held,
+    );
+    let kept = shared::of_naive(own);
+    let Message::Ack2(_) = read(&naive::encode(&Message::Ack2(ack2.clone()))) else { panic!() };
+    let Some((shared::Message::Ack2(ack2), _)) = shared::decode(&naive::encode(&Message::Ack2(ack2))).unwrap() else {
+        panic!()
+    };
+    case(
+        mode,
+        &format!("shared_take_ack2_{tag}"),
+        || shared::take_ack2(&kept, &ack2).unwrap().0,
+        naive_held,
+    );
+}
+
+/// All that a shared table holds, as the same frame.
+fn naive_held(table: &shared::Table) -> Vec<u8> {
+    let empty = shared::Syn {
+        cluster: named(),
+        digests: vec![],
+    };
+    shared::encode(&shared::Message::Ack(shared::answer_syn(table, &named(), &empty).unwrap()))
+}
+
+fn named() -> shared::Cluster {
+    shared::Cluster {
+        name: "c1".into(),
+        partitioner: 1,
+    }
+}
+
+fn exchange(mode: Mode, tag: &str, opener: &Table, answerer: &Table) {
+    case(
+        mode,
+        &format!("naive_exchange_{tag}"),
+        || {
+            let syn = naive::encode(&Message::Syn(naive::syn(opener, &cluster())));
+            let Message::Syn(m) = read(&syn) else { panic!() };
+            let ack = naive::encode(&Message::Ack(naive::answer_syn(answerer, &cluster(), &m).unwrap()));
+            let Message::Ack(m) = read(&ack) else { panic!() };
+            let (one, m, _) = naive::take_ack(opener, &m).unwrap();
+            let ack2 = naive::encode(&Message::Ack2(m));
+            let Message::Ack2(m) = read(&ack2) else { panic!() };
+            (one, naive::take_ack2(answerer, &m).unwrap().0)
+        },
+        |(one, other)| [held(one), held(other)].concat(),
+    );
+    let (opener, answerer) = (shared::of_naive(opener), shared::of_naive(answerer));
+    case(
+        mode,
+        &format!("shared_exchange_{tag}"),
+        || {
+            let syn = shared::encode(&shared::Message::Syn(shared::syn(&opener, &named())));
+            let Some((shared::Message::Syn(m), _)) = shared::decode(&syn).unwrap() else { panic!() };
+            let ack = shared::encode(&shared::Message::Ack(shared::answer_syn(&answerer, &named(), &m).unwrap()));
+            let Some((shared::Message::Ack(m), _)) = shared::decode(&ack).unwrap() else { panic!() };
+            let (one, m, _) = shared::take_ack(&opener, &m).unwrap();
+            let ack2 = shared::encode(&shared::Message::Ack2(m));
+            let Some((shared::Message::Ack2(m), _)) = shared::decode(&ack2).unwrap() else { panic!() };
+            (one, shared::take_ack2(&answerer, &m).unwrap().0)
+        },
+        |(one, other)| [naive_held(one), naive_held(other)].concat(),
+    );
+}
+
+fn gossip(mode: Mode, tag: &str, states: usize, text: usize) {
+    let full = table(0, 256, states, text);
+    let other = table(255, 256, states, text);
+    let alone = alone(0, states, text);
+    let newer = beaten(other.clone(), 3, |_| true);
+    let first = changed(other.clone(), 1);
+    let lacking = |table: &Table| naive::answer_syn(table, &cluster(), &naive::syn(&full, &cluster())).unwrap();
+    let whole = naive::answer_syn(&other, &cluster(), &empty()).unwrap();
+    frames(mode, &format!("whole_{tag}"), &Message::Ack(whole.clone()));
+    for (name, own) in [("equal", &other), ("beats", &newer), ("one", &first)] {
+        answer(mode, &format!("{name}_{tag}"), own, naive::syn(&full, &cluster()));
+    }
+    answer(mode, &format!("empty_{tag}"), &other, empty());
+    let beats = lacking(&newer);
+    let single = Ack {
+        requests: vec![],
+        deltas: beats.deltas[7..8].to_vec(),
+    };
+    take(mode, &format!("join_{tag}"), &alone, whole);
+    take(mode, &format!("beats_{tag}"), &full, beats);
+    take(mode, &format!("one_{tag}"), &full, lacking(&first));
+    take(mode, &format!("single_{tag}"), &full, single);
+    let left = beaten(full.clone(), 3, |i| i % 2 == 0);
+    let right = beaten(other.clone(), 3, |i| i % 2 == 1);
+    exchange(mode, &format!("equal_{tag}"), &full, &other);
+    exchange(mode, &format!("beats_{tag}"), &left, &right);
+    exchange(mode, &format!("join_{tag}"), &alone, &other);
+}
+
+/// Endpoint 0, just started, which has taken all that the others hold.
+fn joined(states: usize, text: usize) -> Table {
+    let mut node = alone(0, 0, 0);
+    node.entries.values_mut().for_each(|x| x.heartbeat = 1);
+    let others = naive::answer_syn(&table(255, 256, states, text), &cluster(), &empty()).unwrap();
+    let deltas = others.deltas;
+    naive::take_ack2(&node, &Ack2 { deltas }).unwrap().0
+}
+
+fn beat(node: &Table) -> Table {
+    let mut after = node.clone();
+    let own = after.entries.get_mut(&node.own).unwrap();
+    own.heartbeat = own.newest() + 1;
+    after
+}
+
+fn set(node: &Table) -> Table {
+    let mut after = node.clone();
+    let own = after.entries.get_mut(&node.own).unwrap();
+    let version = own.newest() + 1;
+    let text = "1048576".into();
+    own.states.insert(3, naive::State { version, text });
+    after
+}
+
+/// What a node does with one heartbeat of another endpoint, one of its own, and one set.
+fn nodes(mode: Mode, tag: &str, states: usize, text: usize) {
+    let node = joined(states, text);
+    let newer = beaten(table(255, 256, states, text), 3, |_| true);
+    let lacking = naive::answer_syn(&newer, &cluster(), &naive::syn(&node, &cluster())).unwrap();
+    let ack2 = Ack2 {
+        deltas: lacking.deltas[7..8].to_vec(),
+    };
+    let kept = shared::of_naive(&node);
+    let Some((shared::Message::Ack2(heard), _)) = shared::decode(&naive::encode(&Message::Ack2(ack2.clone()))).unwrap() else {
+        panic!()
+    };
+    case(mode, &format!("naive_node_heartbeat_{tag}"), || naive::take_ack2(&node, &ack2).unwrap().0, held);
+    case(mode, &format!("shared_node_heartbeat_{tag}"), || shared::take_ack2(&kept, &heard).unwrap().0, naive_held);
+    case(mode, &format!("naive_node_beat_{tag}"), || beat(black_box(&node)), held);
+    case(mode, &format!("naive_node_set_{tag}"), || set(black_box(&node)), held);
+}
+
+fn small(mode: Mode) {
+    let full = table(0, 256, 16, 64);
+    let newer = beaten(full.clone(), 3, |_| true);
+    let syn = naive::syn(&full, &cluster());
+    let beats = naive::answer_syn(&newer, &cluster(), &syn).unwrap();
+    frames(mode, "syn_256", &Message::Syn(syn));
+    frames(mode, "beats_256", &Message::Ack(beats));
+    case(
+        mode,
+        "naive_make_syn_256",
+        || naive::encode(&Message::Syn(naive::syn(black_box(&full), &cluster()))),
+        |b| b.clone(),
+    );
+}
+
+fn rings(mode: Mode) {
+    let table = ring_table(256);
+    let ring = ring::Ring::of_table(&table);
+    let tokens: Vec<u128> = (0..1000u32).map(|i| md5::token(&i.to_be_bytes())).collect();
+    let show = |ring: &ring::Ring| {
+        let lines = ring.positions.iter().map(|(t, e)| format!("{t:032x} {e}\n"));
+        lines.collect::<String>().into_bytes()
+    };
+    case(mode, "naive_ring_build_256x16", || ring::Ring::of_table(black_box(&table)), show);
+    for rf in [1, 3] {
+        let all = || tokens.iter().map(|t| black_box(ring.replicas(*t, rf))).last().unwrap();
+        case(mode, &format!("naive_1000_replicas_rf{rf}"), all, |e| shown(e));
+    }
+    let keys = || {
+        let replicas = (0..1000u128).map(|key| black_box(ring.replicas(md5::token(&key.to_be_bytes()), 3)));
+        replicas.last().unwrap()
+    };
+    case(mode, "naive_1000_keys_to_replicas_rf3", keys, |e| shown(e));
+}
+
+fn windows(mode: Mode) {
+    let heard = || {
+        let mut window = silence::Window::new(1000, 2000, 60000, 18421);
+        (0..2000).for_each(|arrival| window.arrived(black_box(arrival * 1000)));
+        window
+    };
+    let window = heard();
+    case(
+        mode,
+        "naive_silence_2000_arrived_w1000",
+        || heard().verdict(2_000_000),
+        |v| format!("{v:?}").into_bytes(),
+    );
+    case(
+        mode,
+        "naive_silence_1000_verdicts_w1000",
+        || (2_000_000..2_001_000).map(|now| black_box(window.verdict(black_box(now)))).last().unwrap(),
+        |v| format!("{v:?}").into_bytes(),
+    );
+}
+
+/// Bytes copied, for the least that any check or encoding of so many bytes costs.
+fn limits(mode: Mode) {
+    for size in [290_000, 4_230_000] {
+        let source = vec![7u8; size];
+        let kept = std::cell::RefCell::new(vec![0u8; size]);
+        case(
+            mode,
+            &format!("limit_memcpy_{size}"),
+            || kept.borrow_mut().copy_from_slice(black_box(&source)),
+            |()| vec![],
+        );
+        case(mode, &format!("limit_memcpy_fresh_{size}"), || black_box(&source[..]).to_vec(), |b| b.clone());
+    }
+}
+
+fn main() {
+    let mode = if std::env::args().nth(1).as_deref() == Some("time") { Mode::Timed } else { Mode::Once };
+    limits(mode);
+    small(mode);
+    for (tag, states, text) in [("1x200", 1, 200), ("16x64", 16, 64), ("16x1024", 16, 1024)] {
+        gossip(mode, tag, states, text);
+        nodes(mode, tag, states, text);
+    }
+    rings(mode);
+    windows(mode);
+}

@@ -1,0 +1,88 @@
+//! Words and limits.
+
+pub const MOST: u32 = 2_147_483_647;
+pub const ENDPOINTS: usize = 256;
+pub const STATES: usize = 16;
+pub const TEXT: usize = 1024;
+pub const FRAME: u32 = 5_000_000;
+
+#[derive(Clone, Copy, PartialEq, Eq, PartialOrd, Ord, Hash, Debug)]
+pub struct Endpoint {
+    pub address: [u8; 4],
+    pub port: u16,
+}
+
+impl Endpoint {
+    pub fn number(i: usize) -> Endpoint {
+        Endpoint {
+            address: [10, 0, (i >> 8) as u8, i as u8],
+            port: 7000,
+        }
+    }
+
+    pub fn from_bytes(b: &[u8]) -> Endpoint {
+        Endpoint {
+            address: [b[0], b[1], b[2], b[3]],
+            port: u16::from_be_bytes([b[4], b[5]]),
+        }
+    }
+
+    pub fn to_bytes(self) -> [u8; 6] {
+        let [a, b, c, d] = self.address;
+        let [e, f] = self.port.to_be_bytes();
+        [a, b, c, d, e, f]
+    }
+}
+
+impl std::fmt::Display for Endpoint {
+    fn fmt(&self, f: &mut std::fmt::Formatter<'_>) -> std::fmt::Result {
+        let [a, b, c, d] = self.address;
+        write!(f, "{a}.{b}.{c}.{d}:{}", self.port)
+    }
+}
+
+#[derive(Clone, Copy, PartialEq, Eq, Debug)]
+pub enum Cause {
+    Length,
+    Short,
+    Layout,
+    Kind,
+    Name,
+    Count,
+    Endpoint,
+    Order,
+    Generation,
+    Version,
+    Above,
+    Heartbeat,
+    Key,
+    Text,
+    Empty,
+    Rest,
+}
+
+#[derive(Clone, Copy, PartialEq, Eq, Debug)]
+pub struct BadFrame {
+    pub place: usize,
+    pub cause: Cause,
+}
+
+pub fn bad<T>(place: usize, cause: Cause) -> Result<T, BadFrame> {
+    Err(BadFrame { place, cause })
+}
+
+#[derive(Clone, Copy, PartialEq, Eq, Debug)]
+pub enum Took {
+    Taken,
+    Old,
+    Gap,
+    Own,
+}
+
+pub type Outcome = (Endpoint, Took);
+
+#[derive(Clone, Copy, PartialEq, Eq, Debug)]
+pub enum Refusal {
+    TableFull,
+    OtherCluster,
+}

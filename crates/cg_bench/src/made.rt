@@ -1,0 +1,116 @@
+//! What a case makes, and the digest that tells it from anything else.
+
+use crate::inputs::bringing;
+use anyhow::Result;
+use bytes::Bytes;
+use cg_core::Node;
+use cg_exchange::Message;
+use cg_frames::encode;
+use cg_silence::Verdict;
+use cg_table::Table;
+use cg_tokens::Ring;
+use cg_types::{Endpoint, Fault};
+use md5::{Digest, Md5};
+use std::alloc::Global;
+
+/// What one turn of a case makes.
+#[derive(Drop)]
+pub(crate) enum Made {
+    Frame(Bytes),
+    Message(Message),
+    Fault(Fault),
+    Table(Table),
+    Tables(Table, Table),
+    Answered(Table, Bytes),
+    Node(Node),
+    Ring(Ring),
+    Replicas(Vec<Endpoint>),
+    Verdict(Verdict),
+}
+
+// All that a table holds, as the ACK that brings it.
+fn held(alloc: Global, table: &Table) -> Result<Bytes> {
+    Ok(encode(alloc, &Message::Ack(bringing(alloc, table)?))?)
+}
+
+fn add_table(alloc: Global, hasher: &mut Md5, table: &Table) -> Result<()> {
+    hasher.update(held(alloc, table)?.as_slice());
+    Ok(())
+}
+
+fn add_endpoint(alloc: Global, hasher: &mut Md5, endpoint: Endpoint) -> Result<()> {
+    hasher.update(format!(in alloc; "{endpoint}\n")?.as_bytes());
+    Ok(())
+}
+
+fn add_ring(alloc: Global, hasher: &mut Md5, ring: &Ring) -> Result<()> {
+    for (token, endpoint) in ring.positions() {
+        hasher.update(format!(in alloc; "{token} ")?.as_bytes());
+        add_endpoint(alloc, hasher, *endpoint)?;
+    }
+    Ok(())
+}
+
+fn add_endpoints(alloc: Global, hasher: &mut Md5, endpoints: &[Endpoint]) -> Result<()> {
+    for endpoint in endpoints {
+        add_endpoint(alloc, hasher, *endpoint)?;
+    }
+    Ok(())
+}
+
+fn verdict_name(verdict: Verdict) -> &'static str {
+    match verdict {
+        Verdict::Alive => "Alive",
+        Verdict::Silent => "Silent",
+        Verdict::Unheard => "Unheard",
+    }
+}
+
+fn add_message(alloc: Global, hasher: &mut Md5, message: &Message) -> Result<()> {
+    hasher.update(encode(alloc, message)?.as_slice());
+    Ok(())
+}
+
+fn add_fault(alloc: Global, hasher: &mut Md5, fault: &Fault) -> Result<()> {
+    hasher.update(fault.line(alloc)?.as_bytes());
+    Ok(())
+}
+
+fn add_tables(alloc: Global, hasher: &mut Md5, one: &Table, other: &Table) -> Result<()> {
+    add_table(alloc, hasher, one)?;
+    add_table(alloc, hasher, other)
+}
+
+fn add_answered(alloc: Global, hasher: &mut Md5, table: &Table, frame: &Bytes) -> Result<()> {
+    add_table(alloc, hasher, table)?;
+    hasher.update(frame.as_slice());
+    Ok(())
+}
+
+fn add(alloc: Global, hasher: &mut Md5, made: &Made) -> Result<()> {
+    match made {
+        Made::Frame(frame) => {
+            hasher.update(frame.as_slice());
+            Ok(())
+        }
+        Made::Message(message) => add_message(alloc, hasher, message),
+        Made::Fault(fault) => add_fault(alloc, hasher, fault),
+        Made::Table(table) => add_table(alloc, hasher, table),
+        Made::Tables(one, other) => add_tables(alloc, hasher, one, other),
+        Made::Answered(table, frame) => add_answered(alloc, hasher, table, frame),
+        Made::Node(node) => add_table(alloc, hasher, node.table()),
+        Made::Ring(ring) => add_ring(alloc, hasher, ring),
+        Made::Replicas(endpoints) => add_endpoints(alloc, hasher, endpoints),
+        Made::Verdict(verdict) => {
+            hasher.update(verdict_name(*verdict).as_bytes());
+            Ok(())
+        }
+    }
+}
+
+/// The MD5 of what was made, in hexadecimal digits: of a frame's bytes, and of a table's as the ACK that brings all of it.
+pub(crate) fn digest(alloc: Global, made: &Made) -> Result<String> {
+    let mut hasher = Md5::new();
+    add(alloc, &mut hasher, made)?;
+    Ok(hex::encode(alloc, &hasher.finalize())?)
+}
