@@ -28,8 +28,8 @@ fn started(alloc: Global) -> Result<Node> {
 fn others(alloc: Global, shape: Shape) -> Result<Event> {
     let others = full(alloc, 255, shape, Newer::Nothing)?;
     let ack = bringing(alloc, &others)?;
-    let ack2 = as_ack2(alloc, &ack)?;
-    Ok(Event::Ack2 { now: 1000, ack2 })
+    let m = as_ack2(alloc, &ack)?;
+    Ok(Event::Ack2 { now: 1000, m })
 }
 
 // Endpoint 0, which has taken all that the others hold.
@@ -48,8 +48,8 @@ fn one_beat(alloc: Global, node: &Node, shape: Shape) -> Result<Ack> {
 
 fn heartbeat(alloc: Global, node: &Node, shape: Shape) -> Result<Event> {
     let beat = one_beat(alloc, node, shape)?;
-    let ack2 = as_ack2(alloc, &beat)?;
-    Ok(Event::Ack2 { now: 2000, ack2 })
+    let m = as_ack2(alloc, &beat)?;
+    Ok(Event::Ack2 { now: 2000, m })
 }
 
 // The event of a load that the node's own entry is to show.

@@ -17,12 +17,12 @@ pub enum Event {
     Tick { now: u64, words: [u64; 4] },
     /// A SYN is wanted, with no beat and for nobody in particular.
     Opening,
-    /// A SYN came.
-    Syn(Syn),
+    /// A SYN came; `m` is the message, here and below.
+    Syn { m: Syn },
     /// An ACK came.
-    Ack { now: u64, ack: Ack },
+    Ack { now: u64, m: Ack },
     /// An ACK2 came.
-    Ack2 { now: u64, ack2: Ack2 },
+    Ack2 { now: u64, m: Ack2 },
 }
 
 impl Event {
@@ -41,14 +41,16 @@ impl Event {
                 words: *words,
             },
             Event::Opening => Event::Opening,
-            Event::Syn(syn) => Event::Syn(syn.copy(alloc)?),
-            Event::Ack { now, ack } => Event::Ack {
-                now: *now,
-                ack: ack.copy(alloc)?,
+            Event::Syn { m } => Event::Syn {
+                m: m.copy(alloc)?,
             },
-            Event::Ack2 { now, ack2 } => Event::Ack2 {
+            Event::Ack { now, m } => Event::Ack {
                 now: *now,
-                ack2: ack2.copy(alloc)?,
+                m: m.copy(alloc)?,
+            },
+            Event::Ack2 { now, m } => Event::Ack2 {
+                now: *now,
+                m: m.copy(alloc)?,
             },
         })
     }

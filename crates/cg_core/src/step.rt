@@ -148,9 +148,9 @@ impl Node {
             Event::Set { key, text } => self.set(alloc, *key, text),
             Event::Tick { now, words } => self.tick(alloc, *now, words),
             Event::Opening => self.open(alloc),
-            Event::Syn(syn) => self.answer(alloc, syn),
-            Event::Ack { now, ack } => self.take_ack(alloc, *now, ack),
-            Event::Ack2 { now, ack2 } => self.take_ack2(alloc, *now, ack2),
+            Event::Syn { m } => self.answer(alloc, m),
+            Event::Ack { now, m } => self.take_ack(alloc, *now, m),
+            Event::Ack2 { now, m } => self.take_ack2(alloc, *now, m),
         }
     }
 

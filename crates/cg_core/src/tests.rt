@@ -91,8 +91,8 @@ pub(crate) fn comes(
     of: (u32, u32, u32),
 ) -> Result<Event, Fail> {
     let deltas = vec![in alloc; about(alloc, owner, of)?]?;
-    let ack2 = Ack2::new(deltas).ok_or("an ACK2")?;
-    Ok(Event::Ack2 { now, ack2 })
+    let m = Ack2::new(deltas).ok_or("an ACK2")?;
+    Ok(Event::Ack2 { now, m })
 }
 
 // A node that heard such a delta.
