@@ -1,6 +1,7 @@
 pub mod Values
 pub mod Codes
 pub mod Windows
+pub mod Claims
 pub mod Round
 pub mod Step
 pub mod Parts

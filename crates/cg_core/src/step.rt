@@ -69,13 +69,12 @@ impl Node {
         Ok(syn(alloc, self.table(), self.settings().cluster())?)
     }
 
-    // The node after a beat, and the version of that. The ring is shared, since a beat moves no claim.
+    // The node after a beat, and the version of that.
     fn beaten(&self, alloc: Global) -> Result<(Node, Version), Fault>
         ensures { Answers (λ x. x) (then (next_of self.now) (λ v. (beating self.now, v))) result }
     {
         let (entry, version) = own::beaten(alloc, self.table().own_entry())?;
-        let table = self.table().with_own(alloc, entry)?;
-        Ok((self.with_same_ring(alloc, table)?, version))
+        Ok((self.with_own(alloc, entry)?, version))
     }
 
     fn beat(&self, alloc: Global) -> Result<(Node, Reply), Fault>
@@ -89,8 +88,7 @@ impl Node {
         ensures { Answers (λ x. x) (node_step self.now (event.Set key text.now)) result }
     {
         let (entry, version) = own::with_state(alloc, self.table().own_entry(), key, text)?;
-        let table = self.table().with_own(alloc, entry)?;
-        let node = self.with_new_ring(alloc, table)?;
+        let node = self.with_own(alloc, entry)?;
         Ok((node, Reply::Done(version)))
     }
 

@@ -1,6 +1,6 @@
 -- Where an owner's claims stay, the ring stays.
-use Rattle.std.proofs.Common.{◌≡◌, ℕ, ◌<◌, true, cond, List, [], ◌∷◌, ◌++◌, map, Option, Some, None, refl, sym, ap, ◌∙◌}
-use Rattle.std.specs.Prelude.{filter}
+use Rattle.std.proofs.Common.{◌≡◌, ◌==◌, ℕ, ◌<◌, Bool, true, false, cond, List, [], ◌∷◌, ◌++◌, map, Option, Some, None, refl, sym, ap, ◌∙◌}
+use Rattle.std.specs.Prelude.{filter, not, ◌&&◌, unwrap_or}
 use Rattle.std.specs.List.{flat_map}
 use Rattle.std.specs.Ordering.{nat_cmp, is_eq}
 use Rattle.std.specs.declared.cmp.Ordering.{Ordering}
@@ -8,15 +8,19 @@ use Rattle.std.specs.declared.cmp.Ordering.TheVariants.{Less, Equal, Greater}
 use Rattle.std.specs.Cmp.{nat_cmp_total, eq_by_cmp_equiv, ranked}
 use Rattle.std.specs.FinMap.{get, insert, entries, entries_sorted, get-entries, entries-insert, from_entries}
 use Rattle.std.specs.FinMap.Entries.{find, put, by_order}
-use Rattle.std.proofs.lemmas.Bool.{lt-ltb}
+use Rattle.std.proofs.lemmas.Bool.{lt-ltb, eqb-true}
+use Rattle.std.proofs.lemmas.Slice.Eq.{bytes_eq-Decides}
+use Rattle.std.specs.Str.{bytes_eq}
+use Rattle.cg_types.specs.declared.limits.TheConstants.{STATUS_KEY, TOKENS_KEY}
 use Rattle.cg_types.specs.Rising.{is_past, rise_past}
-use Rattle.cg_types.proofs.RisingLemmas.{both, second_of, find_past, rise_sorted}
+use Rattle.cg_types.proofs.RisingLemmas.{both, first_of, second_of, find_past, rise_sorted}
 use Rattle.cg_shared.specs.Rows.{keys_of}
 use Rattle.cg_entry.specs.Values.{EntryValue}
 use Rattle.cg_table.specs.Values.{Entries}
 use Rattle.cg_tokens.specs.declared.claims.Claim.{Claim}
-use Rattle.cg_tokens.specs.Claims.{claims_of, claims, wins, position}
-use Rattle.cg_tokens.specs.Laws.{ClaimsAlike, RingStays}
+use Rattle.cg_tokens.specs.Claims.{claims_of, claims, wins, position, is_member, text_at}
+use Rattle.cg_tokens.specs.Text.{tokens_of}
+use Rattle.cg_tokens.specs.Laws.{ClaimsAlike, KeptClaimsAreAlike, RingStays}
 
 -- what an endpoint claims by what is held of it
 abbrev claims_by : ℕ → Option EntryValue → List Claim
@@ -62,3 +66,33 @@ module _ (k : ℕ) (v : EntryValue) where
 pub ring_stays : RingStays
 ring_stays m k v same =
     ap (λ (cs : List Claim). from_entries {R = nat_cmp} (map position (filter (wins cs) cs))) (claims_stay k v m (alike k v (get m k) same))
+
+-- ---- entries that show that they keep claims
+
+-- who is no member claims nothing
+no_member : (b : Bool) (tokens : List ℕ) → not b ≡ true → cond b tokens [] ≡ []
+no_member true tokens h = absurd cc
+no_member false tokens h = refl
+
+module _ (held e : EntryValue) where
+  same_generation : Bool
+  same_generation = e.generation == held.generation
+
+  same_status : Bool
+  same_status = bytes_eq (text_at e.states STATUS_KEY) (text_at held.states STATUS_KEY)
+
+  same_tokens : Bool
+  same_tokens = bytes_eq (text_at e.states TOKENS_KEY) (text_at held.states TOKENS_KEY)
+
+  kept_alike : (same_generation && same_status && same_tokens) ≡ true → ClaimsAlike (Some held) e
+  unfolding same_generation same_status same_tokens
+  kept_alike kept =
+      let first = first_of (same_generation && same_status) same_tokens kept in
+      let status = (bytes_eq-Decides (text_at e.states STATUS_KEY) (text_at held.states STATUS_KEY)).0 (second_of same_generation same_status first) in
+      let tokens = (bytes_eq-Decides (text_at e.states TOKENS_KEY) (text_at held.states TOKENS_KEY)).0 (second_of (same_generation && same_status) same_tokens kept) in
+      (eqb-true e.generation held.generation (first_of same_generation same_status first), rw (status, tokens) refl)
+
+pub kept_claims_are_alike : KeptClaimsAreAlike
+unfolding same_generation same_status same_tokens
+kept_claims_are_alike None e kept = no_member (is_member e.states) (unwrap_or (tokens_of (text_at e.states TOKENS_KEY)) []) kept
+kept_claims_are_alike (Some held) e kept = kept_alike held e kept

@@ -51,6 +51,13 @@ beats c d = nat_lt d.generation c.generation || (d.generation == c.generation &&
 abbrev pub wins : List Claim → Claim → Bool
 wins cs c = list_all (λ d. not (d.token == c.token && beats d c)) cs
 
+-- Whether an entry shows that it claims what was claimed by what was held of its owner: its generation, status and tokens are the same, or nothing was held and it is no member.
+abbrev pub keeps_claims : Option EntryValue → EntryValue → Bool
+keeps_claims None e = not (is_member e.states)
+keeps_claims (Some held) e =
+    e.generation == held.generation && bytes_eq (text_at e.states STATUS_KEY) (text_at held.states STATUS_KEY)
+    && bytes_eq (text_at e.states TOKENS_KEY) (text_at held.states TOKENS_KEY)
+
 -- a token with the endpoint that claims it
 abbrev pub position : Claim → ℕ × ℕ
 position c = (c.token, c.endpoint)

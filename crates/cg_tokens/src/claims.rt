@@ -1,11 +1,12 @@
 //! Who claims which token.
 
-ghost use Rattle.std.specs.Prelude.{◌≡◌, ◌++◌, IfOk, OnOk, map, codes};
+ghost use Rattle.std.specs.Prelude.{◌≡◌, ◌++◌, IfOk, OnOk, map, codes, option_copied};
 ghost use Rattle.std.specs.List.{before_first};
+ghost use Rattle.std.specs.Str.{bytes_eq};
 ghost use Rattle.std.specs.List.Sorted.{IsPermutation, IsSorted};
 ghost use Rattle.cg_types.specs.Numbers.{IsKey};
 ghost use Rattle.cg_tokens.specs.Text.{is_comma};
-ghost use Rattle.cg_tokens.specs.Claims.{text_at, is_member as is_member_of, claimed_tokens, claim, claims_of, claims, rank};
+ghost use Rattle.cg_tokens.specs.Claims.{text_at, is_member as is_member_of, claimed_tokens, claim, claims_of, claims, rank, keeps_claims as keeps_claims_of};
 
 use crate::text::{first_piece, tokens_in};
 use crate::token::Token;
@@ -52,6 +53,31 @@ fn is_member(entry: &Entry) -> bool
 {
     let status = first_word(text_at(entry, STATUS_KEY));
     status == b"NORMAL".as_slice() || status == b"LEAVING".as_slice()
+}
+
+// Whether two entries have the same text at a key.
+fn same_text(one: &Entry, other: &Entry, key: u8) -> bool
+    requires { IsKey key }
+    ensures { result ≡ bytes_eq (text_at one.now.states key) (text_at other.now.states key) }
+{
+    text_at(one, key) == text_at(other, key)
+}
+
+/// Whether an entry shows that it claims what was claimed by what was held of its owner: its generation and its texts
+/// of `STATUS` and `TOKENS` are the same, or nothing was held and it is no member of the ring. Then the ring stays
+/// (`laws::ring_stays`). It reads no token and takes no memory, so it answers `false` of other texts that claim the
+/// same.
+pub fn keeps_claims(held: Option<&Entry>, entry: &Entry) -> bool
+    ensures { result ≡ keeps_claims_of (option_copied held.entry) entry.now }
+{
+    match held {
+        None => !is_member(entry),
+        Some(held) => {
+            entry.generation() == held.generation()
+                && same_text(entry, held, STATUS_KEY)
+                && same_text(entry, held, TOKENS_KEY)
+        }
+    }
 }
 
 // The tokens that an endpoint claims.

@@ -13,6 +13,7 @@ mod tests;
 mod text;
 mod token;
 
+pub use claims::keeps_claims;
 pub use limits::{TOKEN_COUNT_LIMIT, TOKEN_DIGITS, TOKEN_LIMIT};
 pub use ring::Ring;
 pub use text::read_tokens;

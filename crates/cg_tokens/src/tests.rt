@@ -1,6 +1,6 @@
 //! Tokens of RFC 1321's test suite, worked rings, and each call once with ample memory.
 
-use crate::{Ring, TOKEN_LIMIT, Token, read_tokens, token_of};
+use crate::{Ring, TOKEN_LIMIT, Token, keeps_claims, read_tokens, token_of};
 use cg_entry::{Delta, Entry, State};
 use cg_table::Table;
 use cg_types::{Endpoint, Fault, Generation, StateKey, StateText, Version};
@@ -255,5 +255,52 @@ fn tokens_that_cannot_be_read_are_not_claimed(rt: HostRuntime) -> Result<(), Fai
     for tokens in ["", "10", "00000000000000000000000000000010,"] {
         assert_eq!(rt; count_with(rt.alloc(), "NORMAL", tokens)?, 0, "{tokens}");
     }
+    Ok(())
+}
+
+// A generation, a status and a text of tokens.
+type Claiming = (u32, &'static str, &'static str);
+
+// Whether endpoint 1 keeps its claims where the first stood and the second is held.
+fn keeps(alloc: Global, before: Claiming, after: Claiming) -> Result<bool, Fail> {
+    let (first, second) = (holding(alloc, before)?, holding(alloc, after)?);
+    match second.get(endpoint(1)?) {
+        Some(entry) => Ok(keeps_claims(first.get(endpoint(1)?), entry)),
+        None => Ok(false),
+    }
+}
+
+// A table in which endpoint 1 has these.
+fn holding(alloc: Global, (number, status, tokens): Claiming) -> Result<Table, Fail> {
+    let owners = vec![in alloc; (1, delta(alloc, number, status, tokens)?)]?;
+    table(alloc, &owners)
+}
+
+// Whether endpoint 1 keeps its claims where nothing of it was held.
+fn begins(alloc: Global, after: Claiming) -> Result<bool, Fail> {
+    let table = holding(alloc, after)?;
+    Ok(
+        table
+            .get(endpoint(1)?)
+            .is_some_and(|entry| keeps_claims(None, entry)),
+    )
+}
+
+#[test]
+fn claims_are_kept_by_the_same_texts(rt: HostRuntime) -> Result<(), Fail> {
+    let held = (9, "NORMAL", AT_20);
+    let same = keeps(rt.alloc(), held, held)?;
+    let newer = keeps(rt.alloc(), held, (10, "NORMAL", AT_20))?;
+    let left = keeps(rt.alloc(), held, (9, "LEFT", AT_20))?;
+    let moved = keeps(rt.alloc(), held, (9, "NORMAL", AT_30))?;
+    assert_eq!(rt; (same, newer, left, moved), (true, false, false, false));
+    Ok(())
+}
+
+#[test]
+fn who_is_no_member_claims_nothing_new(rt: HostRuntime) -> Result<(), Fail> {
+    let member = begins(rt.alloc(), (9, "NORMAL", AT_20))?;
+    let joining = begins(rt.alloc(), (9, "BOOT", AT_20))?;
+    assert_eq!(rt; (member, joining), (false, true));
     Ok(())
 }
