@@ -14,26 +14,10 @@ mod timing;
 mod world;
 
 use model::Endpoint;
-use naive::{Ack, Ack2, Message, Syn, Table};
+use naive::{cluster, empty, held, read, Ack, Ack2, Message, Syn, Table};
 use std::hint::black_box;
 use timing::{case, Mode};
 use world::*;
-
-fn empty() -> Syn {
-    Syn {
-        cluster: cluster(),
-        digests: vec![],
-    }
-}
-
-/// All that a table holds, as the frame of the ACK that brings it.
-fn held(table: &Table) -> Vec<u8> {
-    naive::encode(&Message::Ack(naive::answer_syn(table, &cluster(), &empty()).unwrap()))
-}
-
-fn read(frame: &[u8]) -> Message {
-    naive::decode(frame).unwrap().unwrap().0
-}
 
 fn shown(endpoints: &[Endpoint]) -> Vec<u8> {
     endpoints.iter().flat_map(|e| format!("{e}\n").into_bytes()).collect()
@@ -82,72 +66,30 @@ fn take(mode: Mode, tag: &str, own: &Table, ack: Ack) {
         },
         |(after, ack2)| [held(after), ack2.clone()].concat(),
     );
-    case(
-        mode,
-        &format!("naive_take_ack2_{tag}"),
-        || naive::take_ack2(own, &ack2).unwrap().0,
-        held,
-    );
-    let kept = shared::of_naive(own);
-    let Message::Ack2(_) = read(&naive::encode(&Message::Ack2(ack2.clone()))) else { panic!() };
-    let Some((shared::Message::Ack2(ack2), _)) = shared::decode(&naive::encode(&Message::Ack2(ack2))).unwrap() else {
-        panic!()
-    };
-    case(
-        mode,
-        &format!("shared_take_ack2_{tag}"),
-        || shared::take_ack2(&kept, &ack2).unwrap().0,
-        naive_held,
-    );
+    take_ack2(mode, &format!("take_ack2_{tag}"), own, ack2);
 }
 
-/// All that a shared table holds, as the same frame.
-fn naive_held(table: &shared::Table) -> Vec<u8> {
-    let empty = shared::Syn {
-        cluster: named(),
-        digests: vec![],
-    };
-    shared::encode(&shared::Message::Ack(shared::answer_syn(table, &named(), &empty).unwrap()))
-}
-
-fn named() -> shared::Cluster {
-    shared::Cluster {
-        name: "c1".into(),
-        partitioner: 1,
-    }
+/// The same ACK2, taken by a table and by its shared twin.
+fn take_ack2(mode: Mode, name: &str, own: &Table, ack2: Ack2) {
+    case(mode, &format!("naive_{name}"), || naive::take_ack2(own, &ack2).unwrap().0, held);
+    let own = shared::of_naive(own);
+    let shared::Message::Ack2(ack2) = shared::read(&naive::encode(&Message::Ack2(ack2))) else { panic!() };
+    case(mode, &format!("shared_{name}"), || shared::take_ack2(&own, &ack2).unwrap().0, shared::held);
 }
 
 fn exchange(mode: Mode, tag: &str, opener: &Table, answerer: &Table) {
     case(
         mode,
         &format!("naive_exchange_{tag}"),
-        || {
-            let syn = naive::encode(&Message::Syn(naive::syn(opener, &cluster())));
-            let Message::Syn(m) = read(&syn) else { panic!() };
-            let ack = naive::encode(&Message::Ack(naive::answer_syn(answerer, &cluster(), &m).unwrap()));
-            let Message::Ack(m) = read(&ack) else { panic!() };
-            let (one, m, _) = naive::take_ack(opener, &m).unwrap();
-            let ack2 = naive::encode(&Message::Ack2(m));
-            let Message::Ack2(m) = read(&ack2) else { panic!() };
-            (one, naive::take_ack2(answerer, &m).unwrap().0)
-        },
+        || naive::exchanged(opener, answerer),
         |(one, other)| [held(one), held(other)].concat(),
     );
     let (opener, answerer) = (shared::of_naive(opener), shared::of_naive(answerer));
     case(
         mode,
         &format!("shared_exchange_{tag}"),
-        || {
-            let syn = shared::encode(&shared::Message::Syn(shared::syn(&opener, &named())));
-            let Some((shared::Message::Syn(m), _)) = shared::decode(&syn).unwrap() else { panic!() };
-            let ack = shared::encode(&shared::Message::Ack(shared::answer_syn(&answerer, &named(), &m).unwrap()));
-            let Some((shared::Message::Ack(m), _)) = shared::decode(&ack).unwrap() else { panic!() };
-            let (one, m, _) = shared::take_ack(&opener, &m).unwrap();
-            let ack2 = shared::encode(&shared::Message::Ack2(m));
-            let Some((shared::Message::Ack2(m), _)) = shared::decode(&ack2).unwrap() else { panic!() };
-            (one, shared::take_ack2(&answerer, &m).unwrap().0)
-        },
-        |(one, other)| [naive_held(one), naive_held(other)].concat(),
+        || shared::exchanged(&opener, &answerer),
+        |(one, other)| [shared::held(one), shared::held(other)].concat(),
     );
 }
 
@@ -213,12 +155,7 @@ fn nodes(mode: Mode, tag: &str, states: usize, text: usize) {
     let ack2 = Ack2 {
         deltas: lacking.deltas[7..8].to_vec(),
     };
-    let kept = shared::of_naive(&node);
-    let Some((shared::Message::Ack2(heard), _)) = shared::decode(&naive::encode(&Message::Ack2(ack2.clone()))).unwrap() else {
-        panic!()
-    };
-    case(mode, &format!("naive_node_heartbeat_{tag}"), || naive::take_ack2(&node, &ack2).unwrap().0, held);
-    case(mode, &format!("shared_node_heartbeat_{tag}"), || shared::take_ack2(&kept, &heard).unwrap().0, naive_held);
+    take_ack2(mode, &format!("node_heartbeat_{tag}"), &node, ack2);
     case(mode, &format!("naive_node_beat_{tag}"), || beat(black_box(&node)), held);
     case(mode, &format!("naive_node_set_{tag}"), || set(black_box(&node)), held);
 }
@@ -258,6 +195,17 @@ fn rings(mode: Mode) {
     case(mode, "naive_1000_keys_to_replicas_rf3", keys, |e| shown(e));
 }
 
+/// The last of a thousand verdicts. The moment of each rests on the one before, so that all are needed.
+fn verdicts(window: &silence::Window) -> silence::Verdict {
+    let mut now = 2_000_000;
+    let mut last = silence::Verdict::Unheard;
+    for _ in 0..1000 {
+        last = window.verdict(now);
+        now += if last == silence::Verdict::Silent { 10 } else { 20 };
+    }
+    last
+}
+
 fn windows(mode: Mode) {
     let heard = || {
         let mut window = silence::Window::new(1000, 2000, 60000, 18421);
@@ -274,7 +222,7 @@ fn windows(mode: Mode) {
     case(
         mode,
         "naive_silence_1000_verdicts_w1000",
-        || (2_000_000..2_001_000).map(|now| black_box(window.verdict(black_box(now)))).last().unwrap(),
+        || verdicts(black_box(&window)),
         |v| format!("{v:?}").into_bytes(),
     );
 }

@@ -478,3 +478,40 @@ pub fn decode(bytes: &[u8]) -> Result<Option<(Message, usize)>, BadFrame> {
     }
     Ok(Some((message, end)))
 }
+
+pub fn cluster() -> Cluster {
+    Cluster {
+        name: "c1".into(),
+        partitioner: 1,
+    }
+}
+
+/// The SYN of a member that holds nothing.
+pub fn empty() -> Syn {
+    Syn {
+        cluster: cluster(),
+        digests: vec![],
+    }
+}
+
+/// All that a table holds, as the frame of the ACK that brings it.
+pub fn held(table: &Table) -> Vec<u8> {
+    encode(&Message::Ack(answer_syn(table, &cluster(), &empty()).unwrap()))
+}
+
+/// The message that a frame spells.
+pub fn read(frame: &[u8]) -> Message {
+    decode(frame).unwrap().unwrap().0
+}
+
+/// Both tables after an exchange, from frame to frame.
+pub fn exchanged(opener: &Table, answerer: &Table) -> (Table, Table) {
+    let frame = encode(&Message::Syn(syn(opener, &cluster())));
+    let Message::Syn(m) = read(&frame) else { panic!() };
+    let frame = encode(&Message::Ack(answer_syn(answerer, &cluster(), &m).unwrap()));
+    let Message::Ack(m) = read(&frame) else { panic!() };
+    let (opener, m, _) = take_ack(opener, &m).unwrap();
+    let frame = encode(&Message::Ack2(m));
+    let Message::Ack2(m) = read(&frame) else { panic!() };
+    (opener, take_ack2(answerer, &m).unwrap().0)
+}

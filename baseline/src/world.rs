@@ -5,13 +5,6 @@ use crate::model::*;
 use crate::naive::*;
 use std::collections::BTreeMap;
 
-pub fn cluster() -> Cluster {
-    Cluster {
-        name: "c1".into(),
-        partitioner: 1,
-    }
-}
-
 /// An entry at generation 5 whose states have the versions 2 and up and a text of `text` bytes.
 pub fn entry(i: usize, states: usize, text: usize) -> Entry {
     let mut chance = Chance(i as u64);

@@ -5,7 +5,7 @@ use crate::frames::frames;
 use crate::inputs::{
     Newer, Shape, alone, bringing, cluster, empty_syn, full, lacking, opening, single,
 };
-use crate::measure::{Mode, case};
+use crate::measure::{Mode, Name, case, named};
 use crate::work::Work;
 use anyhow::Result;
 use cg_exchange::{Ack, Message};
@@ -63,7 +63,7 @@ fn frames_of_syn(
     table: &Table,
 ) -> Result<()> {
     let syn = Message::Syn(opening(rt.alloc(), table)?);
-    frames(rt, mode, "syn_256", &syn)
+    frames(rt, mode, "syn", "256", &syn)
 }
 
 fn beats_of(alloc: Global, table: &Table, shape: Shape) -> Result<Ack> {
@@ -78,7 +78,7 @@ fn frames_of_beats(
     shape: Shape,
 ) -> Result<()> {
     let beats = Message::Ack(beats_of(rt.alloc(), table, shape)?);
-    frames(rt, mode, "beats_256", &beats)
+    frames(rt, mode, "beats", "256", &beats)
 }
 
 fn make_syn(
@@ -87,7 +87,8 @@ fn make_syn(
     table: &Table,
 ) -> Result<()> {
     let cluster = cluster(rt.alloc())?;
-    case(rt, mode, "ours_make_syn_256", &Work::Open(table, &cluster))
+    let name = named("make", "syn", "256");
+    case(rt, mode, name, &Work::Open(table, &cluster))
 }
 
 /// A SYN of 256 digests, and the ACK that brings 256 heartbeats.
@@ -105,37 +106,35 @@ pub(crate) fn small(rt: &(impl Clock + Print + Alloc<A = Global>), mode: Mode) -
 fn frames_of_whole(
     rt: &(impl Clock + Print + Alloc<A = Global>),
     mode: Mode,
-    tag: &str,
+    tag: &'static str,
     table: &Table,
 ) -> Result<()> {
-    let name = format!(in rt.alloc(); "whole_{tag}")?;
     let whole = Message::Ack(bringing(rt.alloc(), table)?);
-    frames(rt, mode, &name, &whole)
+    frames(rt, mode, "whole", tag, &whole)
 }
 
 // The answer of a table to the SYN of the plain one.
 fn answer_plain(
     rt: &(impl Clock + Print + Alloc<A = Global>),
     mode: Mode,
-    name: &str,
+    on: &'static str,
+    tag: &'static str,
     plain: &Plain,
     own: &Table,
 ) -> Result<()> {
-    let cluster = cluster(rt.alloc())?;
-    let opening = opening(rt.alloc(), &plain.full)?;
-    answer(rt, mode, name, own, &cluster, opening)
+    let opening = Message::Syn(opening(rt.alloc(), &plain.full)?);
+    answer(rt, mode, on, tag, own, &opening)
 }
 
 // The answer of a table to a member that holds nothing.
 fn answer_empty(
     rt: &(impl Clock + Print + Alloc<A = Global>),
     mode: Mode,
-    name: &str,
+    tag: &'static str,
     own: &Table,
 ) -> Result<()> {
-    let cluster = cluster(rt.alloc())?;
-    let empty = empty_syn(rt.alloc())?;
-    answer(rt, mode, name, own, &cluster, empty)
+    let empty = Message::Syn(empty_syn(rt.alloc())?);
+    answer(rt, mode, "empty", tag, own, &empty)
 }
 
 // Answers to SYNs: of one that lacks nothing, of one that lacks each heartbeat, of one that lacks a state of each, and of
@@ -143,107 +142,99 @@ fn answer_empty(
 fn answers(
     rt: &(impl Clock + Print + Alloc<A = Global>),
     mode: Mode,
-    tag: &str,
+    tag: &'static str,
     plain: &Plain,
     ahead: &Ahead,
 ) -> Result<()> {
-    let name = format!(in rt.alloc(); "equal_{tag}")?;
-    answer_plain(rt, mode, &name, plain, &plain.other)?;
-    let name = format!(in rt.alloc(); "beats_{tag}")?;
-    answer_plain(rt, mode, &name, plain, &ahead.beats)?;
-    let name = format!(in rt.alloc(); "one_{tag}")?;
-    answer_plain(rt, mode, &name, plain, &ahead.first)?;
-    let name = format!(in rt.alloc(); "empty_{tag}")?;
-    answer_empty(rt, mode, &name, &plain.other)
+    answer_plain(rt, mode, "equal", tag, plain, &plain.other)?;
+    answer_plain(rt, mode, "beats", tag, plain, &ahead.beats)?;
+    answer_plain(rt, mode, "one", tag, plain, &ahead.first)?;
+    answer_empty(rt, mode, tag, &plain.other)
 }
 
 // All that a whole table holds, taken by a member that holds itself alone.
 fn take_join(
     rt: &(impl Clock + Print + Alloc<A = Global>),
     mode: Mode,
-    tag: &str,
+    tag: &'static str,
     plain: &Plain,
 ) -> Result<()> {
-    let name = format!(in rt.alloc(); "join_{tag}")?;
     let whole = bringing(rt.alloc(), &plain.other)?;
-    take(rt, mode, &name, &plain.alone, whole)
+    take(rt, mode, "join", tag, &plain.alone, whole)
 }
 
 // What a newer table sends, taken by the plain one.
 fn take_newer(
     rt: &(impl Clock + Print + Alloc<A = Global>),
     mode: Mode,
-    name: &str,
+    on: &'static str,
+    tag: &'static str,
     plain: &Plain,
     newer: &Table,
 ) -> Result<()> {
     let ack = lacking(rt.alloc(), &plain.full, newer)?;
-    take(rt, mode, name, &plain.full, ack)
+    take(rt, mode, on, tag, &plain.full, ack)
 }
 
 // One heartbeat, taken by the plain table.
 fn take_single(
     rt: &(impl Clock + Print + Alloc<A = Global>),
     mode: Mode,
-    tag: &str,
+    tag: &'static str,
     plain: &Plain,
     newer: &Table,
 ) -> Result<()> {
-    let name = format!(in rt.alloc(); "single_{tag}")?;
     let beats = lacking(rt.alloc(), &plain.full, newer)?;
     let one = single(rt.alloc(), &beats)?;
-    take(rt, mode, &name, &plain.full, one)
+    take(rt, mode, "single", tag, &plain.full, one)
 }
 
 // Deltas taken: of 255 whole entries, of each heartbeat, of a state of each, and of one heartbeat.
 fn takings(
     rt: &(impl Clock + Print + Alloc<A = Global>),
     mode: Mode,
-    tag: &str,
+    tag: &'static str,
     plain: &Plain,
     ahead: &Ahead,
 ) -> Result<()> {
     take_join(rt, mode, tag, plain)?;
-    let name = format!(in rt.alloc(); "beats_{tag}")?;
-    take_newer(rt, mode, &name, plain, &ahead.beats)?;
-    let name = format!(in rt.alloc(); "one_{tag}")?;
-    take_newer(rt, mode, &name, plain, &ahead.first)?;
+    take_newer(rt, mode, "beats", tag, plain, &ahead.beats)?;
+    take_newer(rt, mode, "one", tag, plain, &ahead.first)?;
     take_single(rt, mode, tag, plain, &ahead.beats)
 }
 
 fn exchange(
     rt: &(impl Clock + Print + Alloc<A = Global>),
     mode: Mode,
-    name: &str,
+    name: Name,
     opener: &Table,
     answerer: &Table,
 ) -> Result<()> {
-    let name = format!(in rt.alloc(); "ours_exchange_{name}")?;
     let cluster = cluster(rt.alloc())?;
-    case(rt, mode, &name, &Work::Exchange(opener, answerer, &cluster))
+    case(rt, mode, name, &Work::Exchange(opener, answerer, &cluster))
 }
 
 // Exchanges: of equal tables, of tables with newer heartbeats each, and of one that holds itself alone with a whole one.
 fn exchanges(
     rt: &(impl Clock + Print + Alloc<A = Global>),
     mode: Mode,
-    tag: &str,
+    tag: &'static str,
     plain: &Plain,
     halves: &Halves,
 ) -> Result<()> {
-    let name = format!(in rt.alloc(); "equal_{tag}")?;
-    exchange(rt, mode, &name, &plain.full, &plain.other)?;
-    let name = format!(in rt.alloc(); "beats_{tag}")?;
-    exchange(rt, mode, &name, &halves.left, &halves.right)?;
-    let name = format!(in rt.alloc(); "join_{tag}")?;
-    exchange(rt, mode, &name, &plain.alone, &plain.other)
+    let name = named("exchange", "equal", tag);
+    exchange(rt, mode, name, &plain.full, &plain.other)?;
+    let name = named("exchange", "beats", tag);
+    exchange(rt, mode, name, &halves.left, &halves.right)?;
+    let name = named("exchange", "join", tag);
+    exchange(rt, mode, name, &plain.alone, &plain.other)
 }
 
 // The cases that need newer tables.
 fn with_newer(
     rt: &(impl Clock + Print + Alloc<A = Global>),
     mode: Mode,
-    tag: &str,
+    tag: &'static str,
     shape: Shape,
     plain: &Plain,
 ) -> Result<()> {
@@ -252,16 +243,27 @@ fn with_newer(
     takings(rt, mode, tag, plain, &ahead)
 }
 
+// The cases that need tables of which each is newer in one half.
+fn with_halves(
+    rt: &(impl Clock + Print + Alloc<A = Global>),
+    mode: Mode,
+    tag: &'static str,
+    shape: Shape,
+    plain: &Plain,
+) -> Result<()> {
+    let halves = halves_tables(rt.alloc(), shape)?;
+    exchanges(rt, mode, tag, plain, &halves)
+}
+
 /// All cases at tables of one shape.
 pub(crate) fn gossip(
     rt: &(impl Clock + Print + Alloc<A = Global>),
     mode: Mode,
-    tag: &str,
+    tag: &'static str,
     shape: Shape,
 ) -> Result<()> {
     let plain = plain_tables(rt.alloc(), shape)?;
     frames_of_whole(rt, mode, tag, &plain.other)?;
     with_newer(rt, mode, tag, shape, &plain)?;
-    let halves = halves_tables(rt.alloc(), shape)?;
-    exchanges(rt, mode, tag, &plain, &halves)
+    with_halves(rt, mode, tag, shape, &plain)
 }

@@ -5,7 +5,7 @@ use anyhow::{Context, Result};
 use cg_entry::{Delta, Entry, State};
 use cg_exchange::{Ack, Ack2, OwnerDelta, Syn, answer_syn, syn};
 use cg_table::Table;
-use cg_tokens::token_of;
+use cg_tokens::{Token, token_of};
 use cg_types::{Cluster, Endpoint, Generation, MEMBER_LIMIT, StateKey, StateText, Version};
 use std::alloc::{AllocError, Global};
 
@@ -98,6 +98,22 @@ fn table_of(alloc: Global, own: usize, whole: &Delta) -> Result<Table> {
     Ok(Table::new(alloc, endpoint(own)?, entry)?)
 }
 
+// The table with what a delta brings of an endpoint.
+fn with(alloc: Global, table: &Table, number: usize, delta: &Delta) -> Result<Table> {
+    let (after, _) = table.put_delta(alloc, endpoint(number)?, delta)?;
+    Ok(after)
+}
+
+fn with_whole(
+    alloc: Global,
+    table: &Table,
+    number: usize,
+    shape: Shape,
+    newer: Newer,
+) -> Result<Table> {
+    with(alloc, table, number, &whole(alloc, number, shape, newer)?)
+}
+
 /// A table that holds its own endpoint alone.
 pub(crate) fn alone(alloc: Global, own: usize, shape: Shape) -> Result<Table> {
     table_of(alloc, own, &whole(alloc, own, shape, Newer::Nothing)?)
@@ -107,22 +123,26 @@ pub(crate) fn alone(alloc: Global, own: usize, shape: Shape) -> Result<Table> {
 pub(crate) fn full(alloc: Global, own: usize, shape: Shape, newer: Newer) -> Result<Table> {
     let mut table = table_of(alloc, own, &whole(alloc, own, shape, newer)?)?;
     for number in 0..MEMBER_LIMIT {
-        let delta = whole(alloc, number, shape, newer)?;
-        table = table.put_delta(alloc, endpoint(number)?, &delta)?.0;
+        table = with_whole(alloc, &table, number, shape, newer)?;
     }
     Ok(table)
 }
 
 // Sixteen tokens of an endpoint, rising.
-fn tokens(alloc: Global, number: usize) -> Result<String> {
+fn tokens(alloc: Global, number: usize) -> Result<Vec<Token>> {
     let mut tokens = Vec::new(alloc);
     for part in 0..16u8 {
         let key = format!(in alloc; "{number}/{part}")?;
         tokens.push(token_of(key.as_bytes()))?;
     }
     tokens.sort_unstable();
+    Ok(tokens)
+}
+
+// Tokens as an endpoint tells them.
+fn tokens_text(alloc: Global, tokens: &[Token]) -> Result<String> {
     let mut text = String::new(alloc);
-    for token in &tokens {
+    for token in tokens {
         if !text.is_empty() {
             text.push(',')?;
         }
@@ -131,20 +151,35 @@ fn tokens(alloc: Global, number: usize) -> Result<String> {
     Ok(text)
 }
 
+// The state of an endpoint that is in the ring.
+fn normal_state(alloc: Global) -> Result<State> {
+    state(1, 2, StateText::new(alloc, "NORMAL")?)
+}
+
+// The state of an endpoint's sixteen tokens.
+fn tokens_state(alloc: Global, number: usize) -> Result<State> {
+    let tokens = tokens(alloc, number)?;
+    let text = tokens_text(alloc, &tokens)?;
+    state(2, 3, StateText::new(alloc, &text)?)
+}
+
 // The entry of an endpoint that claims sixteen tokens.
 fn claiming(alloc: Global, number: usize) -> Result<Delta> {
     let mut states = Vec::new(alloc);
-    states.push(state(1, 2, StateText::new(alloc, "NORMAL")?)?)?;
-    states.push(state(2, 3, StateText::new(alloc, &tokens(alloc, number)?)?)?)?;
+    states.push(normal_state(alloc)?)?;
+    states.push(tokens_state(alloc, number)?)?;
     delta(HEARTBEAT, states)
+}
+
+fn with_claims(alloc: Global, table: &Table, number: usize) -> Result<Table> {
+    with(alloc, table, number, &claiming(alloc, number)?)
 }
 
 /// A table of 256 endpoints with sixteen tokens each.
 pub(crate) fn claims(alloc: Global) -> Result<Table> {
     let mut table = table_of(alloc, 0, &claiming(alloc, 0)?)?;
     for number in 0..MEMBER_LIMIT {
-        let delta = claiming(alloc, number)?;
-        table = table.put_delta(alloc, endpoint(number)?, &delta)?.0;
+        table = with_claims(alloc, &table, number)?;
     }
     Ok(table)
 }
@@ -154,9 +189,15 @@ pub(crate) fn empty_syn(alloc: Global) -> Result<Syn> {
     Syn::new(cluster(alloc)?, Vec::new(alloc)).context("a SYN")
 }
 
+// The answer of a table to a SYN of its cluster.
+fn answer_to(alloc: Global, table: &Table, syn: &Syn) -> Result<Ack> {
+    let cluster = cluster(alloc)?;
+    Ok(answer_syn(alloc, table, &cluster, syn)?)
+}
+
 /// An ACK that brings all that a table holds, and asks for nothing.
 pub(crate) fn bringing(alloc: Global, table: &Table) -> Result<Ack> {
-    Ok(answer_syn(alloc, table, &cluster(alloc)?, &empty_syn(alloc)?)?)
+    answer_to(alloc, table, &empty_syn(alloc)?)
 }
 
 /// The SYN that a table opens with.
@@ -167,9 +208,7 @@ pub(crate) fn opening(alloc: Global, table: &Table) -> Result<Syn> {
 
 /// What a table sends to the opener of another one.
 pub(crate) fn lacking(alloc: Global, table: &Table, newer: &Table) -> Result<Ack> {
-    let opening = opening(alloc, table)?;
-    let cluster = cluster(alloc)?;
-    Ok(answer_syn(alloc, newer, &cluster, &opening)?)
+    answer_to(alloc, newer, &opening(alloc, table)?)
 }
 
 fn copies(alloc: Global, deltas: &[OwnerDelta]) -> Result<Vec<OwnerDelta>, AllocError> {

@@ -1,11 +1,11 @@
 //! What a case makes, and the digest that tells it from anything else.
 
+use crate::frames::write;
 use crate::inputs::bringing;
 use anyhow::Result;
 use bytes::Bytes;
 use cg_core::Node;
 use cg_exchange::Message;
-use cg_frames::encode;
 use cg_silence::Verdict;
 use cg_table::Table;
 use cg_tokens::Ring;
@@ -21,7 +21,7 @@ pub(crate) enum Made {
     Fault(Fault),
     Table(Table),
     Tables(Table, Table),
-    Answered(Table, Bytes),
+    Answered((Table, Bytes)),
     Node(Node),
     Ring(Ring),
     Replicas(Vec<Endpoint>),
@@ -30,7 +30,7 @@ pub(crate) enum Made {
 
 // All that a table holds, as the ACK that brings it.
 fn held(alloc: Global, table: &Table) -> Result<Bytes> {
-    Ok(encode(alloc, &Message::Ack(bringing(alloc, table)?))?)
+    write(alloc, &Message::Ack(bringing(alloc, table)?))
 }
 
 fn add_table(alloc: Global, hasher: &mut Md5, table: &Table) -> Result<()> {
@@ -67,7 +67,7 @@ fn verdict_name(verdict: Verdict) -> &'static str {
 }
 
 fn add_message(alloc: Global, hasher: &mut Md5, message: &Message) -> Result<()> {
-    hasher.update(encode(alloc, message)?.as_slice());
+    hasher.update(write(alloc, message)?.as_slice());
     Ok(())
 }
 
@@ -97,7 +97,7 @@ fn add(alloc: Global, hasher: &mut Md5, made: &Made) -> Result<()> {
         Made::Fault(fault) => add_fault(alloc, hasher, fault),
         Made::Table(table) => add_table(alloc, hasher, table),
         Made::Tables(one, other) => add_tables(alloc, hasher, one, other),
-        Made::Answered(table, frame) => add_answered(alloc, hasher, table, frame),
+        Made::Answered((table, frame)) => add_answered(alloc, hasher, table, frame),
         Made::Node(node) => add_table(alloc, hasher, node.table()),
         Made::Ring(ring) => add_ring(alloc, hasher, ring),
         Made::Replicas(endpoints) => add_endpoints(alloc, hasher, endpoints),

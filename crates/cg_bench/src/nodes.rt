@@ -1,7 +1,7 @@
 //! What a node at a table of 256 endpoints does with one event.
 
 use crate::inputs::{Newer, Shape, as_ack2, bringing, cluster, endpoint, full, lacking, single};
-use crate::measure::{Mode, case};
+use crate::measure::{Mode, case, named};
 use crate::work::Work;
 use anyhow::{Context, Result};
 use cg_core::{Event, Node, Settings};
@@ -24,19 +24,30 @@ fn started(alloc: Global) -> Result<Node> {
     Ok(Node::start(alloc, own, generation, settings)?)
 }
 
+/// The node after an event.
+pub(crate) fn after(alloc: Global, node: &Node, event: &Event) -> Result<Node> {
+    let (after, _) = node.stepped(alloc, event)?;
+    Ok(after)
+}
+
+// The event of an ACK2 with the deltas of an ACK.
+fn comes(alloc: Global, now: u64, ack: &Ack) -> Result<Event> {
+    let m = as_ack2(alloc, ack)?;
+    Ok(Event::Ack2 { now, m })
+}
+
 // The event of all that the others hold.
 fn others(alloc: Global, shape: Shape) -> Result<Event> {
     let others = full(alloc, 255, shape, Newer::Nothing)?;
     let ack = bringing(alloc, &others)?;
-    let m = as_ack2(alloc, &ack)?;
-    Ok(Event::Ack2 { now: 1000, m })
+    comes(alloc, 1000, &ack)
 }
 
 // Endpoint 0, which has taken all that the others hold.
 fn joined(alloc: Global, shape: Shape) -> Result<Node> {
     let node = started(alloc)?;
     let others = others(alloc, shape)?;
-    Ok(node.stepped(alloc, &others)?.0)
+    after(alloc, &node, &others)
 }
 
 // The ACK of one heartbeat: that of the eighth endpoint.
@@ -48,8 +59,7 @@ fn one_beat(alloc: Global, node: &Node, shape: Shape) -> Result<Ack> {
 
 fn heartbeat(alloc: Global, node: &Node, shape: Shape) -> Result<Event> {
     let beat = one_beat(alloc, node, shape)?;
-    let m = as_ack2(alloc, &beat)?;
-    Ok(Event::Ack2 { now: 2000, m })
+    comes(alloc, 2000, &beat)
 }
 
 // The event of a load that the node's own entry is to show.
@@ -60,55 +70,44 @@ fn load(alloc: Global) -> Result<Event> {
     })
 }
 
-fn step(
-    rt: &(impl Clock + Print + Alloc<A = Global>),
-    mode: Mode,
-    name: &str,
-    node: &Node,
-    event: &Event,
-) -> Result<()> {
-    let name = format!(in rt.alloc(); "ours_node_{name}")?;
-    case(rt, mode, &name, &Work::Step(node, event))
-}
-
 fn step_heartbeat(
     rt: &(impl Clock + Print + Alloc<A = Global>),
     mode: Mode,
-    tag: &str,
+    tag: &'static str,
     shape: Shape,
     node: &Node,
 ) -> Result<()> {
-    let name = format!(in rt.alloc(); "heartbeat_{tag}")?;
     let heard = heartbeat(rt.alloc(), node, shape)?;
-    step(rt, mode, &name, node, &heard)
+    let name = named("node", "heartbeat", tag);
+    case(rt, mode, name, &Work::Step(node, &heard))
 }
 
 fn step_beat(
     rt: &(impl Clock + Print + Alloc<A = Global>),
     mode: Mode,
-    tag: &str,
+    tag: &'static str,
     node: &Node,
 ) -> Result<()> {
-    let name = format!(in rt.alloc(); "beat_{tag}")?;
-    step(rt, mode, &name, node, &Event::Beat)
+    let name = named("node", "beat", tag);
+    case(rt, mode, name, &Work::Step(node, &Event::Beat))
 }
 
 fn step_set(
     rt: &(impl Clock + Print + Alloc<A = Global>),
     mode: Mode,
-    tag: &str,
+    tag: &'static str,
     node: &Node,
 ) -> Result<()> {
-    let name = format!(in rt.alloc(); "set_{tag}")?;
     let load = load(rt.alloc())?;
-    step(rt, mode, &name, node, &load)
+    let name = named("node", "set", tag);
+    case(rt, mode, name, &Work::Step(node, &load))
 }
 
 /// One heartbeat of another endpoint, one of the own, and one set.
 pub(crate) fn nodes(
     rt: &(impl Clock + Print + Alloc<A = Global>),
     mode: Mode,
-    tag: &str,
+    tag: &'static str,
     shape: Shape,
 ) -> Result<()> {
     let node = joined(rt.alloc(), shape)?;

@@ -2,10 +2,11 @@
 
 use crate::inputs::claims;
 use crate::made::Made;
-use crate::measure::{Mode, case};
+use crate::measure::{Mode, case, named};
 use crate::work::Work;
 use anyhow::{Context, Result};
 use cg_silence::{Silence, Verdict, Window};
+use cg_table::Table;
 use cg_tokens::{Ring, Token, token_of};
 use std::alloc::Global;
 use std::hint::black_box;
@@ -18,6 +19,11 @@ fn tokens(alloc: Global) -> Result<Vec<Token>> {
         tokens.push(token_of(&number.to_be_bytes()))?;
     }
     Ok(tokens)
+}
+
+/// The ring of a table.
+pub(crate) fn ring(alloc: Global, table: &Table) -> Result<Ring> {
+    Ok(Ring::of_table(alloc, table)?)
 }
 
 /// The replicas of a thousand tokens, one after the other, and those of the last.
@@ -41,36 +47,38 @@ pub(crate) fn replicas_of_keys(alloc: Global, ring: &Ring) -> Result<Made> {
 
 fn lookups(rt: &(impl Clock + Print + Alloc<A = Global>), mode: Mode, ring: &Ring) -> Result<()> {
     let tokens = tokens(rt.alloc())?;
-    case(
-        rt,
-        mode,
-        "ours_1000_replicas_rf1",
-        &Work::Replicas(ring, &tokens, 1),
-    )?;
-    case(
-        rt,
-        mode,
-        "ours_1000_replicas_rf3",
-        &Work::Replicas(ring, &tokens, 3),
-    )
+    let name = named("1000", "replicas", "rf1");
+    case(rt, mode, name, &Work::Replicas(ring, &tokens, 1))?;
+    let name = named("1000", "replicas", "rf3");
+    case(rt, mode, name, &Work::Replicas(ring, &tokens, 3))
+}
+
+fn keys(rt: &(impl Clock + Print + Alloc<A = Global>), mode: Mode, ring: &Ring) -> Result<()> {
+    let name = named("1000", "keys_to_replicas", "rf3");
+    case(rt, mode, name, &Work::Keys(ring))
+}
+
+// Looks up replicas on the ring of a table.
+fn searches(
+    rt: &(impl Clock + Print + Alloc<A = Global>),
+    mode: Mode,
+    table: &Table,
+) -> Result<()> {
+    let ring = ring(rt.alloc(), table)?;
+    lookups(rt, mode, &ring)?;
+    keys(rt, mode, &ring)
 }
 
 /// Makes the ring of 256 endpoints with sixteen tokens each, and looks up replicas on it.
 pub(crate) fn rings(rt: &(impl Clock + Print + Alloc<A = Global>), mode: Mode) -> Result<()> {
     let table = claims(rt.alloc())?;
-    case(rt, mode, "ours_ring_build_256x16", &Work::Ring(&table))?;
-    let ring = Ring::of_table(rt.alloc(), &table)?;
-    lookups(rt, mode, &ring)?;
-    case(
-        rt,
-        mode,
-        "ours_1000_keys_to_replicas_rf3",
-        &Work::Keys(&ring),
-    )
+    let name = named("ring", "build", "256x16");
+    case(rt, mode, name, &Work::Ring(&table))?;
+    searches(rt, mode, &table)
 }
 
-/// A window that has heard two thousand arrivals, a second apart.
-pub(crate) fn heard(alloc: Global, silence: Silence) -> Result<Window> {
+// A window that has heard two thousand arrivals, a second apart.
+fn heard(alloc: Global, silence: Silence) -> Result<Window> {
     let mut window = Window::new(alloc, silence)?;
     for arrival in 0..2000u64 {
         window.arrived(black_box(arrival * 1000));
@@ -78,11 +86,27 @@ pub(crate) fn heard(alloc: Global, silence: Silence) -> Result<Window> {
     Ok(window)
 }
 
+/// The verdict of a new window, a second after the last of its arrivals.
+pub(crate) fn last_verdict(alloc: Global, silence: Silence) -> Result<Verdict> {
+    let window = heard(alloc, silence)?;
+    Ok(window.verdict(2_000_000))
+}
+
+// The moment of the next verdict. It rests on the last verdict, so that all before the last one are needed too.
+fn next(now: u64, verdict: Verdict) -> u64 {
+    match verdict {
+        Verdict::Silent => now.wrapping_add(10),
+        Verdict::Alive | Verdict::Unheard => now.wrapping_add(20),
+    }
+}
+
 /// The last of a thousand verdicts.
 pub(crate) fn verdicts(window: &Window) -> Verdict {
+    let mut now = 2_000_000;
     let mut last = Verdict::Unheard;
-    for now in 2_000_000..2_001_000u64 {
-        last = black_box(window.verdict(black_box(now)));
+    for _ in 0..1000 {
+        last = window.verdict(now);
+        now = next(now, last);
     }
     last
 }
@@ -91,16 +115,8 @@ pub(crate) fn verdicts(window: &Window) -> Verdict {
 pub(crate) fn windows(rt: &(impl Clock + Print + Alloc<A = Global>), mode: Mode) -> Result<()> {
     let silence = Silence::new(1000, 2000, 60000, 18421).context("settings of a window")?;
     let window = heard(rt.alloc(), silence)?;
-    case(
-        rt,
-        mode,
-        "ours_silence_2000_arrived_w1000",
-        &Work::Arrivals(silence),
-    )?;
-    case(
-        rt,
-        mode,
-        "ours_silence_1000_verdicts_w1000",
-        &Work::Verdicts(&window),
-    )
+    let name = named("silence", "2000_arrived", "w1000");
+    case(rt, mode, name, &Work::Arrivals(silence))?;
+    let name = named("silence", "1000_verdicts", "w1000");
+    case(rt, mode, name, &Work::Verdicts(&window))
 }

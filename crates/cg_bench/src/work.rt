@@ -1,13 +1,13 @@
 //! The pieces of work that are measured.
 
-use crate::answers::{answered, exchanged, opened, taken};
-use crate::frames::{fault, read};
+use crate::answers::{answered, ended, exchanged, opened, taken};
+use crate::frames::{fault, read, write};
 use crate::made::Made;
-use crate::rings::{heard, replicas, replicas_of_keys, verdicts};
+use crate::nodes::after;
+use crate::rings::{last_verdict, replicas, replicas_of_keys, ring, verdicts};
 use anyhow::Result;
 use cg_core::{Event, Node};
-use cg_exchange::{Ack2, Message, take_ack2};
-use cg_frames::encode;
+use cg_exchange::{Ack2, Message};
 use cg_silence::{Silence, Window};
 use cg_table::Table;
 use cg_tokens::{Ring, Token};
@@ -49,25 +49,22 @@ pub(crate) enum Work<'a, 'b, 'c> {
 
 /// What one turn of the work makes.
 pub(crate) fn turn(alloc: Global, work: &Work<'_, '_, '_>) -> Result<Made> {
-    Ok(match work {
-        Work::Encode(message) => Made::Frame(encode(alloc, message)?),
-        Work::Decode(frame) => Made::Message(read(alloc, frame)?),
-        Work::Check(frame) => Made::Fault(fault(alloc, frame)?),
-        Work::Open(table, cluster) => Made::Frame(opened(alloc, table, cluster)?),
-        Work::Answer(table, cluster, frame) => Made::Frame(answered(alloc, table, cluster, frame)?),
-        Work::TakeAck(table, frame) => taken_as_made(alloc, table, frame)?,
-        Work::TakeAck2(table, ack2) => Made::Table(take_ack2(alloc, table, ack2)?.0),
-        Work::Exchange(opener, answerer, cluster) => exchanged(alloc, opener, answerer, cluster)?,
-        Work::Ring(table) => Made::Ring(Ring::of_table(alloc, table)?),
-        Work::Replicas(ring, tokens, rf) => replicas(alloc, ring, tokens, *rf)?,
-        Work::Keys(ring) => replicas_of_keys(alloc, ring)?,
-        Work::Arrivals(silence) => Made::Verdict(heard(alloc, *silence)?.verdict(2_000_000)),
-        Work::Verdicts(window) => Made::Verdict(verdicts(window)),
-        Work::Step(node, event) => Made::Node(node.stepped(alloc, event)?.0),
-    })
-}
-
-fn taken_as_made(alloc: Global, table: &Table, frame: &[u8]) -> Result<Made> {
-    let (after, ack2) = taken(alloc, table, frame)?;
-    Ok(Made::Answered(after, ack2))
+    match work {
+        Work::Encode(message) => write(alloc, message).map(Made::Frame),
+        Work::Decode(frame) => read(alloc, frame).map(Made::Message),
+        Work::Check(frame) => fault(alloc, frame).map(Made::Fault),
+        Work::Open(table, cluster) => opened(alloc, table, cluster).map(Made::Frame),
+        Work::Answer(table, cluster, frame) => answered(alloc, table, cluster, frame).map(
+            Made::Frame,
+        ),
+        Work::TakeAck(table, frame) => taken(alloc, table, frame).map(Made::Answered),
+        Work::TakeAck2(table, ack2) => ended(alloc, table, ack2).map(Made::Table),
+        Work::Exchange(opener, answerer, cluster) => exchanged(alloc, opener, answerer, cluster),
+        Work::Ring(table) => ring(alloc, table).map(Made::Ring),
+        Work::Replicas(ring, tokens, rf) => replicas(alloc, ring, tokens, *rf),
+        Work::Keys(ring) => replicas_of_keys(alloc, ring),
+        Work::Arrivals(silence) => last_verdict(alloc, *silence).map(Made::Verdict),
+        Work::Verdicts(window) => Ok(Made::Verdict(verdicts(window))),
+        Work::Step(node, event) => after(alloc, node, event).map(Made::Node),
+    }
 }

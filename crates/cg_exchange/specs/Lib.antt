@@ -2,6 +2,8 @@ pub mod Values
 pub mod Equality
 pub mod MessageCode
 pub mod Members
+pub mod Contents
+pub mod Messages
 pub mod Answering
 pub mod Walking
 pub mod Taking

@@ -2,9 +2,11 @@
 
 ghost use Rattle.std.specs.Prelude.{◌≡◌, ◌&&◌, ◌↔◌, IsTrue, IfOk, IfSome, is_some};
 ghost use Rattle.cg_exchange.specs.Members.{AreListed, listed, endpoints_of_requests, endpoints_of_deltas};
+ghost use Rattle.cg_exchange.specs.Contents.{IsAck};
 
 use crate::owned::are_listed;
 use crate::owner_delta::{OwnerDelta, copies};
+use crate::parts::show_all;
 use crate::request::Request;
 use std::alloc::{AllocError, Global};
 use std::marker::Model;
@@ -19,7 +21,7 @@ pub struct Ack {
 
 impl Model for Ack {
     ghost use Rattle.cg_exchange.specs.Values.{AckValue, ack_code};
-    ghost use Rattle.cg_exchange.specs.Members.{AreListed, endpoints_of_requests, endpoints_of_deltas};
+    ghost use Rattle.cg_exchange.specs.Contents.{IsAck};
 
     ghost Value = { AckValue };
 
@@ -27,7 +29,7 @@ impl Model for Ack {
 
     ghost view = { λ a. record { requests = a.requests.items; deltas = a.deltas.items } };
 
-    ghost invariant = { λ a. AreListed (endpoints_of_requests a.requests.items) × AreListed (endpoints_of_deltas a.deltas.items) };
+    ghost invariant = { λ a. IsAck (record { requests = a.requests.items; deltas = a.deltas.items }) };
 }
 
 impl PartialEq for Ack {
@@ -62,7 +64,7 @@ impl Ack {
         if !are_listed(&requests) || !are_listed(&deltas) {
             return None;
         }
-        Some(Ack { requests, deltas })
+        Some(Ack::of_parts(requests, deltas))
     }
 
     pub(crate) fn of_parts(requests: Vec<Request>, deltas: Vec<OwnerDelta>) -> Ack
@@ -70,6 +72,8 @@ impl Ack {
         requires deltas { AreListed (endpoints_of_deltas deltas.items) }
         ensures { result ≡ record { requests = requests.items; deltas = deltas.items } }
     {
+        show_all(&requests);
+        show_all(&deltas);
         Ack { requests, deltas }
     }
 
@@ -77,6 +81,7 @@ impl Ack {
     pub fn requests(&self) -> &[Request]
         ensures value { result.now ≡ self.now.requests }
         ensures listed { AreListed (endpoints_of_requests self.now.requests) }
+        ensures valid { IsAck self.now }
     {
         &self.requests
     }
@@ -85,6 +90,7 @@ impl Ack {
     pub fn deltas(&self) -> &[OwnerDelta]
         ensures value { result.now ≡ self.now.deltas }
         ensures listed { AreListed (endpoints_of_deltas self.now.deltas) }
+        ensures valid { IsAck self.now }
     {
         &self.deltas
     }

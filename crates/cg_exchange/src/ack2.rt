@@ -2,9 +2,11 @@
 
 ghost use Rattle.std.specs.Prelude.{◌≡◌, ◌↔◌, IsTrue, IfOk, IfSome, is_some};
 ghost use Rattle.cg_exchange.specs.Members.{AreListed, listed, endpoints_of_deltas};
+ghost use Rattle.cg_exchange.specs.Contents.{IsAck2};
 
 use crate::owned::are_listed;
 use crate::owner_delta::{OwnerDelta, copies};
+use crate::parts::show_all;
 use std::alloc::{AllocError, Global};
 use std::marker::Model;
 
@@ -17,7 +19,7 @@ pub struct Ack2 {
 
 impl Model for Ack2 {
     ghost use Rattle.cg_exchange.specs.Values.{Ack2Value, ack2_code};
-    ghost use Rattle.cg_exchange.specs.Members.{AreListed, endpoints_of_deltas};
+    ghost use Rattle.cg_exchange.specs.Contents.{IsAck2};
 
     ghost Value = { Ack2Value };
 
@@ -25,7 +27,7 @@ impl Model for Ack2 {
 
     ghost view = { λ a. record { deltas = a.deltas.items } };
 
-    ghost invariant = { λ a. AreListed (endpoints_of_deltas a.deltas.items) };
+    ghost invariant = { λ a. IsAck2 (record { deltas = a.deltas.items }) };
 }
 
 impl PartialEq for Ack2 {
@@ -60,13 +62,14 @@ impl Ack2 {
         if !are_listed(&deltas) {
             return None;
         }
-        Some(Ack2 { deltas })
+        Some(Ack2::of_parts(deltas))
     }
 
     pub(crate) fn of_parts(deltas: Vec<OwnerDelta>) -> Ack2
         requires { AreListed (endpoints_of_deltas deltas.items) }
         ensures { result ≡ record { deltas = deltas.items } }
     {
+        show_all(&deltas);
         Ack2 { deltas }
     }
 
@@ -74,6 +77,7 @@ impl Ack2 {
     pub fn deltas(&self) -> &[OwnerDelta]
         ensures value { result.now ≡ self.now.deltas }
         ensures listed { AreListed (endpoints_of_deltas self.now.deltas) }
+        ensures valid { IsAck2 self.now }
     {
         &self.deltas
     }

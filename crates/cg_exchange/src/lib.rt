@@ -17,6 +17,7 @@ mod opening;
 mod outcome;
 mod owned;
 mod owner_delta;
+mod parts;
 mod request;
 mod taking;
 #[cfg(test)]

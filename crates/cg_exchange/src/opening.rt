@@ -2,8 +2,10 @@
 
 ghost use Rattle.std.specs.Prelude.{◌≡◌, ◌↔◌, IsTrue, IfOk, IfSome, is_some};
 ghost use Rattle.cg_exchange.specs.Members.{AreListed, listed, endpoints_of_digests};
+ghost use Rattle.cg_exchange.specs.Contents.{IsSyn};
 
 use crate::owned::are_listed;
+use crate::parts::show_all;
 use cg_table::Digest;
 use cg_types::Cluster;
 use std::alloc::{AllocError, Global};
@@ -19,13 +21,13 @@ pub struct Syn {
 
 impl Model for Syn {
     ghost use Rattle.cg_exchange.specs.Values.{SynValue};
-    ghost use Rattle.cg_exchange.specs.Members.{AreListed, endpoints_of_digests};
+    ghost use Rattle.cg_exchange.specs.Contents.{IsSyn};
 
     ghost Value = { SynValue };
 
     ghost view = { λ s. record { cluster = s.cluster; digests = s.digests.items } };
 
-    ghost invariant = { λ s. AreListed (endpoints_of_digests s.digests.items) };
+    ghost invariant = { λ s. IsSyn (record { cluster = s.cluster; digests = s.digests.items }) };
 }
 
 impl PartialEq for Syn {
@@ -60,13 +62,14 @@ impl Syn {
         if !are_listed(&digests) {
             return None;
         }
-        Some(Syn { cluster, digests })
+        Some(Syn::of_parts(cluster, digests))
     }
 
     pub(crate) fn of_parts(cluster: Cluster, digests: Vec<Digest>) -> Syn
         requires { AreListed (endpoints_of_digests digests.items) }
         ensures { result ≡ record { cluster = cluster; digests = digests.items } }
     {
+        show_all(&digests);
         Syn { cluster, digests }
     }
 
@@ -81,6 +84,7 @@ impl Syn {
     pub fn digests(&self) -> &[Digest]
         ensures value { result.now ≡ self.now.digests }
         ensures listed { AreListed (endpoints_of_digests self.now.digests) }
+        ensures valid { IsSyn self.now }
     {
         &self.digests
     }

@@ -19,7 +19,8 @@ use Rattle.cg_types.specs.Rising.{is_past, rise_past}
 use Rattle.cg_types.proofs.RisingLemmas.{first_of, second_of}
 use Rattle.cg_table.specs.declared.digest.Digest.{Digest}
 use Rattle.cg_frames.specs.Reading.{◌>>=◌, Field, bytes_at, number_at, endpoint_from, endpoint_at, ranged_at, digest_at, rising_at, count_at, plain_at, name_at, syn_at}
-use Rattle.cg_frames.specs.Fits.{FitsDigest, FitsSyn}
+use Rattle.cg_exchange.specs.Contents.{IsDigest}
+use Rattle.cg_frames.specs.Fits.{FitsSyn}
 use Rattle.cg_frames.proofs.TakenLemmas.{syn_made, after_count, after_partitioner, after_name}
 use Rattle.cg_frames.specs.Spelling.{two_bytes, four_bytes, endpoint, digest, members, body}
 
@@ -61,7 +62,7 @@ endpoint_again last e rest valid past =
     ∙ ap (λ m. endpoint_from last bytes (address_of e) m rest) p
     ∙ rw (some, whole, past) refl
 
-pub digest_again : (last : Option ℕ) (d : Digest) (rest : List ℕ) → FitsDigest d → is_past last d.endpoint ≡ true → digest_at last (digest d ++ rest) ≡ Ok (d, rest)
+pub digest_again : (last : Option ℕ) (d : Digest) (rest : List ℕ) → IsDigest d → is_past last d.endpoint ≡ true → digest_at last (digest d ++ rest) ≡ Ok (d, rest)
 unfolding digest_at
 digest_again last d rest fits past =
     let regrouped : digest d ++ rest ≡ endpoint d.endpoint ++ (four_bytes d.generation ++ (four_bytes d.newest ++ rest)) = simp append_assoc in
@@ -128,4 +129,4 @@ syn_again layout m rest wide fits =
     ∙ ap (λ (r : Field ℕ). r >>= after_partitioner layout name) (byte_again partitioner listed)
     ∙ ap (λ (bytes : List ℕ). count_at layout bytes >>= after_count name partitioner) (append_assoc (two_bytes (length m.digests)) spelled rest)
     ∙ ap (λ (r : Field ℕ). r >>= after_count name partitioner) (count_again layout (length m.digests) (spelled ++ rest) few wide)
-    ∙ ap (λ (r : Field (List Digest)). r >>= syn_made name partitioner) (rising_again (λ (d : Digest). d.endpoint) digest digest_at FitsDigest digest_again None m.digests rest fits.digests fits.listed.rise)
+    ∙ ap (λ (r : Field (List Digest)). r >>= syn_made name partitioner) (rising_again (λ (d : Digest). d.endpoint) digest digest_at IsDigest digest_again None m.digests rest fits.digests fits.listed.rise)

@@ -1,21 +1,29 @@
--- What each member of a list has, member by member.
-use Rattle.std.proofs.Common.{◌≡◌, ℕ, ◌<◌, ◌≤◌, Bool, true, false, cond, List, [], ◌∷◌, length, take, refl, sym, ap, subst, ◌∙◌, arith}
-use Rattle.std.specs.Prelude.{nat_lt, max}
-use Rattle.cg_types.specs.declared.limits.TheConstants.{NUMBER_LIMIT, TEXT_LIMIT}
+-- What each member of a list has, member by member, and that messages fit.
+use Rattle.std.proofs.Common.{◌≡◌, ℕ, ◌≤◌, Bool, true, false, cond, List, [], ◌∷◌, length, refl, sym, ap, ◌∙◌, arith}
+use Rattle.std.specs.Prelude.{nat_lt}
+use Rattle.cg_types.specs.declared.limits.TheConstants.{TEXT_LIMIT, STATE_LIMIT}
+use Rattle.cg_types.proofs.RisingLemmas.{rise_sorted}
 use Rattle.std.specs.List.{AllByRecursion, filter}
-use Rattle.std.specs.FinMap.{entries}
-use Rattle.std.proofs.lemmas.List.{take_all}
+use Rattle.std.specs.FinMap.{entries, entries_sorted}
+use Rattle.std.proofs.lemmas.List.{length-map}
 use Rattle.std.proofs.lemmas.Bool.{ltb-true}
 use Rattle.cg_entry.specs.Versioned.{Versioned, States}
-use Rattle.cg_entry.specs.State.{pair, pairs}
+use Rattle.cg_entry.specs.State.{pairs}
 use Rattle.cg_entry.specs.declared.state.State.{State}
-use Rattle.cg_entry.specs.Entry.{greatest_of, newer_than}
+use Rattle.cg_entry.specs.Entry.{newer_than}
 use Rattle.cg_entry.proofs.DeltaLemmas.{entries-newer_than}
+use Rattle.cg_exchange.specs.declared.owner_delta.OwnerDelta.{OwnerDelta}
+use Rattle.cg_exchange.specs.declared.message.Message.{Message}
+use Rattle.cg_exchange.specs.declared.message.Message.TheVariants.{Syn, Ack, Ack2}
+use Rattle.cg_exchange.specs.Members.{AreListed, endpoints_of_digests, endpoints_of_requests, endpoints_of_deltas}
+use Rattle.cg_exchange.specs.Contents.{IsState, IsOwnerDelta}
+use Rattle.cg_exchange.specs.Messages.{IsMessage}
+pub use Rattle.cg_exchange.proofs.PartLemmas.{all_pairs}
 use Rattle.cg_frames.specs.declared.layout.Layout.{Layout}
-use Rattle.cg_frames.specs.Fits.{IsState, FitsState}
-
-all_taken : {X : Type 0} (P : X → Type 0) (xs : List X) (i : ℕ) → length xs ≤ i → AllByRecursion P (take i xs) → AllByRecursion P xs
-all_taken P xs i le all = subst (AllByRecursion P) (take_all i xs le) all
+use Rattle.cg_frames.specs.declared.layout.TheConstants.{LAYOUT_1}
+use Rattle.cg_frames.specs.Layouts.{IsWritten}
+use Rattle.cg_frames.specs.Fits.{FitsState, FitsDelta, FitsMembers, Fits}
+use Rattle.cg_frames.proofs.SpelledDeltas.{states_few}
 
 -- ---- states
 
@@ -45,14 +53,46 @@ newer_fit layout above (s ∷ es) enough e all =
 pub states_fit : (layout : Layout) (above : ℕ) (m : States) → TEXT_LIMIT ≤ layout.text → newer_than above m ≡ m → AllByRecursion IsState (entries m) → AllByRecursion (FitsState layout above) (entries m)
 states_fit layout above m enough newer all = newer_fit layout above (entries m) enough (sym (entries-newer_than above m) ∙ ap entries newer) all
 
--- the greatest of a number and of the versions is in their range
-pub greatest_small : (n : ℕ) (es : List (ℕ × Versioned)) → n < NUMBER_LIMIT → AllByRecursion IsState es → greatest_of n es < NUMBER_LIMIT
-greatest_small n [] lt all = lt
-greatest_small n (s ∷ es) lt all = greatest_small (max n s.1.version) es (omega (arith, all.0.version.1)) all.1
+-- there are no more states than keys
+pub few_states : (d : OwnerDelta) (ss : List State) → IsOwnerDelta d → pairs ss ≡ entries d.delta.states → length ss ≤ STATE_LIMIT
+few_states d ss is same =
+    let fit = states_fit LAYOUT_1 d.delta.above d.delta.states (omega arith) is.carries.newer is.states in
+    omega (arith, states_few LAYOUT_1 d.delta.above (entries d.delta.states) fit (rise_sorted (entries d.delta.states) (entries_sorted d.delta.states)), ap length same, length-map {A = State} {B = ℕ × Versioned})
 
-pub all_pairs : (P : ℕ × Versioned → Type 0) (ss : List State) → AllByRecursion (λ (s : State). P (pair s)) ss → AllByRecursion P (pairs ss)
-all_pairs P [] all = tt
-all_pairs P (s ∷ ss) all = (all.0, all_pairs P ss all.1)
+-- ---- what is true of every message makes it fit
 
-pub pairs_taken : (P : ℕ × Versioned → Type 0) (ss : List State) (i : ℕ) → length ss ≤ i → AllByRecursion (λ (s : State). P (pair s)) (take i ss) → AllByRecursion P (pairs ss)
-pairs_taken P ss i le all = all_pairs P ss (all_taken (λ (s : State). P (pair s)) ss i le all)
+delta_fits : (layout : Layout) → IsWritten layout → (d : OwnerDelta) → IsOwnerDelta d → FitsDelta layout d
+delta_fits layout written d is = record {
+  endpoint = is.endpoint;
+  generation = is.generation;
+  above = is.above;
+  heartbeat = is.heartbeat;
+  states = states_fit layout d.delta.above d.delta.states written.text is.carries.newer is.states;
+  something = is.carries.something;
+}
+
+deltas_fit : (layout : Layout) → IsWritten layout → (ds : List OwnerDelta) → AllByRecursion IsOwnerDelta ds → AllByRecursion (FitsDelta layout) ds
+deltas_fit layout written [] all = tt
+deltas_fit layout written (d ∷ ds) all = (delta_fits layout written d all.0, deltas_fit layout written ds all.1)
+
+members_fit : (layout : Layout) → IsWritten layout → (endpoints : List ℕ) → AreListed endpoints → FitsMembers layout endpoints
+members_fit layout written endpoints are = record { rise = are.rise; few = omega (arith, are.few, written.members) }
+
+-- a layout that allows what messages hold can spell each of them
+pub message_fits : (layout : Layout) → IsWritten layout → (m : Message) → IsMessage m → Fits layout m
+message_fits layout written (Syn m) is = record {
+  name = is.cluster.is_named;
+  partitioner = is.cluster.is_byte;
+  listed = members_fit layout written (endpoints_of_digests m.digests) is.listed;
+  digests = is.digests;
+}
+message_fits layout written (Ack m) is = record {
+  asked = members_fit layout written (endpoints_of_requests m.requests) is.asked;
+  requests = is.requests;
+  listed = members_fit layout written (endpoints_of_deltas m.deltas) is.listed;
+  deltas = deltas_fit layout written m.deltas is.deltas;
+}
+message_fits layout written (Ack2 m) is = record {
+  listed = members_fit layout written (endpoints_of_deltas m.deltas) is.listed;
+  deltas = deltas_fit layout written m.deltas is.deltas;
+}

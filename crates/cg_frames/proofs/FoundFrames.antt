@@ -1,6 +1,6 @@
 -- Messages and frames that are read are spelled so, and fit.
-use Rattle.std.proofs.Common.{◌≡◌, ℕ, ◌≤◌, true, false, cond, List, [], ◌∷◌, ◌++◌, length, take, drop, Option, Some, None, Result, Ok, Err, refl, sym, ap, subst, ◌∙◌, append_assoc, arith, length-append, length-take, length-drop}
-use Rattle.std.specs.Prelude.{◌==◌}
+use Rattle.std.proofs.Common.{◌≡◌, ℕ, ◌<◌, ◌≤◌, true, false, cond, List, [], ◌∷◌, ◌++◌, length, take, drop, Option, Some, None, Result, Ok, Err, refl, sym, ap, subst, ◌∙◌, append_assoc, arith, length-append, length-take, length-drop}
+use Rattle.std.specs.Prelude.{◌==◌, slice_get}
 use Rattle.std.specs.Int.{w8, w32, from_be_bytes, to_be_bytes}
 use Rattle.std.proofs.lemmas.Bool.{eqb-true}
 use Rattle.std.proofs.lemmas.List.{take-append-drop, take_at, append-nil}
@@ -18,10 +18,13 @@ use Rattle.cg_frames.specs.declared.misread.Misread.{Misread}
 use Rattle.cg_frames.specs.declared.reader.Kind.{Kind}
 use Rattle.cg_frames.specs.declared.reader.Kind.TheVariants as kinds
 use Rattle.cg_frames.specs.Reading.{◌>>=◌, Field, number_at, digest_at, request_at, delta_at, listed_requests_at, listed_deltas_at, syn_at, ack_at, ack2_at, ended, told, layout_at, kind_from, kind_at, of_kind, inside_at, frame_at}
+use Rattle.cg_frames.specs.Choosing.{due, frame_among, IsOneOf}
 use Rattle.cg_frames.specs.Spelling.{four_bytes, digest, request, delta, cluster, members, kind, body, inside, frame}
-use Rattle.cg_frames.specs.Fits.{Fits, FitsDigest, FitsRequest, FitsDelta, FitsSyn, FitsAck, FitsAck2}
+use Rattle.cg_exchange.specs.Contents.{IsDigest, IsRequest}
+use Rattle.cg_frames.specs.Fits.{Fits, FitsDelta, FitsSyn, FitsAck, FitsAck2}
 use Rattle.cg_frames.specs.Laws.{AreBytes, IsSpelledIn, TakesOnlySpelled}
 use Rattle.cg_frames.proofs.TakenLemmas.{bind_ok, ok_is, goes_on_by, digest_past, request_past, delta_past, syn_parts}
+use Rattle.cg_frames.proofs.ChoosingLemmas.{due_is_one, byte_of_frame}
 use Rattle.cg_frames.proofs.FrameLemmas.{frame_parts}
 use Rattle.cg_frames.proofs.FoundLemmas.{Stands, then, front_bytes, later_bytes, byte_found, digest_found, name_found, MembersFound, members_found, listed_found}
 use Rattle.cg_frames.proofs.FoundMembers.{request_found, delta_found}
@@ -33,15 +36,15 @@ syn_found layout bytes m rest small h =
     let p = syn_parts layout bytes m rest h in
     let name = name_found bytes m.cluster.name p.from_partitioner small p.name in
     let part = byte_found p.from_partitioner m.cluster.partitioner p.from_count name.0.bytes_behind p.partitioner in
-    let listed = members_found (λ (d : Digest). d.endpoint) digest digest_at FitsDigest digest_found digest_past layout p.from_count p.count p.from_digests m.digests rest part.0.bytes_behind p.counted p.digests in (
+    let listed = members_found (λ (d : Digest). d.endpoint) digest digest_at IsDigest digest_found digest_past layout p.from_count p.count p.from_digests m.digests rest part.0.bytes_behind p.counted p.digests in (
       then (cluster m.cluster) (members digest m.digests) bytes p.from_count rest
           (then (length m.cluster.name ∷ m.cluster.name) (m.cluster.partitioner ∷ []) bytes p.from_partitioner p.from_count name.0 part.0)
           listed.stands,
       record { name = name.1; partitioner = part.1; listed = listed.listed; digests = listed.fit },
     )
 
-requests_found : (layout : Layout) (bytes : List ℕ) (rs : List RequestValue) (rest : List ℕ) → AreBytes bytes → listed_requests_at layout bytes ≡ Ok (rs, rest) → MembersFound (λ (r : RequestValue). r.endpoint) request FitsRequest layout bytes rs rest
-requests_found = listed_found (λ (r : RequestValue). r.endpoint) request request_at FitsRequest request_found request_past
+requests_found : (layout : Layout) (bytes : List ℕ) (rs : List RequestValue) (rest : List ℕ) → AreBytes bytes → listed_requests_at layout bytes ≡ Ok (rs, rest) → MembersFound (λ (r : RequestValue). r.endpoint) request IsRequest layout bytes rs rest
+requests_found = listed_found (λ (r : RequestValue). r.endpoint) request request_at IsRequest request_found request_past
 
 deltas_found : (layout : Layout) (bytes : List ℕ) (ds : List OwnerDelta) (rest : List ℕ) → AreBytes bytes → listed_deltas_at layout bytes ≡ Ok (ds, rest) → MembersFound (λ (d : OwnerDelta). d.endpoint) delta (FitsDelta layout) layout bytes ds rest
 deltas_found layout = listed_found (λ (d : OwnerDelta). d.endpoint) delta (delta_at layout) (FitsDelta layout) (delta_found layout) (delta_past layout) layout
@@ -194,7 +197,16 @@ frame_found layout bytes m n small h =
     ∙ sym (append_assoc (four_bytes (length (inside layout m))) (inside layout m) (drop size behind)) in
     record { within = p.within; spelled = ap (take n) whole ∙ take_at (frame layout m) (drop size behind) n long; fits = f.fits }
 
-pub all_found : (layout : Layout) (bytes : List ℕ) (result : Result (Option (Message × ℕ)) Fault) → AreBytes bytes → Answers (λ (x : Option (Message × ℕ)). x) (frame_at layout bytes) result → TakesOnlySpelled layout bytes result
-all_found layout bytes (Ok (Some f)) small answers = frame_found layout bytes f.0 f.1 small answers
-all_found layout bytes (Ok None) small answers = tt
-all_found layout bytes (Err fault) small answers = tt
+-- What is read in the layout that is due is spelled so in a layout of the list: it is that one.
+pub found_among : (layouts : List Layout) → 0 < length layouts → (bytes : List ℕ) (m : Message) (n : ℕ) → AreBytes bytes → frame_among layouts bytes ≡ Ok (Some (m, n)) → (layout : Layout) × IsOneOf layouts layout × IsSpelledIn layout bytes m n
+found_among layouts some bytes m n small h =
+    let layout = due layouts bytes in
+    let f = frame_found layout bytes m n small h in
+    let whole : bytes ≡ frame layout m ++ drop n bytes = sym (take-append-drop n bytes) ∙ ap (λ (ys : List ℕ). ys ++ drop n bytes) f.spelled in
+    let at : slice_get bytes 4 ≡ Some layout.byte = ap (λ (ys : List ℕ). slice_get ys 4) whole ∙ byte_of_frame layout m (drop n bytes) in
+    (layout, due_is_one layouts bytes some at, f)
+
+pub all_found : (layouts : List Layout) → 0 < length layouts → (bytes : List ℕ) (result : Result (Option (Message × ℕ)) Fault) → AreBytes bytes → Answers (λ (x : Option (Message × ℕ)). x) (frame_among layouts bytes) result → TakesOnlySpelled layouts bytes result
+all_found layouts some bytes (Ok (Some f)) small answers = found_among layouts some bytes f.0 f.1 small answers
+all_found layouts some bytes (Ok None) small answers = tt
+all_found layouts some bytes (Err fault) small answers = tt

@@ -19,7 +19,8 @@ use Rattle.cg_frames.specs.declared.layout.Layout.{Layout}
 use Rattle.cg_frames.specs.declared.misread.Misread.{Misread}
 use Rattle.cg_frames.specs.Reading.{◌>>=◌, Field, bytes_at, number_at, endpoint_at, ranged_at, digest_at, rising_at, plain_at, name_at, count_at}
 use Rattle.cg_frames.specs.Spelling.{two_bytes, four_bytes, endpoint, digest, members}
-use Rattle.cg_frames.specs.Fits.{FitsDigest, FitsMembers}
+use Rattle.cg_exchange.specs.Contents.{IsDigest}
+use Rattle.cg_frames.specs.Fits.{FitsMembers}
 use Rattle.cg_frames.specs.Laws.{AreBytes}
 use Rattle.cg_frames.proofs.TakenLemmas.{bind_ok, ok_is, goes_by, goes_on_by, endpoint_parts, digest_parts, rising_parts, none_read, rising_taken, count_within, counted_parts}
 
@@ -166,7 +167,7 @@ endpoint_found last bytes e rest small h =
     subst (λ (e : ℕ). EndpointFound e bytes rest) p.value
     (record { stands = subst (λ (ys : List ℕ). Stands ys bytes rest) (sym six.0) f.stands; valid = six.1 })
 
-pub digest_found : (last : Option ℕ) (bytes : List ℕ) (d : Digest) (rest : List ℕ) → AreBytes bytes → digest_at last bytes ≡ Ok (d, rest) → Stands (digest d) bytes rest × FitsDigest d
+pub digest_found : (last : Option ℕ) (bytes : List ℕ) (d : Digest) (rest : List ℕ) → AreBytes bytes → digest_at last bytes ≡ Ok (d, rest) → Stands (digest d) bytes rest × IsDigest d
 digest_found last bytes d rest small h =
     let p = digest_parts last bytes d rest h in
     let e = endpoint_found last bytes d.endpoint p.from_generation small p.endpoint in

@@ -22,16 +22,18 @@ use Rattle.cg_exchange.specs.declared.message.Message.TheVariants.{Syn, Ack, Ack
 use Rattle.cg_exchange.specs.Members.{endpoints_of_requests, endpoints_of_deltas}
 use Rattle.cg_exchange.specs.Values.{RequestValue, SynValue}
 use Rattle.cg_frames.specs.declared.layout.Layout.{Layout}
-use Rattle.cg_frames.specs.declared.layout.TheConstants.{LAYOUT_1}
+use Rattle.cg_frames.specs.declared.layout.TheConstants.{LAYOUT_1, LAYOUTS}
 use Rattle.cg_frames.specs.declared.misread.Misread.{Misread}
 use Rattle.cg_frames.specs.declared.reader.Kind.{Kind}
 use Rattle.cg_frames.specs.declared.reader.Kind.TheVariants as kinds
 use Rattle.cg_frames.specs.Reading.{◌>>=◌, Field, ended, told, layout_at, kind_from, kind_at, of_kind, syn_at, inside_at, frame_at, ack_at, ack2_at}
-use Rattle.cg_frames.specs.Spelling.{two_bytes, four_bytes, endpoint, digest, request, text, state, delta, members, cluster, kind, body, message, inside, frame}
+use Rattle.cg_frames.specs.Spelling.{two_bytes, four_bytes, digest, request, text, state, delta, members, cluster, kind, body, message, inside, frame}
 use Rattle.cg_frames.specs.Fits.{FitsState, FitsDelta, FitsMembers, FitsSyn, Fits}
 use Rattle.cg_frames.specs.Lengths.{state_most, delta_most, deltas_most, digests_most, syn_most, ack_most}
 use Rattle.cg_frames.specs.Layouts.{IsLayout}
+use Rattle.cg_frames.specs.Choosing.{named, frame_among, IsOneOf, AreLayouts}
 use Rattle.cg_frames.specs.Laws.{GivesEachSpelled, NoSpellingBeginsAnother, EachIsShort}
+use Rattle.cg_frames.proofs.ChoosingLemmas.{named_all, due_of_frame}
 use Rattle.cg_frames.proofs.AgainLemmas.{byte_again, length_keys, syn_again}
 use Rattle.cg_frames.proofs.SpelledDeltas.{states_few}
 use Rattle.cg_frames.proofs.SpelledLists.{ack_again, ack2_again}
@@ -145,7 +147,7 @@ inside_again layout m text wide fits =
     ∙ ap (λ (r : Field Kind). r >>= λ kind. of_kind layout kind.0 kind.1) (kind_again m (body m))
     ∙ body_again layout m text wide fits
 
-pub frame_is_read : (layout : Layout) → IsLayout layout → (m : Message) (rest : List ℕ) → Fits layout m → frame_at layout (frame layout m ++ rest) ≡ Ok (Some (m, length (frame layout m)))
+frame_is_read : (layout : Layout) → IsLayout layout → (m : Message) (rest : List ℕ) → Fits layout m → frame_at layout (frame layout m ++ rest) ≡ Ok (Some (m, length (frame layout m)))
 frame_is_read layout is m rest fits =
     let spelled = inside layout m in
     let short : length spelled ≤ layout.length = le_trans (inside_short layout m fits) is.room in
@@ -153,9 +155,15 @@ frame_is_read layout is m rest fits =
     frame_again layout spelled rest m short is.length (inside_again layout m is.text is.members fits)
     ∙ ap (λ (n : ℕ). Ok (Some (m, n))) long
 
-pub each_spelled_is_read : (layout : Layout) → IsLayout layout → (bytes : List ℕ) (result : Result (Option (Message × ℕ)) Fault) → Answers (λ (x : Option (Message × ℕ)). x) (frame_at layout bytes) result → GivesEachSpelled layout bytes result
-each_spelled_is_read layout is bytes result answers m rest fits spelled =
-    subst (λ (due : Result (Option (Message × ℕ)) Fault). Answers (λ (x : Option (Message × ℕ)). x) due result) (ap (frame_at layout) spelled ∙ frame_is_read layout is m rest fits) answers
+-- In whichever layout of a list it is spelled, that one is due.
+pub frame_is_read_among : (layouts : List Layout) → AllByRecursion IsLayout layouts → (layout : Layout) → IsOneOf layouts layout → (m : Message) (rest : List ℕ) → Fits layout m → frame_among layouts (frame layout m ++ rest) ≡ Ok (Some (m, length (frame layout m)))
+frame_is_read_among layouts each layout one m rest fits =
+    ap (λ (l : Layout). frame_at l (frame layout m ++ rest)) (due_of_frame layouts layout m rest one)
+    ∙ frame_is_read layout (named_all IsLayout layouts layout each one) m rest fits
+
+pub each_spelled_is_read : (layouts : List Layout) → AllByRecursion IsLayout layouts → (bytes : List ℕ) (result : Result (Option (Message × ℕ)) Fault) → Answers (λ (x : Option (Message × ℕ)). x) (frame_among layouts bytes) result → GivesEachSpelled layouts bytes result
+each_spelled_is_read layouts each bytes result answers layout m rest one fits spelled =
+    subst (λ (read : Result (Option (Message × ℕ)) Fault). Answers (λ (x : Option (Message × ℕ)). x) read result) (ap (frame_among layouts) spelled ∙ frame_is_read_among layouts each layout one m rest fits) answers
 
 -- ---- no two messages have one spelling
 
@@ -182,14 +190,32 @@ inside_fits layout is m fits =
     let short : length (inside layout m) ≤ layout.length = le_trans (inside_short layout m fits) is.room in
     omega (arith, short, is.length)
 
-pub no_spelling_begins_another : (layout : Layout) → IsLayout layout → NoSpellingBeginsAnother layout
-no_spelling_begins_another layout is m n rest fits other e =
-    let same = same_inside (inside layout m) (inside layout n) rest (inside_fits layout is m fits) (inside_fits layout is n other) e in
+-- A byte names one layout of a list.
+one_layout : (layouts : List Layout) (k l : Layout) → IsOneOf layouts k → IsOneOf layouts l → k.byte ≡ l.byte → k ≡ l
+one_layout layouts k l one other byte =
+    let both : ◌≡◌ {A = Option Layout} (Some k) (Some l) = sym one ∙ ap (named layouts) byte ∙ other in
+    cc both
+
+pub no_spelling_begins_another : (layouts : List Layout) → AreLayouts layouts → NoSpellingBeginsAnother layouts
+no_spelling_begins_another layouts are k l m n rest one other fits also e =
+    let is = named_all IsLayout layouts k are.each one in
+    let was = named_all IsLayout layouts l are.each other in
+    let same = same_inside (inside k m) (inside l n) rest (inside_fits k is m fits) (inside_fits l was n also) e in
+    let byte : k.byte ≡ l.byte = cc (same.0) in
+    let layout : k ≡ l = one_layout layouts k l one other byte in
     let read : ◌≡◌ {A = Result Message Misread} (Ok m) (Ok n) =
-    sym (inside_again layout m is.text is.members fits) ∙ ap (inside_at layout) same.0 ∙ inside_again layout n is.text is.members other in
-    (ok_is m n read, same.1)
+    sym (inside_again k m is.text is.members fits)
+    ∙ ap (inside_at k) same.0
+    ∙ ap (λ (j : Layout). inside_at j (inside l n)) layout
+    ∙ inside_again l n was.text was.members also in
+    (layout, ok_is m n read, same.1)
 
 -- ---- the layout of this version
 
 pub first_is_layout : IsLayout LAYOUT_1
 first_is_layout = record { members = omega arith; text = omega arith; length = omega arith; room = omega arith }
+
+-- ---- the layouts of this version
+
+pub layouts_are : AreLayouts LAYOUTS
+layouts_are = record { some = omega arith; found = (refl, tt); each = (first_is_layout, tt) }

@@ -1,8 +1,7 @@
 -- How long spellings are.
-use Rattle.std.proofs.Common.{◌≡◌, ℕ, ◌+◌, ◌*◌, ◌≤◌, List, [], ◌∷◌, ◌++◌, length, refl, sym, ap, ◌∙◌, Option, Some, None, take, arith, length-append}
+use Rattle.std.proofs.Common.{◌≡◌, ℕ, ◌+◌, ◌*◌, ◌≤◌, List, [], ◌∷◌, ◌++◌, length, refl, sym, ap, ◌∙◌, take, arith, length-append}
 use Rattle.std.specs.FinMap.{entries}
 use Rattle.std.proofs.lemmas.List.{take_all}
-use Rattle.cg_types.specs.declared.limits.TheConstants.{STATE_LIMIT}
 use Rattle.cg_entry.specs.declared.state.State.{State}
 use Rattle.cg_entry.specs.State.{pair, pairs}
 use Rattle.std.specs.List.{flat_map}
@@ -64,12 +63,7 @@ length-delta d =
       length-four_bytes d.delta.heartbeat,
     )
 
--- ---- states: no more than there are keys
-
--- so many keys were met, and this one last
-abbrev pub is_counted : Option ℕ → ℕ → Type 0
-is_counted None n = n ≡ 0
-is_counted (Some last) n = (n ≤ last) × (last ≤ STATE_LIMIT)
+-- ---- states
 
 pub spelled_pairs : (ss : List State) → flat_map (λ (s : State). state (pair s)) ss ≡ flat_map state (pairs ss)
 spelled_pairs [] = refl

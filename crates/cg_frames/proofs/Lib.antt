@@ -11,7 +11,9 @@ pub mod FoundMembers
 pub mod FoundFrames
 pub mod LawLemmas
 pub mod AllLemmas
+pub mod ChoosingLemmas
 pub mod FrontLemmas
+pub mod ChosenLemmas
 pub mod FeedingLemmas
 pub mod CuttingLemmas
 pub mod SplittingLemmas

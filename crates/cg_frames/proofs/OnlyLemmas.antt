@@ -1,33 +1,35 @@
 -- No other messages and no other rest stand in bytes.
-use Rattle.std.proofs.Common.{◌≡◌, ℕ, List, [], ◌∷◌, ◌++◌, length, Some, None, Ok, Err, refl, ap, ◌∙◌, append_assoc}
+use Rattle.std.proofs.Common.{◌≡◌, ℕ, List, [], ◌∷◌, ◌++◌, length, map, Some, None, Ok, Err, refl, sym, ap, ◌∙◌, append_assoc}
 use Rattle.std.specs.List.{flat_map, AllByRecursion}
 use Rattle.std.proofs.lemmas.List.{drop_at}
 use Rattle.std.proofs.lemmas.List.Concat.{flat_map-cons}
 use Rattle.cg_exchange.specs.declared.message.Message.{Message}
 use Rattle.cg_frames.specs.declared.layout.Layout.{Layout}
 use Rattle.cg_frames.specs.Layouts.{IsLayout}
-use Rattle.cg_frames.specs.Spelling.{frame}
-use Rattle.cg_frames.specs.Fits.{Fits}
-use Rattle.cg_frames.specs.Feeding.{Standing, with_front, frames_in, StandsAt}
+use Rattle.cg_frames.specs.Choosing.{AreLayouts}
+use Rattle.cg_frames.specs.Feeding.{Standing, with_front, frames_in, StandsAt, spelling, IsSpellable}
 use Rattle.cg_frames.specs.Laws.{NothingElseIsSpelled}
-use Rattle.cg_frames.proofs.LawLemmas.{frame_is_read}
+use Rattle.cg_frames.proofs.LawLemmas.{frame_is_read_among}
 use Rattle.cg_frames.proofs.FeedingLemmas.{frames_at}
 
-module _ (layout : Layout) where
-  only_rest : (s : Standing) (rest : List ℕ) → StandsAt layout s rest → frames_in layout rest ≡ record { messages = []; rest = s }
-  only_rest (Ok held) rest stands = ap (frames_in layout) stands.0 ∙ frames_at layout held (Ok None) stands.1
-  only_rest (Err f) rest stands = frames_at layout rest (Err f) stands
+module _ (layouts : List Layout) where
+  only_rest : (s : Standing) (rest : List ℕ) → StandsAt layouts s rest → frames_in layouts rest ≡ record { messages = []; rest = s }
+  only_rest (Ok held) rest stands = ap (frames_in layouts) stands.0 ∙ frames_at layouts held (Ok None) stands.1
+  only_rest (Err f) rest stands = frames_at layouts rest (Err f) stands
 
-  only_within : IsLayout layout → (messages : List Message) (s : Standing) (rest : List ℕ) → AllByRecursion (Fits layout) messages → StandsAt layout s rest → frames_in layout (flat_map (frame layout) messages ++ rest) ≡ record { messages = messages; rest = s }
-  only_within is [] s rest fit stands = only_rest s rest stands
-  only_within is (m ∷ ms) s rest fit stands =
-      let more = flat_map (frame layout) ms ++ rest in
-      let regrouped : flat_map (frame layout) (m ∷ ms) ++ rest ≡ frame layout m ++ more = ap (λ l. l ++ rest) (flat_map-cons (frame layout) m ms) ∙ append_assoc (frame layout m) (flat_map (frame layout) ms) rest in
-      ap (frames_in layout) regrouped
-      ∙ frames_at layout (frame layout m ++ more) (Ok (Some (m, length (frame layout m)))) (frame_is_read layout is m more fit.0)
-      ∙ ap (λ l. with_front (m ∷ []) (frames_in layout l)) (drop_at (frame layout m) more (length (frame layout m)) refl)
-      ∙ ap (with_front (m ∷ [])) (only_within is ms s rest fit.1 stands)
+  only_within : AllByRecursion IsLayout layouts → (spelled : List (Layout × Message)) (s : Standing) (rest : List ℕ) → AllByRecursion (IsSpellable layouts) spelled → StandsAt layouts s rest → frames_in layouts (flat_map spelling spelled ++ rest) ≡ record { messages = map (λ t. t.1) spelled; rest = s }
+  only_within each [] s rest fit stands = only_rest s rest stands
+  only_within each (t ∷ ts) s rest fit stands =
+      let more = flat_map spelling ts ++ rest in
+      let regrouped : flat_map spelling (t ∷ ts) ++ rest ≡ spelling t ++ more = ap (λ l. l ++ rest) (flat_map-cons spelling t ts) ∙ append_assoc (spelling t) (flat_map spelling ts) rest in
+      ap (frames_in layouts) regrouped
+      ∙ frames_at layouts (spelling t ++ more) (Ok (Some (t.1, length (spelling t)))) (frame_is_read_among layouts each t.0 fit.0.0 t.1 more fit.0.1)
+      ∙ ap (λ l. with_front (t.1 ∷ []) (frames_in layouts l)) (drop_at (spelling t) more (length (spelling t)) refl)
+      ∙ ap (with_front (t.1 ∷ [])) (only_within each ts s rest fit.1 stands)
 
   -- Two readings of one stream are one.
-  pub splits_only : IsLayout layout → NothingElseIsSpelled layout
-  splits_only is bytes c split = ap (frames_in layout) split.whole ∙ only_within is c.messages c.rest split.rest split.fit split.stands
+  pub splits_only : AreLayouts layouts → NothingElseIsSpelled layouts
+  splits_only are bytes c split =
+      ap (frames_in layouts) split.whole
+      ∙ only_within are.each split.spelled c.rest split.rest split.fit split.stands
+      ∙ ap (λ (ms : List Message). record { messages = ms; rest = c.rest }) (sym split.messages)

@@ -12,7 +12,8 @@ use Rattle.cg_exchange.specs.Values.{RequestValue}
 use Rattle.cg_frames.specs.declared.layout.Layout.{Layout}
 use Rattle.cg_frames.specs.Reading.{◌>>=◌, Field, held_at, request_at, key_from, key_at, version_above_at, text_at, state_at}
 use Rattle.cg_frames.specs.Spelling.{two_bytes, four_bytes, endpoint, request, text, state}
-use Rattle.cg_frames.specs.Fits.{FitsRequest, FitsState}
+use Rattle.cg_exchange.specs.Contents.{IsRequest}
+use Rattle.cg_frames.specs.Fits.{FitsState}
 use Rattle.cg_types.specs.declared.fault.Cause.TheVariants as causes
 use Rattle.cg_frames.proofs.AgainLemmas.{bytes_again, byte_again, two_again, four_again, ranged_again, endpoint_again}
 
@@ -22,7 +23,7 @@ held_again cause n rest lt =
     let high : nat_lt n NUMBER_LIMIT ≡ true = lt-ltb n NUMBER_LIMIT lt in
     rw (four_again n rest (omega arith), low, high) refl
 
-pub request_again : (last : Option ℕ) (r : RequestValue) (rest : List ℕ) → FitsRequest r → is_past last r.endpoint ≡ true → request_at last (request r ++ rest) ≡ Ok (r, rest)
+pub request_again : (last : Option ℕ) (r : RequestValue) (rest : List ℕ) → IsRequest r → is_past last r.endpoint ≡ true → request_at last (request r ++ rest) ≡ Ok (r, rest)
 unfolding request_at
 request_again last r rest fits past =
     let regrouped : request r ++ rest ≡ endpoint r.endpoint ++ (four_bytes r.generation ++ (four_bytes r.version ++ rest)) = simp append_assoc in

@@ -5,7 +5,8 @@ use Rattle.cg_exchange.specs.Values.{RequestValue, AckValue, Ack2Value}
 use Rattle.cg_frames.specs.declared.layout.Layout.{Layout}
 use Rattle.cg_frames.specs.Reading.{◌>>=◌, Field, request_at, delta_at, listed_deltas_at, ack_at, ack2_at}
 use Rattle.cg_frames.specs.Spelling.{members, request, delta}
-use Rattle.cg_frames.specs.Fits.{FitsRequest, FitsDelta, FitsAck, FitsAck2}
+use Rattle.cg_exchange.specs.Contents.{IsRequest}
+use Rattle.cg_frames.specs.Fits.{FitsDelta, FitsAck, FitsAck2}
 use Rattle.cg_frames.proofs.AgainLemmas.{counted_again, length_keys}
 use Rattle.cg_frames.proofs.SpelledLemmas.{request_again}
 use Rattle.cg_frames.proofs.SpelledDeltas.{delta_again}
@@ -17,7 +18,7 @@ ack_again layout m rest text wide fits =
     let asked : length m.requests ≤ layout.members = omega (arith, fits.asked.few, length_keys (λ (r : RequestValue). r.endpoint) m.requests) in
     ap (ack_at layout) (append_assoc (members request m.requests) (members delta m.deltas) rest)
     ∙ ap (λ (r : Field (List RequestValue)). r >>= λ requests. listed_deltas_at layout requests.1 >>= λ deltas. Ok (record { requests = requests.0; deltas = deltas.0 }, deltas.1))
-    (counted_again (λ (r : RequestValue). r.endpoint) request request_at FitsRequest request_again layout m.requests (members delta m.deltas ++ rest) wide asked fits.requests fits.asked.rise)
+    (counted_again (λ (r : RequestValue). r.endpoint) request request_at IsRequest request_again layout m.requests (members delta m.deltas ++ rest) wide asked fits.requests fits.asked.rise)
     ∙ ap (λ (r : Field (List OwnerDelta)). r >>= λ deltas. Ok (record { requests = m.requests; deltas = deltas.0 }, deltas.1))
     (counted_again (λ (d : OwnerDelta). d.endpoint) delta (delta_at layout) (FitsDelta layout) (delta_again layout text) layout m.deltas rest wide few fits.deltas fits.listed.rise)
 

@@ -1,11 +1,12 @@
 -- Bytes that come in pieces, cut into messages.
-use Rattle.std.specs.Prelude.{◌≡◌, ℕ, zero, suc, ◌+◌, ◌-◌, ◌≤◌, List, [], ◌∷◌, ◌++◌, length, drop, Option, Some, None, Result, Ok, Err, nat_lt, if◌then◌else◌}
+use Rattle.std.specs.Prelude.{◌≡◌, ℕ, zero, suc, ◌+◌, ◌-◌, ◌≤◌, List, [], ◌∷◌, ◌++◌, length, drop, map, Option, Some, None, Result, Ok, Err, nat_lt, if◌then◌else◌}
 use Rattle.std.specs.List.{flat_map, AllByRecursion}
 use Rattle.cg_types.specs.declared.fault.Fault.{Fault}
 use Rattle.cg_types.specs.declared.fault.Fault.TheVariants.{Truncated}
 use Rattle.cg_exchange.specs.declared.message.Message.{Message}
 use Rattle.cg_frames.specs.declared.layout.Layout.{Layout}
-use Rattle.cg_frames.specs.Reading.{size_of, frame_at}
+use Rattle.cg_frames.specs.Reading.{size_of}
+use Rattle.cg_frames.specs.Choosing.{frame_among, IsOneOf}
 use Rattle.cg_frames.specs.Spelling.{frame}
 use Rattle.cg_frames.specs.Fits.{Fits}
 
@@ -33,45 +34,55 @@ cut_by next bytes (Err f) = record { messages = []; rest = Err f }
 cut_by next bytes (Ok None) = record { messages = []; rest = Ok bytes }
 cut_by next bytes (Ok (Some p)) = with_front (p.0 ∷ []) (next (drop p.1 bytes))
 
-abbrev pub cut_within : Layout → ℕ → List ℕ → Cut
-cut_within layout zero bytes = record { messages = []; rest = Ok bytes }
-cut_within layout (suc n) bytes = cut_by (cut_within layout n) bytes (frame_at layout bytes)
+abbrev pub cut_within : List Layout → ℕ → List ℕ → Cut
+cut_within layouts zero bytes = record { messages = []; rest = Ok bytes }
+cut_within layouts (suc n) bytes = cut_by (cut_within layouts n) bytes (frame_among layouts bytes)
 
 -- All messages of the bytes, and where a feed stands behind them. There are no more frames than bytes.
-unfoldable pub frames_in : Layout → List ℕ → Cut
-frames_in layout bytes = cut_within layout (length bytes) bytes
+unfoldable pub frames_in : List Layout → List ℕ → Cut
+frames_in layouts bytes = cut_within layouts (length bytes) bytes
 
 -- What a piece gives, and where the feed stands then.
-abbrev pub fed : Layout → Standing → List ℕ → Cut
-fed layout (Ok held) piece = frames_in layout (held ++ piece)
-fed layout (Err f) piece = record { messages = []; rest = Err f }
+abbrev pub fed : List Layout → Standing → List ℕ → Cut
+fed layouts (Ok held) piece = frames_in layouts (held ++ piece)
+fed layouts (Err f) piece = record { messages = []; rest = Err f }
 
 -- What pieces give, one after another.
-abbrev pub fed_all : Layout → Standing → List (List ℕ) → Cut
-fed_all layout s [] = record { messages = []; rest = s }
-fed_all layout s (piece ∷ pieces) = with_front (fed layout s piece).messages (fed_all layout (fed layout s piece).rest pieces)
+abbrev pub fed_all : List Layout → Standing → List (List ℕ) → Cut
+fed_all layouts s [] = record { messages = []; rest = s }
+fed_all layouts s (piece ∷ pieces) = with_front (fed layouts s piece).messages (fed_all layouts (fed layouts s piece).rest pieces)
 
 -- Nothing whole and no fault stands in what is held.
-abbrev pub IsPartial : Layout → Standing → Type 0
-IsPartial layout (Ok held) = frame_at layout held ≡ Ok None
-IsPartial layout (Err f) = Unit {0}
+abbrev pub IsPartial : List Layout → Standing → Type 0
+IsPartial layouts (Ok held) = frame_among layouts held ≡ Ok None
+IsPartial layouts (Err f) = Unit {0}
 
 -- These bytes stand behind the messages.
-abbrev pub StandsAt : Layout → Standing → List ℕ → Type 0
-StandsAt layout (Ok held) rest = (rest ≡ held) × (frame_at layout held ≡ Ok None)
-StandsAt layout (Err f) rest = frame_at layout rest ≡ Err f
+abbrev pub StandsAt : List Layout → Standing → List ℕ → Type 0
+StandsAt layouts (Ok held) rest = (rest ≡ held) × (frame_among layouts held ≡ Ok None)
+StandsAt layouts (Err f) rest = frame_among layouts rest ≡ Err f
 
--- The bytes are the spellings of these messages, which the layout can spell, and then a rest.
-pub record Splits (layout : Layout) (bytes : List ℕ) (c : Cut) : Type 0 where
+-- the frame of a message in the layout beside it
+abbrev pub spelling : Layout × Message → List ℕ
+spelling s = frame s.0 s.1
+
+-- The layout is one of the list, and can spell the message.
+abbrev pub IsSpellable : List Layout → Layout × Message → Type 0
+IsSpellable layouts s = IsOneOf layouts s.0 × Fits s.0 s.1
+
+-- The bytes are the spellings of these messages, each in a layout of the list that can spell it, and then a rest.
+pub record Splits (layouts : List Layout) (bytes : List ℕ) (c : Cut) : Type 0 where
+  pub spelled : List (Layout × Message)
   pub rest : List ℕ
-  pub whole : bytes ≡ flat_map (frame layout) c.messages ++ rest
-  pub fit : AllByRecursion (Fits layout) c.messages
-  pub stands : StandsAt layout c.rest rest
+  pub messages : c.messages ≡ map (λ s. s.1) spelled
+  pub whole : bytes ≡ flat_map spelling spelled ++ rest
+  pub fit : AllByRecursion (IsSpellable layouts) spelled
+  pub stands : StandsAt layouts c.rest rest
 
 -- What is held and then the piece is split so; after a fault nothing is given, and the fault stands.
-abbrev pub SplitsFrom : Layout → Standing → List ℕ → Cut → Type 0
-SplitsFrom layout (Ok held) piece c = Splits layout (held ++ piece) c
-SplitsFrom layout (Err f) piece c = c ≡ record { messages = []; rest = Err f }
+abbrev pub SplitsFrom : List Layout → Standing → List ℕ → Cut → Type 0
+SplitsFrom layouts (Ok held) piece c = Splits layouts (held ++ piece) c
+SplitsFrom layouts (Err f) piece c = c ≡ record { messages = []; rest = Err f }
 
 abbrev pub fault_of : Standing → Option Fault
 fault_of (Ok held) = None
@@ -93,9 +104,9 @@ HasAtMostOne (m ∷ []) rest = rest ≡ Ok []
 HasAtMostOne (m ∷ (n ∷ ms)) rest = ⊥
 
 -- Cutting gave these messages of so many bytes, and this fault behind them.
-pub record IsCut (layout : Layout) (bytes : List ℕ) (messages : List Message) (taken : ℕ) (fault : Option Fault) : Type 0 where
+pub record IsCut (layouts : List Layout) (bytes : List ℕ) (messages : List Message) (taken : ℕ) (fault : Option Fault) : Type 0 where
   pub within : taken ≤ length bytes
-  pub all : frames_in layout bytes ≡ record { messages = messages; rest = standing_of (drop taken bytes) fault }
+  pub all : frames_in layouts bytes ≡ record { messages = messages; rest = standing_of (drop taken bytes) fault }
 
 -- Where no byte is held and no fault stands a stream may end.
 abbrev pub Ends : Standing → Result Unit Fault → Type 0

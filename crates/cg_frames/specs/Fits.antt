@@ -4,7 +4,7 @@ use Rattle.std.specs.List.{AllByRecursion}
 use Rattle.std.specs.FinMap as map
 use Rattle.cg_types.specs.Numbers.{IsEndpoint, IsGeneration, IsVersion, IsVersionHeld, IsKey}
 use Rattle.cg_types.specs.Rising.{Rises}
-use Rattle.cg_types.specs.Text.{plain, IsClusterName, IsStateText}
+use Rattle.cg_types.specs.Text.{plain, IsClusterName}
 use Rattle.cg_entry.specs.Versioned.{Versioned}
 use Rattle.cg_entry.specs.Entry.{greatest}
 use Rattle.cg_table.specs.declared.digest.Digest.{Digest}
@@ -13,23 +13,8 @@ use Rattle.cg_exchange.specs.declared.message.Message.{Message}
 use Rattle.cg_exchange.specs.declared.message.Message.TheVariants.{Syn, Ack, Ack2}
 use Rattle.cg_exchange.specs.Values.{RequestValue, SynValue, AckValue, Ack2Value}
 use Rattle.cg_exchange.specs.Members.{endpoints_of_digests, endpoints_of_requests, endpoints_of_deltas}
+use Rattle.cg_exchange.specs.Contents.{IsDigest, IsRequest}
 use Rattle.cg_frames.specs.declared.layout.Layout.{Layout}
-
-pub record FitsDigest (d : Digest) : Type 0 where
-  pub endpoint : IsEndpoint d.endpoint
-  pub generation : IsGeneration d.generation
-  pub newest : IsVersion d.newest
-
-pub record FitsRequest (r : RequestValue) : Type 0 where
-  pub endpoint : IsEndpoint r.endpoint
-  pub generation : IsGeneration r.generation
-  pub version : IsVersionHeld r.version
-
--- a state, as its type keeps it
-pub record IsState (s : ℕ × Versioned) : Type 0 where
-  pub key : IsKey s.0
-  pub version : IsVersion s.1.version
-  pub text : IsStateText s.1.text
 
 -- a state of a delta above a version
 pub record FitsState (layout : Layout) (above : ℕ) (s : ℕ × Versioned) : Type 0 where
@@ -57,11 +42,11 @@ pub record FitsSyn (layout : Layout) (m : SynValue) : Type 0 where
   pub name : IsClusterName m.cluster.name
   pub partitioner : m.cluster.partitioner < 2 ^ 8
   pub listed : FitsMembers layout (endpoints_of_digests m.digests)
-  pub digests : AllByRecursion FitsDigest m.digests
+  pub digests : AllByRecursion IsDigest m.digests
 
 pub record FitsAck (layout : Layout) (m : AckValue) : Type 0 where
   pub asked : FitsMembers layout (endpoints_of_requests m.requests)
-  pub requests : AllByRecursion FitsRequest m.requests
+  pub requests : AllByRecursion IsRequest m.requests
   pub listed : FitsMembers layout (endpoints_of_deltas m.deltas)
   pub deltas : AllByRecursion (FitsDelta layout) m.deltas
 

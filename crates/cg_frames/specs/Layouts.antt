@@ -1,5 +1,5 @@
 -- What the limits of a layout keep.
-use Rattle.std.specs.Prelude.{◌<◌, ◌≤◌, ◌^◌}
+use Rattle.std.specs.Prelude.{◌≡◌, ◌<◌, ◌≤◌, ◌^◌, false}
 use Rattle.cg_types.specs.declared.limits.TheConstants.{MEMBER_LIMIT, TEXT_LIMIT}
 use Rattle.cg_frames.specs.declared.layout.Layout.{Layout}
 use Rattle.cg_frames.specs.Lengths.{greatest_length}
@@ -11,11 +11,13 @@ pub record IsLayout (layout : Layout) : Type 0 where
   pub length : layout.length < 2 ^ 32
   pub room : greatest_length layout ≤ layout.length
 
--- Messages hold what the layout allows, so that whatever it spells can be read.
+-- Messages hold what the layout allows, so that whatever it spells can be read. No message holds the mark of a removed
+-- key in this version, so no layout with marks is read.
 pub record IsRead (layout : Layout) : Type 0 where
   pub members : layout.members ≤ MEMBER_LIMIT
   pub text : layout.text ≤ TEXT_LIMIT
   pub length : layout.length < 2 ^ 32
+  pub marks : layout.marks ≡ false
 
 -- The layout allows what messages hold, so that each of them can be written.
 pub record IsWritten (layout : Layout) : Type 0 where

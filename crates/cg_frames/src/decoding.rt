@@ -1,13 +1,15 @@
 //! Frames at the front of bytes.
 
 ghost use Rattle.std.specs.Prelude.{◌≡◌, ◌<◌, ◌^◌, length, Ok, None};
-ghost use Rattle.cg_frames.specs.declared.layout.TheConstants.{LAYOUT_1};
+ghost use Rattle.cg_frames.specs.declared.layout.TheConstants.{LAYOUTS};
 ghost use Rattle.cg_types.specs.Answer.{Answers};
 ghost use Rattle.cg_frames.specs.Layouts.{IsRead};
+ghost use Rattle.cg_frames.specs.Choosing.{frame_among, AreRead};
 ghost use Rattle.cg_frames.specs.Reading as spec;
 ghost use Rattle.cg_frames.specs.Laws.{TakesOnlySpelled, GivesEachSpelled};
 
-use crate::layout::{LAYOUT_1, Layout};
+use crate::choosing::due;
+use crate::layout::{LAYOUTS, Layout};
 use crate::messages::{check, read};
 use crate::misread::{Misread, ReadError};
 use cg_exchange::Message;
@@ -42,7 +44,7 @@ fn read_inside(alloc: Global, layout: &Layout, inside: &[u8]) -> Result<Message,
     }
 }
 
-/// As `decode`, in any layout that messages can hold.
+/// As `decode`, in one layout that messages can hold.
 #[tactic(auto, unfolding(crate::specs::Reading::frame_at))]
 pub(crate) fn decode_in(
     alloc: Global,
@@ -72,17 +74,31 @@ pub(crate) fn decode_in(
     Ok(Some((message, 4 + size)))
 }
 
+/// As `decode`, in any layouts that messages can hold.
+pub(crate) fn decode_among(
+    alloc: Global,
+    layouts: &[Layout],
+    bytes: &[u8],
+) -> Result<Option<(Message, usize)>, Fault>
+    requires { AreRead layouts.now }
+    ensures exact { Answers (λ x. x) (frame_among layouts.now bytes.now) result }
+    ensures more { frame_among layouts.now bytes.now ≡ Ok None → result ≡ Ok None }
+{
+    let layout = due(layouts, bytes);
+    decode_in(alloc, &layout, bytes)
+}
+
 /// The message whose frame stands at the front of the bytes, and how many bytes that frame has.
 ///
-/// None where more bytes are needed: fewer than 4, or fewer than the length says. What follows the
-/// frame is not looked at. `BadFrame` has the first cause that is met, and its place, in bytes from
-/// the first byte of the length; it takes no memory to find. `OutOfMemory` comes only where the
-/// frame reads.
+/// None where more bytes are needed: fewer than 4, or fewer than the length says. The byte behind the length names the
+/// layout; until it has come, the longest frames of all layouts are allowed. What follows the frame is not looked at.
+/// `BadFrame` has the first cause that is met, and its place, in bytes from the first byte of the length; it takes no
+/// memory to find. `OutOfMemory` comes only where the frame reads.
 pub fn decode(alloc: Global, bytes: &[u8]) -> Result<Option<(Message, usize)>, Fault>
-    ensures exact { Answers (λ x. x) (spec.frame_at LAYOUT_1 bytes.now) result }
-    ensures more { spec.frame_at LAYOUT_1 bytes.now ≡ Ok None → result ≡ Ok None }
-    ensures found { TakesOnlySpelled LAYOUT_1 bytes.now result }
-    ensures only { GivesEachSpelled LAYOUT_1 bytes.now result }
+    ensures exact { Answers (λ x. x) (frame_among LAYOUTS bytes.now) result }
+    ensures more { frame_among LAYOUTS bytes.now ≡ Ok None → result ≡ Ok None }
+    ensures found { TakesOnlySpelled LAYOUTS bytes.now result }
+    ensures only { GivesEachSpelled LAYOUTS bytes.now result }
 {
-    decode_in(alloc, &LAYOUT_1, bytes)
+    decode_among(alloc, &LAYOUTS, bytes)
 }

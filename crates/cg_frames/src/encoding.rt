@@ -1,16 +1,18 @@
 //! Messages written as frames.
 
-ghost use Rattle.std.specs.Prelude.{◌≡◌, ◌++◌, ◌∷◌, ◌<◌, ◌^◌, length, IfOk, OnOk};
+ghost use Rattle.std.specs.Prelude.{◌≡◌, ◌++◌, ◌∷◌, ◌<◌, ◌≤◌, ◌^◌, length, IfOk, OnOk};
+ghost use Rattle.cg_types.specs.declared.limits.TheConstants.{STATE_LIMIT};
 ghost use Rattle.cg_types.specs.Numbers.{address_of};
-ghost use Rattle.cg_entry.specs.State.{KeysRise, pair, pairs};
-ghost use Rattle.std.specs.List.{flat_map};
+ghost use Rattle.cg_entry.specs.State.{pair, pairs};
+ghost use Rattle.std.specs.List.{AllByRecursion, flat_map};
 ghost use Rattle.cg_exchange.specs.declared.message.Message.TheVariants as messages;
+ghost use Rattle.cg_exchange.specs.Contents.{IsOwnerDelta};
 ghost use Rattle.cg_frames.specs.declared.layout.TheConstants.{LAYOUT_1};
 ghost use Rattle.cg_frames.specs.Fits.{Fits};
 ghost use Rattle.cg_frames.specs.Layouts.{IsLayout, IsWritten};
 ghost use Rattle.cg_frames.specs.Spelling as spelling;
 
-use crate::fitting::{count_states, message_length};
+use crate::fitting::{message_fits, message_length};
 use crate::layout::{LAYOUT_1, Layout};
 use bytes::{BufMut, Bytes};
 use cg_entry::State;
@@ -115,11 +117,11 @@ fn put_state(out: &mut Vec<u8>, state: &State) -> Result<(), AllocError>
 }
 
 fn put_states(out: &mut Vec<u8>, states: &[State]) -> Result<(), AllocError>
-    requires { KeysRise states.now }
+    requires { length states.now ≤ STATE_LIMIT }
     ensures { OnOk result (out.new.items ≡ out.old.items
         ++ (length states.now ∷ flat_map spelling.state (pairs states.now))) }
 {
-    out.put_u8(count_states(states))?;
+    out.put_u8(states.len() as u8)?;
     for state in states {
         put_state(out, state)?;
     }
@@ -127,6 +129,7 @@ fn put_states(out: &mut Vec<u8>, states: &[State]) -> Result<(), AllocError>
 }
 
 fn put_delta(out: &mut Vec<u8>, delta: &OwnerDelta) -> Result<(), AllocError>
+    requires { IsOwnerDelta delta.now }
     ensures { OnOk result (out.new.items ≡ out.old.items ++ spelling.delta delta.now) }
 {
     put_endpoint(out, delta.endpoint)?;
@@ -138,7 +141,8 @@ fn put_delta(out: &mut Vec<u8>, delta: &OwnerDelta) -> Result<(), AllocError>
 }
 
 fn put_deltas(out: &mut Vec<u8>, deltas: &[OwnerDelta]) -> Result<(), AllocError>
-    requires { length deltas.now < 2 ^ 16 }
+    requires few { length deltas.now < 2 ^ 16 }
+    requires valid { AllByRecursion IsOwnerDelta deltas.now }
     ensures { OnOk result (out.new.items ≡ out.old.items ++ spelling.members spelling.delta deltas.now) }
 {
     put_two(out, deltas.len() as u16)?;
@@ -197,7 +201,8 @@ pub(crate) fn encode_in(
     ensures written { IfOk result (λ b. b ≡ spelling.frame layout.now message.now) }
     ensures fits { Fits layout.now message.now }
 {
-    let length = 1 + message_length(layout, message);
+    message_fits(layout, message);
+    let length = 1 + message_length(message);
     let mut frame = Vec::with_capacity(alloc, 4 + length)?;
     put_four(&mut frame, length as u32)?;
     frame.put_u8(layout.byte)?;

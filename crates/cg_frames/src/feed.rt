@@ -2,13 +2,13 @@
 
 ghost use Rattle.std.specs.Prelude.{◌≡◌, ◌<◌, ◌≤◌, [], ◌++◌, length, IfOk, IfErr, OnErr, OnOk, IsOk, IsErr};
 ghost use Rattle.cg_types.specs.declared.fault.Fault.TheVariants as faults;
-ghost use Rattle.cg_frames.specs.declared.layout.TheConstants.{LAYOUT_1};
-ghost use Rattle.cg_frames.specs.Layouts.{IsRead};
+ghost use Rattle.cg_frames.specs.declared.layout.TheConstants.{LAYOUTS};
+ghost use Rattle.cg_frames.specs.Choosing.{AreRead};
 ghost use Rattle.cg_frames.specs.Feeding as spec;
 ghost use Rattle.cg_frames.specs.Laws.{AreBytes};
 
-use crate::decoding::decode_in;
-use crate::layout::{LAYOUT_1, Layout};
+use crate::decoding::decode_among;
+use crate::layout::{LAYOUTS, Layout};
 use cg_exchange::Message;
 use cg_types::Fault;
 use std::alloc::Global;
@@ -31,9 +31,9 @@ struct Cutting {
 }
 
 // Cuts off all messages at the front. Only memory may run out.
-fn cut(alloc: Global, layout: &Layout, bytes: &[u8]) -> Result<Cutting, Fault>
-    requires { IsRead layout.now }
-    ensures ok { IfOk result (λ c. spec.IsCut layout.now bytes.now c.fed.messages.items c.taken c.fed.fault) }
+fn cut(alloc: Global, layouts: &[Layout], bytes: &[u8]) -> Result<Cutting, Fault>
+    requires { AreRead layouts.now }
+    ensures ok { IfOk result (λ c. spec.IsCut layouts.now bytes.now c.fed.messages.items c.taken c.fed.fault) }
     ensures err { IfErr result (λ f. f ≡ faults.OutOfMemory) }
     ensures bytes { AreBytes bytes.now }
 {
@@ -41,7 +41,7 @@ fn cut(alloc: Global, layout: &Layout, bytes: &[u8]) -> Result<Cutting, Fault>
     let mut taken: usize = 0;
     loop {
         let (_, rest) = bytes.split_at(taken);
-        match decode_in(alloc, layout, rest) {
+        match decode_among(alloc, layouts, rest) {
             Ok(Some((message, size))) => {
                 messages.push(message)?;
                 taken += size;
@@ -66,9 +66,9 @@ fn cut(alloc: Global, layout: &Layout, bytes: &[u8]) -> Result<Cutting, Fault>
 }
 
 // Appends the piece and cuts off all messages; a refusal changes nothing.
-fn extend(alloc: Global, layout: &Layout, held: &mut Vec<u8>, piece: &[u8]) -> Result<Fed, Fault>
-    requires { IsRead layout.now }
-    ensures ok { IfOk result (λ fed. spec.frames_in layout.now (held.old.items ++ piece.now)
+fn extend(alloc: Global, layouts: &[Layout], held: &mut Vec<u8>, piece: &[u8]) -> Result<Fed, Fault>
+    requires { AreRead layouts.now }
+    ensures ok { IfOk result (λ fed. spec.frames_in layouts.now (held.old.items ++ piece.now)
         ≡ record { messages = fed.messages.items; rest = spec.standing_of held.new.items fed.fault }) }
     ensures bytes { OnOk result (AreBytes (held.old.items ++ piece.now)) }
     ensures same { OnErr result (held.new.items ≡ held.old.items) }
@@ -76,7 +76,7 @@ fn extend(alloc: Global, layout: &Layout, held: &mut Vec<u8>, piece: &[u8]) -> R
 {
     let before = held.len();
     held.extend_from_slice(piece)?;
-    let Ok(cutting) = cut(alloc, layout, held.as_slice()) else {
+    let Ok(cutting) = cut(alloc, layouts, held.as_slice()) else {
         held.truncate(before);
         return Err(Fault::OutOfMemory);
     };
@@ -102,14 +102,14 @@ pub struct Feed {
 }
 
 impl Model for Feed {
-    ghost use Rattle.cg_frames.specs.declared.layout.TheConstants.{LAYOUT_1};
+    ghost use Rattle.cg_frames.specs.declared.layout.TheConstants.{LAYOUTS};
     ghost use Rattle.cg_frames.specs.Feeding.{Standing, IsPartial, standing_of};
 
     ghost Value = { Standing };
 
     ghost view = { λ s. standing_of s.held.items s.fault };
 
-    ghost invariant = { λ s. IsPartial LAYOUT_1 (standing_of s.held.items s.fault) };
+    ghost invariant = { λ s. IsPartial LAYOUTS (standing_of s.held.items s.fault) };
 }
 
 impl Feed {
@@ -126,16 +126,16 @@ impl Feed {
 
     /// Takes the next piece of the stream, of any length, and gives the messages that are whole now.
     ///
-    /// What was held and the piece are the spellings of these messages, each of which fits, then a rest: what is held
-    /// from now on, or bytes that begin with the fault. After a fault each piece is dropped, and gives no message and
-    /// that fault. A piece no longer than `wants` gives at most one message, and if it gives one, nothing is held after
-    /// it.
+    /// What was held and the piece are the spellings of these messages, each in a layout that it fits, then a rest: what
+    /// is held from now on, or bytes that begin with the fault. After a fault each piece is dropped, and gives no message
+    /// and that fault. A piece no longer than `wants` gives at most one message, and if it gives one, nothing is held
+    /// after it.
     /// `OutOfMemory` leaves the feed as it was; there is no other refusal, and after a fault there is none.
     pub fn push(&mut self, piece: &[u8]) -> Result<Fed, Fault>
-        ensures given { IfOk result (λ fed. fed.messages.items ≡ (spec.fed LAYOUT_1 self.old piece.now).messages) }
-        ensures rest { OnOk result (self.new ≡ (spec.fed LAYOUT_1 self.old piece.now).rest) }
+        ensures given { IfOk result (λ fed. fed.messages.items ≡ (spec.fed LAYOUTS self.old piece.now).messages) }
+        ensures rest { OnOk result (self.new ≡ (spec.fed LAYOUTS self.old piece.now).rest) }
         ensures fault { IfOk result (λ fed. fed.fault ≡ spec.fault_of self.new) }
-        ensures spelled { IfOk result (λ fed. spec.SplitsFrom LAYOUT_1 self.old piece.now (record { messages = fed.messages.items; rest = self.new })) }
+        ensures spelled { IfOk result (λ fed. spec.SplitsFrom LAYOUTS self.old piece.now (record { messages = fed.messages.items; rest = self.new })) }
         ensures one { IfOk result (λ fed. length piece.now ≤ spec.wanted self.old → spec.HasAtMostOne fed.messages.items self.new) }
         ensures same { OnErr result (self.new ≡ self.old) }
         ensures stands { IsErr self.old → IsOk result }
@@ -147,7 +147,7 @@ impl Feed {
                 fault: Some(fault),
             });
         }
-        let fed = extend(self.alloc, &LAYOUT_1, &mut self.held, piece)?;
+        let fed = extend(self.alloc, &LAYOUTS, &mut self.held, piece)?;
         self.fault = fed.fault;
         Ok(fed)
     }

@@ -1,15 +1,16 @@
 //! Laws of frames, each the contract of an empty function.
 
-ghost use Rattle.std.specs.Prelude.{◌≡◌};
+ghost use Rattle.std.specs.Prelude.{◌≡◌, ◌<◌, List, length};
 ghost use Rattle.cg_frames.specs.declared.layout.Layout.{Layout};
-ghost use Rattle.cg_frames.specs.declared.layout.TheConstants.{LAYOUT_1};
+ghost use Rattle.cg_frames.specs.declared.layout.TheConstants.{LAYOUT_1, LAYOUTS};
 ghost use Rattle.cg_frames.specs.Layouts.{IsLayout, IsRead, IsWritten};
+ghost use Rattle.cg_frames.specs.Choosing.{AreLayouts, AreRead};
 ghost use Rattle.cg_frames.specs.Lengths.{greatest_length};
-ghost use Rattle.cg_frames.specs.Laws.{NoSpellingBeginsAnother, EachIsShort, SomeAreLacking, PiecesAddUp, EveryCuttingIsTheWhole, WhatIsHeldIsPartial, TwoPiecesAreOne, OneAtATime, AllIsSpelled, NothingElseIsSpelled};
+ghost use Rattle.cg_frames.specs.Laws.{NoSpellingBeginsAnother, EachIsShort, ChoosesByTheByte, SomeAreLacking, PiecesAddUp, EveryCuttingIsTheWhole, WhatIsHeldIsPartial, TwoPiecesAreOne, OneAtATime, AllIsSpelled, NothingElseIsSpelled};
 
-/// No message's frame begins with the frame of another message.
+/// No message's frame begins with the frame of another message, in whichever layouts of a list they are spelled.
 pub fn no_spelling_begins_another()
-    ensures { (layout : Layout) → IsLayout layout → NoSpellingBeginsAnother layout }
+    ensures { (layouts : List Layout) → AreLayouts layouts → NoSpellingBeginsAnother layouts }
 {}
 
 /// No message's frame has more bytes behind its length than its layout's greatest, by the limits: in the layout of
@@ -27,42 +28,54 @@ pub fn layout_1_is_one()
     ensures written { IsWritten LAYOUT_1 }
 {}
 
+/// The layouts of this version are told apart by their bytes; the limits of each fit, and messages hold what it allows.
+pub fn layouts_are_told_apart()
+    ensures layouts { AreLayouts LAYOUTS }
+    ensures read { AreRead LAYOUTS }
+{}
+
+/// A frame is read in the layout that the byte behind its length names. Its length is refused before the byte has come
+/// only where no layout allows it, and a byte that names no layout only where the frame is whole.
+pub fn the_byte_names_the_layout()
+    ensures { (layouts : List Layout) → 0 < length layouts → ChoosesByTheByte layouts }
+{}
+
 /// Where more bytes are needed, some are lacking.
 pub fn some_are_lacking()
-    ensures { (layout : Layout) → SomeAreLacking layout }
+    ensures { (layouts : List Layout) → SomeAreLacking layouts }
 {}
 
 /// Pieces give the messages, the fault and the rest that they give at once, from wherever the feed stands.
 pub fn pieces_add_up()
-    ensures { (layout : Layout) → PiecesAddUp layout }
+    ensures { (layouts : List Layout) → PiecesAddUp layouts }
 {}
 
 /// However a stream is cut into pieces, they give the messages, the fault and the rest of the whole.
 pub fn every_cutting_is_the_whole()
-    ensures { (layout : Layout) → EveryCuttingIsTheWhole layout }
+    ensures { (layouts : List Layout) → EveryCuttingIsTheWhole layouts }
 {}
 
 /// What a feed holds is never a whole frame, and begins with no fault.
 pub fn what_is_held_is_partial()
-    ensures { (layout : Layout) → WhatIsHeldIsPartial layout }
+    ensures { (layouts : List Layout) → WhatIsHeldIsPartial layouts }
 {}
 
 /// Two pieces give what both at once give.
 pub fn two_pieces_are_one()
-    ensures { (layout : Layout) → TwoPiecesAreOne layout }
+    ensures { (layouts : List Layout) → TwoPiecesAreOne layouts }
 {}
 
 /// A piece that is no longer than what is lacking gives at most one message, and then nothing is held.
 pub fn one_at_a_time()
-    ensures { (layout : Layout) → OneAtATime layout }
+    ensures { (layouts : List Layout) → OneAtATime layouts }
 {}
 
 /// All bytes are the spellings of the messages that they are cut into, and then the rest or the fault.
 pub fn all_is_spelled()
-    ensures { (layout : Layout) → AllIsSpelled layout }
+    ensures { (layouts : List Layout) → 0 < length layouts → AllIsSpelled layouts }
 {}
 
 /// No other messages and no other rest stand in the bytes.
 pub fn nothing_else_is_spelled()
-    ensures { (layout : Layout) → IsLayout layout → NothingElseIsSpelled layout }
+    ensures { (layouts : List Layout) → AreLayouts layouts → NothingElseIsSpelled layouts }
 {}

@@ -14,6 +14,9 @@ pub struct Layout {
     pub text: usize,
     /// The most bytes after the length, which has four bytes.
     pub length: usize,
+    /// Whether a state's length of 65,535 is the mark of a removed key, with no text behind it. No message holds such a
+    /// mark in this version, so no layout that has them is read.
+    pub marks: bool,
 }
 
 /// The layout of this version.
@@ -22,4 +25,8 @@ pub const LAYOUT_1: Layout = Layout {
     members: MEMBER_LIMIT,
     text: TEXT_LIMIT,
     length: LENGTH_LIMIT,
+    marks: false,
 };
+
+/// The layouts that frames are read in, told apart by their bytes.
+pub const LAYOUTS: [Layout; 1] = [LAYOUT_1];

@@ -1,8 +1,8 @@
-//! Another layout is another record: the same readers and writers take it.
+//! Another layout is another record: the same readers and writers take it, and of several the byte names one.
 
-use crate::decoding::decode_in;
+use crate::decoding::{decode_among, decode_in};
 use crate::encoding::encode_in;
-use crate::layout::Layout;
+use crate::layout::{LAYOUT_1, Layout};
 use crate::tests::bytes_of;
 use cg_types::{Cause, Fault, LENGTH_LIMIT, MEMBER_LIMIT, TEXT_LIMIT};
 use std::alloc::Global;
@@ -14,6 +14,7 @@ const OTHER: Layout = Layout {
     members: MEMBER_LIMIT,
     text: TEXT_LIMIT,
     length: LENGTH_LIMIT,
+    marks: false,
 };
 
 // Another byte, and small limits.
@@ -22,6 +23,7 @@ const SMALL: Layout = Layout {
     members: 1,
     text: 2,
     length: 48,
+    marks: false,
 };
 
 #[test]
@@ -74,6 +76,59 @@ fn limits_of_another_layout(rt: HostRuntime) -> Result<(), Fail> {
         ),
     ] {
         assert_eq!(rt; fault_in_small(rt.alloc(), text)?, fault, "{text}");
+    }
+    Ok(())
+}
+
+// Longer frames than those of `LAYOUT_1`.
+const LONG: Layout = Layout {
+    byte: 2,
+    members: MEMBER_LIMIT,
+    text: TEXT_LIMIT,
+    length: 40_000_000,
+    marks: false,
+};
+
+const BOTH: [Layout; 2] = [LAYOUT_1, LONG];
+
+// The length of the frame that is read in one of two layouts, and the first fault; neither where more bytes are needed.
+fn read_in_both(
+    alloc: Global,
+    text: &str,
+) -> Result<(Option<usize>, Option<(usize, Cause)>), Fail> {
+    let bytes = bytes_of(alloc, text)?;
+    match decode_among(alloc, &BOTH, bytes.as_slice()) {
+        Ok(Some((_message, size))) => Ok((Some(size), None)),
+        Ok(None) => Ok((None, None)),
+        Err(Fault::BadFrame { place, cause }) => Ok((None, Some((place, cause)))),
+        Err(fault) => Err(fault.into()),
+    }
+}
+
+#[test]
+fn the_byte_names_the_layout(rt: HostRuntime) -> Result<(), Fail> {
+    for (text, expected) in [
+        ("004c4b", (None, None)),
+        ("004c4b41", (None, None)),
+        ("02625a01", (None, Some((0, Cause::Length)))),
+        ("004c4b41 01", (None, Some((0, Cause::Length)))),
+        ("004c4b41 02", (None, None)),
+        ("004c4b41 03", (None, None)),
+        ("02625a01 03", (None, Some((0, Cause::Length)))),
+        (
+            "00000016 0101 026331 01 0001 0a0000011b58 00000009 00000001",
+            (Some(26), None),
+        ),
+        (
+            "00000016 0201 026331 01 0001 0a0000011b58 00000009 00000001",
+            (Some(26), None),
+        ),
+        ("00000002 03", (None, None)),
+        ("00000002 0301", (None, Some((4, Cause::Layout)))),
+        ("00000000", (None, Some((4, Cause::Short)))),
+    ] {
+        let read = read_in_both(rt.alloc(), text)?;
+        assert_eq!(rt; read, expected, "{text}");
     }
     Ok(())
 }

@@ -1,6 +1,7 @@
 //! Messages as bytes, both ways.
 #![tactic(auto)]
 
+mod choosing;
 mod decoding;
 mod deltas;
 mod encoding;
@@ -18,7 +19,7 @@ pub use decoding::decode;
 pub use encoding::encode;
 pub use feed::{Fed, Feed};
 pub use fitting::every_message_fits;
-pub use layout::{LAYOUT_1, Layout};
+pub use layout::{LAYOUT_1, LAYOUTS, Layout};
 
 #[cfg(test)]
 mod fault_tests;

@@ -12,8 +12,8 @@ use Rattle.cg_exchange.specs.declared.message.Message.{Message}
 use Rattle.cg_exchange.specs.declared.message.Message.TheVariants as messages
 use Rattle.cg_exchange.specs.Values.{SynValue}
 use Rattle.cg_exchange.specs.Answering.{answer_to_syn}
-use Rattle.cg_frames.specs.declared.layout.TheConstants.{LAYOUT_1}
-use Rattle.cg_frames.specs.Reading.{frame_at}
+use Rattle.cg_frames.specs.declared.layout.TheConstants.{LAYOUT_1, LAYOUTS}
+use Rattle.cg_frames.specs.Choosing.{frame_among}
 use Rattle.cg_frames.specs.Spelling.{frame}
 use Rattle.cg_tool.specs.declared.request.Header.{Header}
 use Rattle.cg_tool.specs.Request.{request_in}
@@ -32,7 +32,7 @@ alone_in bytes (Err f) = Err f
 
 -- the SYN that the bytes are the frame of
 unfoldable pub syn_in : List ℕ → Result SynValue Fault
-syn_in bytes = alone_in bytes (frame_at LAYOUT_1 bytes)
+syn_in bytes = alone_in bytes (frame_among LAYOUTS bytes)
 
 -- the table of a node that has just started
 abbrev pub started_table : Header → TableValue

@@ -63,7 +63,8 @@ impl StateText {
         Ok(StateText::of_plain(alloc, text)?)
     }
 
-    /// As `new`, of a text that is known to be one: it is not tested again.
+    /// As `new`, of a text that is known to be one: it is not tested again. `AllocError` where there is no memory for its
+    /// bytes.
     pub fn of_plain(alloc: Global, text: &str) -> Result<StateText, AllocError>
         requires { IsStateText text.now }
         ensures { IfOk result (λ t. t ≡ text.now) }

@@ -1,5 +1,5 @@
-use Rattle.cg_frames.proofs.FrontLemmas.{partial_lacks}
+use Rattle.cg_frames.proofs.FrontLemmas.{some_lacking}
 use Rattle.cg_frames.proofs.laws.some_are_lacking.Goals as goal
 
 pub returns : goal.returns
-returns c = partial_lacks
+returns c = some_lacking

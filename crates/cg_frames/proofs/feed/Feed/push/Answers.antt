@@ -3,12 +3,13 @@ use Rattle.cg_frames.specs.Feeding.{Cut, IsPartial, Splits, SplitsFrom, HasAtMos
 use Rattle.cg_frames.specs.Feeding.{lack_of}
 use Rattle.cg_frames.proofs.FeedingLemmas.{frames_partial, at_most_one}
 use Rattle.cg_frames.proofs.SplittingLemmas.{frames_split}
-use Rattle.cg_frames.specs.declared.layout.TheConstants.{LAYOUT_1}
+use Rattle.cg_frames.proofs.LawLemmas.{layouts_are}
+use Rattle.cg_frames.specs.declared.layout.TheConstants.{LAYOUTS}
 use Rattle.cg_frames.proofs.feed.Feed.push.Goals as goal
 
 pub invariant_of-self-2 : goal.invariant_of-self-2
 invariant_of-self-2 c =
-    subst (λ (k : Cut). IsPartial LAYOUT_1 k.rest) (c.in_ok-fed.ensures.ok) (frames_partial LAYOUT_1 (c.self.inside.held.items ++ c.args.piece.now))
+    subst (λ (k : Cut). IsPartial LAYOUTS k.rest) (c.in_ok-fed.ensures.ok) (frames_partial LAYOUTS (c.self.inside.held.items ++ c.args.piece.now))
 
 pub returns-clause-spelled : goal.returns-clause-spelled
 returns-clause-spelled c =
@@ -17,14 +18,14 @@ returns-clause-spelled c =
     subst (λ f. standing_of c.self.inside.held.items f ≡ c.args.self.now) none c.self.view_is in
     let all = c.self.inside.held.items ++ c.args.piece.now in
     let cut : Cut = record { messages = c.in_ok-fed.fed.messages.items; rest = standing_of c.extend.new.held.items c.in_ok-fed.fed.fault } in
-    let split : Splits LAYOUT_1 all cut = subst (λ (k : Cut). Splits LAYOUT_1 all k) (c.in_ok-fed.ensures.ok) (frames_split LAYOUT_1 all c.in_ok-fed.ensures.bytes) in
-    subst (λ s. SplitsFrom LAYOUT_1 s c.args.piece.now cut) whole split
+    let split : Splits LAYOUTS all cut = subst (λ (k : Cut). Splits LAYOUTS all k) (c.in_ok-fed.ensures.ok) (frames_split LAYOUTS layouts_are.some all c.in_ok-fed.ensures.bytes) in
+    subst (λ s. SplitsFrom LAYOUTS s c.args.piece.now cut) whole split
 
 pub returns-clause-one : goal.returns-clause-one
 returns-clause-one c fits =
     let none : c.self.inside.fault ≡ None = c.in_default.is in
     let held = c.self.inside.held.items in
-    let partial : IsPartial LAYOUT_1 (Ok held) = subst (λ f. IsPartial LAYOUT_1 (standing_of held f)) none c.self.invariant in
+    let partial : IsPartial LAYOUTS (Ok held) = subst (λ f. IsPartial LAYOUTS (standing_of held f)) none c.self.invariant in
     let whole : c.args.self.now ≡ Ok held = sym (subst (λ f. standing_of held f ≡ c.args.self.now) none c.self.view_is) in
     let short : length c.args.piece.now ≤ lack_of held = subst (λ s. length c.args.piece.now ≤ wanted s) whole fits in
-    subst (λ (k : Cut). HasAtMostOne k.messages k.rest) (c.in_ok-fed.ensures.ok) (at_most_one LAYOUT_1 held c.args.piece.now partial short)
+    subst (λ (k : Cut). HasAtMostOne k.messages k.rest) (c.in_ok-fed.ensures.ok) (at_most_one LAYOUTS held c.args.piece.now partial short)

@@ -1,0 +1,52 @@
+-- What each message holds: numbers in their ranges, plain and short texts, and lists that rise and are few.
+use Rattle.std.specs.Prelude.{ℕ}
+use Rattle.std.specs.List.{AllByRecursion}
+use Rattle.std.specs.FinMap as map
+use Rattle.cg_types.specs.Numbers.{IsEndpoint, IsGeneration, IsVersion, IsVersionHeld, IsKey}
+use Rattle.cg_types.specs.Text.{IsStateText, IsCluster}
+use Rattle.cg_entry.specs.Versioned.{Versioned}
+use Rattle.cg_entry.specs.Entry.{IsDelta}
+use Rattle.cg_table.specs.declared.digest.Digest.{Digest}
+use Rattle.cg_exchange.specs.declared.owner_delta.OwnerDelta.{OwnerDelta}
+use Rattle.cg_exchange.specs.Values.{RequestValue, SynValue, AckValue, Ack2Value}
+use Rattle.cg_exchange.specs.Members.{AreListed, endpoints_of_digests, endpoints_of_requests, endpoints_of_deltas}
+
+pub record IsDigest (d : Digest) : Type 0 where
+  pub endpoint : IsEndpoint d.endpoint
+  pub generation : IsGeneration d.generation
+  pub newest : IsVersion d.newest
+
+pub record IsRequest (r : RequestValue) : Type 0 where
+  pub endpoint : IsEndpoint r.endpoint
+  pub generation : IsGeneration r.generation
+  pub version : IsVersionHeld r.version
+
+-- a state with its key
+pub record IsState (s : ℕ × Versioned) : Type 0 where
+  pub key : IsKey s.0
+  pub version : IsVersion s.1.version
+  pub text : IsStateText s.1.text
+
+-- Each state of the delta is newer than what the delta stands above, and something is.
+pub record IsOwnerDelta (d : OwnerDelta) : Type 0 where
+  pub endpoint : IsEndpoint d.endpoint
+  pub generation : IsGeneration d.delta.generation
+  pub above : IsVersionHeld d.delta.above
+  pub heartbeat : IsVersion d.delta.heartbeat
+  pub states : AllByRecursion IsState (map.entries d.delta.states)
+  pub carries : IsDelta d.delta.above d.delta.heartbeat d.delta.states
+
+pub record IsSyn (m : SynValue) : Type 0 where
+  pub cluster : IsCluster m.cluster
+  pub listed : AreListed (endpoints_of_digests m.digests)
+  pub digests : AllByRecursion IsDigest m.digests
+
+pub record IsAck (m : AckValue) : Type 0 where
+  pub asked : AreListed (endpoints_of_requests m.requests)
+  pub requests : AllByRecursion IsRequest m.requests
+  pub listed : AreListed (endpoints_of_deltas m.deltas)
+  pub deltas : AllByRecursion IsOwnerDelta m.deltas
+
+pub record IsAck2 (m : Ack2Value) : Type 0 where
+  pub listed : AreListed (endpoints_of_deltas m.deltas)
+  pub deltas : AllByRecursion IsOwnerDelta m.deltas

@@ -1,0 +1,51 @@
+-- Which layout of a list a frame is read in: the byte behind the length names it.
+use Rattle.std.specs.Prelude.{◌≡◌, ℕ, ◌<◌, ◌==◌, List, length, Option, Some, None, Result, slice_get, nat_lt, if◌then◌else◌}
+use Rattle.std.specs.List.{find, reduce, AllByRecursion}
+use Rattle.std.specs.Option.{unwrap_or}
+use Rattle.cg_types.specs.declared.fault.Fault.{Fault}
+use Rattle.cg_exchange.specs.declared.message.Message.{Message}
+use Rattle.cg_frames.specs.declared.layout.Layout.{Layout}
+use Rattle.cg_frames.specs.declared.layout.TheConstants.{LAYOUT_1}
+use Rattle.cg_frames.specs.Layouts.{IsLayout, IsRead}
+use Rattle.cg_frames.specs.Reading.{frame_at}
+
+-- the layout that a byte names: the first of the list that has it
+abbrev pub named : List Layout → ℕ → Option Layout
+named layouts byte = find (λ layout. layout.byte == byte) layouts
+
+-- the one with the longer frames; the first where both are as long
+abbrev pub wider : Layout → Layout → Layout
+wider a b = if nat_lt a.length b.length then b else a
+
+-- The layout with the longest frames. Of no layouts it is LAYOUT_1, so that there always is one.
+abbrev pub widest : List Layout → Layout
+widest layouts = unwrap_or (reduce wider layouts) LAYOUT_1
+
+-- the layout that is due by the byte behind the length, where it has come
+abbrev pub due_by : List Layout → Option ℕ → Layout
+due_by layouts (Some byte) = unwrap_or (named layouts byte) (widest layouts)
+due_by layouts None = widest layouts
+
+-- The layout that is due: the one that the byte behind the length names; where it names none, or none has come yet,
+-- the one with the longest frames.
+unfoldable pub due : List Layout → List ℕ → Layout
+due layouts bytes = due_by layouts (slice_get bytes 4)
+
+-- The frame at the front of the bytes in the layout that is due, and how long it is; None where more bytes are needed.
+abbrev pub frame_among : List Layout → List ℕ → Result (Option (Message × ℕ)) Fault
+frame_among layouts bytes = frame_at (due layouts bytes) bytes
+
+-- The layout is one of the list: its byte names it.
+abbrev pub IsOneOf : List Layout → Layout → Type 0
+IsOneOf layouts layout = named layouts layout.byte ≡ Some layout
+
+-- One layout at least; each is the one that its byte names, and keeps its limits.
+pub record AreLayouts (layouts : List Layout) : Type 0 where
+  pub some : 0 < length layouts
+  pub found : AllByRecursion (IsOneOf layouts) layouts
+  pub each : AllByRecursion IsLayout layouts
+
+-- One layout at least; messages hold what each allows.
+pub record AreRead (layouts : List Layout) : Type 0 where
+  pub some : 0 < length layouts
+  pub each : AllByRecursion IsRead layouts

@@ -1,0 +1,40 @@
+//! The layout that a frame is read in.
+
+ghost use Rattle.std.specs.Prelude.{◌≡◌};
+ghost use Rattle.std.specs.Option.{option_copied};
+ghost use Rattle.cg_frames.specs.Choosing as spec;
+
+use crate::layout::{LAYOUT_1, Layout};
+
+// The layout that a byte names.
+fn named(layouts: &[Layout], byte: u8) -> Option<Layout>
+    ensures { result ≡ spec.named layouts.now byte }
+{
+    layouts.iter().copied().find(|layout| layout.byte == byte)
+}
+
+// The one with the longer frames; the first where both are as long.
+fn wider(a: Layout, b: Layout) -> Layout
+    ensures { result ≡ spec.wider a b }
+{
+    if a.length < b.length { b } else { a }
+}
+
+// The layout with the longest frames; `LAYOUT_1` of none at all.
+fn widest(layouts: &[Layout]) -> Layout
+    ensures { result ≡ spec.widest layouts.now }
+{
+    layouts.iter().copied().reduce(wider).unwrap_or(LAYOUT_1)
+}
+
+// The layout that is due: the one that the byte behind the length names; where it names none, or none has come yet, the
+// one with the longest frames.
+#[tactic(auto, unfolding(crate::specs::Choosing::due))]
+pub(crate) fn due(layouts: &[Layout], bytes: &[u8]) -> Layout
+    ensures { result ≡ spec.due layouts.now bytes.now }
+{
+    bytes
+        .get(4)
+        .and_then(|byte| named(layouts, *byte))
+        .unwrap_or_else(|| widest(layouts))
+}
