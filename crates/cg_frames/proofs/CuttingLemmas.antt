@@ -1,9 +1,7 @@
 -- The turns of cutting.
-use Rattle.std.proofs.Common.{◌≡◌, ℕ, ◌+◌, ◌<◌, ◌≤◌, List, [], ◌∷◌, ◌++◌, length, drop, Some, None, Result, Ok, Err, refl, sym, ap, ◌∙◌, arith, length-drop, append_assoc, append-nil}
+use Rattle.std.proofs.Common.{◌≡◌, ℕ, ◌+◌, ◌<◌, ◌≤◌, List, [], ◌∷◌, ◌++◌, length, drop, Some, None, Ok, Err, refl, sym, ap, ◌∙◌, arith, length-drop, append_assoc, append-nil}
 use Rattle.std.proofs.lemmas.List.{drop-drop}
 use Rattle.cg_types.specs.declared.fault.Fault.{Fault}
-use Rattle.cg_types.specs.declared.fault.Fault.TheVariants as faults
-use Rattle.cg_types.specs.Answer.{IsRefusal}
 use Rattle.cg_exchange.specs.declared.message.Message.{Message}
 use Rattle.cg_frames.specs.declared.layout.Layout.{Layout}
 use Rattle.cg_frames.specs.Reading.{size_of}
@@ -54,8 +52,3 @@ module _ (layouts : List Layout) where
         ∙ ap (with_front messages) (frames_at layouts (drop taken bytes) (Err f) is)
         ∙ ap (λ (l : List Message). record { messages = l; rest = Err f }) (append-nil messages);
   }
-
--- A refusal that is not for memory is the fault that is due.
-pub refused : {Y : Type 0} (f : Fault) (due : Result Y Fault) → (f ≡ faults.OutOfMemory → ⊥) → IsRefusal f due → due ≡ Err f
-refused faults.OutOfMemory due other is = absurd (other refl)
-refused f due other is = is

@@ -7,11 +7,10 @@ use Rattle.cg_types.specs.Rising.{Rises}
 use Rattle.cg_types.specs.Text.{plain, IsClusterName}
 use Rattle.cg_entry.specs.Versioned.{Versioned}
 use Rattle.cg_entry.specs.Entry.{greatest}
-use Rattle.cg_table.specs.declared.digest.Digest.{Digest}
 use Rattle.cg_exchange.specs.declared.owner_delta.OwnerDelta.{OwnerDelta}
 use Rattle.cg_exchange.specs.declared.message.Message.{Message}
 use Rattle.cg_exchange.specs.declared.message.Message.TheVariants.{Syn, Ack, Ack2}
-use Rattle.cg_exchange.specs.Values.{RequestValue, SynValue, AckValue, Ack2Value}
+use Rattle.cg_exchange.specs.Values.{SynValue, AckValue, Ack2Value}
 use Rattle.cg_exchange.specs.Members.{endpoints_of_digests, endpoints_of_requests, endpoints_of_deltas}
 use Rattle.cg_exchange.specs.Contents.{IsDigest, IsRequest}
 use Rattle.cg_frames.specs.declared.layout.Layout.{Layout}

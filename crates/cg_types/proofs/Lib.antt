@@ -3,3 +3,4 @@ pub mod WordLemmas
 pub mod EndpointLaws
 pub mod PlainLemmas
 pub mod NeighbourLemmas
+pub mod AnswerLemmas

@@ -22,3 +22,5 @@ pub mod TakenLaws
 pub mod PlayedWhole
 pub mod WorkedLemmas
 pub mod WorkedPlays
+pub mod ActingLemmas
+pub mod MergingLemmas

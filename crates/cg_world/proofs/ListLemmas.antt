@@ -48,7 +48,7 @@ done_neither w x s =
 
 -- ---- what is done is not refused
 
-all_done : (w : World) (actions : List Action) → AreDone w (done_from w actions)
+pub all_done : (w : World) (actions : List Action) → AreDone w (done_from w actions)
 all_done w [] = tt
 all_done w (action ∷ actions) = go (refusal w action) refl (all_done (act w action) actions) (all_done w actions)
   where

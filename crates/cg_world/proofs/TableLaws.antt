@@ -1,5 +1,5 @@
 -- The laws of tables that spell places of nodes.
-use Rattle.std.proofs.Common.{◌≡◌, sym, ◌∙◌, ap, arith}
+use Rattle.std.proofs.Common.{◌≡◌, ℕ, List, sym, ◌∙◌, ap, arith}
 use Rattle.std.specs.Cmp.{nat_cmp_total}
 use Rattle.std.specs.FinMap.{same_map, nat_cmp-IsAntisymmetric}
 use Rattle.cg_entry.specs.History.{at_place}
@@ -9,7 +9,8 @@ use Rattle.cg_table.specs.Spelling.{SpellsPlaces}
 use Rattle.cg_table.proofs.DigestLemmas.{equal_digests_equal_entries}
 use Rattle.cg_table.proofs.MergeLemmas.{merge_is_the_join}
 use Rattle.cg_tokens.specs.Ring.{ring}
-use Rattle.cg_world.specs.World.{World, run}
+use Rattle.cg_world.specs.World.{World, Action, run}
+use Rattle.cg_world.specs.Spelling.{SpellsNode}
 use Rattle.cg_world.specs.Join.{join}
 use Rattle.cg_world.specs.TableLaws.{TablesAreJoined, AreEqual, EqualSourcesEqualTables, EqualDigestsEqualTables, MergesAreJoined, TablesFindRoom}
 use Rattle.cg_world.proofs.WorldLemmas.{run_sound, places_join}
@@ -40,14 +41,20 @@ pub equal_digests_equal_tables : EqualDigestsEqualTables
 equal_digests_equal_tables actions a b one other sa sb same =
     alike one other (equal_digests_equal_entries (run actions).histories (run_sound actions).histories one other ((run actions).places a) ((run actions).places b) sa sb same)
 
+-- two merged tables spell the join of their places
+pub two_joined : (actions : List Action) (a b : ℕ) (one two : Entries) → SpellsNode (run actions) a one → SpellsNode (run actions) b two
+    → SpellsPlaces (run actions).histories (merged one two) (join ((run actions).places a) ((run actions).places b))
+two_joined actions a b one two sa sb =
+    let w : World = run actions in
+    let sound = run_sound actions in
+    merge_is_the_join w.histories sound.histories one two (w.places a) (w.places b) (sound.stands a) (sound.stands b) sa sb
+
 pub merges_are_joined : MergesAreJoined
 merges_are_joined actions a b c one two three sa sb sc =
     let w : World = run actions in
     let sound = run_sound actions in
-    let two_joined : SpellsPlaces w.histories (merged one two) (join (w.places a) (w.places b)) =
-    merge_is_the_join w.histories sound.histories one two (w.places a) (w.places b) (sound.stands a) (sound.stands b) sa sb in
     let all : SpellsPlaces w.histories (merged (merged one two) three) (join (join (w.places a) (w.places b)) (w.places c)) =
-    merge_is_the_join w.histories sound.histories (merged one two) three (join (w.places a) (w.places b)) (w.places c) (λ owner. omega (arith, sound.stands a owner, sound.stands b owner)) (sound.stands c) two_joined sc in
+    merge_is_the_join w.histories sound.histories (merged one two) three (join (w.places a) (w.places b)) (w.places c) (λ owner. omega (arith, sound.stands a owner, sound.stands b owner)) (sound.stands c) (two_joined actions a b one two sa sb) sc in
     record { joined = all; small = spelled_small w (merged (merged one two) three) (join (join (w.places a) (w.places b)) (w.places c)) (run_knows actions) all }
 
 pub tables_find_room : TablesFindRoom

@@ -6,6 +6,9 @@ pub mod Laws
 pub mod Spelling
 pub mod TableLaws
 pub mod Played
+pub mod Acting
+pub mod Consistent
+pub mod Merging
 pub mod PlayedLaws
 pub mod SingleActions
 pub mod Taken

@@ -1,5 +1,6 @@
 -- The nodes of a cluster as they run, and what they sent, after a list of actions.
-use Rattle.std.specs.Prelude.{ℕ, ◌+◌, ◌||◌, Bool, List, [], ◌∷◌, ◌++◌, length, Option, Some, None, Result, Ok, Err, nat_lt, map as map_list, if◌then◌else◌}
+use Rattle.std.specs.Prelude.{ℕ, ◌+◌, ◌||◌, Bool, List, [], ◌∷◌, ◌++◌, length, Option, Some, None, Result, Ok, Err, nat_lt, map as map_list, if◌then◌else◌, refl}
+use Rattle.std.specs.Coded.{Coded, code_by, coded×, coded_ℕ, coded_list}
 use Rattle.std.specs.Option.{option_map, option_and_then}
 use Rattle.std.specs.Ordering.{nat_cmp}
 use Rattle.std.specs.FinMap as map
@@ -10,13 +11,15 @@ use Rattle.cg_entry.specs.History.{at_place}
 use Rattle.cg_table.specs.Values.{Entries}
 use Rattle.cg_table.specs.Own.{own_entry}
 use Rattle.cg_exchange.specs.declared.message.Message.{Message}
+use Rattle.cg_exchange.specs.MessageCode.{message_code}
 use Rattle.cg_exchange.specs.declared.message.Message.TheVariants as message
 use Rattle.cg_core.specs.declared.event.Event.{Event}
 use Rattle.cg_core.specs.declared.event.Event.TheVariants as event
 use Rattle.cg_core.specs.declared.reply.Reply.{Reply}
 use Rattle.cg_core.specs.declared.reply.Reply.TheVariants as reply
-use Rattle.cg_core.specs.Values.{SettingsValue, NodeValue}
+use Rattle.cg_core.specs.Values.{SettingsValue, NodeValue, settings_code, node_code}
 use Rattle.cg_core.specs.Step.{Step, begun, node_step}
+pub use Rattle.cg_core.specs.Step.{arrival_of}
 pub use Rattle.cg_world.specs.declared.action.Action.{Action as PlayedAction}
 pub use Rattle.cg_world.specs.declared.action.Action.TheVariants.{Start, Local, Deliver}
 pub use Rattle.cg_world.specs.declared.action.LocalEvent.{LocalEvent}
@@ -32,6 +35,12 @@ pub record PlayedWorld : Type 0 where
   pub nodes : map.FinMap nat_cmp NodeValue
   -- each message that was ever sent, the first one first; they are numbered from 1
   pub sent : List Message
+
+-- the code that a model of such a value asks for
+abbrev pub played_code : Coded PlayedWorld
+played_code =
+    code_by (SettingsValue × (map.FinMap nat_cmp NodeValue × List Message)) (coded× settings_code (coded× (map.code coded_ℕ node_code) (coded_list message_code)))
+    (λ c. (c.settings, (c.nodes, c.sent))) (λ p. record { settings = p.0; nodes = p.1.0; sent = p.1.1 }) (λ _. refl)
 
 -- no node runs
 abbrev pub unplayed : SettingsValue → PlayedWorld
@@ -96,12 +105,6 @@ event_of Beat = event.Beat
 event_of (Set key text) = event.Set key text
 event_of Opening = event.Opening
 event_of (Tick now words) = event.Tick now words
-
--- a message, as it comes at a moment
-abbrev pub arrival_of : ℕ → Message → Event
-arrival_of now (message.Syn syn) = event.Syn syn
-arrival_of now (message.Ack ack) = event.Ack now ack
-arrival_of now (message.Ack2 ack2) = event.Ack2 now ack2
 
 abbrev pub delivering : PlayedWorld → ℕ → ℕ → Option Message → Result PlayedWorld Fault
 delivering c to now None = Err NoSuchMessage

@@ -32,6 +32,9 @@ ghost use Rattle.cg_world.specs.Taken.{OutcomesTellWhatIsTaken};
 ghost use Rattle.cg_world.specs.WorkedRuns.{WorkedPlays};
 
 pub mod places;
+mod worlds;
+
+pub use worlds::{equal_digests, merge_is_join};
 
 // ---- the headline
 

@@ -7,8 +7,13 @@
 #![tactic(auto)]
 
 mod action;
+mod cluster;
 pub mod laws;
 #[cfg(test)]
 mod tests;
+mod world;
+#[cfg(test)]
+mod world_tests;
 
 pub use action::{Action, LocalEvent};
+pub use world::{Shown, World};

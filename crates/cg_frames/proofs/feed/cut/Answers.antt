@@ -1,7 +1,8 @@
 use Rattle.std.proofs.Common.{rules, arith, ◌≡◌, drop, Some, Ok, length-drop, subst}
 use Rattle.cg_frames.specs.Choosing.{frame_among}
 use Rattle.cg_types.specs.Answer.{IsRefusal}
-use Rattle.cg_frames.proofs.CuttingLemmas.{some_taken, one_more, ends_in_none, ends_in_fault, refused}
+use Rattle.cg_frames.proofs.CuttingLemmas.{some_taken, one_more, ends_in_none, ends_in_fault}
+use Rattle.cg_types.proofs.AnswerLemmas.{refused}
 use Rattle.cg_frames.proofs.feed.cut.Goals as goal
 
 pub overflow_add-taken : goal.overflow_add-taken

@@ -1,0 +1,127 @@
+//! All nodes of a cluster, as a list of actions leaves them.
+
+ghost use Rattle.std.specs.Prelude.{◌≡◌, ◌↔◌, IsTrue, IfOk, IfErr, OnOk, OnErr, Err, option_copied};
+ghost use Rattle.std.specs.FinMap as map;
+ghost use Rattle.cg_types.specs.declared.fault.Fault.TheVariants as faults;
+ghost use Rattle.cg_types.specs.Answer.{Answers};
+ghost use Rattle.cg_entry.specs.History.{at_place};
+ghost use Rattle.cg_world.specs.Acting.{showing, showing_all};
+ghost use Rattle.cg_world.specs.Played.{unplayed, play, played};
+ghost use Rattle.cg_world.specs.Consistent.{IsConsistent, IsConsistentWorld};
+
+use crate::action::Action;
+use crate::cluster::Cluster;
+use cg_core::{Node, Reply, Settings};
+use cg_exchange::Message;
+use cg_types::{Endpoint, Fault};
+use std::alloc::Global;
+use std::marker::Model;
+
+/// What an action shows.
+#[derive(Debug, Drop)]
+pub struct Shown {
+    /// The reply of the node that made a step; `None` of a start.
+    pub reply: Option<Reply>,
+    /// The number of the message that was sent, if one was; they are numbered from 1.
+    pub sent: Option<u64>,
+}
+
+/// The nodes that run and all messages that were ever sent, where some list of actions leads. So what holds after every
+/// list of actions (`laws`) holds of it.
+#[derive(Drop)]
+pub struct World {
+    cluster: Cluster,
+}
+
+impl Model for World {
+    ghost use Rattle.cg_world.specs.Played.{PlayedWorld, played_code};
+    ghost use Rattle.cg_world.specs.PlayedLaws.{IsReached};
+
+    ghost Value = { PlayedWorld };
+
+    ghost coded = { played_code };
+
+    ghost view = { λ w. w.cluster };
+
+    ghost invariant = { λ w. IsReached w.cluster };
+}
+
+// Whether memory was short.
+fn is_short(shown: &Result<Shown, Fault>) -> bool
+    ensures { IsTrue result ↔ (shown.now ≡ Err faults.OutOfMemory) }
+{
+    matches!(shown, Err(Fault::OutOfMemory))
+}
+
+impl World {
+    /// No node runs, and nothing was sent. All nodes will be set to `settings`. It takes no memory.
+    pub fn new(alloc: Global, settings: Settings) -> World
+        ensures { result ≡ unplayed settings }
+    {
+        World {
+            cluster: Cluster::new(alloc, settings),
+        }
+    }
+
+    /// What all nodes are set to.
+    pub fn settings(&self) -> &Settings
+        ensures { result.now ≡ self.now.settings }
+    {
+        self.cluster.settings()
+    }
+
+    /// The node of an endpoint, if it runs.
+    #[tactic(auto, using(crate::proofs::ActingLemmas::consistent_reached))]
+    pub fn node(&self, endpoint: Endpoint) -> Option<&Node>
+        ensures value { option_copied result ≡ map.get self.now.nodes endpoint }
+        // The world is where some actions led: its tables are joins, their entries whole.
+        ensures consistent { IsConsistentWorld self.now }
+    {
+        self.cluster.node(endpoint)
+    }
+
+    /// The message of a number, if one was sent; they are numbered from 1.
+    pub fn message(&self, number: u64) -> Option<&Message>
+        ensures { option_copied result ≡ at_place self.now.sent number }
+    {
+        self.cluster.message(number)
+    }
+
+    /// Does an action, and tells what it shows. A refused action changes nothing.
+    ///
+    /// `NotRising` for a start in a generation that is not greater than that of the endpoint's last start, and
+    /// `TableFull` where it would be one endpoint more than `MEMBER_LIMIT`. `NoSuchMessage`, and then `NoSuchNode`, for a
+    /// delivery of what was not sent, or to whom no node runs; `NoSuchNode` for a local event of none. Else the refusals
+    /// of the node's step, and `OutOfMemory`.
+    pub fn act(&mut self, alloc: Global, action: &Action) -> Result<Shown, Fault>
+        ensures shown { Answers (λ s. s) (showing self.old action.now) result }
+        ensures done { OnOk result (self.new ≡ play self.old action.now) }
+        ensures err { OnErr result (self.new ≡ self.old) }
+    {
+        self.cluster.act(alloc, action)
+    }
+
+    /// The world after a list of actions, and what each shows; a refused one is kept in its place as its fault, and the
+    /// run goes on. `OutOfMemory` ends it, and there is no other refusal.
+    pub fn run(
+        alloc: Global,
+        settings: Settings,
+        actions: &[Action],
+    ) -> Result<(World, Vec<Result<Shown, Fault>>), Fault>
+        ensures world { IfOk result (λ x. x.0 ≡ played settings actions.now) }
+        ensures shown { IfOk result (λ x. x.1.items ≡ showing_all (unplayed settings) actions.now) }
+        ensures consistent { IfOk result (λ x. IsConsistent settings actions.now x.0) }
+        ensures err { IfErr result (λ f. f ≡ faults.OutOfMemory) }
+    {
+        let mut world = World::new(alloc, settings);
+        let mut shown = Vec::with_capacity(alloc, actions.len())?;
+        for action in actions {
+            let result = world.act(alloc, action);
+            if is_short(&result) {
+                return Err(Fault::OutOfMemory);
+            }
+            shown.push(result)?;
+        }
+        Ok((world, shown))
+    }
+}
