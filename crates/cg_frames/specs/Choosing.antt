@@ -39,7 +39,7 @@ frame_among layouts bytes = frame_at (due layouts bytes) bytes
 abbrev pub IsOneOf : List Layout → Layout → Type 0
 IsOneOf layouts layout = named layouts layout.byte ≡ Some layout
 
--- One layout at least; each is the one that its byte names, and keeps its limits.
+-- One layout at least; each is the one that its byte names, and its limits and greatest frame fit into their fields.
 pub record AreLayouts (layouts : List Layout) : Type 0 where
   pub some : 0 < length layouts
   pub found : AllByRecursion (IsOneOf layouts) layouts

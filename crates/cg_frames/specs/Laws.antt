@@ -65,7 +65,7 @@ AreBytes bytes = (i : ℕ) → slice_index bytes i < 256
 abbrev pub SomeAreLacking : List Layout → Type 0
 SomeAreLacking layouts = (held : List ℕ) → frame_among layouts held ≡ Ok None → 0 < lack_of held
 
--- However a stream is cut into pieces, they give the messages, the fault and the rest of the whole.
+-- Pieces give what all of them at once give, from wherever a feed may stand.
 abbrev pub PiecesAddUp : List Layout → Type 0
 PiecesAddUp layouts = (s : Standing) (pieces : List (List ℕ)) → IsPartial layouts s → fed_all layouts s pieces ≡ fed layouts s (flat_map (λ (piece : List ℕ). piece) pieces)
 

@@ -34,8 +34,9 @@ pub fn layouts_are_told_apart()
     ensures read { AreRead LAYOUTS }
 {}
 
-/// A frame is read in the layout that the byte behind its length names. Its length is refused before the byte has come
-/// only where no layout allows it, and a byte that names no layout only where the frame is whole.
+/// A frame is read in the layout that the byte behind its length names. Before the byte has come its length is refused
+/// where no layout allows it, and else the byte is waited for; a byte that names no layout is refused once the frame is
+/// whole.
 pub fn the_byte_names_the_layout()
     ensures { (layouts : List Layout) → 0 < length layouts → ChoosesByTheByte layouts }
 {}

@@ -2,8 +2,8 @@
 
 use cg_types::{LENGTH_LIMIT, MEMBER_LIMIT, TEXT_LIMIT};
 
-/// What tells one layout of frames from another: its byte and its limits. The fields of a frame, and their order, are
-/// the same in each.
+/// What tells one layout of frames from another: its byte, its limits, and whether it has marks. The fields of a frame,
+/// and their order, are the same in each.
 #[derive(Clone, Copy, Debug, PartialEq, Eq)]
 pub struct Layout {
     /// The byte that names the layout, behind the length.
@@ -15,7 +15,8 @@ pub struct Layout {
     /// The most bytes after the length, which has four bytes.
     pub length: usize,
     /// Whether a state's length of 65,535 is the mark of a removed key, with no text behind it. No message holds such a
-    /// mark in this version, so no layout that has them is read.
+    /// mark in this version, so no layout that has them is read (`IsRead`), and nothing else looks at this: what is said
+    /// of spelling is of messages without marks.
     pub marks: bool,
 }
 

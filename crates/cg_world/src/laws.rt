@@ -1,5 +1,5 @@
-//! Laws of every list of actions, each the contract of an empty function: what holds of the nodes as they run. Those of
-//! the same actions by places stand in `places`.
+//! Laws of every list of actions: what holds of the nodes as they run. Each is the contract of an empty function, but for
+//! two calls on a world in hand, `merge_is_join` and `equal_digests`. Laws of the same actions by places stand in `places`.
 
 ghost use Rattle.cg_world.specs.PlayedExchange.{
   ExchangesEndAtTheJoin,

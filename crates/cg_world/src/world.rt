@@ -26,8 +26,8 @@ pub struct Shown {
     pub sent: Option<u64>,
 }
 
-/// The nodes that run and all messages that were ever sent, where some list of actions leads. So what holds after every
-/// list of actions (`laws`) holds of it.
+/// The nodes that run and all messages that were ever sent, as some list of actions leaves them. So what holds after
+/// every list of actions (`laws`) holds of it.
 #[derive(Drop)]
 pub struct World {
     cluster: Cluster,
@@ -91,8 +91,9 @@ impl World {
     ///
     /// `NotRising` for a start in a generation that is not greater than that of the endpoint's last start, and
     /// `TableFull` where it would be one endpoint more than `MEMBER_LIMIT`. `NoSuchMessage`, and then `NoSuchNode`, for a
-    /// delivery of what was not sent, or to whom no node runs; `NoSuchNode` for a local event of none. Else the refusals
-    /// of the node's step, and `OutOfMemory`.
+    /// delivery of what was not sent, or to whom no node runs; `NoSuchNode` for a local event of none. `VersionsSpent` for a
+    /// beat, a set or a tick where the node's versions are spent; a delivery has no other refusal
+    /// (`laws::deliveries_find_room`). Else at most `OutOfMemory`.
     pub fn act(&mut self, alloc: Global, action: &Action) -> Result<Shown, Fault>
         ensures shown { Answers (λ s. s) (showing self.old action.now) result }
         ensures done { OnOk result (self.new ≡ play self.old action.now) }

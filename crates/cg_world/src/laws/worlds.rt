@@ -1,4 +1,4 @@
-//! Laws of worlds in hand, each with what it speaks of.
+//! Calls on a world in hand whose contracts are laws: each makes what its law speaks of.
 
 ghost use Rattle.std.specs.Prelude.{◌≡◌, ◌&&◌, IfOk, IfErr, Ok, is_ok};
 ghost use Rattle.std.specs.FinMap as map;
