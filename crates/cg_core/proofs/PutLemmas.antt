@@ -11,7 +11,7 @@ use Rattle.std.proofs.lemmas.Bool.Decides.{nat_tests}
 use Rattle.std.proofs.lemmas.Map.Entries.{option_filter}
 use Rattle.cg_types.specs.Rising.{is_past, rise_past, Rises}
 use Rattle.cg_types.proofs.RisingLemmas.{keys_of, both, first_of, second_of, past_trans, other_key, same_tied, rise_sorted, entries_rising, get_rising}
-use Rattle.cg_shared.proofs.PastLemmas.{AgreePast, still_agree, agree_later}
+use Rattle.cg_map.proofs.PastLemmas.{AgreePast, still_agree, agree_later}
 use Rattle.cg_entry.specs.Values.{EntryValue}
 use Rattle.cg_entry.specs.Entry.{is_later}
 use Rattle.cg_entry.proofs.KeyLemmas.{find-filter}

@@ -2,7 +2,7 @@
 use Rattle.std.specs.Prelude.{ℕ, ◌==◌, Bool, true, false, ◌&&◌, ◌||◌, not, nat_le, List, [], ◌∷◌, Option, Some, None}
 use Rattle.std.specs.List.{list_all}
 use Rattle.std.specs.FinMap as map
-use Rattle.cg_shared.specs.Map.{put_each}
+use Rattle.cg_map.specs.Map.{put_each}
 use Rattle.cg_entry.specs.Versioned.{Versioned, States}
 use Rattle.cg_entry.specs.Values.{EntryValue}
 use Rattle.cg_table.specs.Values.{TableValue}

@@ -13,7 +13,7 @@ use crate::owned::{first_about, from_owner};
 use crate::owner_delta::OwnerDelta;
 use crate::request::Request;
 use cg_entry::{Delta, Entry};
-use cg_shared::{Row, push_some};
+use cg_map::{Row, push_some};
 use cg_table::{Digest, Table};
 use cg_types::{Cluster, Fault};
 use std::alloc::{AllocError, Global};

@@ -8,7 +8,7 @@ ghost use Rattle.cg_exchange.specs.Walking.{from_owner as from_owner_of, first_a
 use crate::owner_delta::OwnerDelta;
 use crate::request::Request;
 use cg_entry::Entry;
-use cg_shared::Row;
+use cg_map::Row;
 use cg_table::Digest;
 use cg_types::{Endpoint, MEMBER_LIMIT};
 

@@ -15,7 +15,7 @@ use crate::outcome::Outcome;
 use crate::owner_delta::OwnerDelta;
 use crate::request::Request;
 use cg_entry::{Absorbed, Delta, Entry, met};
-use cg_shared::{Row, push_some};
+use cg_map::{Row, push_some};
 use cg_table::{Table, Took};
 use cg_types::{Fault, MEMBER_LIMIT};
 use std::alloc::{AllocError, Global};

@@ -6,15 +6,15 @@ ghost use Rattle.cg_table.specs.Merge.{is_ahead as is_ahead_of, later_of, later_
 ghost use Rattle.cg_table.specs.Taking.{entries_after, taken, take_one as take_one_of, needs_room as needs_room_for, is_full_for, putting_delta};
 ghost use Rattle.std.specs.FinMap as table;
 ghost use Rattle.cg_types.specs.Rising.{Rises};
-ghost use Rattle.cg_shared.specs.Rows.{keys_of};
-ghost use Rattle.cg_shared.specs.Map.{put_each};
+ghost use Rattle.cg_map.specs.Rows.{keys_of};
+ghost use Rattle.cg_map.specs.Map.{put_each};
 ghost use Rattle.cg_table.specs.Own.{own_entry as own_entry_of, with_own as with_own_of};
 ghost use Rattle.cg_table.specs.Table.{alone, digest_of, digests_of};
 
 use crate::digest::Digest;
 use crate::took::Took;
 use cg_entry::{Absorbed, Delta, Entry, met};
-use cg_shared::{Row, SharedMap};
+use cg_map::{Row, SharedMap};
 use cg_types::{Endpoint, Fault, MEMBER_LIMIT};
 use std::alloc::{AllocError, Global};
 use std::marker::Model;

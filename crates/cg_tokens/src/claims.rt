@@ -11,7 +11,7 @@ ghost use Rattle.cg_tokens.specs.Claims.{text_at, is_member as is_member_of, cla
 use crate::text::{first_piece, tokens_in};
 use crate::token::Token;
 use cg_entry::Entry;
-use cg_shared::Row;
+use cg_map::Row;
 use cg_table::Table;
 use cg_types::{Endpoint, Generation, STATUS_KEY, StateKey, TOKENS_KEY};
 use std::alloc::{AllocError, Global};

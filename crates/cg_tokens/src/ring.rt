@@ -3,7 +3,7 @@
 ghost use Rattle.std.specs.Prelude.{◌≡◌, ◌≤◌, IfOk, OnOk, None, filter, nat_lt, nat_le, length, take, drop};
 ghost use Rattle.std.specs.FinMap as map;
 ghost use Rattle.cg_types.specs.Rising.{Rises};
-ghost use Rattle.cg_shared.specs.Rows.{keys_of};
+ghost use Rattle.cg_map.specs.Rows.{keys_of};
 ghost use Rattle.cg_tokens.specs.Claims.{heads};
 ghost use Rattle.cg_tokens.specs.Ring.{ring, replicas, taking, with_one, endpoints};
 
@@ -28,7 +28,7 @@ impl Model for Ring {
     ghost use Rattle.std.specs.FinMap as map;
     ghost use Rattle.std.specs.Coded.{coded_ℕ};
     ghost use Rattle.cg_types.specs.Rising.{Rises};
-    ghost use Rattle.cg_shared.specs.Rows.{keys_of};
+    ghost use Rattle.cg_map.specs.Rows.{keys_of};
 
     ghost Value = { map.FinMap nat_cmp ℕ };
 

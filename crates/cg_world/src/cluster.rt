@@ -13,7 +13,7 @@ use crate::action::{Action, LocalEvent};
 use crate::world::Shown;
 use cg_core::{Node, Reply, Settings};
 use cg_exchange::Message;
-use cg_shared::SharedMap;
+use cg_map::SharedMap;
 use cg_types::{Endpoint, Fault, Generation, MEMBER_LIMIT};
 use std::alloc::{AllocError, Global};
 use std::marker::Model;

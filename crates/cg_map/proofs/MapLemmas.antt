@@ -5,10 +5,10 @@ use Rattle.std.specs.Cmp.{nat_cmp_total}
 use Rattle.std.specs.FinMap.{FinMap, entries, entries_sorted, insert, get, from_sorted, same_entries_map, entries-from_sorted, entries-insert}
 use Rattle.cg_types.specs.Rising.{Rises}
 use Rattle.cg_types.proofs.RisingLemmas.{entries_rising, get_rising, rise_sorted}
-use Rattle.cg_shared.specs.Rows.{keys_of, before, after, walked, IsRowAt, IsGapAt}
-use Rattle.cg_shared.specs.Map.{put_each}
-use Rattle.cg_shared.proofs.RowLemmas.{find_row, find_in_gap}
-use Rattle.cg_shared.proofs.PutLemmas.{put_all, put_all-walked, walk_step}
+use Rattle.cg_map.specs.Rows.{keys_of, before, after, walked, IsRowAt, IsGapAt}
+use Rattle.cg_map.specs.Map.{put_each}
+use Rattle.cg_map.proofs.RowLemmas.{find_row, find_in_gap}
+use Rattle.cg_map.proofs.PutLemmas.{put_all, put_all-walked, walk_step}
 
 module _ {X : Type 0} where
   from_sorted-entries : (m : FinMap nat_cmp X) → from_sorted (entries m) ≡ m

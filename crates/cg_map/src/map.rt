@@ -3,8 +3,8 @@
 ghost use Rattle.std.specs.Prelude.{◌≡◌, IfOk, option_copied};
 ghost use Rattle.std.specs.FinMap as map;
 ghost use Rattle.cg_types.specs.Rising.{Rises};
-ghost use Rattle.cg_shared.specs.Rows.{keys_of};
-ghost use Rattle.cg_shared.specs.Map.{put_each};
+ghost use Rattle.cg_map.specs.Rows.{keys_of};
+ghost use Rattle.cg_map.specs.Map.{put_each};
 
 use crate::rows::{Row, around, search, share_all, walk_rows};
 use cg_types::Endpoint;
@@ -24,7 +24,7 @@ impl<T> Model for SharedMap<T> {
     ghost use Rattle.std.specs.FinMap as map;
     ghost use Rattle.std.specs.Coded.{coded_ℕ};
     ghost use Rattle.cg_types.specs.Rising.{Rises};
-    ghost use Rattle.cg_shared.specs.Rows.{keys_of};
+    ghost use Rattle.cg_map.specs.Rows.{keys_of};
 
     ghost Value = { map.FinMap nat_cmp T };
 

@@ -9,8 +9,8 @@ use Rattle.std.specs.FinMap.Entries.{put, by_order}
 use Rattle.std.proofs.lemmas.Bool.{ltb-true, ltb-false, lt-ltb, le-ltb}
 use Rattle.cg_types.specs.Rising.{is_past, rise_past, Rises}
 use Rattle.cg_types.proofs.RisingLemmas.{rise_earlier, first_of, second_of, rise_filter}
-use Rattle.cg_shared.specs.Rows.{keys_of, before, after, walked}
-use Rattle.cg_shared.proofs.RowLemmas.{later, filter_none, filter_every}
+use Rattle.cg_map.specs.Rows.{keys_of, before, after, walked}
+use Rattle.cg_map.proofs.RowLemmas.{later, filter_none, filter_every}
 
 module _ {X : Type 0} where
   pub put_less : (k : ℕ) (v : X) (r : ℕ × X) (rs : List (ℕ × X)) → k < r.0 → put nat_cmp k v (r ∷ rs) ≡ (k, v) ∷ r ∷ rs

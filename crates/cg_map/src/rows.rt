@@ -2,7 +2,7 @@
 
 ghost use Rattle.std.specs.Prelude.{◌≡◌, ◌++◌, IfOk, IfErr, OnOk};
 ghost use Rattle.cg_types.specs.Rising.{Rises};
-ghost use Rattle.cg_shared.specs.Rows.{keys_of, before, after, walked, IsRowAt, IsGapAt};
+ghost use Rattle.cg_map.specs.Rows.{keys_of, before, after, walked, IsRowAt, IsGapAt};
 
 use cg_types::Endpoint;
 use std::alloc::{AllocError, Global};

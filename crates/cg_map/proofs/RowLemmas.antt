@@ -10,7 +10,7 @@ use Rattle.std.proofs.lemmas.Bool.{ltb-true, lt-ltb, le-ltb}
 use Rattle.std.proofs.lemmas.Bool.Decides.{nat_tests}
 use Rattle.cg_types.specs.Rising.{is_past, rise_past, Rises}
 use Rattle.cg_types.proofs.RisingLemmas.{rise_earlier, first_of, second_of, same_tied}
-use Rattle.cg_shared.specs.Rows.{keys_of, before, after, IsRowAt, IsGapAt}
+use Rattle.cg_map.specs.Rows.{keys_of, before, after, IsRowAt, IsGapAt}
 
 differs : (k x : ℕ) → (k ≡ x → ⊥) → (b : Bool) → eq_by_cmp nat_cmp k x ≡ b → b ≡ false
 differs k x ne true e = absurd (ne (same_tied k x e))
