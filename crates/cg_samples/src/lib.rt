@@ -1,0 +1,12 @@
+//! Sample values for tests, over the types that all crates share.
+//!
+//! A number that names no value stands for the nearest that does, so that samples of numbers cannot fail.
+#![tactic(auto)]
+
+mod entries;
+mod numbers;
+mod texts;
+
+pub use entries::{bare_delta, bare_entry, delta, entry_at_start, state};
+pub use numbers::{A, B, C, endpoint, generation, key, version};
+pub use texts::{cluster, long_text};
