@@ -6,6 +6,7 @@ ghost use Rattle.std.specs.Option.{option_map};
 ghost use Rattle.cg_types.specs.Answer.{Answers, AnswersExactly};
 ghost use Rattle.cg_version.specs.Version.{next_version};
 ghost use Rattle.cg_entry.specs.Entry.{newest, delta_above, started, beaten, with_state, is_later as is_later_of};
+ghost use Rattle.cg_entry.specs.State.{KeysRise, pairs};
 ghost use Rattle.cg_entry.specs.Taking.{whole_entry, taken_or_gap, absorbed, is_taken, met as met_of};
 
 use crate::delta::Delta;
@@ -142,6 +143,14 @@ impl Entry {
             Some(state) => Some((&state.text, state.version)),
             None => None,
         }
+    }
+
+    /// The states, rising by key.
+    pub fn states(&self) -> &[State]
+        ensures value { pairs result.now ≡ map.entries self.now.states }
+        ensures rise { KeysRise result.now }
+    {
+        self.states.as_slice()
     }
 
     /// What taking a delta about this endpoint makes of the entry, which stays as it is. Texts are shared; `AllocError`
