@@ -196,7 +196,7 @@ sent_about owner digests None = refl
 sent_about owner digests (Some x) = refl
 
 -- tables and digests that spell places of one family of histories
-module _ (hs : ℕ → List EntryValue) (are : (owner : ℕ) → IsHistory (hs owner)) (m : Entries) (digests : List Digest) (mine theirs : ℕ → ℕ) (lm : Stand hs mine) (lt : Stand hs theirs)
+module _ (hs : ℕ → List EntryValue) (are : (owner : ℕ) → IsHistory (hs owner)) (m : Entries) (digests : List Digest) (mine theirs : ℕ → ℕ) (lt : Stand hs theirs)
     (held : SpellsPlaces hs m mine) (named : SpellsDigests hs digests theirs) where
   pub requests_spell_asks : Rises (endpoints_of_digests digests) → SpellsAsks hs (requests_for m digests) (λ owner. ask_for (hs owner) (mine owner) (theirs owner))
   requests_spell_asks rise = record {
@@ -205,7 +205,7 @@ module _ (hs : ℕ → List EntryValue) (are : (owner : ℕ) → IsHistory (hs o
         ∙ ap (option_and_then (λ (d : Digest). asked d (table.get m d.endpoint))) (named.at owner)
         ∙ asked_about owner m (at_place (hs owner) (theirs owner))
         ∙ ap (λ (o : Option EntryValue). option_and_then (λ (d : Digest). asked d o) (option_map (λ e. digest_of (owner, e)) (at_place (hs owner) (theirs owner)))) (held.at owner)
-        ∙ asked_spells owner (hs owner) (are owner) (mine owner) (theirs owner) (lm owner) (lt owner);
+        ∙ asked_spells owner (hs owner) (are owner) (mine owner) (theirs owner) (held.stand owner) (lt owner);
   }
 
   pub deltas_spell_spans : SpellsSpans hs (deltas_for m digests) (λ owner. span_for (hs owner) (mine owner) (theirs owner))
@@ -216,7 +216,7 @@ module _ (hs : ℕ → List EntryValue) (are : (owner : ℕ) → IsHistory (hs o
         ∙ sent_about owner digests (at_place (hs owner) (mine owner))
         ∙ ap (option_map (about owner)) (
         ap (λ (o : Option Digest). option_and_then (λ e. sent e o) (at_place (hs owner) (mine owner))) (named.at owner)
-        ∙ sent_spells owner (hs owner) (are owner) (mine owner) (theirs owner) (lm owner) (lt owner)
+        ∙ sent_spells owner (hs owner) (are owner) (mine owner) (theirs owner) (held.stand owner) (lt owner)
         );
   }
 
@@ -228,10 +228,10 @@ granted_about owner h is m p lp held (Some ask) stand =
 
 -- requests that spell asks are granted what spells the grants
 pub grants_spell_spans : (hs : ℕ → List EntryValue) → ((owner : ℕ) → IsHistory (hs owner)) → (m : Entries) (requests : List RequestValue) (mine : ℕ → ℕ) (asks : ℕ → Option Ask)
-    → Stand hs mine → Rises (endpoints_of_requests requests) → SpellsPlaces hs m mine → SpellsAsks hs requests asks → AreAsks hs asks → SpellsSpans hs (deltas_granted m requests) (grants_at hs mine asks)
-grants_spell_spans hs are m requests mine asks lm rise held spelled stand = record {
+    → Rises (endpoints_of_requests requests) → SpellsPlaces hs m mine → SpellsAsks hs requests asks → AreAsks hs asks → SpellsSpans hs (deltas_granted m requests) (grants_at hs mine asks)
+grants_spell_spans hs are m requests mine asks rise held spelled stand = record {
   at = λ owner.
       found_mapped (λ (r : RequestValue). r.endpoint) (λ (d : OwnerDelta). d.endpoint) (delta_granted m) (granted_same m) owner requests rise
       ∙ ap (option_and_then (delta_granted m)) (spelled.at owner)
-      ∙ granted_about owner (hs owner) (are owner) m (mine owner) (lm owner) (held.at owner) (asks owner) (stand owner);
+      ∙ granted_about owner (hs owner) (are owner) m (mine owner) (held.stand owner) (held.at owner) (asks owner) (stand owner);
 }

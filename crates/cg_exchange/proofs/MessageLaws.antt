@@ -1,24 +1,24 @@
 -- The laws of messages, from those of their parts.
-use Rattle.std.proofs.Common.{◌≡◌, ◌==◌, ◌≤◌, ℕ, Bool, true, false, cond, List, length, Option, Some, None, Ok, Err, refl, subst, nat_lt}
+use Rattle.std.proofs.Common.{◌≡◌, ◌≤◌, ℕ, Bool, true, false, cond, List, length, Option, Some, None, Ok, Err, refl, subst, nat_lt}
 use Rattle.std.specs.Option.{option_and_then}
 use Rattle.cg_types.specs.declared.fault.Fault.TheVariants.{TableFull}
 use Rattle.cg_types.specs.declared.limits.TheConstants.{MEMBER_LIMIT}
 use Rattle.cg_types.specs.Rising.{Rises}
 use Rattle.cg_entry.specs.Values.{EntryValue}
 use Rattle.cg_entry.specs.History.{IsHistory}
-use Rattle.cg_entry.specs.Place.{Span, IsSpan, SpanOutcome, taking, place_after}
-use Rattle.cg_entry.specs.Place as place
+use Rattle.cg_entry.specs.Place.{Span, IsSpan}
 use Rattle.cg_table.specs.Values.{TableValue}
+use Rattle.cg_table.specs.Spelling.{SpellsPlaces}
 use Rattle.cg_exchange.specs.declared.owner_delta.OwnerDelta.{OwnerDelta}
 use Rattle.cg_exchange.specs.declared.outcome.Outcome.{Outcome}
 use Rattle.cg_exchange.specs.Values.{Ack2Value}
 use Rattle.cg_exchange.specs.Members.{endpoints_of_deltas}
 use Rattle.cg_exchange.specs.Answering.{requests_for, deltas_for}
 use Rattle.cg_exchange.specs.Taking.{table_after, outcomes_of, deltas_granted, held_after}
-use Rattle.cg_exchange.specs.Places.{Ask, IsAsk, span_asked, place_with}
+use Rattle.cg_exchange.specs.Places.{Ask, IsAsk, span_asked}
 use Rattle.cg_exchange.specs.PlaceMessages.{Stand, AreAsks, AreSpans, places_after, grants_at}
 use Rattle.cg_exchange.specs.Spelling.{SpellsSpans}
-use Rattle.cg_exchange.specs.Laws.{IsAt, IsMoved, SynSaysPlaces, SynIsAnswered, AckMoves, AckIsTaken, Ack2IsTaken}
+use Rattle.cg_exchange.specs.Laws.{IsMoved, SynSaysPlaces, SynIsAnswered, AckMoves, AckIsTaken, Ack2IsTaken}
 use Rattle.cg_exchange.proofs.AnswerLemmas.{digests_rise, requests_rise, deltas_rise, grants_rise}
 use Rattle.cg_exchange.proofs.AnswerLaws.{digests_spell_places, requests_spell_asks, deltas_spell_spans, grants_spell_spans}
 use Rattle.cg_exchange.proofs.TakingLaws.{own_kept, places_taken, outcomes_taken}
@@ -26,7 +26,7 @@ use Rattle.cg_exchange.proofs.PlaceRules.{rules_stand}
 
 pub syn_says_places : SynSaysPlaces
 syn_says_places hs t cluster places at = record {
-  spells = record { rise = digests_rise t.entries; digests = digests_spell_places hs t.entries places at.spells };
+  spells = record { rise = digests_rise t.entries; digests = digests_spell_places hs t.entries places at };
   stands = at.stand;
 }
 
@@ -40,27 +40,14 @@ syn_is_answered hs are t cluster syn mine theirs at says same =
         spells = record {
           requests_rise = requests_rise t.entries syn.digests spelled.rise;
           deltas_rise = deltas_rise t.entries syn.digests;
-          requests = requests_spell_asks hs are t.entries syn.digests mine theirs at.stand says.stands at.spells spelled.digests spelled.rise;
-          deltas = deltas_spell_spans hs are t.entries syn.digests mine theirs at.stand says.stands at.spells spelled.digests;
+          requests = requests_spell_asks hs are t.entries syn.digests mine theirs says.stands at spelled.digests spelled.rise;
+          deltas = deltas_spell_spans hs are t.entries syn.digests mine theirs says.stands at spelled.digests;
         };
         stands = (λ owner ask e. (rules_stand (hs owner) (mine owner) (at.stand owner)).asks (theirs owner) ask e, λ owner span e. (rules_stand (hs owner) (mine owner) (at.stand owner)).spans (theirs owner) span e);
       };
     }
 
--- ---- places after spans
-
-place_stands : (n p : ℕ) (span : Span) (o : SpanOutcome) → p ≤ n → span.to ≤ n → place_after o p span ≤ n
-place_stands n p span place.Taken l s = s
-place_stands n p span place.Old l s = l
-place_stands n p span place.Gap l s = l
-
-with_stands : (h : List EntryValue) (own : Bool) (p : ℕ) (o : Option Span) → p ≤ length h → ((span : Span) → o ≡ Some span → IsSpan h span) → place_with own p o ≤ length h
-with_stands h own p None l is = l
-with_stands h true p (Some span) l is = l
-with_stands h false p (Some span) l is = place_stands (length h) p span (taking p span) l (is span refl).stands
-
-places_stand : (hs : ℕ → List EntryValue) (own : ℕ) (mine : ℕ → ℕ) (spans : ℕ → Option Span) → Stand hs mine → AreSpans hs spans → Stand hs (places_after own mine spans)
-places_stand hs own mine spans l are owner = with_stands (hs owner) (owner == own) (mine owner) (spans owner) (l owner) (are owner)
+-- ---- what is granted
 
 granted_span : (h : List EntryValue) (p : ℕ) → p ≤ length h → (o : Option Ask) → ((ask : Ask) → o ≡ Some ask → IsAsk h ask) → (span : Span) → option_and_then (span_asked h p) o ≡ Some span → IsSpan h span
 granted_span h p l None are span e = absurd cc
@@ -77,14 +64,11 @@ answered true x y e = absurd cc
 answered false x y e = cc
 
 module _ (hs : ℕ → List EntryValue) (are : (owner : ℕ) → IsHistory (hs owner)) (t : TableValue) (deltas : List OwnerDelta) (mine : ℕ → ℕ) (spans : ℕ → Option Span) where
-  moved : IsAt hs t mine → Rises (endpoints_of_deltas deltas) → SpellsSpans hs deltas spans → AreSpans hs spans → IsMoved hs t mine spans (table_after t deltas) (outcomes_of t deltas)
+  moved : SpellsPlaces hs t.entries mine → Rises (endpoints_of_deltas deltas) → SpellsSpans hs deltas spans → AreSpans hs spans → IsMoved hs t mine spans (table_after t deltas) (outcomes_of t deltas)
   moved at rise spelled stand = record {
-    own = own_kept hs are t deltas mine spans at.stand rise at.spells spelled stand;
-    places = record {
-      spells = places_taken hs are t deltas mine spans at.stand rise at.spells spelled stand;
-      stand = places_stand hs t.own mine spans at.stand stand;
-    };
-    outcomes_about = outcomes_taken hs are t deltas mine spans at.stand rise at.spells spelled stand;
+    own = own_kept hs are t deltas mine spans rise at spelled stand;
+    places = places_taken hs are t deltas mine spans rise at spelled stand;
+    outcomes_about = outcomes_taken hs are t deltas mine spans rise at spelled stand;
   }
 
 pub ack_is_taken : AckIsTaken
@@ -97,7 +81,7 @@ ack_is_taken hs are t ack mine asks spans at says after ack2 outcomes taken =
       says = record {
         spells = record {
           rise = grants_rise (table_after t ack.deltas).entries ack.requests spelled.requests_rise;
-          deltas = grants_spell_spans hs are (table_after t ack.deltas).entries ack.requests (places_after t.own mine spans) asks left.places.stand spelled.requests_rise left.places.spells spelled.requests says.stands.0;
+          deltas = grants_spell_spans hs are (table_after t ack.deltas).entries ack.requests (places_after t.own mine spans) asks spelled.requests_rise left.places spelled.requests says.stands.0;
         };
         stands = grants_stand hs (places_after t.own mine spans) asks left.places.stand says.stands.0;
       };

@@ -106,8 +106,23 @@ module _ (t : TableValue) (q : ℕ) (h : List EntryValue) (is : IsHistory h) (p 
       let y = at_place_some h span.to (omega (arith, s.rises)) s.stands in
       rw (named span s y.0 y.1) (ap (λ (took : Took). Some (record { endpoint = q; took = took })) (outcome_by span s y.0 y.1 (q == t.own)))
 
+-- ---- places after spans
+
+place_stands : (n p : ℕ) (span : Span) (o : SpanOutcome) → p ≤ n → span.to ≤ n → place_after o p span ≤ n
+place_stands n p span place.Taken l s = s
+place_stands n p span place.Old l s = l
+place_stands n p span place.Gap l s = l
+
+with_stands : (h : List EntryValue) (own : Bool) (p : ℕ) (o : Option Span) → p ≤ length h → ((span : Span) → o ≡ Some span → IsSpan h span) → place_with own p o ≤ length h
+with_stands h own p None l is = l
+with_stands h true p (Some span) l is = l
+with_stands h false p (Some span) l is = place_stands (length h) p span (taking p span) l (is span refl).stands
+
+places_stand : (hs : ℕ → List EntryValue) (own : ℕ) (mine : ℕ → ℕ) (spans : ℕ → Option Span) → Stand hs mine → AreSpans hs spans → Stand hs (places_after own mine spans)
+places_stand hs own mine spans l are owner = with_stands (hs owner) (owner == own) (mine owner) (spans owner) (l owner) (are owner)
+
 -- deltas that spell spans, at a table that spells places
-module _ (hs : ℕ → List EntryValue) (are : (owner : ℕ) → IsHistory (hs owner)) (t : TableValue) (deltas : List OwnerDelta) (mine : ℕ → ℕ) (spans : ℕ → Option Span) (lm : Stand hs mine)
+module _ (hs : ℕ → List EntryValue) (are : (owner : ℕ) → IsHistory (hs owner)) (t : TableValue) (deltas : List OwnerDelta) (mine : ℕ → ℕ) (spans : ℕ → Option Span)
     (rise : Rises (endpoints_of_deltas deltas)) (held : SpellsPlaces hs t.entries mine) (spelled : SpellsSpans hs deltas spans) (stand : AreSpans hs spans) where
   pub own_kept : (table_after t deltas).own ≡ t.own
   own_kept = ap (λ (t : TableValue). t.own) (taken_at_once t deltas rise).after
@@ -116,10 +131,11 @@ module _ (hs : ℕ → List EntryValue) (are : (owner : ℕ) → IsHistory (hs o
   places_taken = record {
     at = λ owner.
         held_at t deltas rise owner ∙ ap (left_of t owner) (spelled.at owner)
-        ∙ span_left t owner (hs owner) (are owner) (mine owner) (lm owner) (held.at owner) (spans owner) (stand owner);
+        ∙ span_left t owner (hs owner) (are owner) (mine owner) (held.stand owner) (held.at owner) (spans owner) (stand owner);
+    stand = places_stand hs t.own mine spans held.stand stand;
   }
 
   pub outcomes_taken : (owner : ℕ) → outcome_about owner (outcomes_of t deltas) ≡ option_map (λ span. record { endpoint = owner; took = took_for (owner == t.own) (mine owner) span }) (spans owner)
   outcomes_taken owner =
       outcome_at t deltas rise owner ∙ ap (option_map (outcome_of t)) (spelled.at owner)
-      ∙ span_outcome t owner (hs owner) (are owner) (mine owner) (lm owner) (held.at owner) (spans owner) (stand owner)
+      ∙ span_outcome t owner (hs owner) (are owner) (mine owner) (held.stand owner) (held.at owner) (spans owner) (stand owner)

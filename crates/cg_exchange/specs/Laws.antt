@@ -15,7 +15,6 @@ use Rattle.cg_exchange.specs.Answering.{same_cluster, syn_of, answer_to_syn}
 use Rattle.cg_exchange.specs.Taking.{taking_ack, taking_ack2}
 use Rattle.cg_exchange.specs.Places.{Ask, IsAsk, span_for, ask_for, span_asked, took_for}
 use Rattle.cg_exchange.specs.Spelling.{SpellsMessage, outcome_about}
-pub use Rattle.cg_exchange.specs.PlaceMessages.{Stand}
 use Rattle.cg_exchange.specs.PlaceMessages.{PlaceMessage, IsPlaceMessage, Syn, Ack, Ack2, answer_at, places_after, grants_at}
 
 -- What the rules give at the place mine lies in the history.
@@ -28,11 +27,6 @@ pub record RulesGiveSpans (history : List EntryValue) (mine : ℕ) : Type 0 wher
 abbrev pub RulesStand : Type 0
 RulesStand = (history : List EntryValue) (mine : ℕ) → mine ≤ length history → RulesGiveSpans history mine
 
--- The table holds, owner by owner, the entry at a place of the owner's history.
-pub record IsAt (histories : ℕ → List EntryValue) (t : TableValue) (places : ℕ → ℕ) : Type 0 where
-  pub spells : SpellsPlaces histories t.entries places
-  pub stand : Stand histories places
-
 -- The message spells this one by places, which is one of the histories.
 pub record Says (histories : ℕ → List EntryValue) (message : Message) (said : PlaceMessage) : Type 0 where
   pub spells : SpellsMessage histories said message
@@ -41,13 +35,13 @@ pub record Says (histories : ℕ → List EntryValue) (message : Message) (said 
 -- What is held after spans came to the table t at the places mine, and what became of each.
 pub record IsMoved (histories : ℕ → List EntryValue) (t : TableValue) (mine : ℕ → ℕ) (spans : ℕ → Option Span) (after : TableValue) (outcomes : List Outcome) : Type 0 where
   pub own : after.own ≡ t.own
-  pub places : IsAt histories after (places_after t.own mine spans)
+  pub places : SpellsPlaces histories after.entries (places_after t.own mine spans)
   pub outcomes_about : (owner : ℕ) → outcome_about owner outcomes ≡ option_map (λ span. record { endpoint = owner; took = took_for (owner == t.own) (mine owner) span }) (spans owner)
 
 -- The SYN of a table says where the table is.
 abbrev pub SynSaysPlaces : Type 0
 SynSaysPlaces =
-    (histories : ℕ → List EntryValue) (t : TableValue) (cluster : ClusterValue) (places : ℕ → ℕ) → IsAt histories t places → Says histories (kinds.Syn (syn_of t cluster)) (Syn places)
+    (histories : ℕ → List EntryValue) (t : TableValue) (cluster : ClusterValue) (places : ℕ → ℕ) → SpellsPlaces histories t.entries places → Says histories (kinds.Syn (syn_of t cluster)) (Syn places)
 
 -- The answer to a SYN is an ACK that says what is asked for and what is sent.
 pub record IsAnswered (histories : ℕ → List EntryValue) (t : TableValue) (cluster : ClusterValue) (syn : SynValue) (mine theirs : ℕ → ℕ) : Type 0 where
@@ -59,7 +53,7 @@ pub record IsAnswered (histories : ℕ → List EntryValue) (t : TableValue) (cl
 abbrev pub SynIsAnswered : Type 0
 SynIsAnswered =
     (histories : ℕ → List EntryValue) → ((owner : ℕ) → IsHistory (histories owner)) → (t : TableValue) (cluster : ClusterValue) (syn : SynValue) (mine theirs : ℕ → ℕ)
-    → IsAt histories t mine → Says histories (kinds.Syn syn) (Syn theirs) → same_cluster cluster syn.cluster ≡ true → IsAnswered histories t cluster syn mine theirs
+    → SpellsPlaces histories t.entries mine → Says histories (kinds.Syn syn) (Syn theirs) → same_cluster cluster syn.cluster ≡ true → IsAnswered histories t cluster syn mine theirs
 
 -- What an ACK leaves, and what is sent for its asks at the places after it.
 pub record AckMoves (histories : ℕ → List EntryValue) (t : TableValue) (mine : ℕ → ℕ) (asks : ℕ → Option Ask) (spans : ℕ → Option Span) (after : TableValue) (ack2 : Ack2Value) (outcomes : List Outcome) : Type 0 where
@@ -70,12 +64,12 @@ pub record AckMoves (histories : ℕ → List EntryValue) (t : TableValue) (mine
 abbrev pub AckIsTaken : Type 0
 AckIsTaken =
     (histories : ℕ → List EntryValue) → ((owner : ℕ) → IsHistory (histories owner)) → (t : TableValue) (ack : AckValue) (mine : ℕ → ℕ) (asks : ℕ → Option Ask) (spans : ℕ → Option Span)
-    → IsAt histories t mine → Says histories (kinds.Ack ack) (Ack asks spans)
+    → SpellsPlaces histories t.entries mine → Says histories (kinds.Ack ack) (Ack asks spans)
     → (after : TableValue) (ack2 : Ack2Value) (outcomes : List Outcome) → taking_ack t ack ≡ Ok (after, ack2, outcomes) → AckMoves histories t mine asks spans after ack2 outcomes
 
 -- An ACK2 that is taken moves the holder as its spans do.
 abbrev pub Ack2IsTaken : Type 0
 Ack2IsTaken =
     (histories : ℕ → List EntryValue) → ((owner : ℕ) → IsHistory (histories owner)) → (t : TableValue) (ack2 : Ack2Value) (mine : ℕ → ℕ) (spans : ℕ → Option Span)
-    → IsAt histories t mine → Says histories (kinds.Ack2 ack2) (Ack2 spans)
+    → SpellsPlaces histories t.entries mine → Says histories (kinds.Ack2 ack2) (Ack2 spans)
     → (after : TableValue) (outcomes : List Outcome) → taking_ack2 t ack2 ≡ Ok (after, outcomes) → IsMoved histories t mine spans after outcomes

@@ -1,8 +1,9 @@
 -- Messages by places, and what is answered to them.
-use Rattle.std.specs.Prelude.{ℕ, ◌≡◌, ◌≤◌, ◌==◌, List, length, Option, Some}
+use Rattle.std.specs.Prelude.{ℕ, ◌≡◌, ◌==◌, List, Option, Some}
 use Rattle.std.specs.Option.{option_and_then}
 use Rattle.cg_entry.specs.Values.{EntryValue}
 use Rattle.cg_entry.specs.Place.{Span, IsSpan}
+pub use Rattle.cg_table.specs.Spelling.{Stand}
 use Rattle.cg_exchange.specs.Places.{Ask, IsAsk, span_for, ask_for, span_asked, place_with}
 
 -- A message by places, each a function of the owner: a SYN tells where its sender is, an ACK asks and sends, an ACK2 sends.
@@ -23,10 +24,6 @@ places_after own mine spans owner = place_with (owner == own) (mine owner) (span
 -- what one at the places mine sends for asks
 abbrev pub grants_at : (ℕ → List EntryValue) → (ℕ → ℕ) → (ℕ → Option Ask) → ℕ → Option Span
 grants_at histories mine asks owner = option_and_then (span_asked (histories owner) (mine owner)) (asks owner)
-
--- The places stand in the histories.
-abbrev pub Stand : (ℕ → List EntryValue) → (ℕ → ℕ) → Type 0
-Stand histories places = (owner : ℕ) → places owner ≤ length (histories owner)
 
 -- Each ask is one of its owner's history.
 abbrev pub AreAsks : (ℕ → List EntryValue) → (ℕ → Option Ask) → Type 0

@@ -23,7 +23,7 @@ use Rattle.cg_world.specs.World.{World, run, put_at, grown, runs, with_start, wi
 use Rattle.cg_world.specs.Laws.{Continues}
 use Rattle.cg_world.specs.Spelling.{SpellsNode, SpellsNodes, SpellingStays, IsReplaced, Follow, TablesFollow}
 use Rattle.cg_world.proofs.PutLemmas.{put_at-each, put_at_here, put_at_other, same_number, test_same, test_other}
-use Rattle.cg_world.proofs.GrowthLemmas.{AllContinue, continues_itself, grown_continue}
+use Rattle.cg_world.proofs.GrowthLemmas.{AllContinue, continues_itself, grown_continue, grown_length}
 use Rattle.cg_world.proofs.WorldLemmas.{IsSound, run_sound}
 use Rattle.cg_world.proofs.OwnerLemmas.{grown_runs, runs_on, same_test}
 
@@ -43,8 +43,11 @@ same_request : (owner : ℕ) {h k : List EntryValue} → Continues h k → (o : 
 same_request owner c None is = refl
 same_request owner c (Some ask) is = ap (λ v. Some (record { endpoint = owner; generation = ask.generation; version = v })) (same_version c ask.from (is ask refl).stands)
 
-places_stay : (old new : ℕ → List EntryValue) → AllContinue old new → (entries : Entries) (places : ℕ → ℕ) → Stand old places → SpellsPlaces old entries places → SpellsPlaces new entries places
-places_stay old new c entries places l s = record { at = λ owner. s.at owner ∙ sym ((c owner).same (places owner) (l owner)) }
+places_stay : (old new : ℕ → List EntryValue) → AllContinue old new → (entries : Entries) (places : ℕ → ℕ) → SpellsPlaces old entries places → SpellsPlaces new entries places
+places_stay old new c entries places s = record {
+  at = λ owner. s.at owner ∙ sym ((c owner).same (places owner) (s.stand owner));
+  stand = λ owner. omega (arith, s.stand owner, (c owner).longer);
+}
 
 pub spelling_stays : SpellingStays
 spelling_stays old new c = record {
@@ -75,14 +78,21 @@ module _ (tables later : ℕ → Option Entries) (w v : World) (node : ℕ) (ent
         (λ n apart. ap is_some (r.elsewhere n apart) ∙ s.running n ∙ sym (k.running n ∙ ap (λ b. cond b true (runs w n)) (test_other n node apart)));
     spelled = at_each (λ n. (es : Entries) → later n ≡ Some es → SpellsNode v n es)
         (λ es e. let is = r.here in let same : entries ≡ es = cc in subst (λ es. SpellsNode v node es) same k.here)
-        (λ n apart es e. subst (λ row. SpellsPlaces v.histories es row) (sym (k.elsewhere n apart)) (places_stay w.histories v.histories k.histories es (w.places n) (sound.stands n) (s.spelled n es (sym (r.elsewhere n apart) ∙ e))));
+        (λ n apart es e. subst (λ row. SpellsPlaces v.histories es row) (sym (k.elsewhere n apart)) (places_stay w.histories v.histories k.histories es (w.places n) (s.spelled n es (sym (r.elsewhere n apart) ∙ e))));
   }
 
 -- a table to which the node's own entry is put
-own_put : (w : World) (node : ℕ) (entry : EntryValue) (entries : Entries) (row : ℕ → ℕ) → ((owner : ℕ) → owner ≢ node → table.get entries owner ≡ at_place (w.histories owner) (row owner))
+own_put : (w : World) (node : ℕ) (entry : EntryValue) (entries : Entries) (row : ℕ → ℕ) → Stand w.histories row → ((owner : ℕ) → owner ≢ node → table.get entries owner ≡ at_place (w.histories owner) (row owner))
     → SpellsPlaces (grown w.histories node entry) (table.insert entries node entry) (put_at row node (length (w.histories node) + 1))
-own_put w node entry entries row there = record { at = λ owner. get-insert nat_cmp_total entries node entry owner ∙ ap (λ b. cond b (Some entry) (table.get entries owner)) (same_test owner node) ∙ go owner (nat_eq owner node) refl }
+own_put w node entry entries row stand there = record {
+  at = λ owner. get-insert nat_cmp_total entries node entry owner ∙ ap (λ b. cond b (Some entry) (table.get entries owner)) (same_test owner node) ∙ go owner (nat_eq owner node) refl;
+  stand = stand_put;
+}
   where
+    stand_put : Stand (grown w.histories node entry) (put_at row node (length (w.histories node) + 1))
+    stand_put = put_at-each (λ owner p. p ≤ length (grown w.histories node entry owner)) row node (length (w.histories node) + 1)
+        (omega (arith, grown_length w.histories node entry)) (λ owner apart. omega (arith, stand owner, (grown_continue w.histories node entry owner).longer))
+
     last : at_place (w.histories node ++ entry ∷ []) (length (w.histories node) + 1) ≡ Some entry
     last = rw add-one (at_place_last (w.histories node) entry)
 
@@ -103,7 +113,7 @@ entry_kept w node entry entries s = record {
   histories = grown_continue w.histories node entry;
   running = grown_runs w node entry;
   here = subst (SpellsPlaces (grown w.histories node entry) (table.insert entries node entry)) (sym (put_at_here w.places node (put_at (w.places node) node (length (w.histories node) + 1))))
-      (own_put w node entry entries (w.places node) (λ owner apart. s.at owner));
+      (own_put w node entry entries (w.places node) s.stand (λ owner apart. s.at owner));
   elsewhere = λ n apart. put_at_other w.places node (put_at (w.places node) node (length (w.histories node) + 1)) n apart;
 }
 
@@ -113,7 +123,7 @@ start_kept w node generation = record {
   histories = grown_continue w.histories node (started generation);
   running = grown_runs w node (started generation);
   here = subst (SpellsPlaces (grown w.histories node (started generation)) (alone node (started generation)).entries) (sym (put_at_here w.places node (put_at (λ owner. 0) node (length (w.histories node) + 1))))
-      (own_put w node (started generation) table.empty (λ owner. 0) (λ owner apart. get-empty nat_cmp owner));
+      (own_put w node (started generation) table.empty (λ owner. 0) (λ owner. omega arith) (λ owner apart. get-empty nat_cmp owner));
   elsewhere = λ n apart. put_at_other w.places node (put_at (λ owner. 0) node (length (w.histories node) + 1)) n apart;
 }
 
@@ -122,7 +132,7 @@ unfolding with_spans
 spans_kept w node spans entries running s = record {
   histories = λ owner. continues_itself (w.histories owner);
   running = λ n. sym (runs_on w node n running);
-  here = subst (SpellsPlaces w.histories entries) (sym (put_at_here w.places node (λ owner. places_after node (w.places node) spans owner))) (record { at = s.at });
+  here = subst (SpellsPlaces w.histories entries) (sym (put_at_here w.places node (λ owner. places_after node (w.places node) spans owner))) (record { at = s.at; stand = s.stand });
   elsewhere = λ n apart. put_at_other w.places node (λ owner. places_after node (w.places node) spans owner) n apart;
 }
 

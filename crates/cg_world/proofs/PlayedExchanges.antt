@@ -12,7 +12,7 @@ use Rattle.cg_table.specs.Merge.{merged}
 use Rattle.cg_table.specs.Spelling.{SpellsPlaces}
 use Rattle.cg_table.proofs.MergeLemmas.{merge_is_the_join}
 use Rattle.cg_exchange.specs.declared.message.Message.{Message}
-use Rattle.cg_exchange.specs.PlaceMessages.{PlaceMessage, Stand}
+use Rattle.cg_exchange.specs.PlaceMessages.{PlaceMessage}
 use Rattle.cg_tokens.specs.Ring.{ring}
 use Rattle.cg_types.specs.Text.{ClusterValue}
 use Rattle.cg_types.specs.declared.fault.Fault.{Fault}
@@ -162,16 +162,16 @@ holds c w j node n e = j.tied.is.tables.spelled node n.table.entries (ap (option
 
 -- and goes on to spell
 holds_on : (c : PlayedWorld) (w v : World) → Joined c w → Keeps w v → (node : ℕ) (n : NodeValue) → Runs c node n → SpellsPlaces v.histories n.table.entries (w.places node)
-holds_on c w v j keeps node n e = let st : StaySpelled w.histories v.histories = spelling_stays w.histories v.histories keeps.histories in st.tables n.table.entries (w.places node) (j.tied.sound.stands node) (holds c w j node n e)
+holds_on c w v j keeps node n e = let st : StaySpelled w.histories v.histories = spelling_stays w.histories v.histories keeps.histories in st.tables n.table.entries (w.places node) (holds c w j node n e)
 
 -- tables that spell the same places are the same
 same_spelled : (histories : ℕ → List EntryValue) (one other : Entries) (mine theirs : ℕ → ℕ) → SpellsPlaces histories one mine → SpellsPlaces histories other theirs → ((owner : ℕ) → mine owner ≡ theirs owner) → one ≡ other
 same_spelled histories one other mine theirs a b same = same_map nat_cmp_total nat_cmp-IsAntisymmetric one other (λ owner. a.at owner ∙ ap (at_place (histories owner)) (same owner) ∙ sym (b.at owner))
 
 -- a table past the places that another spells is past that one
-past_by : (v : World) → IsSound v → (one other : Entries) (mine theirs : ℕ → ℕ) → Stand v.histories mine → Stand v.histories theirs → SpellsPlaces v.histories one mine → SpellsPlaces v.histories other theirs → Within theirs mine → IsPast one other
-past_by v s one other mine theirs sm st a b within =
-    same_spelled v.histories (merged one other) one (λ owner. max (mine owner) (theirs owner)) mine (merge_is_the_join v.histories s.histories one other mine theirs sm st a b) a (λ owner. omega (arith, within owner))
+past_by : (v : World) → IsSound v → (one other : Entries) (mine theirs : ℕ → ℕ) → SpellsPlaces v.histories one mine → SpellsPlaces v.histories other theirs → Within theirs mine → IsPast one other
+past_by v s one other mine theirs a b within =
+    same_spelled v.histories (merged one other) one (λ owner. max (mine owner) (theirs owner)) mine (merge_is_the_join v.histories s.histories one other mine theirs a b) a (λ owner. omega (arith, within owner))
 
 pub exchanges_end_at_the_join : ExchangesEndAtTheJoin
 exchanges_end_at_the_join settings actions x opening other ro ra neither =
@@ -189,12 +189,9 @@ exchanges_end_at_the_join settings actions x opening other ro ra neither =
     let answering = node_of (at_syn c x) (places.at_syn w z) m x.answerer (still_runs (to_at_syn w z j.tied.sound (both_run c w x j both neither) (never c w x j both neither)) x.answerer both.answerer) in
     let opener = node_of (exchanged c x) v k x.opener (still_runs all x.opener both.opener) in
     let answerer = node_of (exchanged c x) v k x.answerer (still_runs all x.answerer both.answerer) in
-    let mine : Stand v.histories ((places.at_syn w z).places x.answerer) = λ owner. omega (arith, m.tied.sound.stands x.answerer owner, (late.histories owner).longer) in
-    let theirs : Stand v.histories (w.places x.opener) = λ owner. omega (arith, j.tied.sound.stands x.opener owner, (all.histories owner).longer) in
     let both_held : SpellsPlaces v.histories (merged answering.0.table.entries opening.table.entries) (exchange_join w z) =
-    merge_is_the_join v.histories k.tied.sound.histories answering.0.table.entries opening.table.entries ((places.at_syn w z).places x.answerer) (w.places x.opener) mine theirs
+    merge_is_the_join v.histories k.tied.sound.histories answering.0.table.entries opening.table.entries ((places.at_syn w z).places x.answerer) (w.places x.opener)
     (holds_on (at_syn c x) (places.at_syn w z) v m late x.answerer answering.0 answering.1) (holds_on c w v j all x.opener opening ro) in
-    let stands : Stand v.histories (exchange_join w z) = λ owner. omega (arith, mine owner, theirs owner) in
     record {
       answering = answering.0;
       answers = answering.1;
@@ -202,8 +199,8 @@ exchanges_end_at_the_join settings actions x opening other ro ra neither =
       opener_runs = opener.1;
       answerer = answerer.0;
       answerer_runs = answerer.1;
-      opener_past = past_by v k.tied.sound opener.0.table.entries _ (v.places x.opener) (exchange_join w z) (k.tied.sound.stands x.opener) stands (holds (exchanged c x) v k x.opener opener.0 opener.1) both_held reach.opener;
-      answerer_past = past_by v k.tied.sound answerer.0.table.entries _ (v.places x.answerer) (exchange_join w z) (k.tied.sound.stands x.answerer) stands (holds (exchanged c x) v k x.answerer answerer.0 answerer.1) both_held reach.answerer;
+      opener_past = past_by v k.tied.sound opener.0.table.entries _ (v.places x.opener) (exchange_join w z) (holds (exchanged c x) v k x.opener opener.0 opener.1) both_held reach.opener;
+      answerer_past = past_by v k.tied.sound answerer.0.table.entries _ (v.places x.answerer) (exchange_join w z) (holds (exchanged c x) v k x.answerer answerer.0 answerer.1) both_held reach.answerer;
     }
 
 pub undisturbed_exchanges_merge : UndisturbedExchangesMerge
@@ -221,10 +218,8 @@ undisturbed_exchanges_merge settings actions a b syn_at ack_at ack2_at opening a
     let ends : EndsAtTheJoin w a b = undisturbed_ends w a b j.tied.sound both in
     let opener = node_of (exchanged c x) v k a (still_runs all a both.opener) in
     let answerer = node_of (exchanged c x) v k b (still_runs all b both.answerer) in
-    let mine : Stand v.histories (w.places b) = λ owner. omega (arith, j.tied.sound.stands b owner, (all.histories owner).longer) in
-    let theirs : Stand v.histories (w.places a) = λ owner. omega (arith, j.tied.sound.stands a owner, (all.histories owner).longer) in
     let merge : SpellsPlaces v.histories (merged answering.table.entries opening.table.entries) (λ owner. max (w.places b owner) (w.places a owner)) =
-    merge_is_the_join v.histories k.tied.sound.histories answering.table.entries opening.table.entries (w.places b) (w.places a) mine theirs (holds_on c w v j all b answering ra) (holds_on c w v j all a opening ro) in
+    merge_is_the_join v.histories k.tied.sound.histories answering.table.entries opening.table.entries (w.places b) (w.places a) (holds_on c w v j all b answering ra) (holds_on c w v j all a opening ro) in
     let at_opener : SpellsPlaces v.histories opener.0.table.entries (v.places a) = holds (exchanged c x) v k a opener.0 opener.1 in
     let at_answerer : SpellsPlaces v.histories answerer.0.table.entries (v.places b) = holds (exchanged c x) v k b answerer.0 answerer.1 in
     let same : opener.0.table.entries ≡ answerer.0.table.entries =

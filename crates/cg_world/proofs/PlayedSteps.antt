@@ -29,7 +29,7 @@ use Rattle.cg_exchange.specs.Taking.{table_after, outcomes_of, held_after, delta
 use Rattle.cg_exchange.specs.Spelling.{SpellsSpans}
 use Rattle.cg_exchange.specs.Places.{Ask}
 use Rattle.cg_exchange.specs.PlaceMessages.{PlaceMessage, Syn, Ack, Ack2, AreSpans, answer_at, places_after, grants_at}
-use Rattle.cg_exchange.specs.Laws.{IsAt, Says, IsMoved, AckMoves, IsAnswered}
+use Rattle.cg_exchange.specs.Laws.{Says, IsMoved, AckMoves, IsAnswered}
 use Rattle.cg_exchange.proofs.MessageLaws.{syn_says_places, syn_is_answered, ack_is_taken, ack2_is_taken}
 use Rattle.cg_core.specs.declared.event.Event.TheVariants as event
 use Rattle.cg_core.specs.declared.reply.Reply.{Reply}
@@ -95,9 +95,6 @@ module _ (c : PlayedWorld) (w : World) (t : Tied c w) (node : ℕ) where
 
     spells_here : SpellsNode w node n.table.entries
     spells_here = t.is.tables.spelled node n.table.entries table_here
-
-    stands_here : IsAt w.histories n.table (w.places node)
-    stands_here = record { spells = spells_here; stand = t.sound.stands node }
 
     own_at : map.get n.table.entries node ≡ last_entry (w.histories node)
     own_at = spells_here.at node ∙ ap (at_place (w.histories node)) (t.sound.own node)
@@ -196,7 +193,7 @@ module _ (c : PlayedWorld) (w : World) (t : Tied c w) (node : ℕ) where
     opened_played : IsPlayed (with_sent (with_node c node n) (Some (message.Syn (opening n)))) (with_message w (Syn (w.places node)))
     opened_played = subst (λ d. IsPlayed (with_sent d (Some (message.Syn (opening n)))) (with_message w (Syn (w.places node)))) (sym (node_itself c node n e))
         (message_played c w (message.Syn (opening n)) (Syn (w.places node)) t.is (record {
-          says = syn_says_places w.histories n.table n.settings.cluster (w.places node) (stands_here c w t node n e);
+          says = syn_says_places w.histories n.table n.settings.cluster (w.places node) (spells_here c w t node n e);
           names = ap (λ s. s.cluster) (at_node c w t node n e).its_settings;
         }))
 
@@ -243,7 +240,7 @@ module _ (c : PlayedWorld) (w : World) (t : Tied c w) (b : Bounded w) (node : �
   syn_agrees syn theirs s =
       let same : same_cluster n.settings.cluster syn.cluster ≡ true = same_by n.settings.cluster syn.cluster (ap (λ s. s.cluster) at.its_settings ∙ sym s.names) in
       let a : IsAnswered w.histories n.table n.settings.cluster syn (w.places node) theirs =
-      syn_is_answered w.histories t.sound.histories n.table n.settings.cluster syn (w.places node) theirs (stands_here c w t node n e) s.says same in
+      syn_is_answered w.histories t.sound.histories n.table n.settings.cluster syn (w.places node) theirs (spells_here c w t node n e) s.says same in
       let said : PlaceMessage = answer_at w.histories (w.places node) theirs in
       rw (runs_here c w t node n e) (rw a.answer (
         refl,
@@ -265,7 +262,7 @@ module _ (c : PlayedWorld) (w : World) (t : Tied c w) (b : Bounded w) (node : �
       let m : NodeValue = after_taking n now after outcomes in
       node_played c w (with_spans w node spans) node m t.is
       ((follow (tables_of c) w t.sound t.is.tables).spans node spans after.entries (tables_of (with_node c node m)) (runs_here c w t node n e)
-      (subst (λ k. SpellsPlaces w.histories after.entries (places_after k (w.places node) spans)) at.its_endpoint moved.places.spells) (replaced c node m))
+      (subst (λ k. SpellsPlaces w.histories after.entries (places_after k (w.places node) spans)) at.its_endpoint moved.places) (replaced c node m))
       (λ owner. continues_itself (w.histories owner)) refl (record { its_settings = at.its_settings; its_endpoint = moved.own ∙ at.its_endpoint }) (many_still c w t node n e m)
 
   -- what is sent back is what the places say
@@ -287,7 +284,7 @@ module _ (c : PlayedWorld) (w : World) (t : Tied c w) (b : Bounded w) (node : �
       let ack2 : Ack2Value = record { deltas = deltas_granted after.entries ack.requests } in
       let outcomes : List Outcome = outcomes_of n.table ack.deltas in
       let taken : taking_ack n.table ack ≡ Ok (after, ack2, outcomes) = rw (ack_fits ack asks spans s) refl in
-      ack_is_taken w.histories t.sound.histories n.table ack (w.places node) asks spans (stands_here c w t node n e) s.says after ack2 outcomes taken
+      ack_is_taken w.histories t.sound.histories n.table ack (w.places node) asks spans (spells_here c w t node n e) s.says after ack2 outcomes taken
 
   ack_agrees : (now : ℕ) (ack : AckValue) (asks : ℕ → Option Ask) (spans : ℕ → Option Span) → IsSent c.settings.cluster w.histories (message.Ack ack) (Ack asks spans)
       → AgreesBy (node_refusal w node) (cond (runs w node) (received w node (Ack asks spans)) w) (after_step c node (node_step n (event.Ack now ack)))
@@ -312,7 +309,7 @@ module _ (c : PlayedWorld) (w : World) (t : Tied c w) (b : Bounded w) (node : �
       let after : TableValue = table_after n.table ack2.deltas in
       let outcomes : List Outcome = outcomes_of n.table ack2.deltas in
       let taken : taking_ack2 n.table ack2 ≡ Ok (after, outcomes) = rw (ack2_fits ack2 spans s) refl in
-      ack2_is_taken w.histories t.sound.histories n.table ack2 (w.places node) spans (stands_here c w t node n e) s.says after outcomes taken
+      ack2_is_taken w.histories t.sound.histories n.table ack2 (w.places node) spans (spells_here c w t node n e) s.says after outcomes taken
 
   ack2_agrees : (now : ℕ) (ack2 : Ack2Value) (spans : ℕ → Option Span) → IsSent c.settings.cluster w.histories (message.Ack2 ack2) (Ack2 spans)
       → AgreesBy (node_refusal w node) (cond (runs w node) (received w node (Ack2 spans)) w) (after_step c node (node_step n (event.Ack2 now ack2)))

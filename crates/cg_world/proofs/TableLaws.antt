@@ -1,5 +1,5 @@
 -- The laws of tables that spell places of nodes.
-use Rattle.std.proofs.Common.{◌≡◌, ℕ, List, sym, ◌∙◌, ap, arith}
+use Rattle.std.proofs.Common.{◌≡◌, ℕ, List, sym, ◌∙◌, ap}
 use Rattle.std.specs.Cmp.{nat_cmp_total}
 use Rattle.std.specs.FinMap.{same_map, nat_cmp-IsAntisymmetric}
 use Rattle.cg_entry.specs.History.{at_place}
@@ -47,14 +47,14 @@ pub two_joined : (actions : List Action) (a b : ℕ) (one two : Entries) → Spe
 two_joined actions a b one two sa sb =
     let w : World = run actions in
     let sound = run_sound actions in
-    merge_is_the_join w.histories sound.histories one two (w.places a) (w.places b) (sound.stands a) (sound.stands b) sa sb
+    merge_is_the_join w.histories sound.histories one two (w.places a) (w.places b) sa sb
 
 pub merges_are_joined : MergesAreJoined
 merges_are_joined actions a b c one two three sa sb sc =
     let w : World = run actions in
     let sound = run_sound actions in
     let all : SpellsPlaces w.histories (merged (merged one two) three) (join (join (w.places a) (w.places b)) (w.places c)) =
-    merge_is_the_join w.histories sound.histories (merged one two) three (join (w.places a) (w.places b)) (w.places c) (λ owner. omega (arith, sound.stands a owner, sound.stands b owner)) (sound.stands c) (two_joined actions a b one two sa sb) sc in
+    merge_is_the_join w.histories sound.histories (merged one two) three (join (w.places a) (w.places b)) (w.places c) (two_joined actions a b one two sa sb) sc in
     record { joined = all; small = spelled_small w (merged (merged one two) three) (join (join (w.places a) (w.places b)) (w.places c)) (run_knows actions) all }
 
 pub tables_find_room : TablesFindRoom

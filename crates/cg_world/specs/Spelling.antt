@@ -29,7 +29,7 @@ pub record SpellsNodes (tables : ℕ → Option Entries) (w : World) : Type 0 wh
 
 -- What was spelled by the earlier histories is spelled by the later ones.
 pub record StaySpelled (earlier later : ℕ → List EntryValue) : Type 0 where
-  pub tables : (entries : Entries) (places : ℕ → ℕ) → Stand earlier places → SpellsPlaces earlier entries places → SpellsPlaces later entries places
+  pub tables : (entries : Entries) (places : ℕ → ℕ) → SpellsPlaces earlier entries places → SpellsPlaces later entries places
   pub digests : (digests : List Digest) (places : ℕ → ℕ) → Stand earlier places → SpellsDigests earlier digests places → SpellsDigests later digests places
   pub asks : (requests : List RequestValue) (asks : ℕ → Option Ask) → AreAsks earlier asks → SpellsAsks earlier requests asks → SpellsAsks later requests asks
   pub spans : (deltas : List OwnerDelta) (spans : ℕ → Option Span) → AreSpans earlier spans → SpellsSpans earlier deltas spans → SpellsSpans later deltas spans
