@@ -7,14 +7,15 @@ use Rattle.cg_exchange.specs.declared.message.Message.{Message}
 use Rattle.cg_frames.specs.declared.layout.Layout.{Layout}
 use Rattle.cg_frames.specs.Reading.{size_of, frame_at}
 use Rattle.cg_frames.specs.Choosing.{due, frame_among}
+use Rattle.cg_frames.specs.Laws.{WhatIsHeldIsPartial}
 use Rattle.cg_frames.specs.Feeding.{Standing, Cut, lack_of, with_front, cut_by, cut_within, frames_in, fed, fed_all, IsPartial, HasAtMostOne}
 use Rattle.cg_frames.proofs.FrameLemmas.{frame_parts}
-use Rattle.cg_frames.proofs.FrontLemmas.{settled_among, frame_is_all}
+use Rattle.cg_frames.proofs.FrontLemmas.{settled_among, fault_among, frame_is_all}
 
 module _ (layouts : List Layout) where
   -- ---- turns
 
-  nothing_at : frame_among layouts [] ≡ Ok None
+  pub nothing_at : frame_among layouts [] ≡ Ok None
   unfolding frame_at
   nothing_at = refl
 
@@ -101,7 +102,7 @@ module _ (layouts : List Layout) where
   partial_by : (xs : List ℕ) (r : Result (Option (Message × ℕ)) Fault) → frame_among layouts xs ≡ r
       → ((p : Message × ℕ) → r ≡ Ok (Some p) → IsPartial layouts (frames_in layouts (drop p.1 xs)).rest)
       → IsPartial layouts (cut_by (frames_in layouts) xs r).rest
-  partial_by xs (Err f) is next = tt
+  partial_by xs (Err f) is next = fault_among layouts xs f is
   partial_by xs (Ok None) is next = is
   partial_by xs (Ok (Some p)) is next = next p refl
 
@@ -121,9 +122,9 @@ module _ (layouts : List Layout) where
   pub frames_partial : (xs : List ℕ) → IsPartial layouts (frames_in layouts xs).rest
   frames_partial xs = partial_within (length xs) xs (omega arith)
 
-  pub fed_partial : (s : Standing) (piece : List ℕ) → IsPartial layouts (fed layouts s piece).rest
-  fed_partial (Ok held) piece = frames_partial (held ++ piece)
-  fed_partial (Err f) piece = tt
+  pub fed_partial : (s : Standing) (piece : List ℕ) → IsPartial layouts s → IsPartial layouts (fed layouts s piece).rest
+  fed_partial (Ok held) piece partial = frames_partial (held ++ piece)
+  fed_partial (Err f) piece partial = partial
 
   -- Two pieces are one.
   pub fed_twice : (s : Standing) (first second : List ℕ) → fed layouts s (first ++ second) ≡ carried (fed layouts s first).messages (fed layouts s first).rest second
@@ -138,14 +139,14 @@ module _ (layouts : List Layout) where
   pub pieces_add_up : (s : Standing) (pieces : List (List ℕ)) → IsPartial layouts s → fed_all layouts s pieces ≡ fed layouts s (flat_map (λ (piece : List ℕ). piece) pieces)
   pieces_add_up s [] partial = sym (fed_nothing s partial)
   pieces_add_up s (piece ∷ pieces) partial =
-      ap (with_front (fed layouts s piece).messages) (pieces_add_up (fed layouts s piece).rest pieces (fed_partial s piece))
+      ap (with_front (fed layouts s piece).messages) (pieces_add_up (fed layouts s piece).rest pieces (fed_partial s piece partial))
       ∙ sym (fed_twice s piece (flat_map (λ (q : List ℕ). q) pieces))
 
   pub from_nothing : (pieces : List (List ℕ)) → fed_all layouts (Ok []) pieces ≡ frames_in layouts (flat_map (λ (piece : List ℕ). piece) pieces)
   from_nothing pieces = pieces_add_up (Ok []) pieces nothing_at
 
-  pub held_partial : IsPartial layouts (Ok []) × ((s : Standing) (piece : List ℕ) → IsPartial layouts (fed layouts s piece).rest)
-  held_partial = (nothing_at, fed_partial)
+  pub held_partial : WhatIsHeldIsPartial layouts
+  held_partial = record { new = nothing_at; later = fed_partial }
 
   -- ---- one at a time
 

@@ -1,5 +1,5 @@
 -- What feeding needs of the grammar: what stands at the front is settled once it is there, and how long it is.
-use Rattle.std.proofs.Common.{◌≡◌, ℕ, ◌+◌, ◌-◌, ◌<◌, ◌≤◌, List, [], ◌++◌, length, take, drop, Some, None, Result, Ok, Err, refl, sym, ap, ◌∙◌, subst, inl, inr, arith, length-append, length-drop}
+use Rattle.std.proofs.Common.{◌≡◌, ℕ, ◌+◌, ◌-◌, ◌<◌, ◌≤◌, List, [], ◌++◌, length, take, drop, Option, Some, None, Result, Ok, Err, refl, sym, ap, ◌∙◌, subst, inl, inr, arith, length-append, length-drop}
 use Rattle.std.specs.Prelude.{◌⊎◌}
 use Rattle.std.specs.Int.{w32, from_be_bytes}
 use Rattle.std.proofs.lemmas.Bool.{lt-ltb, le-ltb, cases_lt}
@@ -9,8 +9,10 @@ use Rattle.cg_types.specs.declared.fault.Fault.{Fault}
 use Rattle.cg_types.specs.declared.fault.Fault.TheVariants as faults
 use Rattle.cg_exchange.specs.declared.message.Message.{Message}
 use Rattle.cg_frames.specs.declared.layout.Layout.{Layout}
-use Rattle.cg_frames.specs.Reading.{inside_at, located, with_size, size_of, frame_at}
+use Rattle.cg_frames.specs.Reading.{inside_at, fault_at, located, with_size, size_of, frame_at}
+use Rattle.cg_frames.specs.declared.misread.Misread.{Misread}
 use Rattle.cg_frames.specs.Choosing.{widest, due, frame_among}
+use Rattle.cg_frames.specs.Faults.{IsBadFrame}
 use Rattle.cg_frames.specs.Feeding.{lack_of}
 use Rattle.cg_frames.proofs.ChoosingLemmas.{due_shorter, due_early, due_longer}
 use Rattle.cg_frames.proofs.FrameLemmas.{frame_parts}
@@ -25,6 +27,14 @@ inside_longer xs ys n long =
 with_size_none : (n : ℕ) (r : Result Message Fault) → with_size n r ≡ Ok None → ⊥
 with_size_none n (Ok x) is = cc
 with_size_none n (Err f) is = cc
+
+err_is : (f g : Fault) → ◌≡◌ {A = Result (Option (Message × ℕ)) Fault} (Err f) (Err g) → f ≡ g
+err_is f g e = cc
+
+-- A fault that is located is a bad frame.
+located_fault : (n : ℕ) (r : Result Message Misread) (f : Fault) → with_size n (located n r) ≡ Err f → IsBadFrame f
+located_fault n (Ok x) f is = cc
+located_fault n (Err m) f is = subst IsBadFrame (err_is (fault_at n m) f is) tt
 
 short_lacks : (xs : List ℕ) → length xs < 4 → lack_of xs ≡ 4 - length xs
 unfolding lack_of
@@ -94,6 +104,15 @@ module _ (layout : Layout) where
     | whole long low is ↦ absurd (with_size_none (size_of xs) (located (size_of xs) (inside_at layout (take (size_of xs) (drop 4 xs)))) (sym is ∙ none))
   ]
 
+  -- A fault is a bad frame.
+  fault_is_bad : (xs : List ℕ) (f : Fault) → frame_at layout xs ≡ Err f → IsBadFrame f
+  fault_is_bad xs f bad = elim (front_of xs) [
+    | short few is ↦ cc
+    | over long high is ↦ subst IsBadFrame (err_is (faults.BadFrame 0 causes.Length) f (sym is ∙ bad)) tt
+    | part long few is ↦ cc
+    | whole long low is ↦ located_fault (size_of xs) (inside_at layout (take (size_of xs) (drop 4 xs))) f (sym is ∙ bad)
+  ]
+
   -- A frame of length 0 is too short for the byte of its layout.
   empty_is : (xs : List ℕ) → 4 ≤ length xs → size_of xs ≡ 0 → frame_at layout xs ≡ Err (faults.BadFrame 4 causes.Short)
   unfolding inside_at
@@ -128,6 +147,10 @@ module _ (layouts : List Layout) where
     ]
     | inr early ↦ settled_early xs ys early
   ]
+
+  -- A fault is a bad frame.
+  pub fault_among : (xs : List ℕ) (f : Fault) → frame_among layouts xs ≡ Err f → IsBadFrame f
+  fault_among xs f bad = fault_is_bad (due layouts xs) xs f bad
 
   -- Where more bytes are needed, some are lacking.
   pub some_lacking : (xs : List ℕ) → frame_among layouts xs ≡ Ok None → 0 < lack_of xs

@@ -15,6 +15,7 @@ pub mod ChoosingLemmas
 pub mod FrontLemmas
 pub mod ChosenLemmas
 pub mod FeedingLemmas
+pub mod FaultLemmas
 pub mod CuttingLemmas
 pub mod SplittingLemmas
 pub mod OnlyLemmas

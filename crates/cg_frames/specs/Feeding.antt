@@ -5,6 +5,7 @@ use Rattle.cg_types.specs.declared.fault.Fault.{Fault}
 use Rattle.cg_types.specs.declared.fault.Fault.TheVariants.{Truncated}
 use Rattle.cg_exchange.specs.declared.message.Message.{Message}
 use Rattle.cg_frames.specs.declared.layout.Layout.{Layout}
+use Rattle.cg_frames.specs.Faults.{IsBadFrame}
 use Rattle.cg_frames.specs.Reading.{size_of}
 use Rattle.cg_frames.specs.Choosing.{frame_among, IsOneOf}
 use Rattle.cg_frames.specs.Spelling.{frame}
@@ -52,10 +53,10 @@ abbrev pub fed_all : List Layout → Standing → List (List ℕ) → Cut
 fed_all layouts s [] = record { messages = []; rest = s }
 fed_all layouts s (piece ∷ pieces) = with_front (fed layouts s piece).messages (fed_all layouts (fed layouts s piece).rest pieces)
 
--- Nothing whole and no fault stands in what is held.
+-- Nothing whole and no fault stands in what is held; the fault that stands is a bad frame.
 abbrev pub IsPartial : List Layout → Standing → Type 0
 IsPartial layouts (Ok held) = frame_among layouts held ≡ Ok None
-IsPartial layouts (Err f) = Unit {0}
+IsPartial layouts (Err f) = IsBadFrame f
 
 -- These bytes stand behind the messages.
 abbrev pub StandsAt : List Layout → Standing → List ℕ → Type 0

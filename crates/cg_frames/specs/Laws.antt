@@ -10,6 +10,7 @@ use Rattle.cg_frames.specs.declared.layout.Layout.{Layout}
 use Rattle.cg_frames.specs.Spelling.{inside, frame}
 use Rattle.cg_frames.specs.Fits.{Fits}
 use Rattle.cg_frames.specs.Lengths.{greatest_length}
+use Rattle.cg_frames.specs.Faults.{IsBadFrame}
 use Rattle.cg_frames.specs.Reading.{size_of, frame_at}
 use Rattle.cg_frames.specs.Choosing.{named, frame_among, IsOneOf}
 use Rattle.cg_frames.specs.Feeding.{Standing, Cut, lack_of, with_front, frames_in, fed, fed_all, IsPartial, Splits, HasAtMostOne}
@@ -74,8 +75,14 @@ abbrev pub EveryCuttingIsTheWhole : List Layout → Type 0
 EveryCuttingIsTheWhole layouts = (pieces : List (List ℕ)) → fed_all layouts (Ok []) pieces ≡ frames_in layouts (flat_map (λ (piece : List ℕ). piece) pieces)
 
 -- Nothing whole and no fault stands in what is held after a piece.
-abbrev pub WhatIsHeldIsPartial : List Layout → Type 0
-WhatIsHeldIsPartial layouts = IsPartial layouts (Ok []) × ((s : Standing) (piece : List ℕ) → IsPartial layouts (fed layouts s piece).rest)
+pub record WhatIsHeldIsPartial (layouts : List Layout) : Type 0 where
+  pub new : IsPartial layouts (Ok [])
+  pub later : (s : Standing) (piece : List ℕ) → IsPartial layouts s → IsPartial layouts (fed layouts s piece).rest
+
+-- A fault of bytes, in whichever layout they are read, and of a feed is a bad frame.
+pub record FaultsAreBadFrames (layouts : List Layout) : Type 0 where
+  pub read : (bytes : List ℕ) (f : Fault) → frame_among layouts bytes ≡ Err f → IsBadFrame f
+  pub fed : (pieces : List (List ℕ)) (f : Fault) → (fed_all layouts (Ok []) pieces).rest ≡ Err f → IsBadFrame f
 
 -- Two pieces give what both at once give.
 abbrev pub TwoPiecesAreOne : List Layout → Type 0

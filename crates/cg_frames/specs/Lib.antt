@@ -3,6 +3,7 @@ pub mod Spelling
 pub mod Fits
 pub mod Lengths
 pub mod Layouts
+pub mod Faults
 pub mod Choosing
 pub mod Laws
 pub mod Feeding

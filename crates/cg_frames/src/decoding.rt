@@ -1,8 +1,10 @@
 //! Frames at the front of bytes.
 
-ghost use Rattle.std.specs.Prelude.{◌≡◌, ◌<◌, ◌^◌, length, Ok, None};
+ghost use Rattle.std.specs.Prelude.{◌≡◌, ◌<◌, ◌^◌, length, Ok, None, IfErr};
 ghost use Rattle.cg_frames.specs.declared.layout.TheConstants.{LAYOUTS};
+ghost use Rattle.cg_types.specs.declared.fault.Fault.TheVariants.{OutOfMemory};
 ghost use Rattle.cg_types.specs.Answer.{Answers};
+ghost use Rattle.cg_frames.specs.Faults.{IsBadFrameOr};
 ghost use Rattle.cg_frames.specs.Layouts.{IsRead};
 ghost use Rattle.cg_frames.specs.Choosing.{frame_among, AreRead};
 ghost use Rattle.cg_frames.specs.Reading as spec;
@@ -97,6 +99,7 @@ pub(crate) fn decode_among(
 pub fn decode(alloc: Global, bytes: &[u8]) -> Result<Option<(Message, usize)>, Fault>
     ensures exact { Answers (λ x. x) (frame_among LAYOUTS bytes.now) result }
     ensures more { frame_among LAYOUTS bytes.now ≡ Ok None → result ≡ Ok None }
+    ensures faults { IfErr result (IsBadFrameOr OutOfMemory) }
     ensures found { TakesOnlySpelled LAYOUTS bytes.now result }
     ensures only { GivesEachSpelled LAYOUTS bytes.now result }
 {

@@ -1,9 +1,10 @@
 //! Bytes that come in pieces, cut into messages.
 
-ghost use Rattle.std.specs.Prelude.{◌≡◌, ◌<◌, ◌≤◌, [], ◌++◌, length, IfOk, IfErr, OnErr, OnOk, IsOk, IsErr};
+ghost use Rattle.std.specs.Prelude.{◌≡◌, ◌<◌, ◌≤◌, [], ◌++◌, length, IfOk, IfErr, IfSome, OnErr, OnOk, IsOk, IsErr};
 ghost use Rattle.cg_types.specs.declared.fault.Fault.TheVariants as faults;
 ghost use Rattle.cg_frames.specs.declared.layout.TheConstants.{LAYOUTS};
 ghost use Rattle.cg_frames.specs.Choosing.{AreRead};
+ghost use Rattle.cg_frames.specs.Faults.{IsBadFrame, IsBadFrameOr};
 ghost use Rattle.cg_frames.specs.Feeding as spec;
 ghost use Rattle.cg_frames.specs.Laws.{AreBytes};
 
@@ -135,6 +136,7 @@ impl Feed {
         ensures given { IfOk result (λ fed. fed.messages.items ≡ (spec.fed LAYOUTS self.old piece.now).messages) }
         ensures rest { OnOk result (self.new ≡ (spec.fed LAYOUTS self.old piece.now).rest) }
         ensures fault { IfOk result (λ fed. fed.fault ≡ spec.fault_of self.new) }
+        ensures bad { IfOk result (λ fed. IfSome fed.fault IsBadFrame) }
         ensures spelled { IfOk result (λ fed. spec.SplitsFrom LAYOUTS self.old piece.now (record { messages = fed.messages.items; rest = self.new })) }
         ensures one { IfOk result (λ fed. length piece.now ≤ spec.wanted self.old → spec.HasAtMostOne fed.messages.items self.new) }
         ensures same { OnErr result (self.new ≡ self.old) }
@@ -165,7 +167,8 @@ impl Feed {
 
     /// Whether the stream may end here: `Truncated` where a part of a frame is held, and the fault after one.
     pub fn end(&self) -> Result<(), Fault>
-        ensures { spec.Ends self.now result }
+        ensures is { spec.Ends self.now result }
+        ensures faults { IfErr result (IsBadFrameOr faults.Truncated) }
     {
         match self.fault {
             Some(fault) => Err(fault),

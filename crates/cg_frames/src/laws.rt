@@ -6,7 +6,7 @@ ghost use Rattle.cg_frames.specs.declared.layout.TheConstants.{LAYOUT_1, LAYOUTS
 ghost use Rattle.cg_frames.specs.Layouts.{IsLayout, IsRead, IsWritten};
 ghost use Rattle.cg_frames.specs.Choosing.{AreLayouts, AreRead};
 ghost use Rattle.cg_frames.specs.Lengths.{greatest_length};
-ghost use Rattle.cg_frames.specs.Laws.{NoSpellingBeginsAnother, EachIsShort, ChoosesByTheByte, SomeAreLacking, PiecesAddUp, EveryCuttingIsTheWhole, WhatIsHeldIsPartial, TwoPiecesAreOne, OneAtATime, AllIsSpelled, NothingElseIsSpelled};
+ghost use Rattle.cg_frames.specs.Laws.{NoSpellingBeginsAnother, EachIsShort, ChoosesByTheByte, SomeAreLacking, PiecesAddUp, EveryCuttingIsTheWhole, WhatIsHeldIsPartial, FaultsAreBadFrames, TwoPiecesAreOne, OneAtATime, AllIsSpelled, NothingElseIsSpelled};
 
 /// No message's frame begins with the frame of another message, in whichever layouts of a list they are spelled.
 pub fn no_spelling_begins_another()
@@ -59,6 +59,11 @@ pub fn every_cutting_is_the_whole()
 /// What a feed holds is never a whole frame, and begins with no fault.
 pub fn what_is_held_is_partial()
     ensures { (layouts : List Layout) → WhatIsHeldIsPartial layouts }
+{}
+
+/// A fault of a frame, and of a stream that comes in pieces, is `BadFrame`.
+pub fn faults_are_bad_frames()
+    ensures { (layouts : List Layout) → FaultsAreBadFrames layouts }
 {}
 
 /// Two pieces give what both at once give.

@@ -2,6 +2,7 @@ use Rattle.std.proofs.Common.{◌≡◌, ◌++◌, ◌≤◌, length, None, Ok, 
 use Rattle.cg_frames.specs.Feeding.{Cut, IsPartial, Splits, SplitsFrom, HasAtMostOne, standing_of, wanted}
 use Rattle.cg_frames.specs.Feeding.{lack_of}
 use Rattle.cg_frames.proofs.FeedingLemmas.{frames_partial, at_most_one}
+use Rattle.cg_frames.proofs.FaultLemmas.{bad_standing}
 use Rattle.cg_frames.proofs.SplittingLemmas.{frames_split}
 use Rattle.cg_frames.proofs.LawLemmas.{layouts_are}
 use Rattle.cg_frames.specs.declared.layout.TheConstants.{LAYOUTS}
@@ -29,3 +30,8 @@ returns-clause-one c fits =
     let whole : c.args.self.now ≡ Ok held = sym (subst (λ f. standing_of held f ≡ c.args.self.now) none c.self.view_is) in
     let short : length c.args.piece.now ≤ lack_of held = subst (λ s. length c.args.piece.now ≤ wanted s) whole fits in
     subst (λ (k : Cut). HasAtMostOne k.messages k.rest) (c.in_ok-fed.ensures.ok) (at_most_one LAYOUTS held c.args.piece.now partial short)
+
+pub returns-clause-bad : goal.returns-clause-bad
+returns-clause-bad c =
+    let partial = subst (λ (k : Cut). IsPartial LAYOUTS k.rest) (c.in_ok-fed.ensures.ok) (frames_partial LAYOUTS (c.self.inside.held.items ++ c.args.piece.now)) in
+    bad_standing LAYOUTS c.extend.new.held.items c.in_ok-fed.fed.fault partial
