@@ -1,2 +1,5 @@
 pub mod Values
+pub mod Settings
 pub mod Silence
+pub mod Verdict
+pub mod Laws

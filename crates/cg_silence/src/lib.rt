@@ -5,13 +5,14 @@
 //! numbers, and exactly.
 #![tactic(auto)]
 
+mod fault;
+pub mod laws;
 mod limits;
 mod silence;
-#[cfg(test)]
-mod tests;
 mod verdict;
 mod window;
 
+pub use fault::SilenceFault;
 pub use limits::{
     DEFAULT_INITIAL_GAP, DEFAULT_MAX_GAP, DEFAULT_THRESHOLD, DEFAULT_WINDOW, GAP_LIMIT,
     THRESHOLD_LIMIT, THRESHOLD_UNIT, WINDOW_LIMIT,

@@ -1,8 +1,10 @@
 //! How silence is judged.
 
-ghost use Rattle.std.specs.Prelude.{◌≡◌, ◌↔◌, IsSome, IfSome};
+ghost use Rattle.std.specs.Prelude.{◌≡◌, ◌↔◌, IsOk, IsSome, IfSome};
+ghost use Rattle.cg_silence.specs.Settings.{settings_or_fault};
 ghost use Rattle.cg_silence.specs.Values.{IsSilence, silence_of, default_silence};
 
+use crate::fault::SilenceFault;
 use crate::limits::{
     DEFAULT_INITIAL_GAP, DEFAULT_MAX_GAP, DEFAULT_THRESHOLD, DEFAULT_WINDOW, GAP_LIMIT,
     THRESHOLD_LIMIT, WINDOW_LIMIT,
@@ -27,31 +29,48 @@ impl Model for Silence {
 
     ghost invariant = { λ s. IsSilence (silence_of s.window s.initial_gap s.max_gap s.threshold) };
 
-    ghost inverse = { λ s. record { window = s.window; initial_gap = s.initial_gap; max_gap = s.max_gap; threshold = s.threshold } };
+    ghost inverse = { λ s.
+        record { window = s.window; initial_gap = s.initial_gap; max_gap = s.max_gap; threshold = s.threshold } };
 }
 
 impl Silence {
-    /// `None` unless the window is 1 to `WINDOW_LIMIT` gaps, the initial gap is 1 to `max_gap`, that is 1 to
-    /// `GAP_LIMIT`, and the threshold is 1 to `THRESHOLD_LIMIT`.
-    pub fn new(window: usize, initial_gap: u32, max_gap: u32, threshold: u32) -> Option<Silence>
-        ensures valid { IsSome result ↔ IsSilence (silence_of window initial_gap max_gap threshold) }
-        ensures value { IfSome result (λ s. s ≡ silence_of window initial_gap max_gap threshold) }
+    /// The settings, or which of them is out of its range, the first in this order: the window is 1 to `WINDOW_LIMIT`
+    /// gaps, `max_gap` 1 to `GAP_LIMIT`, the initial gap 1 to `max_gap`, and the threshold 1 to `THRESHOLD_LIMIT`.
+    pub fn try_new(
+        window: usize,
+        initial_gap: u32,
+        max_gap: u32,
+        threshold: u32,
+    ) -> Result<Silence, SilenceFault>
+        ensures due { result ≡ settings_or_fault (silence_of window initial_gap max_gap threshold) }
+        ensures valid { IsOk result ↔ IsSilence (silence_of window initial_gap max_gap threshold) }
     {
         if window == 0 || window > WINDOW_LIMIT {
-            return None;
+            return Err(SilenceFault::Window);
         }
-        if initial_gap == 0 || initial_gap > max_gap || max_gap > GAP_LIMIT {
-            return None;
+        if max_gap == 0 || max_gap > GAP_LIMIT {
+            return Err(SilenceFault::MaxGap);
+        }
+        if initial_gap == 0 || initial_gap > max_gap {
+            return Err(SilenceFault::InitialGap);
         }
         if threshold == 0 || threshold > THRESHOLD_LIMIT {
-            return None;
+            return Err(SilenceFault::Threshold);
         }
-        Some(Silence {
+        Ok(Silence {
             window,
             initial_gap,
             max_gap,
             threshold,
         })
+    }
+
+    /// As `try_new`, with `None` for each fault.
+    pub fn new(window: usize, initial_gap: u32, max_gap: u32, threshold: u32) -> Option<Silence>
+        ensures valid { IsSome result ↔ IsSilence (silence_of window initial_gap max_gap threshold) }
+        ensures value { IfSome result (λ s. s ≡ silence_of window initial_gap max_gap threshold) }
+    {
+        Silence::try_new(window, initial_gap, max_gap, threshold).ok()
     }
 
     /// How many gaps a window keeps.

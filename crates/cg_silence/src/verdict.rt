@@ -1,5 +1,8 @@
 //! Verdicts.
 
+ghost use Rattle.std.specs.Prelude.{◌≡◌};
+ghost use Rattle.cg_silence.specs.Verdict.{verdict_name};
+
 /// What a window says of its endpoint at a moment.
 #[derive(Clone, Copy, Debug, PartialEq, Eq)]
 pub enum Verdict {
@@ -9,4 +12,17 @@ pub enum Verdict {
     Silent,
     /// Nothing arrived so far.
     Unheard,
+}
+
+impl Verdict {
+    /// The verdict's name: `Alive`, `Silent` or `Unheard`.
+    pub fn name(self) -> &'static str
+        ensures { result.now ≡ verdict_name self }
+    {
+        match self {
+            Verdict::Alive => "Alive",
+            Verdict::Silent => "Silent",
+            Verdict::Unheard => "Unheard",
+        }
+    }
 }

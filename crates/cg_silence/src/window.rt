@@ -109,7 +109,11 @@ impl Window {
     // Takes a gap in, in place of the oldest where there is no room.
     fn keep_gap(&mut self, gap: u32)
         requires { gap ≤ self.old.silence.max_gap }
-        ensures { self.new ≡ record self.old { shown = record self.old.shown { gaps = keep_last self.old.silence.window (self.old.shown.gaps ++ gap ∷ []) } } }
+        ensures { self.new ≡ record self.old {
+          shown = record self.old.shown {
+            gaps = keep_last self.old.silence.window (self.old.shown.gaps ++ gap ∷ []);
+          };
+        } }
     {
         self.total = replace_oldest(&mut self.gaps, self.total, gap);
     }

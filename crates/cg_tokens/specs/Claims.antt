@@ -51,7 +51,8 @@ beats c d = nat_lt d.generation c.generation || (d.generation == c.generation &&
 abbrev pub wins : List Claim → Claim → Bool
 wins cs c = list_all (λ d. not (d.token == c.token && beats d c)) cs
 
--- Whether an entry shows that it claims what was claimed by what was held of its owner: its generation, status and tokens are the same, or nothing was held and it is no member.
+-- Whether an entry shows that it claims what was claimed by what was held of its owner: its generation, status and
+-- tokens are the same, or nothing was held and it is no member.
 abbrev pub keeps_claims : Option EntryValue → EntryValue → Bool
 keeps_claims None e = not (is_member e.states)
 keeps_claims (Some held) e =
@@ -66,7 +67,9 @@ position c = (c.token, c.endpoint)
 
 -- by token, and for one token by who beats whom
 abbrev pub rank : Claim → Claim → Ordering
-rank c d = ordering_then (ordering_then (nat_cmp c.token d.token) (nat_cmp d.generation c.generation)) (nat_cmp c.endpoint d.endpoint)
+rank c d =
+    ordering_then (ordering_then (nat_cmp c.token d.token) (nat_cmp d.generation c.generation))
+    (nat_cmp c.endpoint d.endpoint)
 
 -- whether a token is the last one
 abbrev pub is_last : Option ℕ → ℕ → Bool

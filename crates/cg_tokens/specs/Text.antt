@@ -34,7 +34,9 @@ pieces_of (Some text) = pieces text
 
 -- not too many, each a token, each greater than the one before it
 abbrev pub are_tokens : List (List ℕ) → Bool
-are_tokens ps = nat_le (length ps) TOKEN_COUNT_LIMIT && (list_all (λ p. is_some (token_in p)) ps && rise_past None (filter_map token_in ps))
+are_tokens ps =
+    nat_le (length ps) TOKEN_COUNT_LIMIT
+    && (list_all (λ p. is_some (token_in p)) ps && rise_past None (filter_map token_in ps))
 
 -- the tokens of a text, with one comma between them
 abbrev pub tokens_of : List ℕ → Option (List ℕ)

@@ -1,6 +1,11 @@
-//! Laws of rings, each the contract of an empty function.
+//! Laws of tokens and rings, each the contract of an empty function.
 
-ghost use Rattle.cg_tokens.specs.Laws.{KeptClaimsAreAlike, RingStays};
+ghost use Rattle.cg_tokens.specs.Laws.{KeptClaimsAreAlike, LimitsAreThese, RingStays};
+
+/// The greatest token, the digits that a token is written with, and how many tokens an endpoint may have, as numbers.
+pub fn limits_are_these()
+    ensures { LimitsAreThese }
+{}
 
 /// An entry that keeps the claims of its owner (`keeps_claims`) claims what was claimed.
 pub fn kept_claims_are_alike()

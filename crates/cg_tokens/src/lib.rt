@@ -8,8 +8,6 @@ mod claims;
 pub mod laws;
 mod limits;
 mod ring;
-#[cfg(test)]
-mod tests;
 mod text;
 mod token;
 

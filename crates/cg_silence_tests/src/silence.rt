@@ -1,8 +1,7 @@
 //! The verdicts at worked moments, and each call once with ample memory.
 
-use crate::{
-    DEFAULT_INITIAL_GAP, DEFAULT_MAX_GAP, DEFAULT_THRESHOLD, DEFAULT_WINDOW, GAP_LIMIT, Silence,
-    THRESHOLD_LIMIT, Verdict, WINDOW_LIMIT, Window,
+use cg_silence::{
+    GAP_LIMIT, Silence, SilenceFault, THRESHOLD_LIMIT, Verdict, WINDOW_LIMIT, Window,
 };
 use std::alloc::Global;
 use std::test::Fail;
@@ -19,27 +18,59 @@ fn window(alloc: Global, silence: Silence, arrivals: &[u64]) -> Result<Window, F
     Ok(window)
 }
 
+// What is wrong with settings, or nothing.
+type Wrong = Option<SilenceFault>;
+
 #[test]
 fn settings_are_in_their_ranges(rt: HostRuntime) {
-    for (window, initial_gap, max_gap, threshold, is_in) in [
-        (1, 1, 1, 1, true),
-        (1000, 86400000, 86400000, 1000000000, true),
-        (0, 1, 1, 1, false),
-        (1001, 1, 1, 1, false),
-        (1, 0, 1, 1, false),
-        (1, 2, 1, 1, false),
-        (1, 1, 0, 1, false),
-        (1, 1, 86400001, 1, false),
-        (1, 1, 1, 0, false),
-        (1, 1, 1, 1000000001, false),
-    ] {
+    let cases: [((usize, u32, u32, u32), Wrong); 11] = [
+        ((1, 1, 1, 1), None),
+        ((1000, 86400000, 86400000, 1000000000), None),
+        ((0, 1, 1, 1), Some(SilenceFault::Window)),
+        ((1001, 1, 1, 1), Some(SilenceFault::Window)),
+        ((1, 0, 1, 1), Some(SilenceFault::InitialGap)),
+        ((1, 2, 1, 1), Some(SilenceFault::InitialGap)),
+        ((1, 1, 0, 1), Some(SilenceFault::MaxGap)),
+        ((1, 1, 86400001, 1), Some(SilenceFault::MaxGap)),
+        ((1, 1, 1, 0), Some(SilenceFault::Threshold)),
+        ((1, 1, 1, 1000000001), Some(SilenceFault::Threshold)),
+        ((0, 0, 0, 0), Some(SilenceFault::Window)),
+    ];
+    for ((window, initial_gap, max_gap, threshold), wrong) in cases {
+        let tried = Silence::try_new(window, initial_gap, max_gap, threshold);
+        assert_eq!(rt; tried.err(), wrong);
         let silence = Silence::new(window, initial_gap, max_gap, threshold);
-        assert_eq!(rt;
-            silence.is_some(),
-            is_in,
-            "{window} {initial_gap} {max_gap} {threshold}"
-        );
+        assert_eq!(rt; silence.is_none(), wrong.is_some());
     }
+}
+
+#[test]
+fn faults_are_told(rt: HostRuntime) -> Result<(), Fail> {
+    for (fault, wanted) in [
+        (SilenceFault::Window, "the window is not 1 to 1000 gaps"),
+        (
+            SilenceFault::MaxGap,
+            "the greatest gap is not 1 to 86400000 milliseconds",
+        ),
+        (
+            SilenceFault::InitialGap,
+            "the initial gap is not 1 to the greatest gap",
+        ),
+        (
+            SilenceFault::Threshold,
+            "the threshold is not 1 to 1000000000",
+        ),
+    ] {
+        let told = format!(in rt.alloc(); "{fault}")?;
+        assert_eq!(rt; told.as_str(), wanted);
+    }
+    Ok(())
+}
+
+#[test]
+fn verdicts_have_names(rt: HostRuntime) {
+    let names = [Verdict::Alive, Verdict::Silent, Verdict::Unheard].map(|verdict| verdict.name());
+    assert_eq!(rt; names, ["Alive", "Silent", "Unheard"]);
 }
 
 #[test]
@@ -54,15 +85,10 @@ fn settings_are_read(rt: HostRuntime) -> Result<(), Fail> {
 
 #[test]
 fn the_defaults(rt: HostRuntime) {
-    let silence = Silence::default();
-    assert_eq!(rt; Silence::new(1000, 2000, 60000, 18421), Some(silence));
-    let named = Silence::new(
-        DEFAULT_WINDOW,
-        DEFAULT_INITIAL_GAP,
-        DEFAULT_MAX_GAP,
-        DEFAULT_THRESHOLD,
+    assert_eq!(rt;
+        Silence::new(1000, 2000, 60000, 18421),
+        Some(Silence::default())
     );
-    assert_eq!(rt; named, Some(silence));
 }
 
 #[test]

@@ -1,0 +1,194 @@
+//! Worked rings, and who keeps its claims.
+
+use crate::tokens::token;
+use cg_entry::Delta;
+use cg_samples::{endpoint, entry_at_start, state};
+use cg_table::Table;
+use cg_tokens::{Ring, TOKEN_LIMIT, keeps_claims};
+use cg_types::Endpoint;
+use std::alloc::Global;
+use std::test::Fail;
+
+const AT_16_AND_64: &str = "00000000000000000000000000000010,00000000000000000000000000000040";
+
+const AT_32: &str = "00000000000000000000000000000020";
+
+const AT_48: &str = "00000000000000000000000000000030";
+
+// A generation, a status and a text of tokens.
+type Claiming = (u32, &'static str, &'static str);
+
+// What an endpoint that claims so sends of itself.
+fn delta(alloc: Global, (at, status, tokens): Claiming) -> Result<Delta, Fail> {
+    let states = vec![in alloc; state(alloc, 1, 1, status)?, state(alloc, 2, 1, tokens)?]?;
+    cg_samples::delta((at, 0, 1), states)
+}
+
+// A table of these owners, and of endpoint 9, which claims nothing.
+fn table(alloc: Global, owners: &[(u16, Claiming)]) -> Result<Table, Fail> {
+    let mut table = Table::new(alloc, endpoint(9), entry_at_start(alloc, 1))?;
+    for (owner, claiming) in owners {
+        let delta = delta(alloc, *claiming)?;
+        table = table.put_delta(alloc, endpoint(*owner), &delta)?.0;
+    }
+    Ok(table)
+}
+
+// The ring of such a table.
+fn ring_of(alloc: Global, owners: &[(u16, Claiming)]) -> Result<Ring, Fail> {
+    Ok(Ring::of_table(alloc, &table(alloc, owners)?)?)
+}
+
+// Endpoint 1 at 16 and 64, 2 at 32 and 3 at 48.
+fn ring(alloc: Global) -> Result<Ring, Fail> {
+    let owners = [
+        (3, (4, "NORMAL", AT_48)),
+        (1, (9, "LEAVING", AT_16_AND_64)),
+        (2, (5, "NORMAL,1", AT_32)),
+    ];
+    ring_of(alloc, &owners)
+}
+
+#[test]
+fn positions_rise(rt: HostRuntime) -> Result<(), Fail> {
+    let ring = ring(rt.alloc())?.copy(rt.alloc())?;
+    let wanted = [(16, 1), (32, 2), (48, 3), (64, 1)];
+    assert_eq!(rt; ring.positions().len(), wanted.len());
+    for (position, (number, owner)) in ring.positions().iter().zip(wanted) {
+        assert_eq!(rt; *position, (token(number)?, endpoint(owner)));
+    }
+    Ok(())
+}
+
+fn lasts(endpoints: &[Endpoint]) -> [u8; 4] {
+    let mut lasts = [0; 4];
+    for (last, endpoint) in lasts.iter_mut().zip(endpoints) {
+        *last = endpoint.address()[3];
+    }
+    lasts
+}
+
+#[test]
+fn ring_and_replicas(rt: HostRuntime) -> Result<(), Fail> {
+    let ring = ring(rt.alloc())?;
+    for (number, rf, wanted) in [
+        (0x20, 2, [2, 3, 0, 0]),
+        (0x31, 2, [1, 2, 0, 0]),
+        (0x41, 2, [1, 2, 0, 0]),
+        (0x20, 5, [2, 3, 1, 0]),
+        (0x20, 0, [0, 0, 0, 0]),
+        (0, 1, [1, 0, 0, 0]),
+        (TOKEN_LIMIT, 3, [1, 2, 3, 0]),
+        (0x40, usize::MAX, [1, 2, 3, 0]),
+    ] {
+        let replicas = ring.replicas(rt.alloc(), token(number)?, rf)?;
+        assert_eq!(rt; lasts(&replicas), wanted, "{rf} from {number}");
+    }
+    Ok(())
+}
+
+#[test]
+fn an_empty_ring_has_no_replicas(rt: HostRuntime) -> Result<(), Fail> {
+    let ring = ring_of(rt.alloc(), &[])?;
+    assert!(rt; ring.positions().is_empty());
+    assert!(rt; ring.replicas(rt.alloc(), token(0)?, 3)?.is_empty());
+    Ok(())
+}
+
+// Who has a token that endpoints 2 and 3 claim in these generations.
+fn winner(alloc: Global, second: u32, third: u32) -> Result<Option<Endpoint>, Fail> {
+    let owners = [
+        (3, (third, "NORMAL", AT_32)),
+        (2, (second, "NORMAL", AT_32)),
+    ];
+    let ring = ring_of(alloc, &owners)?;
+    Ok(ring.positions().first().map(|position| position.1))
+}
+
+#[test]
+fn a_token_has_one_endpoint(rt: HostRuntime) -> Result<(), Fail> {
+    assert_eq!(rt; winner(rt.alloc(), 5, 4)?, Some(endpoint(2)));
+    assert_eq!(rt; winner(rt.alloc(), 5, 5)?, Some(endpoint(2)));
+    assert_eq!(rt; winner(rt.alloc(), 4, 5)?, Some(endpoint(3)));
+    Ok(())
+}
+
+// How many tokens an endpoint has that claims so.
+fn count_with(alloc: Global, status: &'static str, tokens: &'static str) -> Result<usize, Fail> {
+    let ring = ring_of(alloc, &[(1, (5, status, tokens))])?;
+    Ok(ring.positions().len())
+}
+
+#[test]
+fn statuses_that_claim(rt: HostRuntime) -> Result<(), Fail> {
+    for (status, count) in [
+        ("NORMAL", 2),
+        ("LEAVING", 2),
+        ("NORMAL,x", 2),
+        ("LEAVING,", 2),
+        ("NORMALx", 0),
+        ("NORMA", 0),
+        ("normal", 0),
+        (",NORMAL", 0),
+        ("LEFT,NORMAL", 0),
+        ("", 0),
+    ] {
+        assert_eq!(rt;
+            count_with(rt.alloc(), status, AT_16_AND_64)?,
+            count,
+            "{status}"
+        );
+    }
+    Ok(())
+}
+
+#[test]
+fn tokens_that_cannot_be_read_are_not_claimed(rt: HostRuntime) -> Result<(), Fail> {
+    for tokens in ["", "10", "00000000000000000000000000000010,"] {
+        assert_eq!(rt; count_with(rt.alloc(), "NORMAL", tokens)?, 0, "{tokens}");
+    }
+    Ok(())
+}
+
+// Whether endpoint 1 keeps its claims where the first stood and the second is held.
+fn keeps(alloc: Global, before: Claiming, after: Claiming) -> Result<bool, Fail> {
+    let (first, second) = (holding(alloc, before)?, holding(alloc, after)?);
+    match second.get(endpoint(1)) {
+        Some(entry) => Ok(keeps_claims(first.get(endpoint(1)), entry)),
+        None => Ok(false),
+    }
+}
+
+// A table in which endpoint 1 has these.
+fn holding(alloc: Global, claiming: Claiming) -> Result<Table, Fail> {
+    table(alloc, &[(1, claiming)])
+}
+
+// Whether endpoint 1 keeps its claims where nothing of it was held.
+fn begins(alloc: Global, after: Claiming) -> Result<bool, Fail> {
+    let table = holding(alloc, after)?;
+    Ok(
+        table
+            .get(endpoint(1))
+            .is_some_and(|entry| keeps_claims(None, entry)),
+    )
+}
+
+#[test]
+fn claims_are_kept_by_the_same_texts(rt: HostRuntime) -> Result<(), Fail> {
+    let held = (9, "NORMAL", AT_32);
+    let same = keeps(rt.alloc(), held, held)?;
+    let newer = keeps(rt.alloc(), held, (10, "NORMAL", AT_32))?;
+    let left = keeps(rt.alloc(), held, (9, "LEFT", AT_32))?;
+    let moved = keeps(rt.alloc(), held, (9, "NORMAL", AT_48))?;
+    assert_eq!(rt; (same, newer, left, moved), (true, false, false, false));
+    Ok(())
+}
+
+#[test]
+fn who_is_no_member_claims_nothing_new(rt: HostRuntime) -> Result<(), Fail> {
+    let member = begins(rt.alloc(), (9, "NORMAL", AT_32))?;
+    let joining = begins(rt.alloc(), (9, "BOOT", AT_32))?;
+    assert_eq!(rt; (member, joining), (false, true));
+    Ok(())
+}

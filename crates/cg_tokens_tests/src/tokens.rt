@@ -1,0 +1,108 @@
+//! Tokens of RFC 1321's test suite, and texts of tokens.
+
+use cg_tokens::{TOKEN_LIMIT, Token, read_tokens, token_of};
+use cg_types::Fault;
+use std::alloc::Global;
+use std::test::Fail;
+
+pub(crate) fn token(number: u128) -> Result<Token, Fail> {
+    Ok(Token::new(number).ok_or("a token")?)
+}
+
+#[test]
+fn tokens_of_keys(rt: HostRuntime) -> Result<(), Fail> {
+    for (key, text) in [
+        ("", "2be2732670ff4dfb167ff6671307bd82"),
+        ("a", "0cc175b9c0f1b6a831c399e269772661"),
+        ("abc", "6ffeaf67c32db04f2969c082d71e808e"),
+        ("message digest", "0694968283486c72ada5d0ce550e9e30"),
+        (
+            "abcdefghijklmnopqrstuvwxyz",
+            "3c032c289e6d1bff8204b69335981ec5",
+        ),
+        (
+            "ABCDEFGHIJKLMNOPQRSTUVWXYZabcdefghijklmnopqrstuvwxyz0123456789",
+            "2e8b54672d88260a5a9ee3d360be6261",
+        ),
+        (
+            "12345678901234567890123456789012345678901234567890123456789012345678901234567890",
+            "57edf4a22be3c955ac49da2e2107b67a",
+        ),
+    ] {
+        let token = token_of(key.as_bytes());
+        let written = format!(in rt.alloc(); "{token}")?;
+        assert_eq!(rt; written.as_str(), text, "of {key}");
+    }
+    Ok(())
+}
+
+#[test]
+fn tokens_are_bounded_and_ordered(rt: HostRuntime) -> Result<(), Fail> {
+    assert_eq!(rt; token(0)?.number(), 0);
+    assert_eq!(rt; token(TOKEN_LIMIT)?.number(), TOKEN_LIMIT);
+    assert!(rt; Token::new(TOKEN_LIMIT + 1).is_none());
+    assert!(rt; token(1)? < token(2)?);
+    assert!(rt; token(1)? != token(2)?);
+    Ok(())
+}
+
+const AT_16_AND_64: &str = "00000000000000000000000000000010,00000000000000000000000000000040";
+
+fn fault_of(alloc: Global, text: &str) -> Option<Fault> {
+    read_tokens(alloc, text).err()
+}
+
+#[test]
+fn texts_of_tokens_are_read(rt: HostRuntime) -> Result<(), Fail> {
+    let tokens = read_tokens(rt.alloc(), AT_16_AND_64)?;
+    assert_eq!(rt; tokens.len(), 2);
+    assert_eq!(rt; tokens[0], token(16)?);
+    assert_eq!(rt; tokens[1], token(64)?);
+    let greatest = read_tokens(rt.alloc(), "80000000000000000000000000000000")?;
+    assert_eq!(rt; greatest.len(), 1);
+    assert_eq!(rt; greatest[0], token(TOKEN_LIMIT)?);
+    Ok(())
+}
+
+#[test]
+fn other_texts_are_bad(rt: HostRuntime) {
+    for text in [
+        "",
+        ",",
+        "80000000000000000000000000000001",
+        "00000000000000000000000000000020,00000000000000000000000000000020",
+        "00000000000000000000000000000020,00000000000000000000000000000010",
+        "00000000000000000000000000000010,",
+        ",00000000000000000000000000000010",
+        "00000000000000000000000000000010,,00000000000000000000000000000020",
+        "00000000000000000000000000000010, 0000000000000000000000000000020",
+        "0000000000000000000000000000001",
+        "000000000000000000000000000000010",
+        "0000000000000000000000000000000A",
+        "0000000000000000000000000000000g",
+        "+0000000000000000000000000000010",
+    ] {
+        assert_eq!(rt; fault_of(rt.alloc(), text), Some(Fault::BadText), "{text}");
+    }
+}
+
+// The tokens from 1 on, with commas between them.
+fn text_of(alloc: Global, count: u64) -> Result<String, Fail> {
+    let mut text = String::new(alloc);
+    for number in 1..=count {
+        let comma = if number > 1 { "," } else { "" };
+        let token = token(u128::from(number))?;
+        text = format!(in alloc; "{text}{comma}{token}")?;
+    }
+    Ok(text)
+}
+
+#[test]
+fn sixteen_tokens_and_no_more(rt: HostRuntime) -> Result<(), Fail> {
+    let tokens = read_tokens(rt.alloc(), &text_of(rt.alloc(), 16)?)?;
+    assert_eq!(rt; tokens.len(), 16);
+    assert_eq!(rt; tokens[15], token(16)?);
+    let more = text_of(rt.alloc(), 17)?;
+    assert_eq!(rt; fault_of(rt.alloc(), &more), Some(Fault::BadText));
+    Ok(())
+}
