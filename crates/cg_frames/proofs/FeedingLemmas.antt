@@ -131,7 +131,7 @@ module _ (layouts : List Layout) where
   fed_twice (Ok held) first second = ap (frames_in layouts) (sym (append_assoc held first second)) ∙ frames_longer (held ++ first) second
   fed_twice (Err f) first second = refl
 
-  fed_nothing : (s : Standing) → IsPartial layouts s → fed layouts s [] ≡ record { messages = []; rest = s }
+  pub fed_nothing : (s : Standing) → IsPartial layouts s → fed layouts s [] ≡ record { messages = []; rest = s }
   fed_nothing (Ok held) partial = ap (frames_in layouts) (append-nil held) ∙ frames_at held (Ok None) partial
   fed_nothing (Err f) partial = refl
 

@@ -1,9 +1,9 @@
 //! Bytes that come in pieces, cut into messages.
 
-ghost use Rattle.std.specs.Prelude.{◌≡◌, ◌<◌, ◌≤◌, [], ◌++◌, length, IfOk, IfErr, IfSome, OnErr, OnOk, IsOk, IsErr};
+ghost use Rattle.std.specs.Prelude.{◌≡◌, ◌<◌, ◌≤◌, [], ◌++◌, length, IfOk, IfErr, IfSome, OnErr, OnOk, Ok, None, IsOk, IsErr};
 ghost use Rattle.cg_types.specs.declared.fault.Fault.TheVariants as faults;
 ghost use Rattle.cg_frames.specs.declared.layout.TheConstants.{LAYOUTS};
-ghost use Rattle.cg_frames.specs.Choosing.{AreRead};
+ghost use Rattle.cg_frames.specs.Choosing.{AreRead, frame_among};
 ghost use Rattle.cg_frames.specs.Faults.{IsBadFrame, IsBadFrameOr};
 ghost use Rattle.cg_frames.specs.Feeding as spec;
 ghost use Rattle.cg_frames.specs.Laws.{AreBytes};
@@ -31,11 +31,12 @@ struct Cutting {
     taken: usize,
 }
 
-// Cuts off all messages at the front. Only memory may run out.
+// Cuts off all messages at the front. Only memory may run out, and a fault at the front takes none.
 fn cut(alloc: Global, layouts: &[Layout], bytes: &[u8]) -> Result<Cutting, Fault>
     requires { AreRead layouts.now }
     ensures ok { IfOk result (λ c. spec.IsCut layouts.now bytes.now c.fed.messages.items c.taken c.fed.fault) }
     ensures err { IfErr result (λ f. f ≡ faults.OutOfMemory) }
+    ensures at_once { IsErr (frame_among layouts.now bytes.now) → IsOk result }
     ensures bytes { AreBytes bytes.now }
 {
     let mut messages = Vec::new(alloc);
@@ -66,6 +67,25 @@ fn cut(alloc: Global, layouts: &[Layout], bytes: &[u8]) -> Result<Cutting, Fault
     }
 }
 
+// Cuts the piece where nothing is held, and holds what is left of it; a refusal changes nothing.
+fn begin(alloc: Global, layouts: &[Layout], held: &mut Vec<u8>, piece: &[u8]) -> Result<Fed, Fault>
+    requires layouts { AreRead layouts.now }
+    requires empty { held.old.items ≡ [] }
+    ensures ok { IfOk result (λ fed. spec.frames_in layouts.now piece.now
+        ≡ record { messages = fed.messages.items; rest = spec.standing_of held.new.items fed.fault }) }
+    ensures bytes { OnOk result (AreBytes piece.now) }
+    ensures same { OnErr result (held.new.items ≡ held.old.items) }
+    ensures err { IfErr result (λ f. f ≡ faults.OutOfMemory) }
+    ensures at_once { IsErr (frame_among layouts.now piece.now) → IsOk result }
+{
+    let cutting = cut(alloc, layouts, piece)?;
+    if cutting.fed.fault.is_none() {
+        let (_, rest) = piece.split_at(cutting.taken);
+        *held = rest.to_vec(alloc)?;
+    }
+    Ok(cutting.fed)
+}
+
 // Appends the piece and cuts off all messages; a refusal changes nothing.
 fn extend(alloc: Global, layouts: &[Layout], held: &mut Vec<u8>, piece: &[u8]) -> Result<Fed, Fault>
     requires { AreRead layouts.now }
@@ -91,6 +111,30 @@ fn extend(alloc: Global, layouts: &[Layout], held: &mut Vec<u8>, piece: &[u8]) -
         *held = rest;
     }
     Ok(cutting.fed)
+}
+
+// Cuts what is held and then the piece, and holds what is left; a refusal changes nothing. The empty piece takes no
+// memory, and where nothing is held a fault at the front takes none.
+fn take(alloc: Global, layouts: &[Layout], held: &mut Vec<u8>, piece: &[u8]) -> Result<Fed, Fault>
+    requires layouts { AreRead layouts.now }
+    requires partial { frame_among layouts.now held.old.items ≡ Ok None }
+    ensures ok { IfOk result (λ fed. spec.frames_in layouts.now (held.old.items ++ piece.now)
+        ≡ record { messages = fed.messages.items; rest = spec.standing_of held.new.items fed.fault }) }
+    ensures bytes { OnOk result (AreBytes (held.old.items ++ piece.now)) }
+    ensures same { OnErr result (held.new.items ≡ held.old.items) }
+    ensures err { IfErr result (λ f. f ≡ faults.OutOfMemory) }
+    ensures nothing { piece.now ≡ [] → IsOk result }
+    ensures at_once { held.old.items ≡ [] → IsErr (frame_among layouts.now piece.now) → IsOk result }
+{
+    if piece.is_empty() {
+        let messages = Vec::new(alloc);
+        let fault = None;
+        return Ok(Fed { messages, fault });
+    }
+    if held.is_empty() {
+        return begin(alloc, layouts, held, piece);
+    }
+    extend(alloc, layouts, held, piece)
 }
 
 /// A stream of frames that comes in pieces: it holds what has come of the next frame, or the fault that stands for
@@ -131,7 +175,8 @@ impl Feed {
     /// is held from now on, or bytes that begin with the fault. After a fault each piece is dropped, and gives no message
     /// and that fault. A piece no longer than `wants` gives at most one message, and if it gives one, nothing is held
     /// after it.
-    /// `OutOfMemory` leaves the feed as it was; there is no other refusal, and after a fault there is none.
+    /// `OutOfMemory` leaves the feed as it was; there is no other refusal. There is none for the empty piece, after a
+    /// fault, and where nothing is held and the piece begins with a fault: none of these takes memory.
     pub fn push(&mut self, piece: &[u8]) -> Result<Fed, Fault>
         ensures given { IfOk result (λ fed. fed.messages.items ≡ (spec.fed LAYOUTS self.old piece.now).messages) }
         ensures rest { OnOk result (self.new ≡ (spec.fed LAYOUTS self.old piece.now).rest) }
@@ -141,6 +186,8 @@ impl Feed {
         ensures one { IfOk result (λ fed. length piece.now ≤ spec.wanted self.old → spec.HasAtMostOne fed.messages.items self.new) }
         ensures same { OnErr result (self.new ≡ self.old) }
         ensures stands { IsErr self.old → IsOk result }
+        ensures nothing { piece.now ≡ [] → IsOk result }
+        ensures at_once { self.old ≡ Ok [] → IsErr (frame_among LAYOUTS piece.now) → IsOk result }
         ensures err { IfErr result (λ f. f ≡ faults.OutOfMemory) }
     {
         if let Some(fault) = self.fault {
@@ -149,7 +196,7 @@ impl Feed {
                 fault: Some(fault),
             });
         }
-        let fed = extend(self.alloc, &LAYOUTS, &mut self.held, piece)?;
+        let fed = take(self.alloc, &LAYOUTS, &mut self.held, piece)?;
         self.fault = fed.fault;
         Ok(fed)
     }

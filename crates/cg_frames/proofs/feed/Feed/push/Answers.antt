@@ -18,7 +18,7 @@ returns-clause-spelled c =
     let whole : Ok c.self.inside.held.items ≡ c.args.self.now =
     subst (λ f. standing_of c.self.inside.held.items f ≡ c.args.self.now) none c.self.view_is in
     let all = c.self.inside.held.items ++ c.args.piece.now in
-    let cut : Cut = record { messages = c.in_ok-fed.fed.messages.items; rest = standing_of c.extend.new.held.items c.in_ok-fed.fed.fault } in
+    let cut : Cut = record { messages = c.in_ok-fed.fed.messages.items; rest = standing_of c.take.new.held.items c.in_ok-fed.fed.fault } in
     let split : Splits LAYOUTS all cut = subst (λ (k : Cut). Splits LAYOUTS all k) (c.in_ok-fed.ensures.ok) (frames_split LAYOUTS layouts_are.some all c.in_ok-fed.ensures.bytes) in
     subst (λ s. SplitsFrom LAYOUTS s c.args.piece.now cut) whole split
 
@@ -34,4 +34,4 @@ returns-clause-one c fits =
 pub returns-clause-bad : goal.returns-clause-bad
 returns-clause-bad c =
     let partial = subst (λ (k : Cut). IsPartial LAYOUTS k.rest) (c.in_ok-fed.ensures.ok) (frames_partial LAYOUTS (c.self.inside.held.items ++ c.args.piece.now)) in
-    bad_standing LAYOUTS c.extend.new.held.items c.in_ok-fed.fed.fault partial
+    bad_standing LAYOUTS c.take.new.held.items c.in_ok-fed.fed.fault partial
