@@ -1,7 +1,7 @@
 //! The program `cg`: `answer` over the standard streams.
 #![tactic(auto)]
 
-use cg_engine::Counted;
+use cg_links::Counted;
 use cg_tool::answer;
 use std::env::{Env, FillError};
 use std::io;

@@ -1,11 +1,4 @@
-//! Links whose calls are counted, and what is read from them and written to them.
+//! Exchanges of messages over links.
 #![tactic(auto)]
 
-mod counted;
-mod transfer;
-
-pub use counted::Counted;
-pub use transfer::{MOST_READS, read_all, write_bytes};
-
-#[cfg(test)]
-mod tests;
+pub use cg_links::Counted;

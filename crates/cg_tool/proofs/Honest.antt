@@ -1,9 +1,9 @@
 -- Where no link failed, the answer to all of the input was written.
 use Rattle.std.proofs.Common.{◌≡◌, ℕ, ◌<◌, ◌⊎◌, List, ◌++◌, Option, Some, None, IfSome, sym, ap, ◌∙◌, subst, arith, inl, inr, append-nil}
 use Rattle.std.specs.Io.KnownBytes.{Appends, Consumes, IsAtEnd}
-use Rattle.cg_engine.specs.declared.counted.Counted.{Counted}
-use Rattle.cg_engine.specs.Counted.{calls_of, failed_of, idle_of, CountsCalls}
-use Rattle.cg_engine.specs.declared.transfer.TheConstants.{MOST_READS}
+use Rattle.cg_links.specs.declared.counted.Counted.{Counted}
+use Rattle.cg_links.specs.Counted.{calls_of, failed_of, idle_of, CountsCalls}
+use Rattle.cg_links.specs.declared.transfer.TheConstants.{MOST_READS}
 use Rattle.cg_tool.specs.Answer.{answer_to, text_of, status_of}
 use Rattle.cg_tool.specs.Answered.{IsDue, Wrote, WroteAll, AnswersAll, SaysOutOfMemory}
 

@@ -3,9 +3,9 @@ use Rattle.std.specs.Prelude.{◌≡◌, ℕ, ◌⊎◌, List, take, Option}
 use Rattle.std.specs.Io.KnownBytes.{Appends, Consumes, IsAtEnd}
 use Rattle.cg_types.specs.declared.fault.Fault.TheVariants as fault
 use Rattle.cg_types.specs.Fault.{fault_text}
-use Rattle.cg_engine.specs.declared.counted.Counted.{Counted}
-use Rattle.cg_engine.specs.declared.transfer.TheConstants.{MOST_READS}
-use Rattle.cg_engine.specs.Counted.{KeepsCounts, CountsCalls, CountsFailed, CountsIdle}
+use Rattle.cg_links.specs.declared.counted.Counted.{Counted}
+use Rattle.cg_links.specs.declared.transfer.TheConstants.{MOST_READS}
+use Rattle.cg_links.specs.Counted.{KeepsCounts, CountsCalls, CountsFailed, CountsIdle}
 use Rattle.cg_tool.specs.Answer.{answer_to, text_of, status_of}
 
 -- the reader was read to its end, and the text answers all that was read
@@ -17,8 +17,9 @@ pub record AnswersInput {L : Type 0} (before after : Option (List ℕ)) (old new
   pub text_is : text ≡ text_of (answer_to input)
   pub status_is : status ≡ status_of (answer_to input)
 
--- memory ran out, and the text says so
-pub record OutOfMemoryDue (text : List ℕ) (status : ℕ) : Type 0 where
+-- memory ran out, no read failed, and the text says so
+pub record OutOfMemoryDue {L : Type 0} (old new : Counted L) (text : List ℕ) (status : ℕ) : Type 0 where
+  pub kept : KeepsCounts old new
   pub text_is : text ≡ fault_text fault.OutOfMemory
   pub status_is : status ≡ 1
 
@@ -30,7 +31,8 @@ pub record ReadFaultDue {L : Type 0} (old new : Counted L) (text : List ℕ) (st
 
 -- the text and the status that are due
 abbrev pub IsDue : {L : Type 0} → Option (List ℕ) → Option (List ℕ) → Counted L → Counted L → List ℕ → ℕ → Type 0
-IsDue before after old new text status = AnswersInput before after old new text status ⊎ (OutOfMemoryDue text status ⊎ ReadFaultDue old new text status)
+IsDue before after old new text status =
+    AnswersInput before after old new text status ⊎ (OutOfMemoryDue old new text status ⊎ ReadFaultDue old new text status)
 
 -- all of the text was written
 pub record WroteAll {L : Type 0} (before after : Option (List ℕ)) (old new : Counted L) (text : List ℕ) (status result : ℕ) : Type 0 where

@@ -2,17 +2,17 @@
 
 ghost use Rattle.std.specs.Prelude.{◌≡◌, ◌⊎◌, ℕ, ◌<◌, List, Some, None, Ok, IfOk, IfSome, length, string_bytes};
 ghost use Rattle.cg_types.specs.declared.fault.Fault.TheVariants as fault;
-ghost use Rattle.cg_engine.specs.declared.transfer.TheConstants.{MOST_READS};
-ghost use Rattle.cg_engine.specs.Counted.{link_of, calls_of, failed_of, idle_of};
+ghost use Rattle.cg_links.specs.declared.transfer.TheConstants.{MOST_READS};
+ghost use Rattle.cg_links.specs.Counted.{link_of, calls_of, failed_of, idle_of};
 ghost use Rattle.cg_tool.specs.Answer.{syn_of as syn_of_message, syn_in as text_syn_in, answer_to_frame, answer_to, text_of, status_of, Gives};
 ghost use Rattle.cg_tool.specs.Answered.{IsDue, Wrote, AnswersAll, SaysOutOfMemory};
 
 use crate::request::{Header, request};
 use bytes::Bytes;
-use cg_engine::{Counted, read_all, write_bytes};
 use cg_entry::Entry;
 use cg_exchange::{Message, Syn, answer_syn};
 use cg_frames::{decode, encode};
+use cg_links::{Counted, read_all, write_bytes};
 use cg_table::Table;
 use cg_types::{Cause, Fault};
 use std::alloc::{AllocError, Global};
@@ -109,8 +109,10 @@ fn answer_links<R: Read, W: Write>(
             Ok((text, status)) => written(writer, text.as_bytes(), status),
             Err(_) => written(writer, b"fault 1 OutOfMemory\n", 1),
         },
-        Err(Fault::ReadFault) => written(writer, b"fault 14 ReadFault\n", 1),
-        Err(_) => written(writer, b"fault 1 OutOfMemory\n", 1),
+        Err(fault) => match fault {
+            Fault::ReadFault => written(writer, b"fault 14 ReadFault\n", 1),
+            _ => written(writer, b"fault 1 OutOfMemory\n", 1),
+        },
     }
 }
 

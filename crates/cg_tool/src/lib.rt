@@ -5,6 +5,3 @@ mod answering;
 mod request;
 
 pub use answering::answer;
-
-#[cfg(test)]
-mod tests;

@@ -2,7 +2,7 @@
 
 ghost use Rattle.std.specs.Prelude.{◌≡◌, ℕ, List, Some};
 ghost use Rattle.std.specs.Io.{ReadsAtMost, WritesAtMost};
-ghost use Rattle.cg_engine.specs.Counts.{one_more};
+ghost use Rattle.cg_links.specs.Counts.{one_more};
 ghost use Rattle.std.specs.Io.KnownBytes.{Keeps, ReadConsumes, WriteAppends};
 
 use std::io;
@@ -18,15 +18,15 @@ pub struct Counted<L> {
     idle: u64,
 }
 
-// One more, up to the greatest value.
-fn count(counter: &mut u64)
+/// One more, up to the greatest value.
+pub(crate) fn count(counter: &mut u64)
     ensures { counter.new ≡ one_more counter.old }
 {
     *counter = counter.saturating_add(1);
 }
 
 impl<L> Counted<L> {
-    ghost use Rattle.cg_engine.specs.Counted.{link_of, IsNew, calls_of, failed_of, idle_of};
+    ghost use Rattle.cg_links.specs.Counted.{link_of, IsNew, calls_of, failed_of, idle_of};
 
     /// The link, with no call counted.
     pub fn new(link: L) -> Counted<L>
@@ -71,7 +71,7 @@ impl<L> Counted<L> {
 }
 
 impl<R: Read> Read for Counted<R> {
-    ghost use Rattle.cg_engine.specs.Counted.{link_of, calls_of, CountsRead};
+    ghost use Rattle.cg_links.specs.Counted.{link_of, calls_of, CountsRead};
 
     ghost remaining = { λ c. R.remaining (link_of c) };
 
@@ -91,7 +91,7 @@ impl<R: Read> Read for Counted<R> {
 }
 
 impl<W: Write> Write for Counted<W> {
-    ghost use Rattle.cg_engine.specs.Counted.{link_of, calls_of, CountsWrite, CountsFlush};
+    ghost use Rattle.cg_links.specs.Counted.{link_of, calls_of, CountsWrite, CountsFlush};
 
     ghost contents = { λ c. W.contents (link_of c) };
 

@@ -1,7 +1,7 @@
 -- What was read is in `bytes`, no read failed, and each was counted.
 use Rattle.std.specs.Io.KnownBytes.{Consumes}
-use Rattle.cg_engine.specs.Counted.{KeepsCounts, CountsCalls}
-use Rattle.cg_engine.proofs.transfer.read_all.Given as goal
+use Rattle.cg_links.specs.Counted.{KeepsCounts, CountsCalls}
+use Rattle.cg_links.proofs.transfer.read_all.Given as goal
 
 abbrev pub invariant-loop : goal.invariant-loop
 invariant-loop g l = record {

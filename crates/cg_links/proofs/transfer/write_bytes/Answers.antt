@@ -1,8 +1,8 @@
 use Rattle.std.proofs.Common.{◌++◌, take, arith, inl}
 use Rattle.std.proofs.KnownBytes.{Appends-trans}
-use Rattle.cg_engine.proofs.Counts.{KeepsCounts-trans}
-use Rattle.cg_engine.proofs.Fronts.{front_kept, front_more, moves_front}
-use Rattle.cg_engine.proofs.transfer.write_bytes.Goals as goal
+use Rattle.cg_links.proofs.Counts.{KeepsCounts-trans}
+use Rattle.cg_links.proofs.Fronts.{front_kept, front_more, moves_front}
+use Rattle.cg_links.proofs.transfer.write_bytes.Goals as goal
 
 pub returns-in-Ok-eq0-clause-front : goal.returns-in-Ok-eq0-clause-front
 returns-in-Ok-eq0-clause-front g c =

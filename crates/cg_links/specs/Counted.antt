@@ -1,7 +1,7 @@
 -- What a clause reads of a counted link.
 use Rattle.std.specs.Prelude.{◌≡◌, ℕ, ◌<◌, ◌⊎◌, List, length, MatchResult, Result}
-use Rattle.cg_engine.specs.Counts.{more_by, one_more}
-use Rattle.cg_engine.specs.declared.counted.Counted.{Counted}
+use Rattle.cg_links.specs.Counts.{more_by, one_more}
+use Rattle.cg_links.specs.declared.counted.Counted.{Counted}
 
 -- the link
 abbrev pub link_of : {L : Type 0} → Counted L → L

@@ -1,10 +1,8 @@
 //! `answer` over texts, as a person would run it.
 
-use super::*;
-use cg_engine::Counted;
+use cg_links::Counted;
+use cg_tool::answer;
 use std::alloc::Global;
-use std::io;
-use std::io::{Read, Write};
 use std::test::Fail;
 
 // What was written, and the status.
@@ -255,43 +253,4 @@ fn readable_forms(rt: HostRuntime) {
     let name =
         b"10.0.0.2:7000 5 xxxxxxxxxxxxxxxxxxxxxxxxxxxxxxxxxxxxxxxxxxxxxxxx\n000000080101026331010000\n";
     assert!(rt; gives(rt.alloc(), name, b"fault 9 OtherCluster\n", 1));
-}
-
-// A link whose calls all fail.
-#[derive(Drop)]
-struct Broken;
-
-impl Read for Broken {
-    fn read(&mut self, _buf: &mut [u8]) -> io::Result<usize> {
-        Err(io::Error::other("broken"))
-    }
-}
-
-impl Write for Broken {
-    fn write(&mut self, _buf: &[u8]) -> io::Result<usize> {
-        Err(io::Error::other("broken"))
-    }
-
-    fn flush(&mut self) -> io::Result<()> {
-        Err(io::Error::other("broken"))
-    }
-}
-
-#[test]
-fn a_failed_read(rt: HostRuntime) {
-    let mut reader = Counted::new(Broken);
-    let mut writer = Counted::new(Vec::new(rt.alloc()));
-    assert_eq!(rt; answer(rt.alloc(), &mut reader, &mut writer), 1);
-    assert_eq!(rt;
-        writer.into_link().as_slice(),
-        b"fault 14 ReadFault\n".as_slice()
-    );
-}
-
-#[test]
-fn a_failed_write(rt: HostRuntime) {
-    let mut reader = Counted::new(b"10.0.0.2:7000 5 c1\n000000080101026331010000\n".as_slice());
-    let mut writer = Counted::new(Broken);
-    assert_eq!(rt; answer(rt.alloc(), &mut reader, &mut writer), 1);
-    assert_eq!(rt; writer.failed(), 1);
 }

@@ -1,8 +1,8 @@
 -- What is gone from `rest` was appended, and no call failed so far.
 use Rattle.std.proofs.Common.{◌≡◌, List, ℕ, ◌++◌, length}
 use Rattle.std.specs.Io.KnownBytes.{Appends}
-use Rattle.cg_engine.specs.Counted.{KeepsCounts}
-use Rattle.cg_engine.proofs.transfer.write_bytes.Given as goal
+use Rattle.cg_links.specs.Counted.{KeepsCounts}
+use Rattle.cg_links.proofs.transfer.write_bytes.Given as goal
 
 abbrev pub invariant-loop-rest : goal.invariant-loop-rest
 invariant-loop-rest g l = (done : List ℕ) × (l.bytes ≡ done ++ l.rest) × Appends (g.W.Write.contents l.initial.writer.link) (g.W.Write.contents l.writer.link) done

@@ -2,7 +2,7 @@
 
 ghost use Rattle.std.specs.Prelude.{◌≡◌, ℕ, List, ◌⊎◌, take, OnOk, OnErr, IfOk, IfErr, Err};
 ghost use Rattle.std.specs.Io.KnownBytes.{Appends, Consumes, IsAtEnd};
-ghost use Rattle.cg_engine.specs.Counted.{link_of, KeepsCounts, CountsCalls, CountsFailed, CountsIdle};
+ghost use Rattle.cg_links.specs.Counted.{link_of, KeepsCounts, CountsCalls, CountsFailed, CountsIdle};
 ghost use Rattle.cg_types.specs.declared.fault.Fault.TheVariants as fault;
 
 use crate::counted::Counted;
@@ -40,6 +40,8 @@ pub fn read_all<R: Read>(alloc: Global, reader: &mut Counted<R>) -> Result<Vec<u
     ensures end { OnOk result (IsAtEnd (R.remaining (link_of reader.new))) }
     ensures kept { OnOk result (KeepsCounts reader.old reader.new) }
     ensures fault { IfErr result (λ f. (f ≡ fault.OutOfMemory) ⊎ (f ≡ fault.ReadFault)) }
+    // A failed read is no want of memory.
+    ensures memory { (result ≡ Err fault.OutOfMemory) → KeepsCounts reader.old reader.new }
     ensures caused { (result ≡ Err fault.ReadFault) → CountsFailed reader.old reader.new ⊎ CountsCalls reader.old reader.new MOST_READS }
 {
     let mut bytes = Vec::new(alloc);

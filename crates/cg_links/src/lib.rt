@@ -1,0 +1,10 @@
+//! Links whose calls are counted, what is read from them and written to them, and links for trials.
+#![tactic(auto)]
+
+mod counted;
+mod transfer;
+mod trials;
+
+pub use counted::Counted;
+pub use transfer::{MOST_READS, read_all, write_bytes};
+pub use trials::{CountingLink, FailingLink, SlowLink};

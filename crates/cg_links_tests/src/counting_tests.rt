@@ -1,0 +1,96 @@
+//! What `Counted` counts is what its link was called for: links that count their own calls, and fail at one of them.
+
+use cg_links::{Counted, CountingLink, FailingLink, write_bytes};
+use cg_types::Fault;
+use std::alloc::Global;
+use std::io;
+use std::io::{Read, Write};
+
+// A writer that takes no byte.
+#[derive(Drop)]
+struct FullLink;
+
+impl Write for FullLink {
+    fn write(&mut self, _buf: &[u8]) -> io::Result<usize> {
+        Ok(0)
+    }
+
+    fn flush(&mut self) -> io::Result<()> {
+        Ok(())
+    }
+}
+
+// The answers to three reads of which that of a number fails, and what the link and the counts say after them.
+fn three_reads(turn: u64) -> ([bool; 3], u64, u64, u64) {
+    let mut reader = Counted::new(FailingLink::new(b"some bytes".as_slice(), turn));
+    let mut piece = [0u8; 4];
+    let first = reader.read(&mut piece).is_ok();
+    let second = reader.read(&mut piece).is_ok();
+    let third = reader.read(&mut piece).is_ok();
+    let calls = reader.calls();
+    let failed = reader.failed();
+    let link = reader.into_link();
+    ([first, second, third], link.calls(), calls, failed)
+}
+
+#[test]
+fn each_read_is_passed_on_once(rt: HostRuntime) {
+    assert_eq!(rt; three_reads(1), ([false, true, true], 3, 3, 1));
+    assert_eq!(rt; three_reads(2), ([true, false, true], 3, 3, 1));
+    assert_eq!(rt; three_reads(3), ([true, true, false], 3, 3, 1));
+    assert_eq!(rt; three_reads(4), ([true, true, true], 3, 3, 0));
+}
+
+// The answers to a write, a flush and a write of which that of a number fails, the link's own counts, the counts, and
+// how many bytes were written.
+fn writes_and_a_flush(alloc: Global, turn: u64) -> ([bool; 3], [u64; 3], (u64, u64), usize) {
+    let mut writer = Counted::new(FailingLink::new(CountingLink::new(Vec::new(alloc)), turn));
+    let first = writer.write(b"ab").is_ok();
+    let flushed = writer.flush().is_ok();
+    let second = writer.write(b"cde").is_ok();
+    let counts = (writer.calls(), writer.failed());
+    let failing = writer.into_link();
+    let calls = failing.calls();
+    let link = failing.into_link();
+    let own = [calls, link.writes(), link.flushes()];
+    (
+        [first, flushed, second],
+        own,
+        counts,
+        link.into_link().len(),
+    )
+}
+
+#[test]
+fn each_write_and_flush_is_passed_on_once(rt: HostRuntime) {
+    for (turn, answers, own, failed, written) in [
+        (1, [false, true, true], [3, 1, 1], 1, 3),
+        (2, [true, false, true], [3, 2, 0], 1, 5),
+        (3, [true, true, false], [3, 1, 1], 1, 2),
+        (4, [true, true, true], [3, 2, 1], 0, 5),
+    ] {
+        assert_eq!(rt;
+            writes_and_a_flush(rt.alloc(), turn),
+            (answers, own, (3, failed), written)
+        );
+    }
+}
+
+#[test]
+fn a_write_that_takes_nothing_is_counted(rt: HostRuntime) {
+    let mut writer = Counted::new(FullLink);
+    assert_eq!(rt; write_bytes(&mut writer, b"a"), Err(Fault::WriteFault));
+    assert_eq!(rt; (writer.failed(), writer.idle()), (0, 1));
+    assert_eq!(rt; write_bytes(&mut writer, b""), Ok(()));
+    assert_eq!(rt; writer.idle(), 1);
+}
+
+#[test]
+fn the_most_that_was_asked(rt: HostRuntime) {
+    let mut reader = CountingLink::new(b"some bytes".as_slice());
+    let mut piece = [0u8; 4];
+    assert!(rt; reader.read(&mut piece).is_ok());
+    assert!(rt; reader.read(&mut piece[..2]).is_ok());
+    assert_eq!(rt; (reader.reads(), reader.most_asked()), (2, 4));
+    assert_eq!(rt; reader.into_link(), b"ytes".as_slice());
+}
