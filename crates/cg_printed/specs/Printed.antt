@@ -1,0 +1,111 @@
+-- The texts by which a program shows what nodes hold and what they did. Each line ends with one line feed.
+use Rattle.std.specs.Prelude.{ℕ, List, ◌++◌, codes, decimal}
+use Rattle.std.specs.List.{flat_map}
+use Rattle.std.specs.FinMap as map
+use Rattle.cg_types.specs.EndpointText.{endpoint_text}
+use Rattle.cg_types.specs.Key.{key_name}
+use Rattle.cg_entry.specs.Versioned.{Versioned}
+use Rattle.cg_entry.specs.Values.{EntryValue}
+use Rattle.cg_table.specs.declared.digest.Digest.{Digest}
+use Rattle.cg_table.specs.declared.took.Took.{Took}
+use Rattle.cg_table.specs.declared.took.Took.TheVariants.{Taken, Old, Gap, Own}
+use Rattle.cg_table.specs.Values.{Entries}
+use Rattle.cg_table.specs.Table.{digests_of}
+use Rattle.cg_tokens.specs.Tokens.{token_text}
+use Rattle.cg_tokens.specs.Ring.{Positions, replicas}
+use Rattle.cg_exchange.specs.declared.message.Message.{Message}
+use Rattle.cg_exchange.specs.declared.message.Message.TheVariants.{Syn, Ack, Ack2}
+use Rattle.cg_exchange.specs.declared.outcome.Outcome.{Outcome}
+
+-- ---- what was done
+
+-- a node started
+unfoldable pub started_line : ℕ → ℕ → List ℕ
+started_line node generation =
+    codes "started " ++ (endpoint_text node ++ (codes " " ++ (decimal generation ++ codes "\n")))
+
+-- the version that a change was given
+unfoldable pub version_line : ℕ → List ℕ
+version_line version = codes "version " ++ (decimal version ++ codes "\n")
+
+-- the name of a message's kind
+abbrev pub kind_name : Message → List ℕ
+kind_name (Syn m) = codes "syn"
+kind_name (Ack m) = codes "ack"
+kind_name (Ack2 m) = codes "ack2"
+
+-- the number of a message that was sent, and the name of its kind
+unfoldable pub message_line : ℕ → List ℕ → List ℕ
+message_line number kind = codes "message " ++ (decimal number ++ (codes " " ++ (kind ++ codes "\n")))
+
+-- an endpoint behind a space
+unfoldable pub peer_word : ℕ → List ℕ
+peer_word peer = codes " " ++ endpoint_text peer
+
+-- whom a round is for
+unfoldable pub round_line : List ℕ → List ℕ
+round_line peers = codes "round" ++ (flat_map peer_word peers ++ codes "\n")
+
+-- what became of a delta, as a word
+abbrev pub took_name : Took → List ℕ
+took_name Taken = codes "took"
+took_name Old = codes "old"
+took_name Gap = codes "gap"
+took_name Own = codes "own"
+
+-- what became of the delta about an endpoint
+unfoldable pub outcome_line : Outcome → List ℕ
+outcome_line o = took_name o.took ++ (codes " " ++ (endpoint_text o.endpoint ++ codes "\n"))
+
+abbrev pub outcome_lines : List Outcome → List ℕ
+outcome_lines outcomes = flat_map outcome_line outcomes
+
+-- ---- what is held
+
+-- a key's name, its version and its text
+unfoldable pub state_line : ℕ × Versioned → List ℕ
+state_line s =
+    codes "  " ++ (key_name s.0 ++ (codes ":" ++ (decimal s.1.version ++ (codes ":" ++ (s.1.text ++ codes "\n")))))
+
+unfoldable pub owner_line : ℕ → List ℕ
+owner_line owner = codes "/" ++ (endpoint_text owner ++ codes "\n")
+
+unfoldable pub generation_line : ℕ → List ℕ
+generation_line generation = codes "  generation:" ++ (decimal generation ++ codes "\n")
+
+unfoldable pub heartbeat_line : ℕ → List ℕ
+heartbeat_line heartbeat = codes "  heartbeat:" ++ (decimal heartbeat ++ codes "\n")
+
+-- what is held of an endpoint, its states rising by key
+unfoldable pub entry_lines : ℕ × EntryValue → List ℕ
+entry_lines e =
+    owner_line e.0 ++ (generation_line e.1.generation ++ (heartbeat_line e.1.heartbeat
+    ++ flat_map state_line (map.entries e.1.states)))
+
+-- what is held of each endpoint, rising by endpoint
+abbrev pub gossipinfo : Entries → List ℕ
+gossipinfo entries = flat_map entry_lines (map.entries entries)
+
+-- an endpoint, its generation and its newest version
+unfoldable pub digest_line : Digest → List ℕ
+digest_line d =
+    endpoint_text d.endpoint ++ (codes " " ++ (decimal d.generation ++ (codes " " ++ (decimal d.newest ++ codes "\n"))))
+
+-- a digest of each entry, rising by endpoint
+abbrev pub digest_lines : Entries → List ℕ
+digest_lines entries = flat_map digest_line (digests_of entries)
+
+-- a token and the endpoint that has it
+unfoldable pub position_line : ℕ × ℕ → List ℕ
+position_line p = token_text p.0 ++ (codes " " ++ (endpoint_text p.1 ++ codes "\n"))
+
+-- the positions of a ring, rising by token
+abbrev pub ring_lines : Positions → List ℕ
+ring_lines positions = flat_map position_line (map.entries positions)
+
+unfoldable pub endpoint_line : ℕ → List ℕ
+endpoint_line e = endpoint_text e ++ codes "\n"
+
+-- the first rf endpoints from a token on, clockwise
+abbrev pub replica_lines : Positions → ℕ → ℕ → List ℕ
+replica_lines positions token rf = flat_map endpoint_line (replicas (map.entries positions) token rf)

@@ -1,0 +1,148 @@
+//! What a node holds, and its ring.
+
+ghost use Rattle.std.specs.Prelude.{◌≡◌, ◌++◌, OnOk, string_bytes};
+ghost use Rattle.std.specs.List.{flat_map};
+ghost use Rattle.std.specs.FinMap as map;
+ghost use Rattle.cg_printed.specs.Printed.{state_line, owner_line, generation_line, heartbeat_line, entry_lines, gossipinfo, digest_line, digest_lines, position_line, ring_lines, endpoint_line, replica_lines};
+
+use cg_entry::{Entry, State};
+use cg_map::Row;
+use cg_table::{Digest, Table};
+use cg_tokens::{Ring, Token};
+use cg_types::{Endpoint, Generation, Version};
+use std::alloc::{AllocError, Global};
+use std::fmt::Write;
+
+// Adds a key's name, its version and its text.
+#[tactic(auto, unfolding(crate::specs::Printed::state_line))]
+fn add_state(text: &mut String, state: &State) -> Result<(), AllocError>
+    ensures { OnOk result (string_bytes text.new ≡ string_bytes text.old ++ state_line (state.now.key, record { text = state.now.text; version = state.now.version })) }
+{
+    let name = state.key.name();
+    let version = state.version.get();
+    let value = state.text.as_str();
+    writeln!(text, "  {name}:{version}:{value}")
+}
+
+#[tactic(auto, unfolding(crate::specs::Printed::owner_line))]
+fn add_owner(text: &mut String, owner: Endpoint) -> Result<(), AllocError>
+    ensures { OnOk result (string_bytes text.new ≡ string_bytes text.old ++ owner_line owner) }
+{
+    writeln!(text, "/{owner}")
+}
+
+#[tactic(auto, unfolding(crate::specs::Printed::generation_line))]
+fn add_generation(text: &mut String, generation: Generation) -> Result<(), AllocError>
+    ensures { OnOk result (string_bytes text.new ≡ string_bytes text.old ++ generation_line generation) }
+{
+    let generation = generation.get();
+    writeln!(text, "  generation:{generation}")
+}
+
+#[tactic(auto, unfolding(crate::specs::Printed::heartbeat_line))]
+fn add_heartbeat(text: &mut String, heartbeat: Version) -> Result<(), AllocError>
+    ensures { OnOk result (string_bytes text.new ≡ string_bytes text.old ++ heartbeat_line heartbeat) }
+{
+    let heartbeat = heartbeat.get();
+    writeln!(text, "  heartbeat:{heartbeat}")
+}
+
+// Adds the states of an entry.
+fn add_states(text: &mut String, entry: &Entry) -> Result<(), AllocError>
+    ensures { OnOk result (string_bytes text.new ≡ string_bytes text.old ++ flat_map state_line (map.entries entry.now.states)) }
+{
+    for state in entry.states() {
+        add_state(text, state)?;
+    }
+    Ok(())
+}
+
+// Adds what is held of an endpoint.
+#[tactic(auto, unfolding(crate::specs::Printed::entry_lines))]
+fn add_entry(text: &mut String, row: &Row<Entry>) -> Result<(), AllocError>
+    ensures { OnOk result (string_bytes text.new ≡ string_bytes text.old ++ entry_lines row.now) }
+{
+    let entry = row.value();
+    add_owner(text, row.endpoint())?;
+    add_generation(text, entry.generation())?;
+    add_heartbeat(text, entry.heartbeat())?;
+    add_states(text, entry)
+}
+
+/// Adds what a table holds, as Cassandra's `nodetool gossipinfo` does: for each owner, rising by endpoint, a line with `/`
+/// and the endpoint, `  generation:` with its number, `  heartbeat:` with its version, and for each state, rising by key,
+/// the key's name, the version and the text, as `  STATUS:2:NORMAL`.
+pub fn add_gossipinfo(text: &mut String, table: &Table) -> Result<(), AllocError>
+    ensures { OnOk result (string_bytes text.new ≡ string_bytes text.old ++ gossipinfo table.now.entries) }
+{
+    for row in table.owners() {
+        add_entry(text, row)?;
+    }
+    Ok(())
+}
+
+// Adds an endpoint, its generation and its newest version.
+#[tactic(auto, unfolding(crate::specs::Printed::digest_line))]
+fn add_digest(text: &mut String, digest: Digest) -> Result<(), AllocError>
+    ensures { OnOk result (string_bytes text.new ≡ string_bytes text.old ++ digest_line digest) }
+{
+    let endpoint = digest.endpoint;
+    let generation = digest.generation.get();
+    let newest = digest.newest.get();
+    writeln!(text, "{endpoint} {generation} {newest}")
+}
+
+/// Adds a line for each entry of a table, rising by endpoint: the endpoint, its generation and its newest version.
+pub fn add_digests(alloc: Global, text: &mut String, table: &Table) -> Result<(), AllocError>
+    ensures { OnOk result (string_bytes text.new ≡ string_bytes text.old ++ digest_lines table.now.entries) }
+{
+    let digests = table.digests(alloc)?;
+    for digest in &digests {
+        add_digest(text, *digest)?;
+    }
+    Ok(())
+}
+
+// Adds a token and the endpoint that has it.
+#[tactic(auto, unfolding(crate::specs::Printed::position_line))]
+fn add_position(text: &mut String, token: Token, endpoint: Endpoint) -> Result<(), AllocError>
+    ensures { OnOk result (string_bytes text.new ≡ string_bytes text.old ++ position_line (token, endpoint)) }
+{
+    writeln!(text, "{token} {endpoint}")
+}
+
+/// Adds a line for each position of a ring, rising by token: the token and the endpoint that has it.
+pub fn add_ring(text: &mut String, ring: &Ring) -> Result<(), AllocError>
+    ensures { OnOk result (string_bytes text.new ≡ string_bytes text.old ++ ring_lines ring.now) }
+{
+    for (token, endpoint) in ring.positions() {
+        add_position(text, *token, *endpoint)?;
+    }
+    Ok(())
+}
+
+// Adds an endpoint in a line of its own.
+#[tactic(auto, unfolding(crate::specs::Printed::endpoint_line))]
+fn add_endpoint(text: &mut String, endpoint: Endpoint) -> Result<(), AllocError>
+    ensures { OnOk result (string_bytes text.new ≡ string_bytes text.old ++ endpoint_line endpoint) }
+{
+    writeln!(text, "{endpoint}")
+}
+
+/// Adds a line for each of the endpoints that keep what has this token, at most `rf` of them, in the order of the walk
+/// round the ring.
+pub fn add_replicas(
+    alloc: Global,
+    text: &mut String,
+    ring: &Ring,
+    token: Token,
+    rf: usize,
+) -> Result<(), AllocError>
+    ensures { OnOk result (string_bytes text.new ≡ string_bytes text.old ++ replica_lines ring.now token rf) }
+{
+    let replicas = ring.replicas(alloc, token, rf)?;
+    for endpoint in &replicas {
+        add_endpoint(text, *endpoint)?;
+    }
+    Ok(())
+}

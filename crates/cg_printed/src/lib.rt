@@ -1,0 +1,12 @@
+//! The texts by which a program shows what nodes hold and what they did.
+//!
+//! Each call adds to a text, of which the last line ends with one line feed. Numbers are decimal with no leading zeros,
+//! tokens are 32 lower-case hexadecimal digits, endpoints are as `10.0.0.1:7000`. `AllocError` where the text finds no
+//! memory; a part may then be added.
+#![tactic(auto)]
+
+mod done;
+mod held;
+
+pub use done::{add_message, add_outcomes, add_round, add_started, add_version};
+pub use held::{add_digests, add_gossipinfo, add_replicas, add_ring};
