@@ -20,24 +20,24 @@ use Rattle.cg_core.specs.declared.reply.Reply.TheVariants as reply
 use Rattle.cg_core.specs.Values.{Heard, NodeValue}
 use Rattle.cg_core.specs.Windows.{arrivals}
 use Rattle.cg_core.specs.Step.{Step, then, begun, next_of, beating, setting, opening, round_of, after_taking, node_step}
-use Rattle.cg_world.specs.Played.{LocalEvent, Beat, Set, Opening, Tick, PlayedAction, Start, Local, Deliver, PlayedWorld, unplayed, with_node, with_sent, message_of, after_step, handed, generation_held, has_room, event_of, arrival_of, delivering, reply_of, reply_by, reply_on, reply_to, playing, or_unchanged, play, played_from}
-use Rattle.cg_world.specs.PlayedLaws.{Runs}
+use Rattle.cg_world.specs.World.{LocalEvent, Beat, Set, Opening, Tick, Action, Start, Local, Deliver, WorldValue, new_world, with_node, with_sent, message_of, after_step, handed, generation_held, has_room, event_of, arrival_of, delivering, reply_of, reply_by, reply_on, reply_to, acting, or_unchanged, act, run_from}
+use Rattle.cg_world.specs.WorldLaws.{Runs}
 use Rattle.cg_world.specs.SingleActions.{SettingsStay, OneNodeChanges, RepliesAreOfSteps, outcomes_in, outcomes_shown, NodesHearByDeliveries}
-use Rattle.cg_world.proofs.PlayedLemmas.{node_here, node_elsewhere}
-use Rattle.cg_world.proofs.PlayedLaws.{nodes_spell_places, same_settings}
+use Rattle.cg_world.proofs.SpellingLemmas.{node_here, node_elsewhere}
+use Rattle.cg_world.proofs.WorldLaws.{nodes_spell_places, same_settings}
 
 -- ---- settings
 
-settings_from : (c : PlayedWorld) (actions : List PlayedAction) → (played_from c actions).settings ≡ c.settings
+settings_from : (c : WorldValue) (actions : List Action) → (run_from c actions).settings ≡ c.settings
 settings_from c [] = refl
-settings_from c (action ∷ actions) = settings_from (play c action) actions ∙ same_settings c action
+settings_from c (action ∷ actions) = settings_from (act c action) actions ∙ same_settings c action
 
 pub settings_stay : SettingsStay
-settings_stay settings actions node n e = ((nodes_spell_places settings actions).each node n e).its_settings ∙ settings_from (unplayed settings) actions
+settings_stay settings actions node n e = ((nodes_spell_places settings actions).each node n e).its_settings ∙ settings_from (new_world settings) actions
 
 -- ---- other nodes
 
-module _ (c : PlayedWorld) (node other : ℕ) (apart : other ≢ node) where
+module _ (c : WorldValue) (node other : ℕ) (apart : other ≢ node) where
   sent_elsewhere : (n : NodeValue) (o : Option Message) → map.get (with_sent (with_node c node n) o).nodes other ≡ map.get c.nodes other
   sent_elsewhere n None = node_elsewhere c.nodes node n other apart
   sent_elsewhere n (Some m) = node_elsewhere c.nodes node n other apart
@@ -67,15 +67,15 @@ one_node_changes c (Deliver number to now) other apart = delivered_elsewhere c t
 
 -- ---- replies
 
-stepped_replies : (c : PlayedWorld) (node : ℕ) (s : Step) → is_some (reply_of s) ≡ is_ok (after_step c node s)
+stepped_replies : (c : WorldValue) (node : ℕ) (s : Step) → is_some (reply_of s) ≡ is_ok (after_step c node s)
 stepped_replies c node (Ok x) = refl
 stepped_replies c node (Err fault) = refl
 
-handed_replies : (c : PlayedWorld) (node : ℕ) (o : Option NodeValue) (e : Event) → is_some (reply_by o e) ≡ is_ok (handed c node o e)
+handed_replies : (c : WorldValue) (node : ℕ) (o : Option NodeValue) (e : Event) → is_some (reply_by o e) ≡ is_ok (handed c node o e)
 handed_replies c node None e = refl
 handed_replies c node (Some n) e = stepped_replies c node (node_step n e)
 
-delivered_replies : (c : PlayedWorld) (to now : ℕ) (o : Option Message) → is_some (reply_on c to now o) ≡ is_ok (delivering c to now o)
+delivered_replies : (c : WorldValue) (to now : ℕ) (o : Option Message) → is_some (reply_on c to now o) ≡ is_ok (delivering c to now o)
 delivered_replies c to now None = refl
 delivered_replies c to now (Some m) = handed_replies c to (map.get c.nodes to) (arrival_of now m)
 
@@ -94,7 +94,7 @@ ack2_tells n now after outcomes r true e = absurd cc
 ack2_tells n now after outcomes r false e = let same : r ≡ reply.Took outcomes = cc in ap outcomes_in same
 
 -- the reply of a node that runs, to a message that was sent
-reply_here : (c : PlayedWorld) (number to now : ℕ) (n : NodeValue) (m : Message) → Runs c to n → at_place c.sent number ≡ Some m → reply_of (node_step n (arrival_of now m)) ≡ reply_to c (Deliver number to now)
+reply_here : (c : WorldValue) (number to now : ℕ) (n : NodeValue) (m : Message) → Runs c to n → at_place c.sent number ≡ Some m → reply_of (node_step n (arrival_of now m)) ≡ reply_to c (Deliver number to now)
 reply_here c number to now n m runs sent = sym (ap (λ o. reply_on c to now o) sent ∙ ap (λ o. reply_by o (arrival_of now m)) runs)
 
 pub replies_are_of_steps : RepliesAreOfSteps
@@ -119,7 +119,7 @@ abbrev windows_left : NodeValue → Step → Heard
 windows_left n (Ok x) = x.0.windows
 windows_left n (Err fault) = n.windows
 
-sent_here : (c : PlayedWorld) (node : ℕ) (n : NodeValue) (o : Option Message) → map.get (with_sent (with_node c node n) o).nodes node ≡ Some n
+sent_here : (c : WorldValue) (node : ℕ) (n : NodeValue) (o : Option Message) → map.get (with_sent (with_node c node n) o).nodes node ≡ Some n
 sent_here c node n None = node_here c.nodes node n
 sent_here c node n (Some m) = node_here c.nodes node n
 
@@ -127,11 +127,11 @@ sent_here c node n (Some m) = node_here c.nodes node n
 same_windows : (o : Option NodeValue) (n m : NodeValue) → o ≡ Some n → o ≡ Some m → m.windows ≡ n.windows
 same_windows o n m e r = let same : m ≡ n = cc in ap (λ (k : NodeValue). k.windows) same
 
-stepped_windows : (c : PlayedWorld) (node : ℕ) (s : Step) (n m : NodeValue) → Runs c node n → Runs (or_unchanged c (after_step c node s)) node m → m.windows ≡ windows_left n s
+stepped_windows : (c : WorldValue) (node : ℕ) (s : Step) (n m : NodeValue) → Runs c node n → Runs (or_unchanged c (after_step c node s)) node m → m.windows ≡ windows_left n s
 stepped_windows c node (Ok x) n m e r = same_windows (map.get (with_sent (with_node c node x.0) (message_of x.1)).nodes node) x.0 m (sent_here c node x.0 (message_of x.1)) r
 stepped_windows c node (Err fault) n m e r = same_windows (map.get c.nodes node) n m e r
 
-handed_windows : (c : PlayedWorld) (node : ℕ) (e : Event) (n m : NodeValue) → Runs c node n → (o : Option NodeValue) → o ≡ Some n → Runs (or_unchanged c (handed c node o e)) node m → m.windows ≡ windows_left n (node_step n e)
+handed_windows : (c : WorldValue) (node : ℕ) (e : Event) (n m : NodeValue) → Runs c node n → (o : Option NodeValue) → o ≡ Some n → Runs (or_unchanged c (handed c node o e)) node m → m.windows ≡ windows_left n (node_step n e)
 handed_windows c node e n m runs None is r = absurd cc
 handed_windows c node e n m runs (Some k) is r =
     let same : k ≡ n = cc in
@@ -169,7 +169,7 @@ message_hears now n (message.Syn syn) = syn_hears now n (answer_to_syn n.table n
 message_hears now n (message.Ack ack) = ack_hears now n (taking_ack n.table ack)
 message_hears now n (message.Ack2 ack2) = ack2_hears now n (taking_ack2 n.table ack2)
 
-delivered_windows : (c : PlayedWorld) (to now : ℕ) (n m : NodeValue) → Runs c to n → (o : Option Message) → Runs (or_unchanged c (delivering c to now o)) to m
+delivered_windows : (c : WorldValue) (to now : ℕ) (n m : NodeValue) → Runs c to n → (o : Option Message) → Runs (or_unchanged c (delivering c to now o)) to m
     → m.windows ≡ arrivals n.settings.silence now n.windows (outcomes_shown (reply_on c to now o))
 delivered_windows c to now n m e None r = same_windows (map.get c.nodes to) n m e r
 delivered_windows c to now n m e (Some sent) r =
@@ -177,17 +177,17 @@ delivered_windows c to now n m e (Some sent) r =
     ∙ ap (λ o. arrivals n.settings.silence now n.windows (outcomes_shown (reply_by o (arrival_of now sent)))) (sym e)
 
 -- a start that is done
-started_windows : (c : PlayedWorld) (node generation : ℕ) (m : NodeValue) (may room : Bool) (left : Result PlayedWorld Fault) → left ≡ cond may (cond room (Ok (with_node c node (begun node generation c.settings))) (Err TableFull)) (Err NotRising)
+started_windows : (c : WorldValue) (node generation : ℕ) (m : NodeValue) (may room : Bool) (left : Result WorldValue Fault) → left ≡ cond may (cond room (Ok (with_node c node (begun node generation c.settings))) (Err TableFull)) (Err NotRising)
     → IsOk left → Runs (or_unchanged c left) node m → m.windows ≡ map.empty
 started_windows c node generation m true true left is ok r =
     let n : NodeValue = begun node generation c.settings in
-    same_windows (map.get (with_node c node n).nodes node) n m (node_here c.nodes node n) (subst (λ (left : Result PlayedWorld Fault). Runs (or_unchanged c left) node m) is r)
+    same_windows (map.get (with_node c node n).nodes node) n m (node_here c.nodes node n) (subst (λ (left : Result WorldValue Fault). Runs (or_unchanged c left) node m) is r)
 started_windows c node generation m true false left is ok r = absurd cc
 started_windows c node generation m false room left is ok r = absurd cc
 
 pub nodes_hear_by_deliveries : NodesHearByDeliveries
 nodes_hear_by_deliveries c = record {
-  start = λ node generation m ok r. started_windows c node generation m (nat_lt (generation_held (map.get c.nodes node)) generation) (has_room c node) (playing c (Start node generation)) refl ok r;
+  start = λ node generation m ok r. started_windows c node generation m (nat_lt (generation_held (map.get c.nodes node)) generation) (has_room c node) (acting c (Start node generation)) refl ok r;
   local = λ node change n m e r. handed_windows c node (event_of change) n m e (map.get c.nodes node) e r ∙ local_windows n change;
   delivery = λ number to now n m e r. delivered_windows c to now n m e (at_place c.sent number) r;
 }

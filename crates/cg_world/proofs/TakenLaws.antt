@@ -32,17 +32,17 @@ use Rattle.cg_core.specs.declared.reply.Reply.TheVariants as reply
 use Rattle.cg_core.specs.Step.{then, node_step}
 use Rattle.cg_core.specs.Values.{SettingsValue, NodeValue}
 use Rattle.cg_exchange.specs.Answering.{answer_to_syn}
-use Rattle.cg_world.specs.World.{World, nobody, runs, with_start, with_entry, with_message, with_spans, taken_with, may_start, last_entry, changed, received, delivered, act, run_from}
-use Rattle.cg_world.specs.World as places
-use Rattle.cg_world.specs.Refusals.{fault_of, start_refusal, refusal, unless_refused}
-use Rattle.cg_world.specs.Played.{LocalEvent, Beat, Set, Opening, Tick, PlayedAction, Start, Local, Deliver, PlayedWorld, arrival_of, reply_of, reply_by, reply_on, reply_to, playing, played, plain, placed}
-use Rattle.cg_world.specs.PlayedLaws.{IsSent}
+use Rattle.cg_places.specs.PlaceWorld.{PlaceWorld, nobody, runs, with_start, with_entry, with_message, with_spans, taken_with, may_start, last_entry, changed, received, delivered, after_action, after_actions}
+use Rattle.cg_places.specs.PlaceWorld as places
+use Rattle.cg_places.specs.Refusals.{fault_of, start_refusal, refusal, unless_refused}
+use Rattle.cg_world.specs.World.{LocalEvent, Beat, Set, Opening, Tick, Action, Start, Local, Deliver, WorldValue, arrival_of, reply_of, reply_by, reply_on, reply_to, acting, run, plain, placed}
+use Rattle.cg_world.specs.WorldLaws.{IsSent}
 use Rattle.cg_world.specs.SingleActions.{outcomes_in}
 use Rattle.cg_world.specs.Taken.{deltas_in, spans_in, counted, taker, AreCounted, OutcomesTellWhatIsTaken}
-use Rattle.cg_world.proofs.PutLemmas.{put_at_here, put_at_other}
-use Rattle.cg_world.proofs.PlayedLemmas.{Tied, Bounded, BothSent, both_at}
-use Rattle.cg_world.proofs.PlayedSteps.{runs_here, at_node, ack_fits, ack_moves, ack2_fits, ack2_moves}
-use Rattle.cg_world.proofs.PlayedLaws.{done_of, Joined, joined, refusals_agree}
+use Rattle.cg_places.proofs.PutLemmas.{put_at_here, put_at_other}
+use Rattle.cg_world.proofs.SpellingLemmas.{Tied, Bounded, BothSent, both_at}
+use Rattle.cg_world.proofs.ActionLemmas.{runs_here, at_node, ack_fits, ack_moves, ack2_fits, ack2_moves}
+use Rattle.cg_world.proofs.WorldLaws.{done_of, Joined, joined, refusals_agree}
 
 -- ---- one message
 
@@ -52,33 +52,33 @@ outcomes_in_order t [] = refl
 outcomes_in_order t (d ∷ ds) = ap (λ (ks : List ℕ). d.endpoint ∷ ks) (outcomes_in_order (take_one t d.endpoint d.delta).0 ds)
 
 -- the outcome of a span about an owner, at the places of a node
-abbrev outcome_at : World → ℕ → ℕ → Option Span → Option Outcome
+abbrev outcome_at : PlaceWorld → ℕ → ℕ → Option Span → Option Outcome
 outcome_at w node owner o = option_map (λ span. record { endpoint = owner; took = took_for (owner == node) (w.places node owner) span }) o
 
-counted_so : (w : World) (node owner : ℕ) (o : Option Span) → taken_with (owner == node) (w.places node owner) (w.taken node owner) o ≡ counted (w.taken node owner) (outcome_at w node owner o) o
+counted_so : (w : PlaceWorld) (node owner : ℕ) (o : Option Span) → taken_with (owner == node) (w.places node owner) (w.taken node owner) o ≡ counted (w.taken node owner) (outcome_at w node owner o) o
 counted_so w node owner None = refl
 counted_so w node owner (Some span) = refl
 
-spans_counted : (w : World) (node : ℕ) (spans : ℕ → Option Span) (outcomes : List Outcome) → ((owner : ℕ) → outcome_about owner outcomes ≡ outcome_at w node owner (spans owner))
+spans_counted : (w : PlaceWorld) (node : ℕ) (spans : ℕ → Option Span) (outcomes : List Outcome) → ((owner : ℕ) → outcome_about owner outcomes ≡ outcome_at w node owner (spans owner))
     → (owner : ℕ) → (with_spans w node spans).taken node owner ≡ counted (w.taken node owner) (outcome_about owner outcomes) (spans owner)
 unfolding with_spans
 spans_counted w node spans outcomes each owner =
     ap (λ (row : ℕ → List Span). row owner) (put_at_here w.taken node (λ owner. taken_with (owner == node) (w.places node owner) (w.taken node owner) (spans owner)))
     ∙ rw (each owner) (counted_so w node owner (spans owner))
 
-message_takes_nothing : (w : World) (said : PlaceMessage) (node owner : ℕ) → (with_message w said).taken node owner ≡ w.taken node owner
+message_takes_nothing : (w : PlaceWorld) (said : PlaceMessage) (node owner : ℕ) → (with_message w said).taken node owner ≡ w.taken node owner
 unfolding with_message
 message_takes_nothing w said node owner = refl
 
 -- what a message does where it is taken
-record AreCountedBy (w v : World) (node : ℕ) (m : Message) (said : PlaceMessage) (outcomes : List Outcome) : Type 0 where
+record AreCountedBy (w v : PlaceWorld) (node : ℕ) (m : Message) (said : PlaceMessage) (outcomes : List Outcome) : Type 0 where
   spelled : SpellsSpans w.histories (deltas_in m) (spans_in said)
   in_order : endpoints_of_outcomes outcomes ≡ endpoints_of_deltas (deltas_in m)
   rise : Rises (endpoints_of_outcomes outcomes)
   each : (owner : ℕ) → outcome_about owner outcomes ≡ outcome_at w node owner (spans_in said owner)
   taken : (owner : ℕ) → v.taken node owner ≡ counted (w.taken node owner) (outcome_about owner outcomes) (spans_in said owner)
 
-module _ (c : PlayedWorld) (w : World) (t : Tied c w) (b : Bounded w) (node : ℕ) (n : NodeValue) (e : map.get c.nodes node ≡ Some n) where
+module _ (c : WorldValue) (w : PlaceWorld) (t : Tied c w) (b : Bounded w) (node : ℕ) (n : NodeValue) (e : map.get c.nodes node ≡ Some n) where
   each_here : (spans : ℕ → Option Span) (after : TableValue) (outcomes : List Outcome) → IsMoved w.histories n.table (w.places node) spans after outcomes
       → (owner : ℕ) → outcome_about owner outcomes ≡ outcome_at w node owner (spans owner)
   each_here spans after outcomes moved owner =
@@ -86,7 +86,7 @@ module _ (c : PlayedWorld) (w : World) (t : Tied c w) (b : Bounded w) (node : �
       (moved.outcomes_about owner)
 
   -- of a reply that is due
-  counted_as : (v : World) (m : Message) (said : PlaceMessage) (due : Reply) (left : Option Reply) → left ≡ Some due → AreCountedBy w v node m said (outcomes_in due) → (answer : Reply) → left ≡ Some answer
+  counted_as : (v : PlaceWorld) (m : Message) (said : PlaceMessage) (due : Reply) (left : Option Reply) → left ≡ Some due → AreCountedBy w v node m said (outcomes_in due) → (answer : Reply) → left ≡ Some answer
       → AreCountedBy w v node m said (outcomes_in answer)
   counted_as v m said due left is counts answer e = let same : due ≡ answer = cc in subst (λ r. AreCountedBy w v node m said (outcomes_in r)) same counts
 
@@ -142,76 +142,76 @@ module _ (c : PlayedWorld) (w : World) (t : Tied c w) (b : Bounded w) (node : �
 -- ---- one more action
 
 -- one more action is done, or not, after all others
-one_more : (w : World) (actions : List PlayedAction) (action : PlayedAction)
-    → run_from w (done_of w (actions ++ action ∷ [])) ≡ run_from (run_from w (done_of w actions)) (done_of (run_from w (done_of w actions)) (action ∷ []))
+one_more : (w : PlaceWorld) (actions : List Action) (action : Action)
+    → after_actions w (done_of w (actions ++ action ∷ [])) ≡ after_actions (after_actions w (done_of w actions)) (done_of (after_actions w (done_of w actions)) (action ∷ []))
 one_more w [] action = refl
 one_more w (first ∷ actions) action = go (refusal w (plain first)) (λ v. one_more v actions action)
   where
-    go : (due : Option Fault) → ((v : World) → run_from v (done_of v (actions ++ action ∷ [])) ≡ run_from (run_from v (done_of v actions)) (done_of (run_from v (done_of v actions)) (action ∷ [])))
-        → run_from w (unless_refused due (plain first) (done_of (act w (plain first)) (actions ++ action ∷ [])) (done_of w (actions ++ action ∷ [])))
-        ≡ run_from (run_from w (unless_refused due (plain first) (done_of (act w (plain first)) actions) (done_of w actions)))
-        (done_of (run_from w (unless_refused due (plain first) (done_of (act w (plain first)) actions) (done_of w actions))) (action ∷ []))
-    go None rest = rest (act w (plain first))
+    go : (due : Option Fault) → ((v : PlaceWorld) → after_actions v (done_of v (actions ++ action ∷ [])) ≡ after_actions (after_actions v (done_of v actions)) (done_of (after_actions v (done_of v actions)) (action ∷ [])))
+        → after_actions w (unless_refused due (plain first) (done_of (after_action w (plain first)) (actions ++ action ∷ [])) (done_of w (actions ++ action ∷ [])))
+        ≡ after_actions (after_actions w (unless_refused due (plain first) (done_of (after_action w (plain first)) actions) (done_of w actions)))
+        (done_of (after_actions w (unless_refused due (plain first) (done_of (after_action w (plain first)) actions) (done_of w actions))) (action ∷ []))
+    go None rest = rest (after_action w (plain first))
     go (Some fault) rest = rest w
 
 -- ---- what an action leaves as it was
 
-changed_takes_nothing : (w : World) (node : ℕ) (change : EntryValue → EntryValue) (o : Option EntryValue) → (changed w node change o).taken ≡ w.taken
+changed_takes_nothing : (w : PlaceWorld) (node : ℕ) (change : EntryValue → EntryValue) (o : Option EntryValue) → (changed w node change o).taken ≡ w.taken
 unfolding with_entry
 changed_takes_nothing w node change None = refl
 changed_takes_nothing w node change (Some entry) = refl
 
-opened_takes_nothing : (w : World) (node : ℕ) (there : Bool) → (cond there (with_message w (Syn (w.places node))) w).taken ≡ w.taken
+opened_takes_nothing : (w : PlaceWorld) (node : ℕ) (there : Bool) → (cond there (with_message w (Syn (w.places node))) w).taken ≡ w.taken
 unfolding with_message
 opened_takes_nothing w node true = refl
 opened_takes_nothing w node false = refl
 
-local_takes_nothing : (w : World) (node : ℕ) (change : LocalEvent) → (act w (plain (Local node change))).taken ≡ w.taken
-unfolding act
+local_takes_nothing : (w : PlaceWorld) (node : ℕ) (change : LocalEvent) → (after_action w (plain (Local node change))).taken ≡ w.taken
+unfolding after_action
 local_takes_nothing w node Beat = changed_takes_nothing w node beaten (last_entry (w.histories node))
 local_takes_nothing w node (Set key text) = changed_takes_nothing w node (with_state key text) (last_entry (w.histories node))
 local_takes_nothing w node Opening = opened_takes_nothing w node (runs w node)
 local_takes_nothing w node (Tick now words) =
-    let v : World = changed w node beaten (last_entry (w.histories node)) in
+    let v : PlaceWorld = changed w node beaten (last_entry (w.histories node)) in
     opened_takes_nothing v node (runs v node) ∙ changed_takes_nothing w node beaten (last_entry (w.histories node))
 
-start_forgets : (w : World) (node generation owner : ℕ) → (with_start w node generation).taken node owner ≡ []
+start_forgets : (w : PlaceWorld) (node generation owner : ℕ) → (with_start w node generation).taken node owner ≡ []
 unfolding with_start
 start_forgets w node generation owner = ap (λ (row : ℕ → List Span). row owner) (put_at_here w.taken node (λ owner. []))
 
-start_leaves : (w : World) (node generation other : ℕ) (may : Bool) → other ≢ node → (cond may (with_start w node generation) w).taken other ≡ w.taken other
+start_leaves : (w : PlaceWorld) (node generation other : ℕ) (may : Bool) → other ≢ node → (cond may (with_start w node generation) w).taken other ≡ w.taken other
 unfolding with_start
 start_leaves w node generation other true apart = put_at_other w.taken node (λ owner. []) other apart
 start_leaves w node generation other false apart = refl
 
-spans_leave : (w : World) (node : ℕ) (spans : ℕ → Option Span) (other : ℕ) → other ≢ node → (with_spans w node spans).taken other ≡ w.taken other
+spans_leave : (w : PlaceWorld) (node : ℕ) (spans : ℕ → Option Span) (other : ℕ) → other ≢ node → (with_spans w node spans).taken other ≡ w.taken other
 unfolding with_spans
 spans_leave w node spans other apart = put_at_other w.taken node (λ owner. taken_with (owner == node) (w.places node owner) (w.taken node owner) (spans owner)) other apart
 
-received_leaves : (w : World) (node : ℕ) (said : PlaceMessage) (other : ℕ) → other ≢ node → (received w node said).taken other ≡ w.taken other
+received_leaves : (w : PlaceWorld) (node : ℕ) (said : PlaceMessage) (other : ℕ) → other ≢ node → (received w node said).taken other ≡ w.taken other
 unfolding with_message
 received_leaves w node (Syn theirs) other apart = refl
 received_leaves w node (Ack asks spans) other apart = spans_leave w node spans other apart
 received_leaves w node (Ack2 spans) other apart = spans_leave w node spans other apart
 
-delivered_leaves : (w : World) (node : ℕ) (said : Option PlaceMessage) (there : Bool) → runs w node ≡ there → (other : ℕ) → other ≢ node → (delivered w node said).taken other ≡ w.taken other
+delivered_leaves : (w : PlaceWorld) (node : ℕ) (said : Option PlaceMessage) (there : Bool) → runs w node ≡ there → (other : ℕ) → other ≢ node → (delivered w node said).taken other ≡ w.taken other
 delivered_leaves w node None there is other apart = refl
 delivered_leaves w node (Some said) true is other apart = rw is (received_leaves w node said other apart)
 delivered_leaves w node (Some said) false is other apart = rw is refl
 
-act_leaves : (w : World) (action : PlayedAction) (other : ℕ) → taker action ≢ Some other → (act w (plain action)).taken other ≡ w.taken other
-unfolding act
-act_leaves w (Start node generation) other apart = start_leaves w node generation other (may_start w node generation) (λ e. apart (ap Some (sym e)))
-act_leaves w (Local node change) other apart = ap (λ (taken : ℕ → ℕ → List Span). taken other) (local_takes_nothing w node change)
-act_leaves w (Deliver number to now) other apart = delivered_leaves w to (at_place w.sent number) (runs w to) refl other (λ e. apart (ap Some (sym e)))
+action_leaves : (w : PlaceWorld) (action : Action) (other : ℕ) → taker action ≢ Some other → (after_action w (plain action)).taken other ≡ w.taken other
+unfolding after_action
+action_leaves w (Start node generation) other apart = start_leaves w node generation other (may_start w node generation) (λ e. apart (ap Some (sym e)))
+action_leaves w (Local node change) other apart = ap (λ (taken : ℕ → ℕ → List Span). taken other) (local_takes_nothing w node change)
+action_leaves w (Deliver number to now) other apart = delivered_leaves w to (at_place w.sent number) (runs w to) refl other (λ e. apart (ap Some (sym e)))
 
 -- ---- the law
 
-module _ (settings : SettingsValue) (actions : List PlayedAction) (number to now : ℕ) (answer : Reply) where
-  abbrev c : PlayedWorld
-  c = played settings actions
+module _ (settings : SettingsValue) (actions : List Action) (number to now : ℕ) (answer : Reply) where
+  abbrev c : WorldValue
+  c = run settings actions
 
-  abbrev w : World
+  abbrev w : PlaceWorld
   w = placed actions
 
   j : Joined c w
@@ -219,7 +219,7 @@ module _ (settings : SettingsValue) (actions : List PlayedAction) (number to now
 
   -- the world by places after the delivery
   world_after : (said : PlaceMessage) → at_place w.sent number ≡ Some said → runs w to ≡ true → placed (actions ++ Deliver number to now ∷ []) ≡ received w to said
-  unfolding act
+  unfolding after_action
   world_after said is there = one_more nobody actions (Deliver number to now) ∙ rw is (rw there (rw is (rw there refl)))
 
   delivery_counted : (o : Option Message) (p : Option PlaceMessage) → at_place c.sent number ≡ o → at_place w.sent number ≡ p → BothSent c.settings.cluster w.histories o p
@@ -240,24 +240,24 @@ module _ (settings : SettingsValue) (actions : List PlayedAction) (number to now
         in_order = counts.in_order;
         rise = counts.rise;
         each = counts.each;
-        taken = λ owner. ap (λ (v : World). v.taken to owner) after ∙ counts.taken owner;
+        taken = λ owner. ap (λ (v : PlaceWorld). v.taken to owner) after ∙ counts.taken owner;
       }
 
 -- what is done is not refused
-no_fault : (left : Result PlayedWorld Fault) → IsOk left → fault_of left ≡ None
+no_fault : (left : Result WorldValue Fault) → IsOk left → fault_of left ≡ None
 no_fault (Ok d) ok = refl
 no_fault (Err fault) ok = absurd cc
 
 -- a start that is not refused has a generation that rises
-started_by : (w : World) (node generation : ℕ) (may : Bool) → may_start w node generation ≡ may → start_refusal w node generation ≡ None → may ≡ true
+started_by : (w : PlaceWorld) (node generation : ℕ) (may : Bool) → may_start w node generation ≡ may → start_refusal w node generation ≡ None → may ≡ true
 started_by w node generation true is free = refl
 started_by w node generation false is free = let some : Some NotRising ≡ None = subst (λ b. cond b (cond (runs w node) None (cond (nat_lt (length w.owners) MEMBER_LIMIT) None (Some TableFull))) (Some NotRising) ≡ None) is free in absurd cc
 
-module _ (settings : SettingsValue) (actions : List PlayedAction) where
-  abbrev d : PlayedWorld
-  d = played settings actions
+module _ (settings : SettingsValue) (actions : List Action) where
+  abbrev d : WorldValue
+  d = run settings actions
 
-  abbrev v : World
+  abbrev v : PlaceWorld
   v = placed actions
 
   delivery_told : (number to now : ℕ) (answer : Reply) → reply_to d (Deliver number to now) ≡ Some answer → AreCounted d v (placed (actions ++ Deliver number to now ∷ [])) number to (outcomes_in answer)
@@ -266,25 +266,25 @@ module _ (settings : SettingsValue) (actions : List PlayedAction) where
       (both_at d.settings.cluster v.histories d.sent v.sent (joined settings actions).tied.is.messages number) (map.get d.nodes to) refl is
 
   -- where an action is refused, and where it is not
-  after_refusal : (action : PlayedAction) (fault : Fault) → refusal v (plain action) ≡ Some fault → placed (actions ++ action ∷ []) ≡ v
+  after_refusal : (action : Action) (fault : Fault) → refusal v (plain action) ≡ Some fault → placed (actions ++ action ∷ []) ≡ v
   after_refusal action fault due = one_more nobody actions action ∙ rw due refl
 
-  after_done : (action : PlayedAction) → refusal v (plain action) ≡ None → placed (actions ++ action ∷ []) ≡ act v (plain action)
+  after_done : (action : Action) → refusal v (plain action) ≡ None → placed (actions ++ action ∷ []) ≡ after_action v (plain action)
   after_done action free = one_more nobody actions action ∙ rw free refl
 
-  start_told : (node generation owner : ℕ) → IsOk (playing d (Start node generation)) → (placed (actions ++ Start node generation ∷ [])).taken node owner ≡ []
-  unfolding act
+  start_told : (node generation owner : ℕ) → IsOk (acting d (Start node generation)) → (placed (actions ++ Start node generation ∷ [])).taken node owner ≡ []
+  unfolding after_action
   start_told node generation owner ok =
-      let free : refusal v (places.Start node generation) ≡ None = sym (refusals_agree settings actions (Start node generation)) ∙ no_fault (playing d (Start node generation)) ok in
+      let free : refusal v (places.Start node generation) ≡ None = sym (refusals_agree settings actions (Start node generation)) ∙ no_fault (acting d (Start node generation)) ok in
       let may : may_start v node generation ≡ true = started_by v node generation (may_start v node generation) refl free in
-      ap (λ (w : World). w.taken node owner) (after_done (Start node generation) free) ∙ rw may (start_forgets v node generation owner)
+      ap (λ (w : PlaceWorld). w.taken node owner) (after_done (Start node generation) free) ∙ rw may (start_forgets v node generation owner)
 
-  others_told : (action : PlayedAction) (node owner : ℕ) → taker action ≢ Some node → (placed (actions ++ action ∷ [])).taken node owner ≡ v.taken node owner
+  others_told : (action : Action) (node owner : ℕ) → taker action ≢ Some node → (placed (actions ++ action ∷ [])).taken node owner ≡ v.taken node owner
   others_told action node owner apart = go (refusal v (plain action)) refl
     where
       go : (due : Option Fault) → refusal v (plain action) ≡ due → (placed (actions ++ action ∷ [])).taken node owner ≡ v.taken node owner
-      go None free = ap (λ (w : World). w.taken node owner) (after_done action free) ∙ ap (λ (row : ℕ → List Span). row owner) (act_leaves v action node apart)
-      go (Some fault) due = ap (λ (w : World). w.taken node owner) (after_refusal action fault due)
+      go None free = ap (λ (w : PlaceWorld). w.taken node owner) (after_done action free) ∙ ap (λ (row : ℕ → List Span). row owner) (action_leaves v action node apart)
+      go (Some fault) due = ap (λ (w : PlaceWorld). w.taken node owner) (after_refusal action fault due)
 
 pub outcomes_tell_what_is_taken : OutcomesTellWhatIsTaken
 outcomes_tell_what_is_taken settings actions = record {

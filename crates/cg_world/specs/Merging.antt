@@ -7,11 +7,11 @@ use Rattle.cg_core.specs.Values.{NodeValue}
 use Rattle.cg_table.specs.Values.{TableValue, Entries}
 use Rattle.cg_table.specs.Table.{digests_of}
 use Rattle.cg_tokens.specs.Ring.{ring}
-use Rattle.cg_world.specs.PlayedLaws.{Runs}
+use Rattle.cg_world.specs.WorldLaws.{Runs}
 use Rattle.cg_table.specs.Merge.{merged, owners_together}
 use Rattle.cg_types.specs.declared.limits.TheConstants.{MEMBER_LIMIT}
-use Rattle.cg_world.specs.TableLaws.{IsMergedOf}
-use Rattle.cg_world.specs.Played.{PlayedAction, PlayedWorld, played, placed}
+use Rattle.cg_places.specs.TableLaws.{IsMergedOf}
+use Rattle.cg_world.specs.World.{Action, WorldValue, run, placed}
 
 -- what follows for a node that runs
 abbrev pub of_node : {X : Type 0} → Option NodeValue → (NodeValue → Result X Fault) → Result X Fault
@@ -28,14 +28,14 @@ pub record FitTogether (one two three : TableValue) : Type 0 where
   pub all : owners_together (merged one.entries two.entries) three.entries ≤ MEMBER_LIMIT
 
 -- the merged tables of three nodes
-abbrev pub merging_nodes : PlayedWorld → ℕ → ℕ → ℕ → Result TableValue Fault
+abbrev pub merging_nodes : WorldValue → ℕ → ℕ → ℕ → Result TableValue Fault
 merging_nodes c x y z =
     of_node (map.get c.nodes x) (λ one. of_node (map.get c.nodes y) (λ two. of_node (map.get c.nodes z) (λ three. Ok (merged_three one.table two.table three.table))))
 
 -- The table is the join of what three nodes of a world hold.
-pub record IsJoinIn (c : PlayedWorld) (x y z : ℕ) (t : TableValue) : Type 0 where
-  pub actions : List PlayedAction
-  pub is : c ≡ played c.settings actions
+pub record IsJoinIn (c : WorldValue) (x y z : ℕ) (t : TableValue) : Type 0 where
+  pub actions : List Action
+  pub is : c ≡ run c.settings actions
   pub join : IsMergedOf (placed actions) x y z t.entries
 
 -- ---- tables compared
@@ -47,7 +47,7 @@ pub record TellsEqual (same : Bool) (one other : Entries) : Type 0 where
   pub rings : IsTrue same → ring one ≡ ring other
 
 -- Both nodes run, and this is told of their tables.
-pub record TellsOfNodes (c : PlayedWorld) (x y : ℕ) (same : Bool) : Type 0 where
+pub record TellsOfNodes (c : WorldValue) (x y : ℕ) (same : Bool) : Type 0 where
   pub one : NodeValue
   pub other : NodeValue
   pub runs_one : Runs c x one

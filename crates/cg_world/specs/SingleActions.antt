@@ -11,22 +11,22 @@ use Rattle.cg_core.specs.declared.reply.Reply.TheVariants as reply
 use Rattle.cg_core.specs.Values.{SettingsValue, NodeValue}
 use Rattle.cg_core.specs.Windows.{arrivals}
 use Rattle.cg_core.specs.Step.{next_of, beating, opening, round_of}
-use Rattle.cg_world.specs.Played.{PlayedAction, Start, Local, Deliver, LocalEvent, Beat, Set, Tick, PlayedWorld, reply_to, playing, play, played}
-use Rattle.cg_world.specs.PlayedLaws.{Runs}
+use Rattle.cg_world.specs.World.{Action, Start, Local, Deliver, LocalEvent, Beat, Set, Tick, WorldValue, reply_to, acting, act, run}
+use Rattle.cg_world.specs.WorldLaws.{Runs}
 
 -- Each node that runs has the settings that were given.
 abbrev pub SettingsStay : Type 0
-SettingsStay = (settings : SettingsValue) (actions : List PlayedAction) (node : ℕ) (n : NodeValue) → Runs (played settings actions) node n → n.settings ≡ settings
+SettingsStay = (settings : SettingsValue) (actions : List Action) (node : ℕ) (n : NodeValue) → Runs (run settings actions) node n → n.settings ≡ settings
 
 -- the node that an action is about
-abbrev pub node_of : PlayedAction → ℕ
+abbrev pub node_of : Action → ℕ
 node_of (Start node generation) = node
 node_of (Local node change) = node
 node_of (Deliver number to now) = to
 
 -- An action changes no other node.
 abbrev pub OneNodeChanges : Type 0
-OneNodeChanges = (c : PlayedWorld) (action : PlayedAction) (other : ℕ) → other ≢ node_of action → map.get (play c action).nodes other ≡ map.get c.nodes other
+OneNodeChanges = (c : WorldValue) (action : Action) (other : ℕ) → other ≢ node_of action → map.get (act c action).nodes other ≡ map.get c.nodes other
 
 -- ---- replies
 
@@ -38,12 +38,12 @@ outcomes_in (reply.Sent m) = []
 outcomes_in (reply.Both outcomes ack2) = outcomes
 outcomes_in (reply.Took outcomes) = outcomes
 
-pub record AreReplies (c : PlayedWorld) : Type 0 where
+pub record AreReplies (c : WorldValue) : Type 0 where
   -- a start has none
   pub start : (node generation : ℕ) → reply_to c (Start node generation) ≡ None
   -- any other action has one where it is done
-  pub local : (node : ℕ) (change : LocalEvent) → is_some (reply_to c (Local node change)) ≡ is_ok (playing c (Local node change))
-  pub delivery : (number to now : ℕ) → is_some (reply_to c (Deliver number to now)) ≡ is_ok (playing c (Deliver number to now))
+  pub local : (node : ℕ) (change : LocalEvent) → is_some (reply_to c (Local node change)) ≡ is_ok (acting c (Local node change))
+  pub delivery : (number to now : ℕ) → is_some (reply_to c (Deliver number to now)) ≡ is_ok (acting c (Deliver number to now))
   -- a beat and a set tell the version that they gave
   pub beat : (node : ℕ) (n : NodeValue) (version : ℕ) → Runs c node n → next_of n ≡ Ok version → reply_to c (Local node Beat) ≡ Some (reply.Done version)
   pub set : (node key : ℕ) (text : List ℕ) (n : NodeValue) (version : ℕ) → Runs c node n → next_of n ≡ Ok version → reply_to c (Local node (Set key text)) ≡ Some (reply.Done version)
@@ -57,7 +57,7 @@ pub record AreReplies (c : PlayedWorld) : Type 0 where
       → outcomes_in r ≡ outcomes_of n.table ack2.deltas
 
 abbrev pub RepliesAreOfSteps : Type 0
-RepliesAreOfSteps = (c : PlayedWorld) → AreReplies c
+RepliesAreOfSteps = (c : WorldValue) → AreReplies c
 
 -- ---- windows
 
@@ -66,15 +66,15 @@ abbrev pub outcomes_shown : Option Reply → List Outcome
 outcomes_shown None = []
 outcomes_shown (Some r) = outcomes_in r
 
-pub record AreHeard (c : PlayedWorld) : Type 0 where
+pub record AreHeard (c : WorldValue) : Type 0 where
   -- a node that starts heard of nobody
-  pub start : (node generation : ℕ) (m : NodeValue) → IsOk (playing c (Start node generation)) → Runs (play c (Start node generation)) node m → m.windows ≡ map.empty
+  pub start : (node generation : ℕ) (m : NodeValue) → IsOk (acting c (Start node generation)) → Runs (act c (Start node generation)) node m → m.windows ≡ map.empty
   -- by itself it hears of nobody
-  pub local : (node : ℕ) (change : LocalEvent) (n m : NodeValue) → Runs c node n → Runs (play c (Local node change)) node m → m.windows ≡ n.windows
+  pub local : (node : ℕ) (change : LocalEvent) (n m : NodeValue) → Runs c node n → Runs (act c (Local node change)) node m → m.windows ≡ n.windows
   -- each delta that was taken is an arrival of its owner at the moment of the delivery
-  pub delivery : (number to now : ℕ) (n m : NodeValue) → Runs c to n → Runs (play c (Deliver number to now)) to m
+  pub delivery : (number to now : ℕ) (n m : NodeValue) → Runs c to n → Runs (act c (Deliver number to now)) to m
       → m.windows ≡ arrivals n.settings.silence now n.windows (outcomes_shown (reply_to c (Deliver number to now)))
 
 -- Nodes hear of others by deliveries alone.
 abbrev pub NodesHearByDeliveries : Type 0
-NodesHearByDeliveries = (c : PlayedWorld) → AreHeard c
+NodesHearByDeliveries = (c : WorldValue) → AreHeard c

@@ -16,8 +16,8 @@ use Rattle.cg_exchange.specs.PlaceMessages.{PlaceMessage, Syn, Ack, Ack2}
 use Rattle.cg_exchange.specs.Spelling.{SpellsSpans, outcome_about}
 use Rattle.cg_core.specs.declared.reply.Reply.{Reply}
 use Rattle.cg_core.specs.Values.{SettingsValue}
-use Rattle.cg_world.specs.World.{World, unless_gap}
-use Rattle.cg_world.specs.Played.{PlayedAction, Start, Local, Deliver, PlayedWorld, reply_to, playing, played, placed}
+use Rattle.cg_places.specs.PlaceWorld.{PlaceWorld, unless_gap}
+use Rattle.cg_world.specs.World.{Action, Start, Local, Deliver, WorldValue, reply_to, acting, run, placed}
 use Rattle.cg_world.specs.SingleActions.{outcomes_in}
 
 -- the deltas that a message has
@@ -39,7 +39,7 @@ counted spans (Some outcome) None = spans
 counted spans None span = spans
 
 -- The outcomes of a delivery to a node are those of its spans at the places of w, and tell what the node took, as v has it.
-pub record AreCounted (c : PlayedWorld) (w v : World) (number node : ℕ) (outcomes : List Outcome) : Type 0 where
+pub record AreCounted (c : WorldValue) (w v : PlaceWorld) (number node : ℕ) (outcomes : List Outcome) : Type 0 where
   -- the message, and what it says by places: its deltas spell these spans, owner by owner
   pub message : Message
   pub is_message : at_place c.sent number ≡ Some message
@@ -55,23 +55,23 @@ pub record AreCounted (c : PlayedWorld) (w v : World) (number node : ℕ) (outco
   pub taken : (owner : ℕ) → v.taken node owner ≡ counted (w.taken node owner) (outcome_about owner outcomes) (spans_in said owner)
 
 -- the node whose taken spans an action may change
-abbrev pub taker : PlayedAction → Option ℕ
+abbrev pub taker : Action → Option ℕ
 taker (Start node generation) = Some node
 taker (Local node change) = None
 taker (Deliver number to now) = Some to
 
 -- What one more action changes of what the nodes took.
-pub record IsTold (settings : SettingsValue) (actions : List PlayedAction) : Type 0 where
+pub record IsTold (settings : SettingsValue) (actions : List Action) : Type 0 where
   -- a delivery that is done adds what the outcomes in the node's reply tell
-  pub deliveries : (number to now : ℕ) (answer : Reply) → reply_to (played settings actions) (Deliver number to now) ≡ Some answer
-      → AreCounted (played settings actions) (placed actions) (placed (actions ++ Deliver number to now ∷ [])) number to (outcomes_in answer)
+  pub deliveries : (number to now : ℕ) (answer : Reply) → reply_to (run settings actions) (Deliver number to now) ≡ Some answer
+      → AreCounted (run settings actions) (placed actions) (placed (actions ++ Deliver number to now ∷ [])) number to (outcomes_in answer)
   -- a start that is done forgets all that its node took
-  pub starts : (node generation owner : ℕ) → IsOk (playing (played settings actions) (Start node generation)) → (placed (actions ++ Start node generation ∷ [])).taken node owner ≡ []
+  pub starts : (node generation owner : ℕ) → IsOk (acting (run settings actions) (Start node generation)) → (placed (actions ++ Start node generation ∷ [])).taken node owner ≡ []
   -- what the other nodes took stays, as does what any took where a node does something by itself
-  pub others : (action : PlayedAction) (node owner : ℕ) → taker action ≢ Some node → (placed (actions ++ action ∷ [])).taken node owner ≡ (placed actions).taken node owner
+  pub others : (action : Action) (node owner : ℕ) → taker action ≢ Some node → (placed (actions ++ action ∷ [])).taken node owner ≡ (placed actions).taken node owner
   -- a refused action changes nothing
-  pub refused : (action : PlayedAction) (fault : Fault) → playing (played settings actions) action ≡ Err fault → placed (actions ++ action ∷ []) ≡ placed actions
+  pub refused : (action : Action) (fault : Fault) → acting (run settings actions) action ≡ Err fault → placed (actions ++ action ∷ []) ≡ placed actions
 
 -- What a node took since its start is what the outcomes in its replies tell.
 abbrev pub OutcomesTellWhatIsTaken : Type 0
-OutcomesTellWhatIsTaken = (settings : SettingsValue) (actions : List PlayedAction) → IsTold settings actions
+OutcomesTellWhatIsTaken = (settings : SettingsValue) (actions : List Action) → IsTold settings actions

@@ -1,148 +1,180 @@
--- All nodes, by the places that each holds, after a list of actions.
-use Rattle.std.specs.Prelude.{ℕ, ◌+◌, Bool, List, [], ◌∷◌, ◌++◌, length, Option, Some, None, ◌==◌, nat_lt, if◌then◌else◌}
-use Rattle.cg_entry.specs.Values.{EntryValue}
-use Rattle.cg_entry.specs.Entry.{started, beaten, with_state}
-use Rattle.cg_entry.specs.History.{at_place, generation_at}
-use Rattle.cg_entry.specs.Place.{Span}
-use Rattle.cg_table.specs.declared.took.Took.{Took}
-use Rattle.cg_table.specs.declared.took.Took.TheVariants as took
-use Rattle.cg_exchange.specs.Places.{Ask, took_for}
-use Rattle.cg_exchange.specs.PlaceMessages.{PlaceMessage, Syn, Ack, Ack2, answer_at, places_after, grants_at}
+-- The nodes of a cluster as they run, and what they sent, after a list of actions.
+use Rattle.std.specs.Prelude.{ℕ, ◌+◌, ◌||◌, Bool, List, [], ◌∷◌, ◌++◌, length, Option, Some, None, Result, Ok, Err, nat_lt, map as map_list, if◌then◌else◌, refl}
+use Rattle.std.specs.Coded.{Coded, code_by, coded×, coded_ℕ, coded_list}
+use Rattle.std.specs.Option.{option_map, option_and_then}
+use Rattle.std.specs.Ordering.{nat_cmp}
+use Rattle.std.specs.FinMap as map
+use Rattle.cg_types.specs.declared.fault.Fault.{Fault}
+use Rattle.cg_types.specs.declared.fault.Fault.TheVariants.{TableFull, NotRising, NoSuchMessage, NoSuchNode}
+use Rattle.cg_types.specs.declared.limits.TheConstants.{MEMBER_LIMIT}
+use Rattle.cg_entry.specs.History.{at_place}
+use Rattle.cg_table.specs.Values.{Entries}
+use Rattle.cg_table.specs.Own.{own_entry}
+use Rattle.cg_exchange.specs.declared.message.Message.{Message}
+use Rattle.cg_exchange.specs.MessageCode.{message_code}
+use Rattle.cg_exchange.specs.declared.message.Message.TheVariants as message
+use Rattle.cg_core.specs.declared.event.Event.{Event}
+use Rattle.cg_core.specs.declared.event.Event.TheVariants as event
+use Rattle.cg_core.specs.declared.reply.Reply.{Reply}
+use Rattle.cg_core.specs.declared.reply.Reply.TheVariants as reply
+use Rattle.cg_core.specs.Values.{SettingsValue, NodeValue, settings_code, node_code}
+use Rattle.cg_core.specs.Step.{Step, begun, node_step}
+pub use Rattle.cg_core.specs.Step.{arrival_of}
+pub use Rattle.cg_world.specs.declared.action.Action.{Action}
+pub use Rattle.cg_world.specs.declared.action.Action.TheVariants.{Start, Local, Deliver}
+pub use Rattle.cg_world.specs.declared.action.LocalEvent.{LocalEvent}
+pub use Rattle.cg_world.specs.declared.action.LocalEvent.TheVariants.{Beat, Set, Opening, Tick}
+use Rattle.cg_places.specs.PlaceWorld.{PlaceWorld, PlaceAction, nobody, world_after}
+use Rattle.cg_places.specs.PlaceWorld as places
+use Rattle.cg_places.specs.Refusals.{done_from}
 
--- Nodes and owners are numbers. A node is the owner of its own entry.
-pub data Action : Type 0 where
-  Start : (node generation : ℕ) → Action
-  Beat : (node : ℕ) → Action
-  Set : (node key : ℕ) (text : List ℕ) → Action
-  -- the node sends a SYN
-  Opening : (node : ℕ) → Action
-  -- a beat, and then an opening
-  Tick : (node : ℕ) → Action
-  -- Hands the message of a number to a node. A loss is a delivery that never comes.
-  Deliver : (number to : ℕ) → Action
-
-pub record World : Type 0 where
-  -- each owner's entries, oldest first
-  pub histories : ℕ → List EntryValue
-  -- the place that a node holds of an owner
-  pub places : ℕ → ℕ → ℕ
+pub record WorldValue : Type 0 where
+  -- all nodes start with these
+  pub settings : SettingsValue
+  -- the nodes that run, by their endpoints
+  pub nodes : map.FinMap nat_cmp NodeValue
   -- each message that was ever sent, the first one first; they are numbered from 1
-  pub sent : List PlaceMessage
-  -- the spans about an owner that were handed to a node since its last start, but for gaps
-  pub taken : ℕ → ℕ → List Span
-  -- each owner that has started, once
-  pub owners : List ℕ
+  pub sent : List Message
 
--- nobody has started
-unfoldable pub nobody : World
-nobody = record { histories = λ owner. []; places = λ node owner. 0; sent = []; taken = λ node owner. []; owners = [] }
+-- the code that a model of such a value asks for
+abbrev pub world_code : Coded WorldValue
+world_code =
+    code_by (SettingsValue × (map.FinMap nat_cmp NodeValue × List Message)) (coded× settings_code (coded× (map.code coded_ℕ node_code) (coded_list message_code)))
+    (λ c. (c.settings, (c.nodes, c.sent))) (λ p. record { settings = p.0; nodes = p.1.0; sent = p.1.1 }) (λ _. refl)
 
--- a node runs where its history has an entry
-abbrev pub runs : World → ℕ → Bool
-runs w node = nat_lt 0 (length (w.histories node))
+-- no node runs
+abbrev pub new_world : SettingsValue → WorldValue
+new_world settings = record { settings = settings; nodes = map.empty; sent = [] }
 
--- f, with x at n
-abbrev pub put_at : {A : Type 0} → (ℕ → A) → ℕ → A → ℕ → A
-put_at f n x m = if m == n then x else f m
+-- what each node holds
+abbrev pub tables_of : WorldValue → ℕ → Option Entries
+tables_of c node = option_map (λ n. n.table.entries) (map.get c.nodes node)
 
--- a history with one more entry of an owner
-abbrev pub grown : (ℕ → List EntryValue) → ℕ → EntryValue → ℕ → List EntryValue
-grown histories owner entry = put_at histories owner (histories owner ++ entry ∷ [])
+-- ---- what a step leaves
 
--- ---- what an action changes
+-- the node is now this one
+abbrev pub with_node : WorldValue → ℕ → NodeValue → WorldValue
+with_node c node n = record { settings = c.settings; nodes = map.insert c.nodes node n; sent = c.sent }
 
--- the node starts, and holds its own entry alone
-unfoldable pub with_start : World → ℕ → ℕ → World
-with_start w node generation = record {
-  histories = grown w.histories node (started generation);
-  places = put_at w.places node (put_at (λ owner. 0) node (length (w.histories node) + 1));
-  sent = w.sent;
-  taken = put_at w.taken node (λ owner. []);
-  owners = if runs w node then w.owners else node ∷ w.owners;
-}
+-- this was sent, if anything was
+abbrev pub with_sent : WorldValue → Option Message → WorldValue
+with_sent c None = c
+with_sent c (Some m) = record { settings = c.settings; nodes = c.nodes; sent = c.sent ++ m ∷ [] }
 
--- the node's own entry is now this one
-unfoldable pub with_entry : World → ℕ → EntryValue → World
-with_entry w node entry = record {
-  histories = grown w.histories node entry;
-  places = put_at w.places node (put_at (w.places node) node (length (w.histories node) + 1));
-  sent = w.sent;
-  taken = w.taken;
-  owners = w.owners;
-}
+-- the message that a reply sends
+abbrev pub message_of : Reply → Option Message
+message_of (reply.Done version) = None
+message_of (reply.Round peers syn) = Some (message.Syn syn)
+message_of (reply.Sent m) = Some m
+message_of (reply.Both outcomes ack2) = Some (message.Ack2 ack2)
+message_of (reply.Took outcomes) = None
 
--- one more message was sent
-unfoldable pub with_message : World → PlaceMessage → World
-with_message w message = record { histories = w.histories; places = w.places; sent = w.sent ++ message ∷ []; taken = w.taken; owners = w.owners }
+-- A node's step leaves the new node, and what it answers is sent.
+abbrev pub after_step : WorldValue → ℕ → Step → Result WorldValue Fault
+after_step c node (Ok x) = Ok (with_sent (with_node c node x.0) (message_of x.1))
+after_step c node (Err fault) = Err fault
 
--- what was handed over, with one more span, but for a gap
-abbrev pub unless_gap : Took → List Span → Span → List Span
-unless_gap took.Gap spans span = spans
-unless_gap took.Taken spans span = spans ++ span ∷ []
-unless_gap took.Old spans span = spans ++ span ∷ []
-unless_gap took.Own spans span = spans ++ span ∷ []
+-- a node is handed an event, if it runs
+abbrev pub handed : WorldValue → ℕ → Option NodeValue → Event → Result WorldValue Fault
+handed c node None e = Err NoSuchNode
+handed c node (Some n) e = after_step c node (node_step n e)
 
-abbrev pub taken_with : Bool → ℕ → List Span → Option Span → List Span
-taken_with own place spans None = spans
-taken_with own place spans (Some span) = unless_gap (took_for own place span) spans span
-
--- the node took the spans of a message
-unfoldable pub with_spans : World → ℕ → (ℕ → Option Span) → World
-with_spans w node spans = record {
-  histories = w.histories;
-  places = put_at w.places node (λ owner. places_after node (w.places node) spans owner);
-  sent = w.sent;
-  taken = put_at w.taken node (λ owner. taken_with (owner == node) (w.places node owner) (w.taken node owner) (spans owner));
-  owners = w.owners;
-}
+abbrev pub handing : WorldValue → ℕ → Event → Result WorldValue Fault
+handing c node e = handed c node (map.get c.nodes node) e
 
 -- ---- actions
 
--- whether the generation is greater than at each start of the node before
-abbrev pub may_start : World → ℕ → ℕ → Bool
-may_start w node generation = nat_lt (generation_at (w.histories node) (length (w.histories node))) generation
+-- the generation of a node's own entry, and 0 where it never started
+abbrev pub generation_held : Option NodeValue → ℕ
+generation_held None = 0
+generation_held (Some n) = (own_entry n.table).generation
 
--- the last entry of a history
-abbrev pub last_entry : List EntryValue → Option EntryValue
-last_entry history = at_place history (length history)
+-- whether the node runs, or there may be one more
+abbrev pub has_room : WorldValue → ℕ → Bool
+has_room c node = map.contains_key c.nodes node || nat_lt (map.len c.nodes) MEMBER_LIMIT
 
--- the node's own entry is changed, if it has one
-abbrev pub changed : World → ℕ → (EntryValue → EntryValue) → Option EntryValue → World
-changed w node change None = w
-changed w node change (Some entry) = with_entry w node (change entry)
+-- A start makes the node anew, in a generation that rises.
+abbrev pub starting : WorldValue → ℕ → ℕ → Result WorldValue Fault
+starting c node generation =
+    if nat_lt (generation_held (map.get c.nodes node)) generation
+    then if has_room c node then Ok (with_node c node (begun node generation c.settings)) else Err TableFull
+    else Err NotRising
 
--- the node sends a SYN of its places
-abbrev pub opened : World → ℕ → World
-opened w node = if runs w node then with_message w (Syn (w.places node)) else w
+abbrev pub event_of : LocalEvent → Event
+event_of Beat = event.Beat
+event_of (Set key text) = event.Set key text
+event_of Opening = event.Opening
+event_of (Tick now words) = event.Tick now words
 
--- the node answers asks
-abbrev pub answered : World → ℕ → (ℕ → Option Ask) → World
-answered w node asks = with_message w (Ack2 (λ owner. grants_at w.histories (w.places node) asks owner))
+abbrev pub delivering : WorldValue → ℕ → ℕ → Option Message → Result WorldValue Fault
+delivering c to now None = Err NoSuchMessage
+delivering c to now (Some m) = handing c to (arrival_of now m)
 
--- A SYN is answered. The spans of an ACK are taken first, then its asks are answered. The spans of an ACK2 are taken.
-abbrev pub received : World → ℕ → PlaceMessage → World
-received w node (Syn theirs) = with_message w (answer_at w.histories (w.places node) theirs)
-received w node (Ack asks spans) = answered (with_spans w node spans) node asks
-received w node (Ack2 spans) = with_spans w node spans
+-- the world after an action, or why the action is refused
+abbrev pub acting : WorldValue → Action → Result WorldValue Fault
+acting c (Start node generation) = starting c node generation
+acting c (Local node change) = handing c node (event_of change)
+acting c (Deliver number to now) = delivering c to now (at_place c.sent number)
 
--- a message is handed to a node, if there are both
-abbrev pub delivered : World → ℕ → Option PlaceMessage → World
-delivered w node None = w
-delivered w node (Some message) = if runs w node then received w node message else w
+-- A refused action changes nothing.
+abbrev pub or_unchanged : WorldValue → Result WorldValue Fault → WorldValue
+or_unchanged c (Ok d) = d
+or_unchanged c (Err fault) = c
 
--- The world after an action. A start whose generation does not rise, an action of a node that does not run, and the delivery of a message that was never sent change nothing.
-unfoldable pub act : World → Action → World
-act w (Start node generation) = if may_start w node generation then with_start w node generation else w
-act w (Beat node) = changed w node beaten (last_entry (w.histories node))
-act w (Set node key text) = changed w node (with_state key text) (last_entry (w.histories node))
-act w (Opening node) = opened w node
-act w (Tick node) = opened (changed w node beaten (last_entry (w.histories node))) node
-act w (Deliver number to) = delivered w to (at_place w.sent number)
+abbrev pub act : WorldValue → Action → WorldValue
+act c action = or_unchanged c (acting c action)
 
 -- the world after actions, one after the other
-abbrev pub run_from : World → List Action → World
-run_from w [] = w
-run_from w (action ∷ actions) = run_from (act w action) actions
+abbrev pub run_from : WorldValue → List Action → WorldValue
+run_from c [] = c
+run_from c (action ∷ actions) = run_from (act c action) actions
 
-abbrev pub run : List Action → World
-run actions = run_from nobody actions
+abbrev pub run : SettingsValue → List Action → WorldValue
+run settings actions = run_from (new_world settings) actions
+
+-- ---- what an action shows
+
+-- the reply of a step that is done
+abbrev pub reply_of : Step → Option Reply
+reply_of (Ok x) = Some x.1
+reply_of (Err fault) = None
+
+abbrev pub reply_by : Option NodeValue → Event → Option Reply
+reply_by None e = None
+reply_by (Some n) e = reply_of (node_step n e)
+
+abbrev pub reply_on : WorldValue → ℕ → ℕ → Option Message → Option Reply
+reply_on c to now None = None
+reply_on c to now (Some m) = reply_by (map.get c.nodes to) (arrival_of now m)
+
+-- the node's reply, if a node makes a step
+abbrev pub reply_to : WorldValue → Action → Option Reply
+reply_to c (Start node generation) = None
+reply_to c (Local node change) = reply_by (map.get c.nodes node) (event_of change)
+reply_to c (Deliver number to now) = reply_on c to now (at_place c.sent number)
+
+-- the message that an action sends, if it sends one
+abbrev pub message_to : WorldValue → Action → Option Message
+message_to c action = option_and_then message_of (reply_to c action)
+
+-- and its number
+abbrev pub number_to : WorldValue → Action → Option ℕ
+number_to c action = option_map (λ m. length c.sent + 1) (message_to c action)
+
+-- ---- the same by places
+
+abbrev pub plain_local : ℕ → LocalEvent → PlaceAction
+plain_local node Beat = places.Beat node
+plain_local node (Set key text) = places.Set node key text
+plain_local node Opening = places.Opening node
+plain_local node (Tick now words) = places.Tick node
+
+-- the action without its moment and words
+abbrev pub plain : Action → PlaceAction
+plain (Start node generation) = places.Start node generation
+plain (Local node change) = plain_local node change
+plain (Deliver number to now) = places.Deliver number to
+
+-- the world of places after actions, of which the refused ones are left out
+abbrev pub placed : List Action → PlaceWorld
+placed actions = world_after (done_from nobody (map_list plain actions))

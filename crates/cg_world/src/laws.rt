@@ -1,13 +1,14 @@
 //! Laws of every list of actions: what holds of the nodes as they run. Each is the contract of an empty function, but for
-//! two calls on a world in hand, `merge_is_join` and `equal_digests`. Laws of the same actions by places stand in `places`.
+//! two calls on a world in hand, `merge_is_join` and `equal_digests`. Laws of the same actions by places stand in
+//! `cg_places`.
 
-ghost use Rattle.cg_world.specs.PlayedExchange.{
+ghost use Rattle.cg_world.specs.Exchange.{
   ExchangesEndAtTheJoin,
-  PlayedExchangesAreLists,
+  ExchangesAreLists,
   TickedExchangesFollowBeats,
   UndisturbedExchangesMerge,
 };
-ghost use Rattle.cg_world.specs.PlayedLaws.{
+ghost use Rattle.cg_world.specs.WorldLaws.{
   DeliveriesAreDone,
   DeliveriesFindRoom,
   EntriesAreWhole,
@@ -16,7 +17,7 @@ ghost use Rattle.cg_world.specs.PlayedLaws.{
   MergesOfNodesAreTheJoin,
   MessagesAreNumbered,
   NodesSpellPlaces,
-  PlayedOneByOne,
+  ActionsOneByOne,
   ReachedWorlds,
   RefusalsAgree,
   TablesAreTheJoin,
@@ -29,9 +30,8 @@ ghost use Rattle.cg_world.specs.SingleActions.{
   SettingsStay,
 };
 ghost use Rattle.cg_world.specs.Taken.{OutcomesTellWhatIsTaken};
-ghost use Rattle.cg_world.specs.WorkedRuns.{WorkedPlays};
+ghost use Rattle.cg_world.specs.WorkedRuns.{WorkedRuns};
 
-pub mod places;
 mod worlds;
 
 pub use worlds::{equal_digests, merge_is_join};
@@ -80,8 +80,8 @@ pub fn merges_of_nodes_are_the_join()
 {}
 
 /// An exchange between nodes that run is the list of its actions.
-pub fn played_exchanges_are_lists()
-    ensures { PlayedExchangesAreLists }
+pub fn exchanges_are_lists()
+    ensures { ExchangesAreLists }
 {}
 
 /// An exchange whose SYN a tick sent is the exchange after a beat.
@@ -92,8 +92,8 @@ pub fn ticked_exchanges_follow_beats()
 // ---- single actions, and what all of them leave
 
 /// After one more action the nodes are as that action leaves those of the actions before it.
-pub fn played_one_by_one()
-    ensures { PlayedOneByOne }
+pub fn actions_one_by_one()
+    ensures { ActionsOneByOne }
 {}
 
 /// An action adds at most one message, at the end of those that were sent: the one that the node's reply has.
@@ -168,6 +168,6 @@ pub fn reached_worlds()
 
 /// The first worked exchange, on nodes that run with any settings: nothing of it is refused, and each node then holds
 /// the other's entry.
-pub fn worked_plays()
-    ensures { WorkedPlays }
+pub fn worked_runs()
+    ensures { WorkedRuns }
 {}

@@ -7,8 +7,8 @@
 #![tactic(auto)]
 
 mod action;
-mod cluster;
 pub mod laws;
+mod nodes;
 #[cfg(test)]
 mod tests;
 mod world;

@@ -6,11 +6,11 @@ ghost use Rattle.cg_types.specs.declared.fault.Fault.TheVariants as faults;
 ghost use Rattle.cg_types.specs.Answer.{Answers};
 ghost use Rattle.cg_entry.specs.History.{at_place};
 ghost use Rattle.cg_world.specs.Acting.{showing, showing_all};
-ghost use Rattle.cg_world.specs.Played.{unplayed, play, played};
+ghost use Rattle.cg_world.specs.World.{new_world, act as after_act, run as after_run};
 ghost use Rattle.cg_world.specs.Consistent.{IsConsistent, IsConsistentWorld};
 
 use crate::action::Action;
-use crate::cluster::Cluster;
+use crate::nodes::Nodes;
 use cg_core::{Node, Reply, Settings};
 use cg_exchange::Message;
 use cg_types::{Endpoint, Fault};
@@ -30,20 +30,20 @@ pub struct Shown {
 /// every list of actions (`laws`) holds of it.
 #[derive(Drop)]
 pub struct World {
-    cluster: Cluster,
+    nodes: Nodes,
 }
 
 impl Model for World {
-    ghost use Rattle.cg_world.specs.Played.{PlayedWorld, played_code};
-    ghost use Rattle.cg_world.specs.PlayedLaws.{IsReached};
+    ghost use Rattle.cg_world.specs.World.{WorldValue, world_code};
+    ghost use Rattle.cg_world.specs.WorldLaws.{IsReached};
 
-    ghost Value = { PlayedWorld };
+    ghost Value = { WorldValue };
 
-    ghost coded = { played_code };
+    ghost coded = { world_code };
 
-    ghost view = { λ w. w.cluster };
+    ghost view = { λ w. w.nodes };
 
-    ghost invariant = { λ w. IsReached w.cluster };
+    ghost invariant = { λ w. IsReached w.nodes };
 }
 
 // Whether memory was short.
@@ -56,10 +56,10 @@ fn is_short(shown: &Result<Shown, Fault>) -> bool
 impl World {
     /// No node runs, and nothing was sent. All nodes will be set to `settings`. It takes no memory.
     pub fn new(alloc: Global, settings: Settings) -> World
-        ensures { result ≡ unplayed settings }
+        ensures { result ≡ new_world settings }
     {
         World {
-            cluster: Cluster::new(alloc, settings),
+            nodes: Nodes::new(alloc, settings),
         }
     }
 
@@ -67,7 +67,7 @@ impl World {
     pub fn settings(&self) -> &Settings
         ensures { result.now ≡ self.now.settings }
     {
-        self.cluster.settings()
+        self.nodes.settings()
     }
 
     /// The node of an endpoint, if it runs.
@@ -77,14 +77,14 @@ impl World {
         // The world is where some actions led: its tables are joins, their entries whole.
         ensures consistent { IsConsistentWorld self.now }
     {
-        self.cluster.node(endpoint)
+        self.nodes.node(endpoint)
     }
 
     /// The message of a number, if one was sent; they are numbered from 1.
     pub fn message(&self, number: u64) -> Option<&Message>
         ensures { option_copied result ≡ at_place self.now.sent number }
     {
-        self.cluster.message(number)
+        self.nodes.message(number)
     }
 
     /// Does an action, and tells what it shows. A refused action changes nothing.
@@ -96,10 +96,10 @@ impl World {
     /// (`laws::deliveries_find_room`). Else at most `OutOfMemory`.
     pub fn act(&mut self, alloc: Global, action: &Action) -> Result<Shown, Fault>
         ensures shown { Answers (λ s. s) (showing self.old action.now) result }
-        ensures done { OnOk result (self.new ≡ play self.old action.now) }
+        ensures done { OnOk result (self.new ≡ after_act self.old action.now) }
         ensures err { OnErr result (self.new ≡ self.old) }
     {
-        self.cluster.act(alloc, action)
+        self.nodes.act(alloc, action)
     }
 
     /// The world after a list of actions, and what each shows; a refused one is kept in its place as its fault, and the
@@ -109,8 +109,8 @@ impl World {
         settings: Settings,
         actions: &[Action],
     ) -> Result<(World, Vec<Result<Shown, Fault>>), Fault>
-        ensures world { IfOk result (λ x. x.0 ≡ played settings actions.now) }
-        ensures shown { IfOk result (λ x. x.1.items ≡ showing_all (unplayed settings) actions.now) }
+        ensures world { IfOk result (λ x. x.0 ≡ after_run settings actions.now) }
+        ensures shown { IfOk result (λ x. x.1.items ≡ showing_all (new_world settings) actions.now) }
         ensures consistent { IfOk result (λ x. IsConsistent settings actions.now x.0) }
         ensures err { IfErr result (λ f. f ≡ faults.OutOfMemory) }
     {

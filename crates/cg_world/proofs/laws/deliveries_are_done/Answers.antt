@@ -1,4 +1,4 @@
-use Rattle.cg_world.proofs.PlayedLaws.{deliveries_are_done}
+use Rattle.cg_world.proofs.WorldLaws.{deliveries_are_done}
 use Rattle.cg_world.proofs.laws.deliveries_are_done.Goals as goal
 
 pub returns : goal.returns

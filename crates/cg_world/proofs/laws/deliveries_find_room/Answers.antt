@@ -1,4 +1,4 @@
-use Rattle.cg_world.proofs.PlayedLaws.{deliveries_find_room}
+use Rattle.cg_world.proofs.WorldLaws.{deliveries_find_room}
 use Rattle.cg_world.proofs.laws.deliveries_find_room.Goals as goal
 
 pub returns : goal.returns

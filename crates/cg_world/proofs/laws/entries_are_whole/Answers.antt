@@ -1,4 +1,4 @@
-use Rattle.cg_world.proofs.PlayedWhole.{entries_are_whole}
+use Rattle.cg_world.proofs.WholeEntries.{entries_are_whole}
 use Rattle.cg_world.proofs.laws.entries_are_whole.Goals as goal
 
 pub returns : goal.returns

@@ -1,4 +1,4 @@
-use Rattle.cg_world.proofs.PlayedLaws.{equal_digests_give_equal_tables}
+use Rattle.cg_world.proofs.WorldLaws.{equal_digests_give_equal_tables}
 use Rattle.cg_world.proofs.laws.equal_digests_give_equal_tables.Goals as goal
 
 pub returns : goal.returns

@@ -1,4 +1,4 @@
-use Rattle.cg_world.proofs.PlayedLaws.{merges_of_nodes_are_the_join}
+use Rattle.cg_world.proofs.WorldLaws.{merges_of_nodes_are_the_join}
 use Rattle.cg_world.proofs.laws.merges_of_nodes_are_the_join.Goals as goal
 
 pub returns : goal.returns

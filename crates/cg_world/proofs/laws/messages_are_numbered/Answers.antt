@@ -1,4 +1,4 @@
-use Rattle.cg_world.proofs.PlayedLaws.{messages_are_numbered}
+use Rattle.cg_world.proofs.WorldLaws.{messages_are_numbered}
 use Rattle.cg_world.proofs.laws.messages_are_numbered.Goals as goal
 
 pub returns : goal.returns

@@ -1,4 +1,4 @@
-use Rattle.cg_world.proofs.PlayedLaws.{nodes_spell_places}
+use Rattle.cg_world.proofs.WorldLaws.{nodes_spell_places}
 use Rattle.cg_world.proofs.laws.nodes_spell_places.Goals as goal
 
 pub returns : goal.returns

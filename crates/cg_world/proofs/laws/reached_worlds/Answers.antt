@@ -1,4 +1,4 @@
-use Rattle.cg_world.proofs.PlayedLaws.{reached_worlds}
+use Rattle.cg_world.proofs.WorldLaws.{reached_worlds}
 use Rattle.cg_world.proofs.laws.reached_worlds.Goals as goal
 
 pub returns : goal.returns

@@ -1,4 +1,4 @@
-use Rattle.cg_world.proofs.PlayedLaws.{tables_are_the_join}
+use Rattle.cg_world.proofs.WorldLaws.{tables_are_the_join}
 use Rattle.cg_world.proofs.laws.tables_are_the_join.Goals as goal
 
 pub returns : goal.returns

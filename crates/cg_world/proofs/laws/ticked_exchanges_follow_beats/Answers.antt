@@ -1,4 +1,4 @@
-use Rattle.cg_world.proofs.PlayedExchanges.{ticked_exchanges_follow_beats}
+use Rattle.cg_world.proofs.ExchangeLaws.{ticked_exchanges_follow_beats}
 use Rattle.cg_world.proofs.laws.ticked_exchanges_follow_beats.Goals as goal
 
 pub returns : goal.returns

@@ -1,6 +1,6 @@
 use Rattle.std.proofs.Common.{sym, ◌∙◌, ap}
 use Rattle.std.specs.Prelude.{option_copied}
-use Rattle.cg_world.specs.PlayedLaws.{IsReached}
+use Rattle.cg_world.specs.WorldLaws.{IsReached}
 use Rattle.cg_world.proofs.MergingLemmas.{tells_equal}
 use Rattle.cg_world.proofs.laws.worlds.equal_digests.Goals as goal
 

@@ -1,7 +1,7 @@
 use Rattle.std.proofs.Common.{sym, ◌∙◌, ap}
 use Rattle.std.specs.Prelude.{option_copied}
 use Rattle.cg_world.specs.Merging.{merged_three, IsJoinIn}
-use Rattle.cg_world.specs.PlayedLaws.{IsReached}
+use Rattle.cg_world.specs.WorldLaws.{IsReached}
 use Rattle.cg_world.proofs.MergingLemmas.{FindTheJoin, find_the_join, if_answered}
 use Rattle.cg_world.proofs.laws.worlds.merge_is_join.Goals as goal
 

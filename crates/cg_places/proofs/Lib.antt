@@ -1,0 +1,16 @@
+pub mod PutLemmas
+pub mod GrowthLemmas
+pub mod StepLemmas
+pub mod WorldLemmas
+pub mod PlaceCases
+pub mod OnwardLemmas
+pub mod ExchangeLemmas
+pub mod UndisturbedLemmas
+pub mod ListLemmas
+pub mod OwnerLemmas
+pub mod LimitLemmas
+pub mod RoomLemmas
+pub mod FollowLemmas
+pub mod PlaceLaws
+pub mod TableLaws
+pub mod WorkedLemmas

@@ -1,0 +1,63 @@
+-- How tables and messages spell a world, and go on to spell it as it changes.
+use Rattle.std.specs.Prelude.{ℕ, ◌≡◌, ◌≢◌, true, Option, Some, is_some, List}
+use Rattle.std.specs.FinMap as table
+use Rattle.cg_entry.specs.Values.{EntryValue}
+use Rattle.cg_entry.specs.Entry.{started}
+use Rattle.cg_entry.specs.Place.{Span}
+use Rattle.cg_table.specs.declared.digest.Digest.{Digest}
+use Rattle.cg_table.specs.Values.{Entries}
+use Rattle.cg_table.specs.Table.{alone}
+use Rattle.cg_table.specs.Spelling.{SpellsPlaces}
+use Rattle.cg_exchange.specs.declared.owner_delta.OwnerDelta.{OwnerDelta}
+use Rattle.cg_exchange.specs.Values.{RequestValue}
+use Rattle.cg_exchange.specs.Places.{Ask}
+use Rattle.cg_exchange.specs.PlaceMessages.{PlaceMessage, Stand, AreAsks, AreSpans, places_after}
+use Rattle.cg_exchange.specs.Spelling.{SpellsDigests, SpellsAsks, SpellsSpans}
+use Rattle.cg_places.specs.PlaceWorld.{PlaceAction, PlaceWorld, runs, world_after, with_start, with_entry, with_message, with_spans}
+use Rattle.cg_places.specs.Laws.{Continues}
+
+-- The table spells a node's places.
+abbrev pub SpellsNode : PlaceWorld → ℕ → Entries → Type 0
+SpellsNode w node entries = SpellsPlaces w.histories entries (w.places node)
+
+-- The nodes that run are those that have a table, and each table spells its node's places.
+pub record SpellsNodes (tables : ℕ → Option Entries) (w : PlaceWorld) : Type 0 where
+  pub running : (node : ℕ) → is_some (tables node) ≡ runs w node
+  pub spelled : (node : ℕ) (entries : Entries) → tables node ≡ Some entries → SpellsNode w node entries
+
+-- ---- histories that go on
+
+-- What was spelled by the earlier histories is spelled by the later ones.
+pub record StaySpelled (earlier later : ℕ → List EntryValue) : Type 0 where
+  pub tables : (entries : Entries) (places : ℕ → ℕ) → SpellsPlaces earlier entries places → SpellsPlaces later entries places
+  pub digests : (digests : List Digest) (places : ℕ → ℕ) → Stand earlier places → SpellsDigests earlier digests places → SpellsDigests later digests places
+  pub asks : (requests : List RequestValue) (asks : ℕ → Option Ask) → AreAsks earlier asks → SpellsAsks earlier requests asks → SpellsAsks later requests asks
+  pub spans : (deltas : List OwnerDelta) (spans : ℕ → Option Span) → AreSpans earlier spans → SpellsSpans earlier deltas spans → SpellsSpans later deltas spans
+
+-- Where histories go on, tables and messages go on to spell what they spelled.
+abbrev pub SpellingStays : Type 0
+SpellingStays = (earlier later : ℕ → List EntryValue) → ((owner : ℕ) → Continues (earlier owner) (later owner)) → StaySpelled earlier later
+
+-- ---- each change of a world
+
+-- The later tables are the earlier ones, but that this one is the node's.
+pub record IsReplaced (earlier later : ℕ → Option Entries) (node : ℕ) (entries : Entries) : Type 0 where
+  pub here : later node ≡ Some entries
+  pub elsewhere : (other : ℕ) → other ≢ node → later other ≡ earlier other
+
+-- What spells the world after each change of it.
+pub record Follow (tables : ℕ → Option Entries) (w : PlaceWorld) : Type 0 where
+  -- after a start the started entry alone
+  pub start : (node generation : ℕ) (later : ℕ → Option Entries) → IsReplaced tables later node (alone node (started generation)).entries → SpellsNodes later (with_start w node generation)
+  -- after a change of the own entry the table with that entry
+  pub entry : (node : ℕ) (entries : Entries) (entry : EntryValue) (later : ℕ → Option Entries) → tables node ≡ Some entries → IsReplaced tables later node (table.insert entries node entry)
+      → SpellsNodes later (with_entry w node entry)
+  -- after a message the same tables
+  pub message : (message : PlaceMessage) → SpellsNodes tables (with_message w message)
+  -- after spans what spells the places that they lead to
+  pub spans : (node : ℕ) (spans : ℕ → Option Span) (entries : Entries) (later : ℕ → Option Entries) → runs w node ≡ true → SpellsPlaces w.histories entries (places_after node (w.places node) spans)
+      → IsReplaced tables later node entries → SpellsNodes later (with_spans w node spans)
+
+-- Tables that spell a world follow its changes.
+abbrev pub TablesFollow : Type 0
+TablesFollow = (actions : List PlaceAction) (tables : ℕ → Option Entries) → SpellsNodes tables (world_after actions) → Follow tables (world_after actions)

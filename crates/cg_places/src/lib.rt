@@ -1,0 +1,121 @@
+//! The nodes of a cluster by the places that they hold of each owner's history: what lists of actions lead to, and what
+//! holds then.
+//!
+//! A place says how many of an owner's entries were seen, so a join is a maximum, and every rule of taking is arithmetic.
+//! The laws of nodes that run rest on these: each step of a node leaves a table and sends a message that spell what the
+//! places say. Each function is a law: its contract says it, and its body is empty.
+#![tactic(auto)]
+
+ghost use Rattle.cg_places.specs.Laws.{
+  ActionsMakeWorlds,
+  DoneActionsKeepLimits,
+  EqualSourcesEqualPlaces,
+  ExchangesAreDone,
+  PlaceExchangesAreLists,
+  ExchangesReachTheJoin,
+  HistoriesContinue,
+  JoinsAreLeast,
+  PlacesAreJoins,
+  UndisturbedExchangesEqual,
+};
+ghost use Rattle.cg_places.specs.Spelling.{SpellingStays, TablesFollow};
+ghost use Rattle.cg_places.specs.TableLaws.{
+  EqualDigestsEqualTables,
+  EqualSourcesEqualTables,
+  MergesAreJoined,
+  TablesAreJoined,
+  TablesFindRoom,
+};
+ghost use Rattle.cg_places.specs.WorkedPlaces.{WorkedPlaces};
+
+/// Each owner's entries are a history, each place and each message stands in it, a node's place of its own entry is
+/// the newest, and the owners are those that started.
+pub fn actions_make_worlds()
+    ensures { ActionsMakeWorlds }
+{}
+
+/// Whatever is done, each entry of a history stays at its place.
+pub fn histories_continue()
+    ensures { HistoriesContinue }
+{}
+
+/// A node's places are the join of its own newest place and of where the spans lead that it took since its start.
+pub fn places_are_joins()
+    ensures { PlacesAreJoins }
+{}
+
+/// Nodes that took the same have the same places.
+pub fn equal_sources_equal_places()
+    ensures { EqualSourcesEqualPlaces }
+{}
+
+/// The join is the least of what is at or past all three, whatever the grouping and the order.
+pub fn joins_are_least()
+    ensures { JoinsAreLeast }
+{}
+
+/// An exchange takes both of its nodes to the join of what they held, whatever is done between its messages.
+pub fn exchanges_reach_the_join()
+    ensures { ExchangesReachTheJoin }
+{}
+
+/// With nothing between its messages, an exchange leaves both nodes with the same places.
+pub fn undisturbed_exchanges_equal()
+    ensures { UndisturbedExchangesEqual }
+{}
+
+/// An exchange is the list of its actions.
+pub fn exchanges_are_lists()
+    ensures { PlaceExchangesAreLists }
+{}
+
+/// An exchange is done where its refused actions are left out: none of its own steps is refused.
+pub fn exchanges_are_done()
+    ensures { ExchangesAreDone }
+{}
+
+/// Where no action was refused, owners are few and versions below their limit.
+pub fn done_actions_keep_limits()
+    ensures { DoneActionsKeepLimits }
+{}
+
+/// Where histories go on, tables and messages go on to spell what they spelled.
+pub fn spelling_stays()
+    ensures { SpellingStays }
+{}
+
+/// Tables that spell the places of all nodes follow each change of the world.
+pub fn tables_follow()
+    ensures { TablesFollow }
+{}
+
+/// A table that spells a node's places is the join of the node's own newest entry and of the entries to which the
+/// deltas led that it took since its start; each entry in it is whole; and it has no more than owners have started.
+pub fn tables_are_joined()
+    ensures { TablesAreJoined }
+{}
+
+/// Nodes that took the same have equal tables and equal rings.
+pub fn equal_sources_equal_tables()
+    ensures { EqualSourcesEqualTables }
+{}
+
+/// Nodes with equal digests have equal tables and equal rings.
+pub fn equal_digests_equal_tables()
+    ensures { EqualDigestsEqualTables }
+{}
+
+/// The merged tables of three nodes spell the join of their places.
+pub fn merges_are_joined()
+    ensures { MergesAreJoined }
+{}
+
+/// No delivery and no merge finds a table full while owners are few: no more is held than owners have started.
+pub fn tables_find_room()
+    ensures { TablesFindRoom }
+{}
+
+/// An exchange, a stale delta after a restart, and the messages that then rebuild the entry, as worked by hand.
+pub fn worked_places()
+    ensures { WorkedPlaces }
+{}

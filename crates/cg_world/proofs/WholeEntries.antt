@@ -1,0 +1,158 @@
+-- Each entry of a history was its owner's own.
+use Rattle.std.proofs.Common.{◌≡◌, ◌⊎◌, inl, inr, ℕ, zero, suc, List, [], ◌∷◌, ◌++◌, refl, sym, ◌∙◌, ap, subst, Bool, true, false, Option, Some, None, Result, Ok, Err}
+use Rattle.std.specs.Prelude.{cond}
+use Rattle.cg_types.specs.declared.fault.Fault.{Fault}
+use Rattle.cg_entry.specs.Values.{EntryValue}
+use Rattle.cg_entry.specs.Entry.{started, beaten, with_state}
+use Rattle.cg_entry.specs.History.{at_place}
+use Rattle.cg_exchange.specs.PlaceMessages.{PlaceMessage, Syn, Ack, Ack2}
+use Rattle.cg_core.specs.Values.{NodeValue}
+use Rattle.cg_places.specs.PlaceWorld.{PlaceWorld, PlaceAction, Start, Beat, Set, Opening, Tick, Deliver, nobody, grown, runs, with_start, with_entry, with_message, with_spans, may_start, last_entry, changed, opened, received, delivered, after_action, after_actions}
+use Rattle.cg_places.specs.Refusals.{refusal, unless_refused}
+use Rattle.cg_world.specs.World.{Action, WorldValue, new_world, acting, or_unchanged, act, run_from, plain, placed}
+use Rattle.cg_table.specs.Own.{own_entry}
+use Rattle.cg_entry.specs.Place.{Span}
+use Rattle.cg_world.specs.WorldLaws.{Runs, WasOwn, EntriesAreWhole}
+use Rattle.cg_places.proofs.PutLemmas.{put_at-each, at_place_push}
+use Rattle.cg_places.proofs.OwnerLemmas.{last_entry_runs}
+use Rattle.cg_places.proofs.ExchangeLemmas.{sent_last}
+use Rattle.cg_world.proofs.ActionLemmas.{AgreesBy, action_agrees, own_held}
+use Rattle.cg_world.proofs.WorldLaws.{Joined, done_of, done_joined, joined, spelled}
+use Rattle.cg_world.proofs.ExchangeLaws.{node_of}
+
+-- ---- what an action adds to histories
+
+-- an entry stood there before, or is the last one
+abbrev OldOrLast : PlaceWorld → PlaceWorld → Type 0
+OldOrLast w v = (owner place : ℕ) (entry : EntryValue) → at_place (v.histories owner) place ≡ Some entry → (at_place (w.histories owner) place ≡ Some entry) ⊎ (last_entry (v.histories owner) ≡ Some entry)
+
+same_old : (w : PlaceWorld) → OldOrLast w w
+same_old w owner place entry e = inl e
+
+pushed_old : (h : List EntryValue) (y : EntryValue) (place : ℕ) (entry : EntryValue) → at_place (h ++ y ∷ []) place ≡ Some entry → (at_place h place ≡ Some entry) ⊎ (last_entry (h ++ y ∷ []) ≡ Some entry)
+pushed_old h y place entry e = elim (at_place_push h y place entry e) [ inl old ↦ inl old | inr new ↦ inr (sent_last h y ∙ ap Some (sym new)) ]
+
+grown_old : (histories : ℕ → List EntryValue) (node : ℕ) (y : EntryValue) (owner place : ℕ) (entry : EntryValue) → at_place (grown histories node y owner) place ≡ Some entry
+    → (at_place (histories owner) place ≡ Some entry) ⊎ (last_entry (grown histories node y owner) ≡ Some entry)
+grown_old histories node y = put_at-each (λ owner h. (place : ℕ) (entry : EntryValue) → at_place h place ≡ Some entry → (at_place (histories owner) place ≡ Some entry) ⊎ (last_entry h ≡ Some entry)) histories node _
+    (λ place entry e. pushed_old (histories node) y place entry e) (λ owner apart place entry e. inl e)
+
+start_old : (w : PlaceWorld) (node generation : ℕ) → OldOrLast w (with_start w node generation)
+unfolding with_start
+start_old w node generation = grown_old w.histories node (started generation)
+
+entry_old : (w : PlaceWorld) (node : ℕ) (y : EntryValue) → OldOrLast w (with_entry w node y)
+unfolding with_entry
+entry_old w node y = grown_old w.histories node y
+
+message_old : (w v : PlaceWorld) (message : PlaceMessage) → OldOrLast w v → OldOrLast w (with_message v message)
+unfolding with_message
+message_old w v message old = old
+
+spans_old : (w : PlaceWorld) (node : ℕ) (spans : ℕ → Option Span) → OldOrLast w (with_spans w node spans)
+unfolding with_spans
+spans_old w node spans owner place entry e = inl e
+
+changed_old : (w : PlaceWorld) (node : ℕ) (change : EntryValue → EntryValue) (o : Option EntryValue) → OldOrLast w (changed w node change o)
+changed_old w node change None = same_old w
+changed_old w node change (Some x) = entry_old w node (change x)
+
+opened_old : (w v : PlaceWorld) (node : ℕ) → OldOrLast w v → OldOrLast w (opened v node)
+opened_old w v node old = go (runs v node)
+  where
+    go : (b : Bool) → OldOrLast w (cond b (with_message v (Syn (v.places node))) v)
+    go true = message_old w v (Syn (v.places node)) old
+    go false = old
+
+received_old : (w : PlaceWorld) (node : ℕ) (message : PlaceMessage) → OldOrLast w (received w node message)
+received_old w node (Syn theirs) = message_old w w _ (same_old w)
+received_old w node (Ack asks spans) = message_old w (with_spans w node spans) _ (spans_old w node spans)
+received_old w node (Ack2 spans) = spans_old w node spans
+
+delivered_old : (w : PlaceWorld) (node : ℕ) (o : Option PlaceMessage) → OldOrLast w (delivered w node o)
+delivered_old w node None = same_old w
+delivered_old w node (Some message) = go (runs w node)
+  where
+    go : (b : Bool) → OldOrLast w (cond b (received w node message) w)
+    go true = received_old w node message
+    go false = same_old w
+
+action_old : (w : PlaceWorld) (action : PlaceAction) → OldOrLast w (after_action w action)
+unfolding after_action
+action_old w (Start node generation) = go (may_start w node generation)
+  where
+    go : (b : Bool) → OldOrLast w (cond b (with_start w node generation) w)
+    go true = start_old w node generation
+    go false = same_old w
+action_old w (Beat node) = changed_old w node beaten (last_entry (w.histories node))
+action_old w (Set node key text) = changed_old w node (with_state key text) (last_entry (w.histories node))
+action_old w (Opening node) = opened_old w w node (same_old w)
+action_old w (Tick node) = opened_old w (changed w node beaten (last_entry (w.histories node))) node (changed_old w node beaten (last_entry (w.histories node)))
+action_old w (Deliver number to) = delivered_old w to (at_place w.sent number)
+
+-- ---- in the order of the actions
+
+-- an entry stood there at the beginning, or was its owner's own later
+abbrev Stood : WorldValue → PlaceWorld → List Action → PlaceWorld → Type 0
+Stood c w actions v = (owner place : ℕ) (entry : EntryValue) → at_place (v.histories owner) place ≡ Some entry → (at_place (w.histories owner) place ≡ Some entry) ⊎ WasOwn c actions owner entry
+
+-- the owner of a last entry has it
+own_now : (c : WorldValue) (w : PlaceWorld) → Joined c w → (owner : ℕ) (entry : EntryValue) → last_entry (w.histories owner) ≡ Some entry → (n : NodeValue) × Runs c owner n × (own_entry n.table ≡ entry)
+own_now c w j owner entry e =
+    let n = node_of c w j owner (last_entry_runs w owner entry e) in
+    let held : last_entry (w.histories owner) ≡ Some (own_entry n.0.table) = own_held c w j.tied owner n.0 n.1 in
+    (n.0, n.1, cc)
+
+-- what was so after an action was so after it and the others
+was_later : (c d : WorldValue) (action : Action) (actions : List Action) (owner : ℕ) (entry : EntryValue) → act c action ≡ d → WasOwn d actions owner entry → WasOwn c (action ∷ actions) owner entry
+was_later c d action actions owner entry same was = record {
+  earlier = action ∷ was.earlier;
+  later = was.later;
+  in_order = ap (λ (xs : List Action). action ∷ xs) was.in_order;
+  node = was.node;
+  ran = subst (λ d. Runs (run_from d was.earlier) owner was.node) (sym same) was.ran;
+  own = was.own;
+}
+
+now_own : (c : WorldValue) (w : PlaceWorld) → Joined c w → (actions : List Action) (owner : ℕ) (entry : EntryValue) → last_entry (w.histories owner) ≡ Some entry → WasOwn c actions owner entry
+now_own c w j actions owner entry e =
+    let own = own_now c w j owner entry e in
+    record { earlier = []; later = actions; in_order = refl; node = own.0; ran = own.1; own = own.2 }
+
+-- one action, and those after it
+next_stood : (c : WorldValue) (w : PlaceWorld) (j : Joined c w) (action : Action) (actions : List Action) → ((d : WorldValue) (v : PlaceWorld) → Joined d v → Stood d v actions (after_actions v (done_of v actions)))
+    → (left : Result WorldValue Fault) → acting c action ≡ left → AgreesBy (refusal w (plain action)) (after_action w (plain action)) left
+    → Stood c w (action ∷ actions) (after_actions w (unless_refused (refusal w (plain action)) (plain action) (done_of (after_action w (plain action)) actions) (done_of w actions)))
+next_stood c w j action actions rest (Ok d) is a = rw a.0 (λ owner place entry e. after owner place entry (rest d (after_action w (plain action)) k owner place entry e))
+  where
+    k : Joined d (after_action w (plain action))
+    k = done_joined c w action d j a
+
+    after : (owner place : ℕ) (entry : EntryValue) → (at_place ((after_action w (plain action)).histories owner) place ≡ Some entry) ⊎ WasOwn d actions owner entry → (at_place (w.histories owner) place ≡ Some entry) ⊎ WasOwn c (action ∷ actions) owner entry
+    after owner place entry (inl e) = elim (action_old w (plain action) owner place entry e) [
+      | inl old ↦ inl old
+      | inr last ↦ inr (was_later c d action actions owner entry (ap (or_unchanged c) is) (now_own d (after_action w (plain action)) k actions owner entry last))
+    ]
+    after owner place entry (inr was) = inr (was_later c d action actions owner entry (ap (or_unchanged c) is) was)
+next_stood c w j action actions rest (Err fault) is a = rw a (λ owner place entry e. after owner place entry (rest c w j owner place entry e))
+  where
+    after : (owner place : ℕ) (entry : EntryValue) → (at_place (w.histories owner) place ≡ Some entry) ⊎ WasOwn c actions owner entry → (at_place (w.histories owner) place ≡ Some entry) ⊎ WasOwn c (action ∷ actions) owner entry
+    after owner place entry (inl old) = inl old
+    after owner place entry (inr was) = inr (was_later c c action actions owner entry (ap (or_unchanged c) is) was)
+
+stood_from : (c : WorldValue) (w : PlaceWorld) (actions : List Action) → Joined c w → Stood c w actions (after_actions w (done_of w actions))
+stood_from c w [] j = λ owner place entry e. inl e
+stood_from c w (action ∷ actions) j = next_stood c w j action actions (λ d v k. stood_from d v actions k) (acting c action) refl (action_agrees c w j.tied j.bounded action)
+
+pub entries_are_whole : EntriesAreWhole
+unfolding nobody
+entries_are_whole settings actions node n e owner entry held =
+    go (stood_from (new_world settings) nobody actions (joined settings []) owner ((placed actions).places node owner) entry (sym ((spelled settings actions node n e).at owner) ∙ held))
+  where
+    nowhere : (place : ℕ) → at_place [] place ≡ Some entry → WasOwn (new_world settings) actions owner entry
+    nowhere zero e = absurd cc
+    nowhere (suc place) e = absurd cc
+
+    go : (at_place (nobody.histories owner) ((placed actions).places node owner) ≡ Some entry) ⊎ WasOwn (new_world settings) actions owner entry → WasOwn (new_world settings) actions owner entry
+    go (inl e) = nowhere ((placed actions).places node owner) e
+    go (inr was) = was

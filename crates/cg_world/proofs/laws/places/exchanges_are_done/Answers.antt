@@ -1,5 +1,0 @@
-use Rattle.cg_world.proofs.PlaceLaws.{exchanges_are_done}
-use Rattle.cg_world.proofs.laws.places.exchanges_are_done.Goals as goal
-
-pub returns : goal.returns
-returns c = exchanges_are_done

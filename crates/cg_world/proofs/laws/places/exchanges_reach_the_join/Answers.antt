@@ -1,5 +1,0 @@
-use Rattle.cg_world.proofs.PlaceLaws.{exchanges_reach_the_join}
-use Rattle.cg_world.proofs.laws.places.exchanges_reach_the_join.Goals as goal
-
-pub returns : goal.returns
-returns c = exchanges_reach_the_join

@@ -1,0 +1,151 @@
+-- What holds of the nodes of a cluster as they run, after every list of actions. A refused action may stand in the list: it changes nothing.
+use Rattle.std.specs.Prelude.{ℕ, ◌≡◌, ◌⊎◌, Result, Ok, Err, IsOk, true, is_some, ⊤, List, [], ◌∷◌, ◌++◌, length, Some}
+use Rattle.std.specs.Option.{option_and_then, option_to_list}
+use Rattle.std.specs.FinMap as map
+use Rattle.cg_types.specs.declared.fault.Fault.{Fault}
+use Rattle.cg_types.specs.declared.fault.Fault.TheVariants.{NoSuchMessage, NoSuchNode}
+use Rattle.cg_types.specs.Text.{ClusterValue}
+use Rattle.cg_entry.specs.Values.{EntryValue}
+use Rattle.cg_entry.specs.History.{at_place}
+use Rattle.cg_table.specs.Table.{digests_of}
+use Rattle.cg_table.specs.Own.{own_entry}
+use Rattle.cg_table.specs.Merge.{merged}
+use Rattle.cg_exchange.specs.declared.message.Message.{Message}
+use Rattle.cg_exchange.specs.declared.message.Message.TheVariants as message
+use Rattle.cg_exchange.specs.PlaceMessages.{PlaceMessage}
+use Rattle.cg_exchange.specs.Laws.{Says}
+use Rattle.cg_core.specs.Values.{SettingsValue, NodeValue}
+use Rattle.cg_places.specs.PlaceWorld.{PlaceWorld}
+use Rattle.cg_places.specs.Join.{sources, SamePlaces}
+use Rattle.cg_places.specs.Refusals.{fault_of, refusal}
+use Rattle.cg_places.specs.Spelling.{SpellsNodes}
+use Rattle.cg_places.specs.TableLaws.{IsJoined, AreEqual, IsMergedOf}
+use Rattle.cg_world.specs.World.{Action, Local, Beat, Opening, Tick, Deliver, WorldValue, new_world, tables_of, message_to, number_to, acting, act, run_from, run, plain, placed}
+
+-- One more action is done after all others.
+abbrev pub ActionsOneByOne : Type 0
+ActionsOneByOne = (settings : SettingsValue) (actions : List Action) (action : Action) → run settings (actions ++ action ∷ []) ≡ act (run settings actions) action
+
+-- What an action sends, and its number.
+pub record IsNumbered (c : WorldValue) (action : Action) : Type 0 where
+  -- the message that the action sends, if any, is added at the end, and nothing else is
+  pub sent : (act c action).sent ≡ c.sent ++ option_to_list (message_to c action)
+  -- it stands at its number
+  pub numbered : option_and_then (at_place (act c action).sent) (number_to c action) ≡ message_to c action
+
+abbrev pub MessagesAreNumbered : Type 0
+MessagesAreNumbered = (c : WorldValue) (action : Action) → IsNumbered c action
+
+-- What a tick leaves of a world, by what a beat leaves of it: the tick is refused where the beat is, by the same fault; where the beat is done, it is the opening after the beat.
+pub record IsBeatAndOpening (node : ℕ) (beat tick : Result WorldValue Fault) : Type 0 where
+  pub refused : fault_of tick ≡ fault_of beat
+  pub done : (d : WorldValue) → beat ≡ Ok d → tick ≡ acting d (Local node Opening)
+
+-- A tick is a beat and then an opening, whatever its moment and words.
+abbrev pub TicksAreBeatsAndOpenings : Type 0
+TicksAreBeatsAndOpenings = (c : WorldValue) (node now : ℕ) (words : List ℕ) → IsBeatAndOpening node (acting c (Local node Beat)) (acting c (Local node (Tick now words)))
+
+-- The world is where some actions lead.
+pub record IsReached (c : WorldValue) : Type 0 where
+  pub actions : List Action
+  pub is : c ≡ run c.settings actions
+
+pub record ReachedWorlds : Type 0 where
+  pub begin : (settings : SettingsValue) → IsReached (new_world settings)
+  pub go_on : (c : WorldValue) (action : Action) → IsReached c → IsReached (act c action)
+
+-- ---- what is held and sent, by places
+
+-- A SYN names this cluster.
+abbrev pub NamesCluster : ClusterValue → Message → Type 0
+NamesCluster cluster (message.Syn syn) = syn.cluster ≡ cluster
+NamesCluster cluster (message.Ack ack) = ⊤
+NamesCluster cluster (message.Ack2 ack2) = ⊤
+
+pub record IsSent (cluster : ClusterValue) (histories : ℕ → List EntryValue) (m : Message) (said : PlaceMessage) : Type 0 where
+  pub says : Says histories m said
+  pub names : NamesCluster cluster m
+
+-- Each message says the one by places of the same number, and there are as many of both.
+abbrev pub AllSent : ClusterValue → (ℕ → List EntryValue) → List Message → List PlaceMessage → Type 0
+AllSent cluster histories [] [] = ⊤
+AllSent cluster histories [] (said ∷ more) = ⊥
+AllSent cluster histories (m ∷ ms) [] = ⊥
+AllSent cluster histories (m ∷ ms) (said ∷ more) = IsSent cluster histories m said × AllSent cluster histories ms more
+
+-- The node has the settings of all, and this endpoint.
+pub record IsNodeAt (settings : SettingsValue) (node : ℕ) (n : NodeValue) : Type 0 where
+  pub its_settings : n.settings ≡ settings
+  pub its_endpoint : n.table.own ≡ node
+
+-- The nodes hold and have sent what the places say.
+pub record SpellsWorld (c : WorldValue) (w : PlaceWorld) : Type 0 where
+  -- the same nodes run, and each table spells its node's places
+  pub tables : SpellsNodes (tables_of c) w
+  pub messages : AllSent c.settings.cluster w.histories c.sent w.sent
+  pub each : (node : ℕ) (n : NodeValue) → map.get c.nodes node ≡ Some n → IsNodeAt c.settings node n
+  -- a node runs for each owner that has started
+  pub as_many : map.len c.nodes ≡ length w.owners
+
+-- What runs is what the places of the actions say, of which the refused ones are left out.
+abbrev pub NodesSpellPlaces : Type 0
+NodesSpellPlaces = (settings : SettingsValue) (actions : List Action) → SpellsWorld (run settings actions) (placed actions)
+
+-- The nodes refuse what the places refuse.
+abbrev pub RefusalsAgree : Type 0
+RefusalsAgree = (settings : SettingsValue) (actions : List Action) (action : Action) → fault_of (acting (run settings actions) action) ≡ refusal (placed actions) (plain action)
+
+-- A delivery is refused where there is no such message, or no such node, and never for want of room or for another cluster.
+abbrev pub DeliveriesFindRoom : Type 0
+DeliveriesFindRoom =
+    (settings : SettingsValue) (actions : List Action) (number to now : ℕ) (fault : Fault) → acting (run settings actions) (Deliver number to now) ≡ Err fault → (fault ≡ NoSuchMessage) ⊎ (fault ≡ NoSuchNode)
+
+-- The delivery of a message that was sent to a node that runs is done.
+abbrev pub DeliveriesAreDone : Type 0
+DeliveriesAreDone =
+    (settings : SettingsValue) (actions : List Action) (number to now : ℕ) → is_some (at_place (run settings actions).sent number) ≡ true → is_some (map.get (run settings actions).nodes to) ≡ true
+    → IsOk (acting (run settings actions) (Deliver number to now))
+
+-- ---- what the tables are
+
+-- the node of this endpoint runs, and is this one
+abbrev pub Runs : WorldValue → ℕ → NodeValue → Type 0
+Runs c node n = map.get c.nodes node ≡ Some n
+
+-- Each node's table is the join of its own newest entry and of the entries to which the deltas led that it took since its start.
+abbrev pub TablesAreTheJoin : Type 0
+TablesAreTheJoin =
+    (settings : SettingsValue) (actions : List Action) (node : ℕ) (n : NodeValue) → Runs (run settings actions) node n → IsJoined (placed actions) node n.table.entries
+
+-- After some of the first actions the owner ran, and this was its own entry.
+pub record WasOwn (c : WorldValue) (actions : List Action) (owner : ℕ) (entry : EntryValue) : Type 0 where
+  pub earlier : List Action
+  pub later : List Action
+  pub in_order : earlier ++ later ≡ actions
+  pub node : NodeValue
+  pub ran : Runs (run_from c earlier) owner node
+  pub own : own_entry node.table ≡ entry
+
+-- Each entry that a node holds was its owner's own, whole, at one past time.
+abbrev pub EntriesAreWhole : Type 0
+EntriesAreWhole =
+    (settings : SettingsValue) (actions : List Action) (node : ℕ) (n : NodeValue) → Runs (run settings actions) node n → (owner : ℕ) (entry : EntryValue) → map.get n.table.entries owner ≡ Some entry
+    → WasOwn (new_world settings) actions owner entry
+
+-- Nodes that took the same have equal tables and rings, whatever the order and number of deliveries.
+abbrev pub EqualSetsGiveEqualTables : Type 0
+EqualSetsGiveEqualTables =
+    (settings : SettingsValue) (actions : List Action) (a b : ℕ) (one other : NodeValue) → Runs (run settings actions) a one → Runs (run settings actions) b other
+    → ((owner : ℕ) → SamePlaces (sources (placed actions) a owner) (sources (placed actions) b owner)) → AreEqual one.table.entries other.table.entries
+
+-- Nodes with equal digests have equal tables and rings.
+abbrev pub EqualDigestsGiveEqualTables : Type 0
+EqualDigestsGiveEqualTables =
+    (settings : SettingsValue) (actions : List Action) (a b : ℕ) (one other : NodeValue) → Runs (run settings actions) a one → Runs (run settings actions) b other
+    → digests_of one.table.entries ≡ digests_of other.table.entries → AreEqual one.table.entries other.table.entries
+
+-- The merged tables of three nodes are the join of their places.
+abbrev pub MergesOfNodesAreTheJoin : Type 0
+MergesOfNodesAreTheJoin =
+    (settings : SettingsValue) (actions : List Action) (a b c : ℕ) (one two three : NodeValue) → Runs (run settings actions) a one → Runs (run settings actions) b two → Runs (run settings actions) c three
+    → IsMergedOf (placed actions) a b c (merged (merged one.table.entries two.table.entries) three.table.entries)
