@@ -18,7 +18,8 @@ use Rattle.cg_types.specs.Numbers.{IsEndpoint, address_of, port_of, endpoint_of}
 use Rattle.cg_types.specs.Rising.{is_past, rise_past}
 use Rattle.cg_types.proofs.RisingLemmas.{first_of, second_of}
 use Rattle.cg_table.specs.declared.digest.Digest.{Digest}
-use Rattle.cg_frames.specs.Reading.{◌>>=◌, Field, bytes_at, number_at, endpoint_from, endpoint_at, ranged_at, digest_at, rising_at, count_at, plain_at, name_at, syn_at}
+use Rattle.cg_types.specs.ResultSteps.{◌>>=◌}
+use Rattle.cg_frames.specs.Reading.{Field, bytes_at, number_at, endpoint_from, endpoint_at, ranged_at, digest_at, rising_at, count_at, plain_at, name_at, syn_at}
 use Rattle.cg_exchange.specs.Contents.{IsDigest}
 use Rattle.cg_frames.specs.Fits.{FitsSyn}
 use Rattle.cg_frames.proofs.TakenLemmas.{syn_made, after_count, after_partitioner, after_name}

@@ -9,7 +9,8 @@ use Rattle.cg_types.specs.declared.fault.Fault.TheVariants as faults
 use Rattle.cg_exchange.specs.declared.message.Message.{Message}
 use Rattle.cg_frames.specs.declared.layout.Layout.{Layout}
 use Rattle.cg_frames.specs.declared.misread.Misread.{Misread}
-use Rattle.cg_frames.specs.Reading.{◌>>=◌, Field, kind_at, of_kind, inside_at, located, with_size, size_of, frame_at}
+use Rattle.cg_types.specs.ResultSteps.{◌>>=◌}
+use Rattle.cg_frames.specs.Reading.{Field, kind_at, of_kind, inside_at, located, with_size, size_of, frame_at}
 use Rattle.cg_frames.specs.Choosing.{named, widest, due, frame_among, IsOneOf}
 use Rattle.cg_frames.specs.Laws.{ChoosesByTheByte}
 use Rattle.cg_frames.proofs.AgainLemmas.{byte_again}

@@ -17,7 +17,8 @@ use Rattle.cg_frames.specs.declared.layout.Layout.{Layout}
 use Rattle.cg_frames.specs.declared.misread.Misread.{Misread}
 use Rattle.cg_frames.specs.declared.reader.Kind.{Kind}
 use Rattle.cg_frames.specs.declared.reader.Kind.TheVariants as kinds
-use Rattle.cg_frames.specs.Reading.{◌>>=◌, Field, number_at, digest_at, request_at, delta_at, listed_requests_at, listed_deltas_at, syn_at, ack_at, ack2_at, ended, told, layout_at, kind_from, kind_at, of_kind, inside_at, frame_at}
+use Rattle.cg_types.specs.ResultSteps.{◌>>=◌}
+use Rattle.cg_frames.specs.Reading.{Field, number_at, digest_at, request_at, delta_at, listed_requests_at, listed_deltas_at, syn_at, ack_at, ack2_at, ended, told, layout_at, kind_from, kind_at, of_kind, inside_at, frame_at}
 use Rattle.cg_frames.specs.Choosing.{due, frame_among, IsOneOf}
 use Rattle.cg_frames.specs.Spelling.{four_bytes, digest, request, delta, cluster, members, kind, body, inside, frame}
 use Rattle.cg_exchange.specs.Contents.{IsDigest, IsRequest}

@@ -17,7 +17,8 @@ use Rattle.cg_types.proofs.RisingLemmas.{first_of, second_of}
 use Rattle.cg_table.specs.declared.digest.Digest.{Digest}
 use Rattle.cg_frames.specs.declared.layout.Layout.{Layout}
 use Rattle.cg_frames.specs.declared.misread.Misread.{Misread}
-use Rattle.cg_frames.specs.Reading.{◌>>=◌, Field, bytes_at, number_at, endpoint_at, ranged_at, digest_at, rising_at, plain_at, name_at, count_at}
+use Rattle.cg_types.specs.ResultSteps.{◌>>=◌}
+use Rattle.cg_frames.specs.Reading.{Field, bytes_at, number_at, endpoint_at, ranged_at, digest_at, rising_at, plain_at, name_at, count_at}
 use Rattle.cg_frames.specs.Spelling.{two_bytes, four_bytes, endpoint, digest, members}
 use Rattle.cg_exchange.specs.Contents.{IsDigest}
 use Rattle.cg_frames.specs.Fits.{FitsMembers}

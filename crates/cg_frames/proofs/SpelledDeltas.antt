@@ -15,7 +15,8 @@ use Rattle.cg_entry.specs.Entry.{greatest_of}
 use Rattle.cg_exchange.specs.declared.owner_delta.OwnerDelta.{OwnerDelta}
 use Rattle.cg_frames.specs.declared.layout.Layout.{Layout}
 use Rattle.cg_types.specs.declared.limits.TheConstants.{STATE_LIMIT}
-use Rattle.cg_frames.specs.Reading.{◌>>=◌, Field, state_count_at, state_at, states_at, carries, delta_from, delta_at}
+use Rattle.cg_types.specs.ResultSteps.{◌>>=◌}
+use Rattle.cg_frames.specs.Reading.{Field, state_count_at, state_at, states_at, carries, delta_from, delta_at}
 use Rattle.cg_frames.specs.Spelling.{four_bytes, endpoint, state, delta}
 use Rattle.cg_frames.specs.Fits.{FitsState, FitsDelta}
 use Rattle.cg_frames.proofs.AgainLemmas.{byte_again, ranged_again, endpoint_again, rising_again}

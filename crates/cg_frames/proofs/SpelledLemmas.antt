@@ -10,7 +10,8 @@ use Rattle.cg_entry.specs.declared.state.State.{State}
 use Rattle.cg_entry.specs.State.{pair}
 use Rattle.cg_exchange.specs.Values.{RequestValue}
 use Rattle.cg_frames.specs.declared.layout.Layout.{Layout}
-use Rattle.cg_frames.specs.Reading.{◌>>=◌, Field, held_at, request_at, key_from, key_at, version_above_at, text_at, state_at}
+use Rattle.cg_types.specs.ResultSteps.{◌>>=◌}
+use Rattle.cg_frames.specs.Reading.{Field, held_at, request_at, key_from, key_at, version_above_at, text_at, state_at}
 use Rattle.cg_frames.specs.Spelling.{two_bytes, four_bytes, endpoint, request, text, state}
 use Rattle.cg_exchange.specs.Contents.{IsRequest}
 use Rattle.cg_frames.specs.Fits.{FitsState}

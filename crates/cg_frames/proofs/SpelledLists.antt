@@ -3,7 +3,8 @@ use Rattle.std.proofs.Common.{◌≡◌, ℕ, ◌^◌, ◌<◌, ◌≤◌, List,
 use Rattle.cg_exchange.specs.declared.owner_delta.OwnerDelta.{OwnerDelta}
 use Rattle.cg_exchange.specs.Values.{RequestValue, AckValue, Ack2Value}
 use Rattle.cg_frames.specs.declared.layout.Layout.{Layout}
-use Rattle.cg_frames.specs.Reading.{◌>>=◌, Field, request_at, delta_at, listed_deltas_at, ack_at, ack2_at}
+use Rattle.cg_types.specs.ResultSteps.{◌>>=◌}
+use Rattle.cg_frames.specs.Reading.{Field, request_at, delta_at, listed_deltas_at, ack_at, ack2_at}
 use Rattle.cg_frames.specs.Spelling.{members, request, delta}
 use Rattle.cg_exchange.specs.Contents.{IsRequest}
 use Rattle.cg_frames.specs.Fits.{FitsDelta, FitsAck, FitsAck2}

@@ -8,6 +8,7 @@ use Rattle.cg_types.specs.declared.fault.Fault.{Fault}
 use Rattle.cg_types.specs.declared.fault.Fault.TheVariants as faults
 use Rattle.cg_types.specs.declared.limits.TheConstants.{NUMBER_LIMIT, NAME_LIMIT, STATE_LIMIT}
 use Rattle.cg_types.specs.Numbers.{endpoint_of}
+use Rattle.cg_types.specs.ResultSteps.{◌>>=◌}
 use Rattle.cg_types.specs.Rising.{is_past}
 use Rattle.cg_types.specs.Text.{plain}
 use Rattle.cg_entry.specs.declared.state.State.{State}
@@ -23,11 +24,6 @@ use Rattle.cg_frames.specs.declared.reader.Kind.{Kind}
 use Rattle.cg_frames.specs.declared.reader.Kind.TheVariants as kinds
 use Rattle.cg_frames.specs.declared.misread.ReadError.{ReadError}
 use Rattle.cg_frames.specs.declared.misread.ReadError.TheVariants as errors
-
-infixl 10 ◌>>=◌
-abbrev pub ◌>>=◌ : {A B F : Type 0} → Result A F → (A → Result B F) → Result B F
-(Ok x) >>= f = f x
-(Err e) >>= f = Err e
 
 -- A field is a value and the bytes after it.
 abbrev pub Field : Type 0 → Type 0

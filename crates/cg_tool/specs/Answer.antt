@@ -5,6 +5,7 @@ use Rattle.cg_types.specs.declared.fault.Cause.TheVariants as cause
 use Rattle.cg_types.specs.declared.fault.Fault.{Fault}
 use Rattle.cg_types.specs.declared.fault.Fault.TheVariants as fault
 use Rattle.cg_types.specs.Fault.{fault_text}
+use Rattle.cg_types.specs.ResultSteps.{◌>>=◌}
 use Rattle.cg_entry.specs.Entry.{started}
 use Rattle.cg_table.specs.Values.{TableValue}
 use Rattle.cg_table.specs.Table.{alone}
@@ -37,12 +38,6 @@ syn_in bytes = alone_in bytes (frame_among LAYOUTS bytes)
 -- the table of a node that has just started
 abbrev pub started_table : Header → TableValue
 started_table h = alone h.endpoint (started h.generation)
-
--- what follows a step that did not fail
-infixl 10 ◌>>=◌
-abbrev pub ◌>>=◌ : {A B : Type 0} → Result A Fault → (A → Result B Fault) → Result B Fault
-(Ok x) >>= f = f x
-(Err f) >>= g = Err f
 
 -- the frame of the ACK that the node answers a frame with
 unfoldable pub answer_to_frame : Header → List ℕ → Result (List ℕ) Fault

@@ -5,7 +5,8 @@ use Rattle.cg_types.specs.declared.fault.Fault.{Fault}
 use Rattle.cg_types.specs.declared.fault.Fault.TheVariants as fault
 use Rattle.cg_types.specs.declared.limits.TheConstants.{NUMBER_LIMIT, PARTITIONER}
 use Rattle.cg_types.specs.Words.{cut_at, number_of}
-use Rattle.cg_types.specs.EndpointText.{endpoint_in, ◌>>=◌}
+use Rattle.cg_types.specs.OptionSteps.{◌>>=◌}
+use Rattle.cg_types.specs.EndpointText.{endpoint_in}
 use Rattle.cg_types.specs.Text.{cluster_of}
 use Rattle.cg_tool.specs.declared.request.Header.{Header}
 

@@ -1,5 +1,5 @@
 -- A text is an endpoint's exactly where it is the one that the endpoint writes.
-use Rattle.std.proofs.Common.{◌≡◌, ℕ, ◌+◌, ◌*◌, ◌/◌, ◌%◌, ◌<◌, ◌≤◌, Bool, true, false, cond, ◌==◌, List, [], ◌∷◌, ◌++◌, Option, Some, None, refl, sym, ap, ◌∙◌, subst, arith, decimal, eq-eqb, eqb-true}
+use Rattle.std.proofs.Common.{◌≡◌, ◌≢◌, IfSome, IfNone, ℕ, ◌+◌, ◌*◌, ◌/◌, ◌%◌, ◌<◌, ◌≤◌, Bool, true, false, cond, ◌==◌, List, [], ◌∷◌, ◌++◌, Option, Some, None, refl, sym, ap, ◌∙◌, subst, arith, decimal, eq-eqb, eqb-true}
 use Rattle.std.specs.Prelude.{nat_lt}
 use Rattle.std.specs.List.{list_all}
 use Rattle.std.specs.Char.{is_ascii_digit}
@@ -8,7 +8,8 @@ use Rattle.std.proofs.lemmas.Grind.{common_steps}
 use Rattle.std.proofs.lemmas.Option.{same_Some}
 use Rattle.cg_types.specs.Words.{cut_at, with_first, number_of}
 use Rattle.cg_types.specs.Numbers.{IsEndpoint, address_of, port_of}
-use Rattle.cg_types.specs.EndpointText.{dotted, joined, endpoint_text, endpoint_in, octet_before, port_in, ◌>>=◌}
+use Rattle.cg_types.specs.EndpointText.{dotted, joined, endpoint_text, endpoint_in, octet_before, port_in}
+use Rattle.cg_types.specs.OptionSteps.{◌>>=◌}
 use Rattle.cg_types.proofs.WordLemmas.{number_of-some, number_of-decimal, digits_of_decimal}
 
 -- the value of a step that did not fail
@@ -139,3 +140,12 @@ endpoint_in-some text e found =
     let parted = joined_parted a.0.0 b.0.0 c.0.0 d.0.0 p.0 pa.1 pb.1 pc.1 pd.1 (omega (arith, pp.2)) in
     let valid = joined_valid a.0.0 b.0.0 c.0.0 d.0.0 p.0 pa.1 pb.1 pc.1 pd.1 pp.1 (omega (arith, pp.2)) in
     subst (λ (x : ℕ). IsEndpoint x × (text ≡ endpoint_text x)) same (valid, whole ∙ sym (text_of_parted a.0.0 b.0.0 c.0.0 d.0.0 p.0 _ parted))
+
+-- what a caller sees of an endpoint that is there, or is not
+pub endpoint_found : (text : List ℕ) (r : Option ℕ) → r ≡ endpoint_in text → IfSome r (λ e. text ≡ endpoint_text e)
+endpoint_found text None e = tt
+endpoint_found text (Some x) e = (endpoint_in-some text x (sym e)).1
+
+pub endpoint_missed : (text : List ℕ) (r : Option ℕ) → r ≡ endpoint_in text → IfNone r ((x : ℕ) → IsEndpoint x → text ≢ endpoint_text x)
+endpoint_missed text (Some x) e = tt
+endpoint_missed text None e = λ x is same. let found : endpoint_in text ≡ Some x = ap endpoint_in same ∙ endpoint_in-text x is in cc

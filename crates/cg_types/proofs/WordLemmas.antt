@@ -1,16 +1,18 @@
 -- Laws of parts and numbers.
 use Rattle.std.proofs.Common.{◌≡◌, ◌≢◌, ℕ, ◌^◌, ◌<◌, ◌≤◌, Bool, true, false, cond, List, ◌++◌, length, get_or, Option, Some, None, refl, sym, ap, ◌∙◌, arith, decimal, rules, inl, inr, IfSome, IfNone}
-use Rattle.std.specs.Prelude.{◌&&◌, nat_le, Result, Err, IsUtf8}
+use Rattle.std.specs.Prelude.{◌&&◌, nat_le, nat_lt, Result, Err, IsUtf8}
 use Rattle.std.specs.List.{list_all}
 use Rattle.std.specs.Char.{is_ascii_digit}
 use Rattle.std.specs.Str.Parse.{ParsesUnsigned, digits_value}
-use Rattle.std.proofs.lemmas.Bool.{cases_lt, and_parts}
+use Rattle.std.proofs.lemmas.Bool.{cases_lt, and_parts, ltb-false, le-ltb}
 use Rattle.std.proofs.lemmas.Fmt.{IsAscii-from_digits, decimal-digits_value, digits_decimal, digits_value-decimal, decimal_nonempty, first_decimal, decimal_digit}
 use Rattle.std.proofs.lemmas.Grind.{common_steps}
+use Rattle.std.proofs.lemmas.Option.{same_Some}
 use Rattle.std.proofs.lemmas.Result.{OkIff-at_err}
 use Rattle.std.proofs.lemmas.Str.{IsUtf8-from_ascii}
 use Rattle.std.proofs.lemmas.Str.Parse.{IsNumeralModel, IsDigitsTest, numerals_by_value, parse_digits}
-use Rattle.cg_types.specs.Words.{number_of, is_number}
+use Rattle.cg_types.specs.OptionSteps.{◌>>=◌}
+use Rattle.cg_types.specs.Words.{number_of, is_number, number_between}
 
 -- a part with more before it
 abbrev pub with_front : List ℕ → Option (List ℕ × List ℕ) → Option (List ℕ × List ℕ)
@@ -95,3 +97,33 @@ numbers_missed most text None small e = λ n le is. let found = number_of-decima
 
 pub digits_of_decimal : (n : ℕ) → n < 2 ^ 64 → list_all is_ascii_digit (decimal n) ≡ true
 digits_of_decimal n lt = digits_decimal own n lt
+
+-- ---- numbers between bounds
+
+between_by : (o : Option ℕ) (least n : ℕ) → (o >>= λ k. cond (nat_lt k least) None (Some k)) ≡ Some n → (o ≡ Some n) × (least ≤ n)
+between_by None least n e = absurd cc
+between_by (Some k) least n e =
+    elim (nat_lt k least) as (λ b. nat_lt k least ≡ b → cond b None (Some k) ≡ Some n → (Some k ≡ Some n) × (least ≤ n)) [
+      | true ↦ λ b e. absurd cc
+      | false ↦ λ b e. let same : k ≡ n = same_Some k n e in let le : least ≤ k = ltb-false k least b in (e, omega arith)
+    ] refl e
+
+-- what a caller sees of such a number that is there, or is not
+pub between_found : (least most : ℕ) (text : List ℕ) (r : Option ℕ) → most < 2 ^ 64 → r ≡ number_between least most text
+    → IfSome r (λ n. (text ≡ decimal n) × (least ≤ n) × (n ≤ most))
+unfolding number_between
+between_found least most text None small e = tt
+between_found least most text (Some n) small e =
+    let parts = between_by (number_of most text) least n (sym e) in
+    let found = number_of-some most text n small parts.0 in
+    (found.0, parts.1, found.1)
+
+pub between_missed : (least most : ℕ) (text : List ℕ) (r : Option ℕ) → most < 2 ^ 64 → r ≡ number_between least most text
+    → IfNone r ((n : ℕ) → least ≤ n → n ≤ most → text ≢ decimal n)
+unfolding number_between
+between_missed least most text (Some n) small e = tt
+between_missed least most text None small e = λ n low le is.
+    let found : number_of most text ≡ Some n = ap (number_of most) is ∙ number_of-decimal most n small le in
+    let high : nat_lt n least ≡ false = le-ltb n least low in
+    let there : (number_of most text >>= λ k. cond (nat_lt k least) None (Some k)) ≡ Some n = rw (found, high) refl in
+    cc

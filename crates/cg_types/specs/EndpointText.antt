@@ -1,25 +1,23 @@
 -- An endpoint's text: the four bytes of its address with dots, a colon and the port.
 use Rattle.std.specs.Prelude.{ℕ, ◌+◌, ◌*◌, ◌/◌, ◌%◌, nat_lt, if◌then◌else◌, List, ◌∷◌, ◌++◌, decimal, Option, Some, None}
 use Rattle.cg_types.specs.Numbers.{endpoint_of, address_of, port_of}
+use Rattle.cg_types.specs.OptionSteps.{◌>>=◌}
 use Rattle.cg_types.specs.Words.{cut_at, number_of}
 
 -- four numbers with dots, a colon and a port
 abbrev pub dotted : ℕ → ℕ → ℕ → ℕ → ℕ → List ℕ
-dotted a b c d port = decimal a ++ (46 ∷ (decimal b ++ (46 ∷ (decimal c ++ (46 ∷ (decimal d ++ (58 ∷ decimal port)))))))
+dotted a b c d port =
+    decimal a ++ (46 ∷ (decimal b ++ (46 ∷ (decimal c ++ (46 ∷ (decimal d ++ (58 ∷ decimal port)))))))
 
 -- the one text of an endpoint
 unfoldable pub endpoint_text : ℕ → List ℕ
-endpoint_text e = dotted (address_of e / 16777216) (address_of e / 65536 % 256) (address_of e / 256 % 256) (address_of e % 256) (port_of e)
+endpoint_text e =
+    dotted (address_of e / 16777216) (address_of e / 65536 % 256) (address_of e / 256 % 256) (address_of e % 256)
+    (port_of e)
 
 -- the endpoint of an address's four bytes and a port
 abbrev pub joined : ℕ → ℕ → ℕ → ℕ → ℕ → ℕ
 joined a b c d port = endpoint_of (((a * 256 + b) * 256 + c) * 256 + d) port
-
--- a value where there is one, and what is made of it
-infixl 10 ◌>>=◌
-abbrev pub ◌>>=◌ : {A B : Type 0} → Option A → (A → Option B) → Option B
-None >>= f = None
-(Some x) >>= f = f x
 
 -- a number of at most 255 before the first byte c, and what stands behind that
 unfoldable pub octet_before : ℕ → List ℕ → Option (ℕ × List ℕ)

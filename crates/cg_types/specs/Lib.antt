@@ -7,3 +7,8 @@ pub mod Fault
 pub mod Words
 pub mod EndpointText
 pub mod Key
+pub mod OptionSteps
+pub mod ResultSteps
+pub mod ListPlace
+pub mod Equality
+pub mod Limits

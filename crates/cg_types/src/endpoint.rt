@@ -1,6 +1,6 @@
 //! Where a member is reached.
 
-ghost use Rattle.std.specs.Prelude.{◌≡◌, ◌≢◌, ◌↔◌, ◌<◌, ℕ, IsSome, IfSome, IfOk, IfErr, OnErr, MatchResult, Some, None, nat_eq, option_map};
+ghost use Rattle.std.specs.Prelude.{◌≡◌, ◌≢◌, ◌↔◌, ◌<◌, ℕ, IsSome, IfSome, IfNone, IfOk, IfErr, OnErr, MatchResult, Some, None, nat_eq, option_map};
 ghost use Rattle.std.specs.Ordering.{nat_cmp};
 ghost use Rattle.std.specs.Cmp.{nat_eq_equiv, nat_cmp_total, unsigned_po, partial_equiv_from_equiv};
 ghost use Rattle.std.specs.Cmp.Rules.{comparing};
@@ -129,19 +129,14 @@ impl Endpoint {
     }
 
     /// The endpoint that some bytes are the text of, as `read` reads it.
-    #[tactic(auto, unfolding(crate::specs::EndpointText::endpoint_in))]
     pub fn from_bytes(text: &[u8]) -> Option<Endpoint>
-        ensures { result ≡ endpoint_in text.now }
+        ensures value { result ≡ endpoint_in text.now }
+        // The bytes are the text that the endpoint writes.
+        ensures some { IfSome result (λ e. text.now ≡ endpoint_text e) }
+        // Bytes that are refused are no endpoint's text.
+        ensures none { IfNone result ((e : ℕ) → IsEndpoint e → text.now ≢ endpoint_text e) }
     {
-        let (a, rest) = octet_before(text, b'.')?;
-        let (b, rest) = octet_before(rest, b'.')?;
-        let (c, rest) = octet_before(rest, b'.')?;
-        let (d, rest) = octet_before(rest, b':')?;
-        let port = port_in(rest)?;
-        Some(Endpoint {
-            address: u32::from_be_bytes([a, b, c, d]),
-            port,
-        })
+        parts_in(text)
     }
 
     /// The address's four bytes.
@@ -158,6 +153,22 @@ impl Endpoint {
     {
         self.port
     }
+}
+
+// An endpoint, from its four numbers and its port.
+#[tactic(auto, unfolding(crate::specs::EndpointText::endpoint_in))]
+fn parts_in(text: &[u8]) -> Option<Endpoint>
+    ensures { result ≡ endpoint_in text.now }
+{
+    let (a, rest) = octet_before(text, b'.')?;
+    let (b, rest) = octet_before(rest, b'.')?;
+    let (c, rest) = octet_before(rest, b'.')?;
+    let (d, rest) = octet_before(rest, b':')?;
+    let port = port_in(rest)?;
+    Some(Endpoint {
+        address: u32::from_be_bytes([a, b, c, d]),
+        port,
+    })
 }
 
 // A number of at most 255 before the first byte `at`, and what stands behind that.

@@ -1,9 +1,11 @@
 //! Generations.
 
-ghost use Rattle.std.specs.Prelude.{◌≡◌, ◌↔◌, IsSome, IfSome};
+ghost use Rattle.std.specs.Prelude.{◌≡◌, ◌↔◌, ℕ, ◌≢◌, IsSome, IfSome, IfNone, decimal};
 ghost use Rattle.cg_types.specs.Numbers.{IsGeneration};
+ghost use Rattle.cg_types.specs.Words.{generation_in};
 
 use crate::limits::NUMBER_LIMIT;
+use crate::words::number_between;
 use std::marker::Model;
 
 /// The number of a start of an endpoint, 1 to 2,147,483,647 (the generation of Cassandra's `HeartBeatState`).
@@ -35,6 +37,18 @@ impl Generation {
             return None;
         }
         Some(Generation { number })
+    }
+
+    /// The generation that a text is, in decimal digits with no leading zero.
+    pub fn from_bytes(text: &[u8]) -> Option<Generation>
+        ensures value { result ≡ generation_in text.now }
+        ensures some { IfSome result (λ g. text.now ≡ decimal g) }
+        ensures none { IfNone result ((n : ℕ) → IsGeneration n → text.now ≢ decimal n) }
+    {
+        let number = number_between(text, 1, u64::from(NUMBER_LIMIT) - 1)?;
+        Some(Generation {
+            number: number as u32,
+        })
     }
 
     /// The number, 1 to 2,147,483,647.

@@ -4,6 +4,7 @@
 mod endpoint;
 mod fault;
 mod generation;
+pub mod laws;
 mod limits;
 mod state_key;
 mod text;
@@ -20,7 +21,7 @@ pub use limits::{
 pub use state_key::StateKey;
 pub use text::{Cluster, StateText, is_plain};
 pub use version::Version;
-pub use words::{cut, number};
+pub use words::{cut, number, number_between};
 
 #[cfg(test)]
 mod tests;

@@ -1,10 +1,12 @@
 //! The keys of states.
 
-ghost use Rattle.std.specs.Prelude.{◌≡◌, ◌↔◌, IsSome, IfSome};
+ghost use Rattle.std.specs.Prelude.{◌≡◌, ◌↔◌, ℕ, ◌≢◌, IsSome, IfSome, IfNone, decimal};
 ghost use Rattle.cg_types.specs.Numbers.{IsKey};
+ghost use Rattle.cg_types.specs.Words.{key_in};
 ghost use Rattle.cg_types.specs.Key.{key_name};
 
 use crate::limits::{STATE_LIMIT, STATUS_KEY, TOKENS_KEY};
+use crate::words::number_between;
 use std::marker::Model;
 
 /// The key of a state, 1 to 16, as Cassandra's ApplicationState. The numbers are this project's own.
@@ -36,6 +38,18 @@ impl StateKey {
             return None;
         }
         Some(StateKey { number })
+    }
+
+    /// The key that a text is, in decimal digits with no leading zero.
+    pub fn from_bytes(text: &[u8]) -> Option<StateKey>
+        ensures value { result ≡ key_in text.now }
+        ensures some { IfSome result (λ k. text.now ≡ decimal k) }
+        ensures none { IfNone result ((n : ℕ) → IsKey n → text.now ≢ decimal n) }
+    {
+        let number = number_between(text, 1, u64::from(STATE_LIMIT))?;
+        Some(StateKey {
+            number: number as u8,
+        })
     }
 
     /// The key's number, 1 to 16.

@@ -1,9 +1,11 @@
 //! Versions.
 
-ghost use Rattle.std.specs.Prelude.{◌≡◌, ◌↔◌, IsSome, IfSome};
+ghost use Rattle.std.specs.Prelude.{◌≡◌, ◌↔◌, ℕ, ◌≢◌, IsSome, IfSome, IfNone, decimal};
 ghost use Rattle.cg_types.specs.Numbers.{IsVersion};
+ghost use Rattle.cg_types.specs.Words.{generation_in};
 
 use crate::limits::NUMBER_LIMIT;
+use crate::words::number_between;
 use std::marker::Model;
 
 /// The number of a change within a generation, 1 to 2,147,483,647.
@@ -42,6 +44,18 @@ impl Version {
             return None;
         }
         Some(Version { number })
+    }
+
+    /// The version that a text is, in decimal digits with no leading zero.
+    pub fn from_bytes(text: &[u8]) -> Option<Version>
+        ensures value { result ≡ generation_in text.now }
+        ensures some { IfSome result (λ v. text.now ≡ decimal v) }
+        ensures none { IfNone result ((n : ℕ) → IsVersion n → text.now ≢ decimal n) }
+    {
+        let number = number_between(text, 1, u64::from(NUMBER_LIMIT) - 1)?;
+        Some(Version {
+            number: number as u32,
+        })
     }
 
     /// The number, 1 to 2,147,483,647.

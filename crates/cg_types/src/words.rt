@@ -3,7 +3,7 @@
 ghost use Rattle.std.specs.Prelude.{◌≡◌, ◌≢◌, ℕ, ◌≤◌, decimal, IfSome, IfNone, IsTrue, ◌↔◌, option_map, ◌+◌, ◌*◌, ◌<◌, ◌^◌, slice_index, take, Some, None, Option};
 ghost use Rattle.std.specs.List.{list_all};
 ghost use Rattle.std.specs.Char.{is_ascii_digit};
-ghost use Rattle.cg_types.specs.Words.{cut_at, number_of, is_number as text_is_number};
+ghost use Rattle.cg_types.specs.Words.{cut_at, number_of, number_between as text_number_between, is_number as text_is_number};
 
 /// What stands before the first byte `at`, and what stands behind it.
 pub fn cut(bytes: &[u8], at: u8) -> Option<(&[u8], &[u8])>
@@ -24,6 +24,23 @@ pub fn number(text: &[u8], most: u64) -> Option<u64>
     ensures none { IfNone result ((n : ℕ) → n ≤ most → text.now ≢ decimal n) }
 {
     read_number(text, most)
+}
+
+/// The number from `least` to `most` that a text is, as `number` reads it.
+pub fn number_between(text: &[u8], least: u64, most: u64) -> Option<u64>
+    ensures value { result ≡ text_number_between least most text.now }
+    ensures some { IfSome result (λ n. (text.now ≡ decimal n) × (least ≤ n) × (n ≤ most)) }
+    ensures none { IfNone result ((n : ℕ) → least ≤ n → n ≤ most → text.now ≢ decimal n) }
+{
+    read_between(text, least, most)
+}
+
+#[tactic(auto, unfolding(crate::specs::Words::number_between))]
+fn read_between(text: &[u8], least: u64, most: u64) -> Option<u64>
+    ensures { result ≡ text_number_between least most text.now }
+{
+    let number = read_number(text, most)?;
+    if number < least { None } else { Some(number) }
 }
 
 #[tactic(auto, unfolding(crate::specs::Words::number_of))]
