@@ -2,7 +2,8 @@
 use Rattle.std.proofs.Common.{◌≡◌, ℕ, suc, ◌+◌, ◌<◌, ◌≤◌, ◌⊎◌, inl, inr, List, [], ◌∷◌, ◌++◌, length, Some, sym, subst, ◌∙◌, arith, length-append}
 use Rattle.cg_entry.specs.Values.{EntryValue}
 use Rattle.cg_entry.specs.Entry.{started}
-use Rattle.cg_entry.specs.History.{Follows, IsHistory, at_place}
+use Rattle.cg_types.specs.ListPlace.{at_place}
+use Rattle.cg_entry.specs.History.{Follows, IsHistory}
 use Rattle.cg_entry.specs.Laws.{HistoriesGrow, EntriesRise, VersionsNameEntries}
 use Rattle.cg_entry.proofs.PlaceLemmas.{at_place_within, at_place-append, at_place_last}
 use Rattle.cg_entry.proofs.HistoryLemmas.{compared, later_is, same_named}

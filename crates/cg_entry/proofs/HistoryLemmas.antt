@@ -7,7 +7,8 @@ use Rattle.std.proofs.lemmas.Bool.Decides.{nat_tests}
 use Rattle.cg_entry.specs.Versioned.{Versioned}
 use Rattle.cg_entry.specs.Values.{EntryValue}
 use Rattle.cg_entry.specs.Entry.{newest, started, beaten, with_state, is_later}
-use Rattle.cg_entry.specs.History.{Follows, Starts, Beats, Sets, IsHistory, at_place, generation_at, generation_of}
+use Rattle.cg_types.specs.ListPlace.{at_place}
+use Rattle.cg_entry.specs.History.{Follows, Starts, Beats, Sets, IsHistory, generation_at, generation_of}
 use Rattle.cg_entry.specs.Spelling.{version_of, version_at}
 use Rattle.cg_entry.proofs.PlaceLemmas.{at_place_some, at_place_within}
 use Rattle.cg_entry.proofs.VersionLemmas.{Stands, at_least, version_within, greatest_stands}

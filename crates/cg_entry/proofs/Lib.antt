@@ -1,6 +1,7 @@
 pub mod StateLemmas
 pub mod DeltaLemmas
 pub mod PutLemmas
+pub mod ContentLemmas
 pub mod PlaceLemmas
 pub mod KeyLemmas
 pub mod VersionLemmas

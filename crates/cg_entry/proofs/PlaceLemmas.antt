@@ -1,7 +1,7 @@
 -- What stands at a place of a list.
 use Rattle.std.proofs.Common.{◌≡◌, ℕ, zero, suc, ◌<◌, ◌≤◌, List, [], ◌∷◌, ◌++◌, length, Some, None, refl, sym, arith}
 use Rattle.std.proofs.lemmas.Option.{slice_get_within}
-use Rattle.cg_entry.specs.History.{at_place}
+use Rattle.cg_types.specs.ListPlace.{at_place}
 
 module _ {A : Type 0} where
   pub at_place_within : (xs : List A) (p : ℕ) (x : A) → at_place xs p ≡ Some x → (0 < p) × (p ≤ length xs)

@@ -5,7 +5,8 @@ use Rattle.std.specs.Option.{option_and_then}
 use Rattle.cg_entry.specs.Values.{EntryValue, DeltaValue}
 use Rattle.cg_entry.specs.Entry.{newest, delta_above}
 use Rattle.cg_entry.specs.Taking.{entry_after}
-use Rattle.cg_entry.specs.History.{IsHistory, at_place, generation_at, generation_of}
+use Rattle.cg_types.specs.ListPlace.{at_place}
+use Rattle.cg_entry.specs.History.{IsHistory, generation_at, generation_of}
 use Rattle.cg_entry.specs.Place.{Span, IsSpan, SpanOutcome, Taken, Old, Gap, taking, place_after}
 use Rattle.cg_entry.specs.Spelling.{version_of, version_at, delta_of, absorbed_of}
 use Rattle.cg_entry.specs.Laws.{IsTakenAsItsSpan, SpelledDeltasAreTaken, IsDeltaOfPlaces, DeltasSpellSpans}

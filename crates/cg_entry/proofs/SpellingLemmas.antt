@@ -7,7 +7,8 @@ use Rattle.cg_entry.specs.declared.entry.Absorbed.TheVariants as absorbed_as
 use Rattle.cg_entry.specs.Values.{EntryValue}
 use Rattle.cg_entry.specs.Entry.{newest, with_state}
 use Rattle.cg_entry.specs.Taking.{absorbed, met, taken_or_gap}
-use Rattle.cg_entry.specs.History.{Follows, Starts, Beats, Sets, IsHistory, at_place, generation_at, generation_of}
+use Rattle.cg_types.specs.ListPlace.{at_place}
+use Rattle.cg_entry.specs.History.{Follows, Starts, Beats, Sets, IsHistory, generation_at, generation_of}
 use Rattle.cg_entry.specs.Place.{Span, IsSpan, SpanOutcome, Taken, Old, Gap, taking}
 use Rattle.cg_entry.specs.Spelling.{version_of, version_at, absorbed_of}
 use Rattle.cg_entry.proofs.PlaceLemmas.{at_place_some, at_place_within, at_place_none}

@@ -1,5 +1,6 @@
 -- How the entries of one owner follow one another.
-use Rattle.std.specs.Prelude.{◌≡◌, ℕ, zero, suc, ◌<◌, List, slice_get, Option, Some, None}
+use Rattle.std.specs.Prelude.{◌≡◌, ℕ, suc, ◌<◌, List, Option, Some, None}
+pub use Rattle.cg_types.specs.ListPlace.{at_place}
 use Rattle.cg_entry.specs.Values.{EntryValue}
 use Rattle.cg_entry.specs.Entry.{started, beaten, with_state}
 
@@ -8,11 +9,6 @@ pub data Follows (x y : EntryValue) : Type 0 where
   Starts : (generation : ℕ) → x.generation < generation → y ≡ started generation → Follows x y
   Beats : y ≡ beaten x → Follows x y
   Sets : (key : ℕ) (text : List ℕ) → y ≡ with_state key text x → Follows x y
-
--- what stands at a place of a list, counted from one: nothing stands at 0
-abbrev pub at_place : {A : Type 0} → List A → ℕ → Option A
-at_place xs zero = None
-at_place xs (suc place) = slice_get xs place
 
 -- The entries of one owner, oldest first: the first is a start, and each other follows the one before.
 pub record IsHistory (history : List EntryValue) : Type 0 where

@@ -3,7 +3,8 @@ use Rattle.std.specs.Prelude.{◌≡◌, ◌↔◌, ℕ, ◌<◌, ◌≤◌, ◌
 use Rattle.cg_entry.specs.Values.{EntryValue, DeltaValue}
 use Rattle.cg_entry.specs.Entry.{started, newest, is_later, delta_above}
 use Rattle.cg_entry.specs.Taking.{met, entry_after}
-use Rattle.cg_entry.specs.History.{Follows, IsHistory, at_place, generation_at}
+use Rattle.cg_types.specs.ListPlace.{at_place}
+use Rattle.cg_entry.specs.History.{Follows, IsHistory, generation_at}
 use Rattle.cg_entry.specs.Place.{Span, IsSpan, taking, place_after}
 use Rattle.cg_entry.specs.Spelling.{version_at, delta_of, absorbed_of}
 

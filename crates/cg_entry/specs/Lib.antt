@@ -2,6 +2,7 @@ pub mod Versioned
 pub mod State
 pub mod Values
 pub mod Entry
+pub mod Contents
 pub mod Taking
 pub mod History
 pub mod Place

@@ -6,7 +6,7 @@ use Rattle.cg_entry.specs.declared.entry.Absorbed.TheVariants as absorbed
 use Rattle.cg_entry.specs.Values.{EntryValue, DeltaValue}
 use Rattle.cg_entry.specs.Entry.{newest, delta_above}
 use Rattle.cg_entry.specs.Taking.{taken_or_gap}
-use Rattle.cg_entry.specs.History.{at_place}
+use Rattle.cg_types.specs.ListPlace.{at_place}
 use Rattle.cg_entry.specs.Place.{Span, SpanOutcome, Taken, Old, Gap}
 
 abbrev pub version_of : Option EntryValue → ℕ

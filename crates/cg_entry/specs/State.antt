@@ -1,9 +1,10 @@
 -- States in a list, as a finite map.
 use Rattle.std.specs.Prelude.{ℕ, suc, Bool, ◌&&◌, ◌||◌, not, ◌==◌, List, [], ◌∷◌, length, map, nat_lt, None, if◌then◌else◌}
-use Rattle.std.specs.List.{list_all}
+use Rattle.std.specs.List.{list_all, AllByRecursion}
 use Rattle.cg_types.specs.Rising.{Rises, rise_past}
 use Rattle.cg_entry.specs.declared.state.State.{State}
 use Rattle.cg_entry.specs.Versioned.{Versioned}
+use Rattle.cg_entry.specs.Contents.{IsState}
 
 -- what is held at a state's key
 abbrev pub versioned : State → Versioned
@@ -21,6 +22,11 @@ pairs items = map pair items
 abbrev pub KeysRise : List State → Type 0
 KeysRise items = Rises (map (λ s. s.key) items)
 
+-- The keys rise strictly, and each state is in range.
+pub record IsStateList (items : List State) : Type 0 where
+  pub rise : KeysRise items
+  pub valid : AllByRecursion IsState (pairs items)
+
 -- whether the keys rise strictly
 abbrev pub keys_rise : List State → Bool
 keys_rise items = rise_past None (map (λ s. s.key) items)
@@ -31,7 +37,8 @@ all_newer above items = list_all (λ s. nat_lt above s.version) items
 
 -- whether a delta can be made of these
 abbrev pub makes_delta : ℕ → ℕ → List State → Bool
-makes_delta above heartbeat items = (nat_lt above heartbeat || not (length items == 0)) && (all_newer above items && keys_rise items)
+makes_delta above heartbeat items =
+    (nat_lt above heartbeat || not (length items == 0)) && (all_newer above items && keys_rise items)
 
 -- how many entries stand before the first key that is not below k
 abbrev pub place : ℕ → List (ℕ × Versioned) → ℕ

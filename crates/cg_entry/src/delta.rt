@@ -4,6 +4,7 @@ ghost use Rattle.std.specs.Prelude.{◌≡◌, ◌↔◌, IsTrue, IfSome, IfOk, 
 ghost use Rattle.std.specs.FinMap as map;
 ghost use Rattle.cg_types.specs.Numbers.{IsVersionHeld};
 ghost use Rattle.cg_entry.specs.State.{KeysRise, pairs, all_newer as all_newer_of, makes_delta};
+ghost use Rattle.cg_entry.specs.Contents.{IsDeltaOfEntry};
 ghost use Rattle.cg_entry.specs.Entry.{greatest, IsDelta};
 
 use crate::state::State;
@@ -118,11 +119,14 @@ impl Delta {
         &self.states
     }
 
-    /// The states, rising by key.
+    /// The states, rising by key. That the delta is in range is told here.
     pub fn states(&self) -> &[State]
         ensures value { pairs result.now ≡ map.entries self.now.states }
         ensures rise { KeysRise result.now }
+        ensures valid { IsDeltaOfEntry self.now }
     {
+        let _generation = self.generation.get();
+        let _heartbeat = self.heartbeat.get();
         self.states.as_slice()
     }
 

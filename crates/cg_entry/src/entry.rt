@@ -5,6 +5,7 @@ ghost use Rattle.std.specs.FinMap as map;
 ghost use Rattle.std.specs.Option.{option_map};
 ghost use Rattle.cg_types.specs.Answer.{Answers, AnswersExactly};
 ghost use Rattle.cg_version.specs.Version.{next_version};
+ghost use Rattle.cg_entry.specs.Contents.{IsEntry};
 ghost use Rattle.cg_entry.specs.Entry.{newest, delta_above, started, beaten, with_state, is_later as is_later_of};
 ghost use Rattle.cg_entry.specs.State.{KeysRise, pairs};
 ghost use Rattle.cg_entry.specs.Taking.{whole_entry, taken_or_gap, absorbed, is_taken, met as met_of};
@@ -145,11 +146,14 @@ impl Entry {
         }
     }
 
-    /// The states, rising by key.
+    /// The states, rising by key. That the entry is in range is told here.
     pub fn states(&self) -> &[State]
         ensures value { pairs result.now ≡ map.entries self.now.states }
         ensures rise { KeysRise result.now }
+        ensures valid { IsEntry self.now }
     {
+        let _generation = self.generation.get();
+        let _heartbeat = self.heartbeat.get();
         self.states.as_slice()
     }
 

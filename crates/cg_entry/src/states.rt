@@ -5,8 +5,10 @@ ghost use Rattle.std.specs.FinMap as map;
 ghost use Rattle.std.specs.FinMap.Entries.{put};
 ghost use Rattle.std.specs.Option.{option_map};
 ghost use Rattle.std.specs.Ordering.{nat_cmp};
+ghost use Rattle.std.specs.List.{AllByRecursion};
+ghost use Rattle.cg_entry.specs.Contents.{IsState, AreStates};
 ghost use Rattle.cg_entry.specs.Entry.{greatest, newer_than, overlay};
-ghost use Rattle.cg_entry.specs.State.{KeysRise, keys_rise as keys_rise_of, pairs, place, versioned};
+ghost use Rattle.cg_entry.specs.State.{KeysRise, keys_rise as keys_rise_of, pair, pairs, place, versioned};
 
 use crate::state::State;
 use cg_types::{StateKey, Version};
@@ -27,11 +29,11 @@ impl Model for States {
 
     ghost coded = { states_code };
 
-    ghost use Rattle.cg_entry.specs.State.{pairs, KeysRise};
+    ghost use Rattle.cg_entry.specs.State.{pairs, IsStateList};
 
     ghost view = { λ s. map.from_sorted (pairs s.items.items) };
 
-    ghost invariant = { λ s. KeysRise s.items.items };
+    ghost invariant = { λ s. IsStateList s.items.items };
 }
 
 // Whether the keys rise strictly.
@@ -76,6 +78,23 @@ fn put_state(items: &mut Vec<State>, state: State) -> Result<(), AllocError>
     Ok(())
 }
 
+// Reads a state, which tells that it is in range.
+fn show_state(state: &State)
+    ensures { IsState (pair state.now) }
+{
+    let _key = state.key.get();
+    let _version = state.version.get();
+    let _text = state.text.as_str();
+}
+
+fn show_states(items: &[State])
+    ensures { AllByRecursion IsState (pairs items.now) }
+{
+    for state in items {
+        show_state(state);
+    }
+}
+
 fn copies(alloc: Global, items: &[State]) -> Result<Vec<State>, AllocError>
     ensures { IfOk result (λ v. v.items ≡ items.now) }
 {
@@ -95,10 +114,12 @@ impl States {
         }
     }
 
+    // Each state is read, which tells that it is in range.
     pub(crate) fn from_rising(items: Vec<State>) -> States
         requires { KeysRise items.items }
         ensures { result ≡ map.from_sorted (pairs items.items) }
     {
+        show_states(&items);
         States { items }
     }
 
@@ -146,6 +167,7 @@ impl States {
         ensures ok { OnOk result (self.new ≡ map.insert self.old state.key (versioned state)) }
         ensures err { OnErr result (self.new ≡ self.old) }
     {
+        show_state(&state);
         put_state(&mut self.items, state)?;
         Ok(())
     }
@@ -172,6 +194,7 @@ impl States {
     pub(crate) fn as_slice(&self) -> &[State]
         ensures value { pairs result.now ≡ map.entries self.now }
         ensures rise { KeysRise result.now }
+        ensures valid { AreStates self.now }
     {
         &self.items
     }

@@ -13,5 +13,5 @@ returns c =
     let ours = c.as_slice.ensures.value in
     let theirs = c.as_slice-2.ensures.value in (
       λ t. sym c.self.view_is ∙ ap (λ (xs : List State). map.from_sorted {R = nat_cmp} (pairs xs)) (sym ours ∙ same.0 t ∙ theirs) ∙ c.other.view_is,
-      λ e. same.1 (ours ∙ same_items c.self.inside.items.items c.other.inside.items.items c.args.self.now c.args.other.now c.self.invariant c.other.invariant c.self.view_is c.other.view_is e ∙ sym theirs),
+      λ e. same.1 (ours ∙ same_items c.self.inside.items.items c.other.inside.items.items c.args.self.now c.args.other.now c.self.invariant.rise c.other.invariant.rise c.self.view_is c.other.view_is e ∙ sym theirs),
     )

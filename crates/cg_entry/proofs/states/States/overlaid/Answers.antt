@@ -4,6 +4,7 @@ use Rattle.std.specs.FinMap.Entries.{put}
 use Rattle.cg_entry.specs.declared.state.State.{State}
 use Rattle.cg_entry.specs.State.{pairs, versioned}
 use Rattle.cg_entry.specs.Entry.{overlay}
+use Rattle.cg_entry.proofs.ContentLemmas.{put_all_valid}
 use Rattle.cg_entry.proofs.PutLemmas.{overlay-pairs, put_rises, put_all_next, put_all_whole}
 use Rattle.cg_entry.proofs.states.States.overlaid.Goals as goal
 
@@ -17,9 +18,19 @@ loop-state-preserved c =
       so_far = put_all_next c.deref-state-items.result.now c.loop-state.state-index s c.loop-state.items.items c.put_state.new.items.items c.loop-state-test.true c.state-item.is step ∙ c.loop-state.invariant.so_far;
     }
 
+pub invariant_of-result : goal.invariant_of-result
+invariant_of-result c =
+    let olds = c.self.inside.items.items in
+    let news = c.newer.inside.items.items in
+    let whole = put_all_whole c.loop-state.state-index c.loop-state.items.items c.in_ok-items.items.items olds c.deref-state-items.result.now news c.loop-state-test.false c.loop-state.invariant.so_far c.deref-state-items.ensures.value (c.in_ok-items.ensures ∙ c.deref.ensures.value) in
+    record {
+      rise = c.loop-state.invariant.rise;
+      valid = rw whole (put_all_valid (pairs news) (pairs olds) c.newer.invariant.valid c.self.invariant.valid);
+    }
+
 pub returns : goal.returns
 returns c =
     let olds = c.self.inside.items.items in
     let news = c.newer.inside.items.items in
     let whole = put_all_whole c.loop-state.state-index c.loop-state.items.items c.in_ok-items.items.items olds c.deref-state-items.result.now news c.loop-state-test.false c.loop-state.invariant.so_far c.deref-state-items.ensures.value (c.in_ok-items.ensures ∙ c.deref.ensures.value) in
-    overlay-pairs c.loop-state.items.items news olds c.loop-state.invariant.rise c.newer.invariant c.self.invariant whole ∙ (λ i. overlay (c.self.view_is i) (c.newer.view_is i))
+    overlay-pairs c.loop-state.items.items news olds c.loop-state.invariant.rise c.newer.invariant.rise c.self.invariant.rise whole ∙ (λ i. overlay (c.self.view_is i) (c.newer.view_is i))

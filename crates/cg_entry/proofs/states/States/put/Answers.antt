@@ -1,11 +1,17 @@
 use Rattle.std.proofs.Common.{refl}
 use Rattle.cg_entry.specs.State.{versioned}
+use Rattle.cg_entry.proofs.ContentLemmas.{put_valid}
 use Rattle.cg_entry.proofs.PutLemmas.{put_rises, put_inserted}
 use Rattle.cg_entry.proofs.states.States.put.Goals as goal
 
 pub invariant_of-self-2 : goal.invariant_of-self-2
-invariant_of-self-2 c = put_rises c.args.state.key (versioned c.args.state) c.self.inside.items.items c.put_state.new.items.items c.self.invariant c.in_ok-put_state.ensures.ok
+invariant_of-self-2 c =
+    let made = c.in_ok-put_state.ensures.ok in
+    record {
+      rise = put_rises c.args.state.key (versioned c.args.state) c.self.inside.items.items c.put_state.new.items.items c.self.invariant.rise made;
+      valid = rw made (put_valid c.args.state.key (versioned c.args.state) _ c.show_state.ensures c.self.invariant.valid);
+    }
 
 pub returns-clause-ok : goal.returns-clause-ok
 returns-clause-ok c =
-    put_inserted c.args.state.key (versioned c.args.state) c.self.inside.items.items c.self.inside.items.items c.put_state.new.items.items c.args.self.now refl c.self.invariant c.self.view_is c.in_ok-put_state.ensures.ok
+    put_inserted c.args.state.key (versioned c.args.state) c.self.inside.items.items c.self.inside.items.items c.put_state.new.items.items c.args.self.now refl c.self.invariant.rise c.self.view_is c.in_ok-put_state.ensures.ok

@@ -1,0 +1,32 @@
+-- What entries and deltas hold: numbers in their ranges, and plain and short texts.
+use Rattle.std.specs.Prelude.{ℕ}
+use Rattle.std.specs.List.{AllByRecursion}
+use Rattle.std.specs.FinMap as map
+use Rattle.cg_types.specs.Numbers.{IsGeneration, IsVersion, IsVersionHeld, IsKey}
+use Rattle.cg_types.specs.Text.{IsStateText}
+use Rattle.cg_entry.specs.Values.{EntryValue, DeltaValue}
+use Rattle.cg_entry.specs.Versioned.{Versioned, States}
+use Rattle.cg_entry.specs.Entry.{IsDelta}
+
+-- a state with its key
+pub record IsState (s : ℕ × Versioned) : Type 0 where
+  pub key : IsKey s.0
+  pub version : IsVersion s.1.version
+  pub text : IsStateText s.1.text
+
+-- the states of a map
+abbrev pub AreStates : States → Type 0
+AreStates states = AllByRecursion IsState (map.entries states)
+
+pub record IsEntry (e : EntryValue) : Type 0 where
+  pub generation : IsGeneration e.generation
+  pub heartbeat : IsVersion e.heartbeat
+  pub states : AreStates e.states
+
+-- Each state of the delta is newer than what the delta stands above, and something is.
+pub record IsDeltaOfEntry (d : DeltaValue) : Type 0 where
+  pub generation : IsGeneration d.generation
+  pub above : IsVersionHeld d.above
+  pub heartbeat : IsVersion d.heartbeat
+  pub states : AreStates d.states
+  pub carries : IsDelta d.above d.heartbeat d.states
