@@ -4,6 +4,7 @@ pub mod MessageCode
 pub mod Members
 pub mod Contents
 pub mod Messages
+pub mod Lent
 pub mod Answering
 pub mod Walking
 pub mod Taking

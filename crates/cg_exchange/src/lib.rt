@@ -10,6 +10,7 @@ mod ack;
 mod ack2;
 mod answers;
 pub mod laws;
+mod lent;
 mod message;
 #[cfg(test)]
 mod message_tests;
@@ -28,6 +29,7 @@ mod tests;
 pub use ack::Ack;
 pub use ack2::Ack2;
 pub use answers::{answer_syn, syn};
+pub use lent::Lent;
 pub use message::Message;
 pub use opening::Syn;
 pub use outcome::Outcome;
