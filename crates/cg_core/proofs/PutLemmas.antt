@@ -1,24 +1,23 @@
 -- The puts between a table and one that goes on from it.
-use Rattle.std.proofs.Common.{◌≡◌, ℕ, ◌⊎◌, inl, inr, Bool, true, false, cond, List, [], ◌∷◌, Option, Some, None, refl, sym, ap, subst, ◌∙◌, arith, nat_lt, eqb-true}
+use Rattle.std.proofs.Common.{◌≡◌, ℕ, ◌⊎◌, inl, inr, Bool, true, false, cond, List, [], ◌∷◌, Option, Some, None, refl, sym, ap, subst, ◌∙◌, nat_lt, eqb-true}
 use Rattle.std.specs.Prelude.{◌||◌, ◌==◌, not}
 use Rattle.std.specs.List.{filter}
 use Rattle.std.specs.Ordering.{nat_cmp, eq_by_cmp}
 use Rattle.std.specs.Cmp.{nat_cmp_total, eq_by_cmp_equiv}
-use Rattle.std.specs.FinMap.{get, insert, entries, entries_sorted, from_sorted, get-entries, get-insert, same_map, nat_cmp-IsAntisymmetric}
+use Rattle.std.specs.FinMap.{get, insert, entries, entries_sorted, get-entries, same_map, nat_cmp-IsAntisymmetric}
 use Rattle.std.specs.FinMap.Entries.{find}
 use Rattle.std.proofs.lemmas.Bool.{ltb-true}
-use Rattle.std.proofs.lemmas.Bool.Decides.{nat_tests}
-use Rattle.std.proofs.lemmas.Map.Entries.{option_filter}
-use Rattle.cg_types.specs.Rising.{is_past, rise_past, Rises}
-use Rattle.cg_types.proofs.RisingLemmas.{keys_of, both, first_of, second_of, past_trans, other_key, same_tied, rise_sorted, entries_rising, get_rising}
+use Rattle.std.proofs.lemmas.Option.{same_Some}
+use Rattle.cg_types.specs.Rising.{is_past, rise_past}
+use Rattle.cg_types.proofs.RisingLemmas.{keys_of, both, first_of, second_of, past_trans, other_key, same_tied, rise_sorted}
 use Rattle.cg_map.proofs.PastLemmas.{AgreePast, still_agree, agree_later}
 use Rattle.cg_entry.specs.Values.{EntryValue}
 use Rattle.cg_entry.specs.Entry.{is_later}
-use Rattle.cg_entry.proofs.KeyLemmas.{find-filter}
 use Rattle.cg_table.specs.Values.{TableValue, Entries}
 use Rattle.cg_table.specs.Merge.{is_ahead, later_of, later_entries, merged}
 use Rattle.cg_table.proofs.MergeLemmas.{get-merged, later_rise}
-use Rattle.cg_core.specs.Puts.{with_put, goes_on, is_in_order, keep_order}
+use Rattle.cg_table.proofs.PutsLemmas.{later_entries-put_each}
+use Rattle.cg_table.specs.Puts.{with_put, goes_on, is_in_order, keep_order}
 use Rattle.cg_core.specs.Laws.{ArePuts}
 use Rattle.cg_core.proofs.OrderLemmas.{ahead_on, same_goes_on}
 
@@ -130,31 +129,10 @@ module _ (before after : TableValue) (g : GoesOn before after) where
 
 -- ---- one put
 
-not_later : (x : EntryValue) → is_later x x ≡ false
-not_later x = grind (arith, nat_tests)
-
-not_put : (held : Option EntryValue) → option_filter (is_ahead held) held ≡ None
-not_put None = refl
-not_put (Some x) = rw (not_later x) refl
-
-only_by : (m : Entries) (own : ℕ) (e : EntryValue) (q : ℕ) (b : Bool) → eq_by_cmp nat_cmp q own ≡ b → is_ahead (get m own) e ≡ true
-    → option_filter (is_ahead (get m q)) (cond b (Some e) (get m q)) ≡ cond b (Some e) None
-only_by m own e q true is ahead = ap (λ (c : Bool). cond c (Some e) None) (ap (λ (k : ℕ). is_ahead (get m k) e) (same_tied q own is) ∙ ahead)
-only_by m own e q false is ahead = not_put (get m q)
-
-found_put : (m : Entries) (own : ℕ) (e : EntryValue) (q : ℕ) → is_ahead (get m own) e ≡ true → find nat_cmp q (later_entries m (insert m own e)) ≡ cond (eq_by_cmp nat_cmp q own) (Some e) None
-found_put m own e q ahead =
-    let after = insert m own e in
-    find-filter (λ (x : ℕ × EntryValue). is_ahead (get m x.0) x.1) q None (entries after) (rise_sorted (entries after) (entries_sorted after))
-    ∙ ap (option_filter (is_ahead (get m q))) (sym (get-entries after q) ∙ get-insert nat_cmp_total m own e q)
-    ∙ only_by m own e q (eq_by_cmp nat_cmp q own) refl ahead
+one_ahead : (m : Entries) (own : ℕ) (e : EntryValue) → is_ahead (get m own) e ≡ true → (q : ℕ) (x : EntryValue) (b : Bool) → eq_by_cmp nat_cmp q own ≡ b → cond b (Some e) None ≡ Some x → is_ahead (get m q) x ≡ true
+one_ahead m own e ahead q x true is found = (λ i. is_ahead (get m (same_tied q own is i)) (sym (same_Some e x found) i)) ∙ ahead
+one_ahead m own e ahead q x false is found = absurd cc
 
 -- where one later entry is put, it is the only put
 pub only_put : (m : Entries) (own : ℕ) (e : EntryValue) → is_ahead (get m own) e ≡ true → later_entries m (insert m own e) ≡ (own, e) ∷ []
-only_put m own e ahead =
-    let ps = later_entries m (insert m own e) in
-    let one : List (ℕ × EntryValue) = (own, e) ∷ [] in
-    let rise : Rises (keys_of ps) = later_rise m (insert m own e) in
-    let same : from_sorted {R = nat_cmp} ps ≡ from_sorted {R = nat_cmp} one = same_map nat_cmp_total nat_cmp-IsAntisymmetric (from_sorted {R = nat_cmp} ps) (from_sorted {R = nat_cmp} one) (λ q.
-    get_rising ps q rise ∙ found_put m own e q ahead ∙ sym (get_rising one q refl)) in
-    sym (entries_rising ps rise) ∙ ap (λ (n : Entries). entries n) same ∙ entries_rising one refl
+only_put m own e ahead = later_entries-put_each m ((own, e) ∷ []) refl (λ q x found. one_ahead m own e ahead q x (eq_by_cmp nat_cmp q own) refl found)

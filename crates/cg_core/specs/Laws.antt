@@ -15,7 +15,7 @@ use Rattle.cg_core.specs.declared.reply.Reply.{Reply}
 use Rattle.cg_core.specs.declared.reply.Reply.TheVariants as reply
 use Rattle.cg_core.specs.Values.{SettingsValue, NodeValue}
 use Rattle.cg_core.specs.Step.{begun, node_step, after_events, replay}
-use Rattle.cg_core.specs.Puts.{puts, with_puts, keep_order}
+use Rattle.cg_table.specs.Puts.{puts, with_puts, keep_order}
 
 -- The table is one that a member may hold: its own endpoint is held, and few are.
 abbrev pub IsSmall : NodeValue → Type 0

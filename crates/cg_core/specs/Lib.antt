@@ -1,9 +1,10 @@
 pub mod Values
 pub mod Codes
+pub mod EventCodes
 pub mod Windows
 pub mod Claims
 pub mod Round
 pub mod Step
 pub mod Parts
-pub mod Puts
 pub mod Laws
+pub mod Changes

@@ -22,7 +22,7 @@ use Rattle.cg_exchange.specs.declared.outcome.Outcome.{Outcome}
 use Rattle.cg_exchange.specs.Members.{endpoints_of_deltas}
 use Rattle.cg_exchange.specs.Taking.{table_after, outcomes_of, held_after}
 use Rattle.cg_exchange.specs.Changes.{row_of, row_changed, outcome_of, endpoints_of_outcomes}
-use Rattle.cg_exchange.proofs.AnswerLemmas.{rise_mapped}
+use Rattle.cg_map.proofs.ListLemmas.{rise_mapped}
 
 -- the table that a table's member holds, with these entries
 abbrev pub holding : TableValue → Entries → TableValue

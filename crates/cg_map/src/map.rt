@@ -1,6 +1,7 @@
 //! A finite map from endpoints to shared values.
 
 ghost use Rattle.std.specs.Prelude.{◌≡◌, IfOk, option_copied};
+ghost use Rattle.std.specs.Option.{option_map};
 ghost use Rattle.std.specs.FinMap as map;
 ghost use Rattle.cg_types.specs.Rising.{Rises};
 ghost use Rattle.cg_map.specs.Rows.{keys_of};
@@ -51,6 +52,16 @@ impl<T: Drop> SharedMap<T> {
     {
         match search(&self.rows, endpoint) {
             Ok(at) => Some(self.rows[at].value()),
+            Err(_) => None,
+        }
+    }
+
+    /// The row of an endpoint, if there is one.
+    pub fn row(&self, endpoint: Endpoint) -> Option<&Row<T>>
+        ensures { option_copied result ≡ option_map (λ v. (endpoint, v)) (map.get self.now endpoint) }
+    {
+        match search(&self.rows, endpoint) {
+            Ok(at) => Some(&self.rows[at]),
             Err(_) => None,
         }
     }

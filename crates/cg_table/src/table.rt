@@ -9,6 +9,7 @@ ghost use Rattle.cg_types.specs.Rising.{Rises};
 ghost use Rattle.cg_map.specs.Rows.{keys_of};
 ghost use Rattle.cg_map.specs.Map.{put_each};
 ghost use Rattle.cg_table.specs.Own.{own_entry as own_entry_of, with_own as with_own_of};
+ghost use Rattle.cg_table.specs.Puts.{row_at};
 ghost use Rattle.cg_table.specs.Table.{alone, digest_of, digests_of};
 
 use crate::digest::Digest;
@@ -104,6 +105,13 @@ impl Table {
         ensures { option_copied result ≡ table.get self.now.entries endpoint }
     {
         self.entries.get(endpoint)
+    }
+
+    /// The row of an endpoint, whose entry can be shared, if there is one.
+    pub fn row(&self, endpoint: Endpoint) -> Option<&Row<Entry>>
+        ensures { option_copied result ≡ row_at self.now.entries endpoint }
+    {
+        self.entries.row(endpoint)
     }
 
     /// The entry of the member's own endpoint, which every table holds.

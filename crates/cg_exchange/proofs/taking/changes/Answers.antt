@@ -1,7 +1,7 @@
 use Rattle.std.proofs.Common.{◌∙◌, ◌++◌, [], ◌∷◌, sym}
 use Rattle.std.specs.Option.{option_to_list}
 use Rattle.cg_exchange.specs.Changes.{row_changed, outcome_of}
-use Rattle.cg_exchange.proofs.AnswerLemmas.{filter_map_more, map_more}
+use Rattle.cg_map.proofs.ListLemmas.{filter_map_more, map_more}
 use Rattle.cg_exchange.proofs.taking.changes.Goals as goal
 
 pub loop-sent-preserved : goal.loop-sent-preserved

@@ -1,0 +1,49 @@
+-- Whose entries a step changes, and its puts.
+use Rattle.std.specs.Prelude.{ℕ, ◌≡◌, List, [], ◌∷◌, map, Result}
+use Rattle.std.specs.List.{filter}
+use Rattle.cg_types.specs.declared.fault.Fault.{Fault}
+use Rattle.cg_types.specs.Rising.{Rises}
+use Rattle.cg_table.specs.Puts.{Put, puts, rows_at}
+use Rattle.cg_exchange.specs.declared.owner_delta.OwnerDelta.{OwnerDelta}
+use Rattle.cg_exchange.specs.declared.outcome.Outcome.{Outcome}
+use Rattle.cg_exchange.specs.Members.{endpoints_of_deltas}
+use Rattle.cg_core.specs.declared.event.Event.{Event}
+use Rattle.cg_core.specs.declared.event.Event.TheVariants as event
+use Rattle.cg_core.specs.declared.reply.Reply.{Reply}
+use Rattle.cg_core.specs.declared.reply.Reply.TheVariants as reply
+use Rattle.cg_core.specs.Values.{NodeValue}
+use Rattle.cg_core.specs.Windows.{is_taken}
+use Rattle.cg_core.specs.Step.{node_step, then}
+use Rattle.cg_core.specs.Laws.{IsSmall, Leads}
+
+-- a step, with the puts that lead to its table
+abbrev pub step_with_puts : NodeValue → Event → Result (NodeValue × Reply × List Put) Fault
+step_with_puts n e = then (node_step n e) (λ x. (x.0, x.1, puts n.table x.0.table))
+
+-- the deltas that an event hands a node
+abbrev pub deltas_in : Event → List OwnerDelta
+deltas_in event.Beat = []
+deltas_in (event.Set key text) = []
+deltas_in (event.Tick now words) = []
+deltas_in event.Opening = []
+deltas_in (event.Syn syn) = []
+deltas_in (event.Ack now ack) = ack.deltas
+deltas_in (event.Ack2 now ack2) = ack2.deltas
+
+-- whom the deltas that were taken are about
+abbrev pub taken_owners : List Outcome → List ℕ
+taken_owners outcomes = map (λ o. o.endpoint) (filter (λ o. is_taken o.took) outcomes)
+
+-- the owners whose entry a step changes, by what it answers: the own one, nobody, or those of the deltas that were taken
+abbrev pub changed_owners : ℕ → Reply → List ℕ
+changed_owners own (reply.Done version) = own ∷ []
+changed_owners own (reply.Round peers syn) = own ∷ []
+changed_owners own (reply.Sent m) = []
+changed_owners own (reply.Both outcomes ack2) = taken_owners outcomes
+changed_owners own (reply.Took outcomes) = taken_owners outcomes
+
+-- The puts of a step are the new rows of exactly these owners.
+abbrev pub PutsAreTheChangedRows : Type 0
+PutsAreTheChangedRows =
+    (n : NodeValue) (e : Event) (after : NodeValue) (answer : Reply) → IsSmall n → Rises (endpoints_of_deltas (deltas_in e))
+    → Leads n e after answer → puts n.table after.table ≡ rows_at after.table.entries (changed_owners n.table.own answer)

@@ -1,0 +1,75 @@
+//! The puts of a step.
+
+ghost use Rattle.std.specs.Prelude.{◌≡◌, IfOk};
+ghost use Rattle.cg_types.specs.Answer.{Answers};
+ghost use Rattle.cg_types.specs.Rising.{Rises};
+ghost use Rattle.cg_exchange.specs.Members.{endpoints_of_deltas};
+ghost use Rattle.cg_core.specs.Changes.{step_with_puts, deltas_in, taken_owners as taken_owners_of, changed_owners as changed_owners_of};
+
+use crate::event::Event;
+use crate::node::Node;
+use crate::outcomes::Outcomes;
+use crate::reply::Reply;
+use crate::windows::is_taken;
+use cg_exchange::OwnerDelta;
+use cg_table::Puts;
+use cg_types::{Endpoint, Fault};
+use std::alloc::{AllocError, Global};
+
+impl Event {
+    /// The deltas that the event hands a node, rising by owner: those of an ACK or an ACK2.
+    pub fn deltas(&self) -> &[OwnerDelta]
+        ensures value { result.now ≡ deltas_in self.now }
+        ensures rise { Rises (endpoints_of_deltas (deltas_in self.now)) }
+    {
+        match self {
+            Event::Ack { m, .. } => m.deltas(),
+            Event::Ack2 { m, .. } => m.deltas(),
+            _ => &[],
+        }
+    }
+}
+
+// Whom the deltas that were taken are about.
+fn taken_owners(alloc: Global, outcomes: &Outcomes) -> Result<Vec<Endpoint>, AllocError>
+    ensures { IfOk result (λ v. v.items ≡ taken_owners_of outcomes.now) }
+{
+    let outcomes = outcomes.as_slice();
+    outcomes
+        .iter()
+        .filter(|outcome| is_taken(outcome))
+        .map(|outcome| outcome.endpoint)
+        .collect(alloc)
+}
+
+// The owners whose entry a step changed, by what it answered.
+fn changed_owners(alloc: Global, own: Endpoint, reply: &Reply) -> Result<Vec<Endpoint>, AllocError>
+    ensures { IfOk result (λ v. v.items ≡ changed_owners_of own reply.now) }
+{
+    match reply {
+        Reply::Done(_) => Vec::from_slice(alloc, &[own]),
+        Reply::Round { .. } => Vec::from_slice(alloc, &[own]),
+        Reply::Sent(_) => Ok(Vec::new(alloc)),
+        Reply::Both { outcomes, .. } => taken_owners(alloc, outcomes),
+        Reply::Took(outcomes) => taken_owners(alloc, outcomes),
+    }
+}
+
+impl Node {
+    /// The node after an event, what it answers, and the puts of the step: the owners whose entry it changed, rising,
+    /// each with its whole new entry, which is the new table's. They are found by what is answered, not by a walk over
+    /// the tables. The refusals are those of `stepped`.
+    pub fn stepped_with_puts(
+        &self,
+        alloc: Global,
+        event: &Event,
+    ) -> Result<(Node, Reply, Puts), Fault>
+        ensures { Answers (λ x. x) (step_with_puts self.now event.now) result }
+    {
+        let (node, reply) = self.stepped(alloc, event)?;
+        let _deltas = event.deltas();
+        let owners = changed_owners(alloc, self.table().own(), &reply)?;
+        let puts = Puts::of_owners(alloc, node.table(), &owners)?;
+        Ok((node, reply, puts))
+    }
+}

@@ -1,0 +1,98 @@
+//! Owners with whole new entries, which lead from a table to a later one.
+
+ghost use Rattle.std.specs.Prelude.{◌≡◌, ◌∷◌, [], IfOk, option_copied};
+ghost use Rattle.cg_types.specs.Rising.{Rises};
+ghost use Rattle.cg_map.specs.Rows.{keys_of};
+ghost use Rattle.cg_table.specs.Puts.{rows_at};
+
+use crate::table::Table;
+use cg_entry::Entry;
+use cg_map::{Row, push_some};
+use cg_types::Endpoint;
+use std::alloc::{AllocError, Global};
+use std::marker::Model;
+
+/// Owners, rising, each with a whole new entry, which tables may share.
+#[derive(Drop)]
+pub struct Puts {
+    rows: Vec<Row<Entry>>,
+}
+
+/// A contract sees the list of owners with their entries.
+impl Model for Puts {
+    ghost use Rattle.std.specs.Prelude.{List};
+    ghost use Rattle.cg_types.specs.Rising.{Rises};
+    ghost use Rattle.cg_map.specs.Rows.{keys_of};
+    ghost use Rattle.cg_table.specs.Puts.{Put, puts_code};
+
+    ghost Value = { List Put };
+
+    ghost coded = { puts_code };
+
+    ghost view = { λ p. p.rows.items };
+
+    ghost invariant = { λ p. Rises (keys_of p.rows.items) };
+}
+
+// A row, if there is one, with no copy of its entry.
+fn share_some(row: Option<&Row<Entry>>) -> Result<Option<Row<Entry>>, AllocError>
+    ensures { IfOk result (λ r. r ≡ option_copied row.entry) }
+{
+    match row {
+        Some(row) => Ok(Some(row.share()?)),
+        None => Ok(None),
+    }
+}
+
+impl Puts {
+    /// No puts. It takes no memory.
+    pub fn none(alloc: Global) -> Puts
+        ensures { result ≡ [] }
+    {
+        Puts {
+            rows: Vec::new(alloc),
+        }
+    }
+
+    /// One put. `AllocError` where its row finds no memory.
+    pub fn one(alloc: Global, owner: Endpoint, entry: Entry) -> Result<Puts, AllocError>
+        ensures { IfOk result (λ p. p ≡ (owner, entry) ∷ []) }
+    {
+        let mut rows = Vec::with_capacity(alloc, 1)?;
+        rows.push(Row::new(alloc, owner, entry)?)?;
+        Ok(Puts { rows })
+    }
+
+    /// What a table holds of some owners, which have to rise. It shares the entries with the table; an owner that the
+    /// table does not hold is left out. `AllocError` where the list of rows finds no memory.
+    pub fn of_owners(alloc: Global, table: &Table, owners: &[Endpoint]) -> Result<Puts, AllocError>
+        requires { Rises owners.now }
+        ensures { IfOk result (λ p. p ≡ rows_at table.now.entries owners.now) }
+    {
+        let mut rows = Vec::with_capacity(alloc, owners.len())?;
+        for owner in owners {
+            push_some(&mut rows, share_some(table.row(*owner))?)?;
+        }
+        Ok(Puts { rows })
+    }
+
+    /// The owners with their entries, rising.
+    pub fn rows(&self) -> &[Row<Entry>]
+        ensures value { result.now ≡ self.now }
+        ensures rise { Rises (keys_of result.now) }
+    {
+        &self.rows
+    }
+
+    /// The same puts, which share their entries. `AllocError` where the list of rows finds no memory.
+    pub fn copy(&self, alloc: Global) -> Result<Puts, AllocError>
+        ensures { IfOk result (λ p. p ≡ self.now) }
+    {
+        let puts = self.rows();
+        let mut rows = Vec::with_capacity(alloc, puts.len())?;
+        for row in puts {
+            rows.push(row.share()?)?;
+        }
+        Ok(Puts { rows })
+    }
+}
