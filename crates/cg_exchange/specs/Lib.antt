@@ -1,5 +1,4 @@
 pub mod Values
-pub mod Equality
 pub mod MessageCode
 pub mod Members
 pub mod Contents

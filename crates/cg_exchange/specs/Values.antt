@@ -4,7 +4,10 @@ use Rattle.std.specs.Coded.{Coded, code_by, coded×, coded_ℕ, coded_list}
 use Rattle.cg_entry.specs.Values.{DeltaValue, delta_code}
 use Rattle.cg_types.specs.Text.{ClusterValue, cluster_code}
 use Rattle.cg_exchange.specs.declared.owner_delta.OwnerDelta.{OwnerDelta}
+use Rattle.cg_exchange.specs.declared.outcome.Outcome.{Outcome}
 use Rattle.cg_table.specs.declared.digest.Digest.{Digest}
+use Rattle.cg_table.specs.declared.took.Took.{Took}
+use Rattle.cg_table.specs.Took.{took_code}
 
 -- whose entry is asked for, of which generation, and above which version
 pub record RequestValue : Type 0 where
@@ -44,3 +47,8 @@ pub record Ack2Value : Type 0 where
 
 abbrev pub ack2_code : Coded Ack2Value
 ack2_code = code_by (List OwnerDelta) (coded_list owner_delta_code) (λ a. a.deltas) (λ ds. record { deltas = ds }) (λ _. refl)
+
+abbrev pub outcome_code : Coded Outcome
+outcome_code =
+    code_by (ℕ × Took) (coded× coded_ℕ took_code) (λ o. (o.endpoint, o.took))
+      (λ p. record { endpoint = p.0; took = p.1 }) (λ _. refl)

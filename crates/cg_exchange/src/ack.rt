@@ -34,7 +34,7 @@ impl Model for Ack {
 
 impl PartialEq for Ack {
     ghost use Rattle.cg_exchange.specs.Values.{ack_code};
-    ghost use Rattle.cg_exchange.specs.Equality.{same_by, same_by-partial};
+    ghost use Rattle.cg_types.specs.Equality.{same_by, same_by-partial};
 
     ghost eq = { same_by ack_code };
 
@@ -50,7 +50,7 @@ impl PartialEq for Ack {
 
 impl Eq for Ack {
     ghost use Rattle.cg_exchange.specs.Values.{ack_code};
-    ghost use Rattle.cg_exchange.specs.Equality.{same_by-laws};
+    ghost use Rattle.cg_types.specs.Equality.{same_by-laws};
 
     ghost laws = { same_by-laws ack_code };
 }

@@ -32,7 +32,7 @@ impl Model for Ack2 {
 
 impl PartialEq for Ack2 {
     ghost use Rattle.cg_exchange.specs.Values.{ack2_code};
-    ghost use Rattle.cg_exchange.specs.Equality.{same_by, same_by-partial};
+    ghost use Rattle.cg_types.specs.Equality.{same_by, same_by-partial};
 
     ghost eq = { same_by ack2_code };
 
@@ -48,7 +48,7 @@ impl PartialEq for Ack2 {
 
 impl Eq for Ack2 {
     ghost use Rattle.cg_exchange.specs.Values.{ack2_code};
-    ghost use Rattle.cg_exchange.specs.Equality.{same_by-laws};
+    ghost use Rattle.cg_types.specs.Equality.{same_by-laws};
 
     ghost laws = { same_by-laws ack2_code };
 }

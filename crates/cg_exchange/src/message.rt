@@ -17,7 +17,7 @@ pub enum Message {
 
 impl PartialEq for Message {
     ghost use Rattle.cg_exchange.specs.MessageCode.{message_code};
-    ghost use Rattle.cg_exchange.specs.Equality.{same_by, same_by-partial};
+    ghost use Rattle.cg_types.specs.Equality.{same_by, same_by-partial};
 
     ghost eq = { same_by message_code };
 
@@ -38,7 +38,7 @@ impl PartialEq for Message {
 
 impl Eq for Message {
     ghost use Rattle.cg_exchange.specs.MessageCode.{message_code};
-    ghost use Rattle.cg_exchange.specs.Equality.{same_by-laws};
+    ghost use Rattle.cg_types.specs.Equality.{same_by-laws};
 
     ghost laws = { same_by-laws message_code };
 }

@@ -32,7 +32,7 @@ impl Model for Syn {
 
 impl PartialEq for Syn {
     ghost use Rattle.cg_exchange.specs.Values.{syn_code};
-    ghost use Rattle.cg_exchange.specs.Equality.{same_by, same_by-partial};
+    ghost use Rattle.cg_types.specs.Equality.{same_by, same_by-partial};
 
     ghost eq = { same_by syn_code };
 
@@ -48,7 +48,7 @@ impl PartialEq for Syn {
 
 impl Eq for Syn {
     ghost use Rattle.cg_exchange.specs.Values.{syn_code};
-    ghost use Rattle.cg_exchange.specs.Equality.{same_by-laws};
+    ghost use Rattle.cg_types.specs.Equality.{same_by-laws};
 
     ghost laws = { same_by-laws syn_code };
 }

@@ -16,7 +16,7 @@ pub struct OwnerDelta {
 
 impl PartialEq for OwnerDelta {
     ghost use Rattle.cg_exchange.specs.Values.{owner_delta_code};
-    ghost use Rattle.cg_exchange.specs.Equality.{same_by, same_by-partial};
+    ghost use Rattle.cg_types.specs.Equality.{same_by, same_by-partial};
 
     ghost eq = { same_by owner_delta_code };
 
@@ -32,7 +32,7 @@ impl PartialEq for OwnerDelta {
 
 impl Eq for OwnerDelta {
     ghost use Rattle.cg_exchange.specs.Values.{owner_delta_code};
-    ghost use Rattle.cg_exchange.specs.Equality.{same_by-laws};
+    ghost use Rattle.cg_types.specs.Equality.{same_by-laws};
 
     ghost laws = { same_by-laws owner_delta_code };
 }

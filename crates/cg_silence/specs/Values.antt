@@ -1,5 +1,6 @@
 -- What contracts see of settings and windows.
-use Rattle.std.specs.Prelude.{ℕ, ◌≡◌, ◌<◌, ◌≤◌, List, length, sum, Option, All}
+use Rattle.std.specs.Prelude.{ℕ, ◌≡◌, ◌<◌, ◌≤◌, List, length, sum, Option, All, refl}
+use Rattle.std.specs.Coded.{Coded, code_by, coded×, coded_ℕ, coded_list, coded_option}
 use Rattle.cg_silence.specs.declared.limits.TheConstants.{WINDOW_LIMIT, GAP_LIMIT, THRESHOLD_LIMIT, DEFAULT_WINDOW, DEFAULT_INITIAL_GAP, DEFAULT_MAX_GAP, DEFAULT_THRESHOLD}
 
 -- how silence is judged: gaps kept, gaps in milliseconds, and thousandths of the mean gap
@@ -45,3 +46,15 @@ pub record IsWindow (s : SilenceValue) (gaps : List ℕ) (capacity total : ℕ) 
   pub few : length gaps ≤ s.window
   pub small : All (λ g. g ≤ s.max_gap) gaps
   pub summed : total ≡ sum gaps
+
+-- the codes that models of values with these ask for
+abbrev pub silence_code : Coded SilenceValue
+silence_code =
+    code_by (ℕ × (ℕ × (ℕ × ℕ))) (coded× coded_ℕ (coded× coded_ℕ (coded× coded_ℕ coded_ℕ)))
+      (λ s. (s.window, (s.initial_gap, (s.max_gap, s.threshold))))
+      (λ p. record { window = p.0; initial_gap = p.1.0; max_gap = p.1.1.0; threshold = p.1.1.1 }) (λ _. refl)
+
+abbrev pub shown_code : Coded Shown
+shown_code =
+    code_by (List ℕ × Option ℕ) (coded× (coded_list coded_ℕ) (coded_option coded_ℕ)) (λ w. (w.gaps, w.last))
+      (λ p. record { gaps = p.0; last = p.1 }) (λ _. refl)

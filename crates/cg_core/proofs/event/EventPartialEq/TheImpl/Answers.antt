@@ -1,4 +1,4 @@
-use Rattle.cg_exchange.specs.Equality.{same_by-is}
+use Rattle.cg_types.specs.Equality.{same_by-is}
 use Rattle.cg_core.specs.EventCodes.{event_code}
 use Rattle.cg_core.proofs.event.EventPartialEq.TheImpl.Goals as goal
 

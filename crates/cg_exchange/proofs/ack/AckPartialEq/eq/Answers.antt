@@ -1,7 +1,7 @@
 use Rattle.std.proofs.Common.{◌∙◌, sym, ap, rules}
 use Rattle.std.proofs.lemmas.Slice.Eq.{slice_eq-Decides}
 use Rattle.cg_exchange.specs.Values.{RequestValue, AckValue, owner_delta_code}
-use Rattle.cg_exchange.specs.Equality.{same_by-Decides}
+use Rattle.cg_types.specs.Equality.{same_by-Decides}
 use Rattle.cg_exchange.proofs.ack.AckPartialEq.eq.Goals as goal
 
 pub returns-then-eq : goal.returns-then-eq

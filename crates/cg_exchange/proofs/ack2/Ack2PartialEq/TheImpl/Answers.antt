@@ -1,5 +1,5 @@
 use Rattle.cg_exchange.specs.Values.{ack2_code}
-use Rattle.cg_exchange.specs.Equality.{same_by-is}
+use Rattle.cg_types.specs.Equality.{same_by-is}
 use Rattle.cg_exchange.proofs.ack2.Ack2PartialEq.TheImpl.Goals as goal
 
 pub eq-tells : goal.eq-tells

@@ -2,7 +2,7 @@ use Rattle.std.proofs.Common.{◌∙◌, List, sym, ap}
 use Rattle.std.proofs.lemmas.Slice.Eq.{slice_eq-Decides}
 use Rattle.cg_exchange.specs.declared.owner_delta.OwnerDelta.{OwnerDelta}
 use Rattle.cg_exchange.specs.Values.{Ack2Value, owner_delta_code}
-use Rattle.cg_exchange.specs.Equality.{same_by-Decides}
+use Rattle.cg_types.specs.Equality.{same_by-Decides}
 use Rattle.cg_exchange.proofs.ack2.Ack2PartialEq.eq.Goals as goal
 
 pub returns : goal.returns

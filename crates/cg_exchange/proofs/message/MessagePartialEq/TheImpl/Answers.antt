@@ -1,5 +1,5 @@
 use Rattle.cg_exchange.specs.MessageCode.{message_code}
-use Rattle.cg_exchange.specs.Equality.{same_by-is}
+use Rattle.cg_types.specs.Equality.{same_by-is}
 use Rattle.cg_exchange.proofs.message.MessagePartialEq.TheImpl.Goals as goal
 
 pub eq-tells : goal.eq-tells

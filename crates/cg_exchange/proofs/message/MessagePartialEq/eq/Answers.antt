@@ -1,7 +1,7 @@
 use Rattle.std.proofs.Common.{◌≡◌, ◌∙◌, sym, ap}
 use Rattle.cg_exchange.specs.declared.message.Message.TheVariants.{Syn, Ack, Ack2}
 use Rattle.cg_exchange.specs.Values.{SynValue, AckValue, Ack2Value, syn_code, ack_code, ack2_code}
-use Rattle.cg_exchange.specs.Equality.{same_by-Decides}
+use Rattle.cg_types.specs.Equality.{same_by-Decides}
 use Rattle.cg_exchange.proofs.message.MessagePartialEq.eq.Goals as goal
 
 same_syn : (x y : SynValue) → Syn x ≡ Syn y → x ≡ y
