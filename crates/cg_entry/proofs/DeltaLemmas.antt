@@ -1,17 +1,21 @@
 -- What is newer than a version.
-use Rattle.std.proofs.Common.{◌≡◌, ℕ, suc, ◌<◌, ◌≤◌, Bool, true, false, cond, List, [], ◌∷◌, length, None, refl, sym, ap, subst, ◌∙◌, arith, nat_lt}
-use Rattle.std.specs.Prelude.{max, not, ◌||◌, ◌==◌}
+use Rattle.std.proofs.Common.{◌≡◌, ℕ, zero, suc, ◌<◌, ◌≤◌, get_or, Bool, true, false, cond, List, [], ◌∷◌, length, None, refl, sym, ap, subst, ◌∙◌, arith, nat_lt}
+use Rattle.std.specs.Prelude.{max, not, ◌||◌, ◌&&◌, ◌==◌, nat_le, Option, Result, Ok, Err, IfSome, is_some}
+use Rattle.std.specs.Result.{result_ok}
 use Rattle.std.specs.List.{filter}
 use Rattle.std.specs.Ordering.{nat_cmp}
-use Rattle.std.specs.FinMap.{entries, entries_sorted, from_sorted}
-use Rattle.std.proofs.lemmas.Bool.{ltb-true, ltb-false, lt-ltb, le-ltb}
+use Rattle.std.specs.FinMap.{entries, entries_sorted, from_sorted, empty, len-entries, len-empty}
+use Rattle.std.proofs.lemmas.Bool.{ltb-true, ltb-false, lt-ltb, le-ltb, leb-true, leb-false}
 use Rattle.std.proofs.lemmas.Bool.Decides.{nat_tests}
 use Rattle.cg_types.proofs.RisingLemmas.{entries_rising, rise_sorted, rise_filter, both, first_of, second_of}
 use Rattle.cg_entry.specs.declared.state.State.{State}
+use Rattle.cg_types.specs.declared.fault.Cause.{Cause}
+use Rattle.cg_types.specs.declared.fault.Cause.TheVariants as cause
+use Rattle.cg_entry.specs.Values.{DeltaValue}
 use Rattle.cg_entry.specs.Versioned.{Versioned, States}
-use Rattle.cg_entry.specs.State.{pairs, all_newer, keys_rise, makes_delta}
+use Rattle.cg_entry.specs.State.{KeysRise, pairs, all_newer, keys_rise, makes_delta, delta_from}
 use Rattle.cg_entry.specs.Entry.{greatest_of, greatest, newer_than, IsDelta}
-use Rattle.cg_entry.proofs.StateLemmas.{newer, newer_than-pairs, greatest-pairs}
+use Rattle.cg_entry.proofs.StateLemmas.{newer, newer_rise, entries-pairs, newer_than-pairs, greatest-pairs}
 
 abbrev is_newer : ℕ → ℕ × Versioned → Bool
 is_newer v s = nat_lt v s.1.version
@@ -90,3 +94,63 @@ module _ (v heartbeat : ℕ) (items : List State) (all : all_newer v items ≡ t
     newer = sym (newer_than-pairs v items rise) ∙ ap (λ (xs : List State). from_sorted {R = nat_cmp} (pairs xs)) (all_kept v items all);
     something = lt;
   }
+
+-- ---- the delta that parts make, or none
+
+abbrev delta_at : ℕ → ℕ → ℕ → List State → DeltaValue
+delta_at generation v heartbeat items = record { generation = generation; above = v; heartbeat = heartbeat; states = from_sorted (pairs items) }
+
+abbrev answered : (newer rise none : Bool) → DeltaValue → Result DeltaValue Cause
+answered newer rise none d = cond (not newer) (Err cause.Version) (cond (not rise) (Err cause.Order) (cond none (Err cause.Empty) (Ok d)))
+
+and_false : (b : Bool) → (b && false) ≡ false
+and_false true = refl
+and_false false = refl
+
+module _ (v heartbeat : ℕ) (items : List State) where
+  abbrev nothing : Bool
+  nothing = nat_le (greatest heartbeat (from_sorted (pairs items))) v
+
+  made_by : (newer rise none : Bool) (d : DeltaValue) → all_newer v items ≡ newer → keys_rise items ≡ rise → nothing ≡ none
+      → is_some (result_ok (answered newer rise none d)) ≡ makes_delta v heartbeat items
+  made_by false rise none d n r e = rw n (sym (and_false (nat_lt v heartbeat || not (length items == 0))))
+  made_by true false none d n r e = rw (n, r) (sym (and_false (nat_lt v heartbeat || not (length items == 0))))
+  made_by true true true d n r e = sym (makes_none v heartbeat items n r (leb-true _ v e))
+  made_by true true false d n r e = sym (makes_some v heartbeat items n r (leb-false _ v e))
+
+  value_by : (newer rise none : Bool) (d : DeltaValue) → IfSome (result_ok (answered newer rise none d)) (λ x. x ≡ d)
+  value_by false rise none d = tt
+  value_by true false none d = tt
+  value_by true true true d = tt
+  value_by true true false d = refl
+
+  -- what a caller sees of the delta that is made, or not
+  pub delta_made : (g : ℕ) (r : Result DeltaValue Cause) (o : Option DeltaValue) → r ≡ delta_from g v heartbeat items → o ≡ result_ok r → is_some o ≡ makes_delta v heartbeat items
+  delta_made g r o is ok = ap is_some (ok ∙ ap result_ok is) ∙ made_by (all_newer v items) (keys_rise items) nothing (delta_at g v heartbeat items) refl refl refl
+
+  pub delta_value : (g : ℕ) (r : Result DeltaValue Cause) (o : Option DeltaValue) → r ≡ delta_from g v heartbeat items → o ≡ result_ok r → IfSome o (λ d. d ≡ delta_at g v heartbeat items)
+  delta_value g r o is ok =
+      subst (λ (p : Option DeltaValue). IfSome p (λ d. d ≡ delta_at g v heartbeat items)) (sym (ok ∙ ap result_ok is)) (value_by (all_newer v items) (keys_rise items) nothing (delta_at g v heartbeat items))
+
+-- ---- where nothing is newer
+
+kept_some : {X : Type 0} (p : X → Bool) (xs : List X) (i : ℕ) (x : X) → i < length xs → x ≡ get_or xs i x → p x ≡ true → 0 < length (filter p xs)
+kept_some p [] i x lt is h = absurd (omega arith)
+kept_some p (y ∷ ys) zero x lt is h = rw (ap p (sym is) ∙ h) (omega arith)
+kept_some p (y ∷ ys) (suc i) x lt is h =
+    elim (p y) as (λ b. 0 < length (cond b (y ∷ filter p ys) (filter p ys))) [ true ↦ omega arith | false ↦ kept_some p ys i x (omega arith) is h ]
+
+length-pairs : (items : List State) → length (pairs items) ≡ length items
+length-pairs [] = refl
+length-pairs (s ∷ ss) = ap suc (length-pairs ss)
+
+-- a list with a newer state has something newer
+pub none_newer : (v i : ℕ) (s : State) (xs all : List State) (states : States) → i < length xs → s ≡ get_or xs i s → xs ≡ all → v < s.version
+    → KeysRise all → from_sorted {R = nat_cmp} (pairs all) ≡ states → newer_than v states ≡ empty → ⊥
+none_newer v i s xs all states lt is same over rise seen e =
+    let some : 0 < length (newer v all) =
+    subst (λ (ys : List State). 0 < length (newer v ys)) same (kept_some (λ (t : State). nat_lt v t.version) xs i s lt is (lt-ltb v s.version over)) in
+    let whole : pairs (newer v all) ≡ entries (empty {X = Versioned} {R = nat_cmp}) =
+    sym (entries-pairs (newer v all) (newer_rise v all rise)) ∙ ap entries (newer_than-pairs v all rise ∙ ap (newer_than v) seen ∙ e) in
+    let none : length (pairs (newer v all)) ≡ 0 = ap length whole ∙ sym (len-entries (empty {X = Versioned} {R = nat_cmp})) ∙ len-empty nat_cmp Versioned in
+    omega (arith, length-pairs (newer v all))

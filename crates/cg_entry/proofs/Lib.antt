@@ -8,6 +8,7 @@ pub mod VersionLemmas
 pub mod HistoryLemmas
 pub mod HistoryLaws
 pub mod TakingLemmas
+pub mod TakenLemmas
 pub mod SpellingLemmas
 pub mod SpellingLaws
 pub mod StandingLemmas

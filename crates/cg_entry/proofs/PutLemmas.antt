@@ -15,22 +15,22 @@ use Rattle.cg_types.specs.Rising.{is_past, rise_past}
 use Rattle.cg_types.proofs.RisingLemmas.{keys_of, rise_sorted, sorted_rising, find_past, find-before, second_of}
 use Rattle.cg_entry.specs.declared.state.State.{State}
 use Rattle.cg_entry.specs.Versioned.{Versioned, States}
-use Rattle.cg_entry.specs.State.{pair, pairs, versioned, place, KeysRise}
+use Rattle.cg_entry.specs.State.{pair, pairs, versioned, count_below, KeysRise}
 use Rattle.cg_entry.specs.Entry.{overlay}
 use Rattle.cg_entry.proofs.StateLemmas.{keys-pairs, pairs_rise, entries-pairs}
 
-pub place_within : (k : ℕ) (xs : List State) → place k (pairs xs) ≤ length xs
+pub place_within : (k : ℕ) (xs : List State) → count_below k (pairs xs) ≤ length xs
 place_within k [] = omega arith
 place_within k (x ∷ xs) =
-    elim (nat_lt x.key k) as (λ b. cond b (suc (place k (pairs xs))) 0 ≤ suc (length xs)) [ true ↦ omega (arith, place_within k xs) | false ↦ omega arith ]
+    elim (nat_lt x.key k) as (λ b. cond b (suc (count_below k (pairs xs))) 0 ≤ suc (length xs)) [ true ↦ omega (arith, place_within k xs) | false ↦ omega arith ]
 
 abbrev put_at : State → State → List State → Ordering → List (ℕ × Versioned)
 put_at s x xs r = by_order r (pair s ∷ pair x ∷ pairs xs) ((x.key, versioned s) ∷ pairs xs) (pair x ∷ put nat_cmp s.key (versioned s) (pairs xs))
 
-pub put_replaces : (s d : State) (xs : List State) → place s.key (pairs xs) < length xs → (get_or xs (place s.key (pairs xs)) d).key ≡ s.key → pairs (set xs (place s.key (pairs xs)) s) ≡ put nat_cmp s.key (versioned s) (pairs xs)
+pub put_replaces : (s d : State) (xs : List State) → count_below s.key (pairs xs) < length xs → (get_or xs (count_below s.key (pairs xs)) d).key ≡ s.key → pairs (set xs (count_below s.key (pairs xs)) s) ≡ put nat_cmp s.key (versioned s) (pairs xs)
 put_replaces s d [] lt same = absurd (omega arith)
 put_replaces s d (x ∷ xs) lt same =
-    elim (nat_lt x.key s.key) as (λ b. nat_lt x.key s.key ≡ b → cond b (suc (place s.key (pairs xs))) 0 < suc (length xs) → (get_or (x ∷ xs) (cond b (suc (place s.key (pairs xs))) 0) d).key ≡ s.key → pairs (set (x ∷ xs) (cond b (suc (place s.key (pairs xs))) 0) s) ≡ put nat_cmp s.key (versioned s) (pair x ∷ pairs xs)) [
+    elim (nat_lt x.key s.key) as (λ b. nat_lt x.key s.key ≡ b → cond b (suc (count_below s.key (pairs xs))) 0 < suc (length xs) → (get_or (x ∷ xs) (cond b (suc (count_below s.key (pairs xs))) 0) d).key ≡ s.key → pairs (set (x ∷ xs) (cond b (suc (count_below s.key (pairs xs))) 0) s) ≡ put nat_cmp s.key (versioned s) (pair x ∷ pairs xs)) [
       | true ↦ λ b lt same.
           let above : x.key < s.key = ltb-true x.key s.key b in
           ap (λ (es : List (ℕ × Versioned)). pair x ∷ es) (put_replaces s d xs (omega arith) same) ∙ ap (put_at s x xs) (nat_cmp_is s.key x.key Greater above)
@@ -38,10 +38,10 @@ put_replaces s d (x ∷ xs) lt same =
           ap (λ (k : ℕ). (k, versioned s) ∷ pairs xs) (sym same) ∙ ap (put_at s x xs) (nat_cmp_is s.key x.key Equal (sym same))
     ] refl lt same
 
-pub put_inserts : (s d : State) (xs : List State) → (place s.key (pairs xs) < length xs → (get_or xs (place s.key (pairs xs)) d).key ≡ s.key → ⊥) → pairs (insert xs (place s.key (pairs xs)) s) ≡ put nat_cmp s.key (versioned s) (pairs xs)
+pub put_inserts : (s d : State) (xs : List State) → (count_below s.key (pairs xs) < length xs → (get_or xs (count_below s.key (pairs xs)) d).key ≡ s.key → ⊥) → pairs (insert xs (count_below s.key (pairs xs)) s) ≡ put nat_cmp s.key (versioned s) (pairs xs)
 put_inserts s d [] other = refl
 put_inserts s d (x ∷ xs) other =
-    elim (nat_lt x.key s.key) as (λ b. nat_lt x.key s.key ≡ b → (cond b (suc (place s.key (pairs xs))) 0 < suc (length xs) → (get_or (x ∷ xs) (cond b (suc (place s.key (pairs xs))) 0) d).key ≡ s.key → ⊥) → pairs (insert (x ∷ xs) (cond b (suc (place s.key (pairs xs))) 0) s) ≡ put nat_cmp s.key (versioned s) (pair x ∷ pairs xs)) [
+    elim (nat_lt x.key s.key) as (λ b. nat_lt x.key s.key ≡ b → (cond b (suc (count_below s.key (pairs xs))) 0 < suc (length xs) → (get_or (x ∷ xs) (cond b (suc (count_below s.key (pairs xs))) 0) d).key ≡ s.key → ⊥) → pairs (insert (x ∷ xs) (cond b (suc (count_below s.key (pairs xs))) 0) s) ≡ put nat_cmp s.key (versioned s) (pair x ∷ pairs xs)) [
       | true ↦ λ b other.
           let above : x.key < s.key = ltb-true x.key s.key b in
           ap (λ (es : List (ℕ × Versioned)). pair x ∷ es) (put_inserts s d xs (λ lt same. other (omega arith) same)) ∙ ap (put_at s x xs) (nat_cmp_is s.key x.key Greater above)

@@ -1,9 +1,14 @@
 -- States in a list, as a finite map.
-use Rattle.std.specs.Prelude.{ℕ, suc, Bool, ◌&&◌, ◌||◌, not, ◌==◌, List, [], ◌∷◌, length, map, nat_lt, None, if◌then◌else◌}
+use Rattle.std.specs.Prelude.{ℕ, suc, Bool, ◌&&◌, ◌||◌, not, ◌==◌, List, [], ◌∷◌, length, map, nat_lt, nat_le, None, Result, Ok, Err, if◌then◌else◌}
+use Rattle.std.specs.FinMap.{from_sorted}
+use Rattle.cg_types.specs.declared.fault.Cause.{Cause}
+use Rattle.cg_types.specs.declared.fault.Cause.TheVariants as cause
 use Rattle.std.specs.List.{list_all, AllByRecursion}
 use Rattle.cg_types.specs.Rising.{Rises, rise_past}
 use Rattle.cg_entry.specs.declared.state.State.{State}
+use Rattle.cg_entry.specs.Values.{DeltaValue}
 use Rattle.cg_entry.specs.Versioned.{Versioned}
+use Rattle.cg_entry.specs.Entry.{greatest}
 use Rattle.cg_entry.specs.Contents.{IsState}
 
 -- what is held at a state's key
@@ -40,7 +45,20 @@ abbrev pub makes_delta : ℕ → ℕ → List State → Bool
 makes_delta above heartbeat items =
     (nat_lt above heartbeat || not (length items == 0)) && (all_newer above items && keys_rise items)
 
+-- the delta that these make, or what is wrong with them
+abbrev pub delta_from : ℕ → ℕ → ℕ → List State → Result DeltaValue Cause
+delta_from generation above heartbeat items =
+    if not (all_newer above items) then Err cause.Version
+    else if not (keys_rise items) then Err cause.Order
+    else if nat_le (greatest heartbeat (from_sorted (pairs items))) above then Err cause.Empty
+    else Ok (record {
+      generation = generation;
+      above = above;
+      heartbeat = heartbeat;
+      states = from_sorted (pairs items);
+    })
+
 -- how many entries stand before the first key that is not below k
-abbrev pub place : ℕ → List (ℕ × Versioned) → ℕ
-place k [] = 0
-place k (e ∷ es) = if nat_lt e.0 k then suc (place k es) else 0
+abbrev pub count_below : ℕ → List (ℕ × Versioned) → ℕ
+count_below k [] = 0
+count_below k (e ∷ es) = if nat_lt e.0 k then suc (count_below k es) else 0

@@ -1,13 +1,18 @@
 -- What a delta makes of an entry.
-use Rattle.std.specs.Prelude.{Bool, true, false, nat_lt, nat_le, ◌==◌, Option, Some, None, if◌then◌else◌}
+use Rattle.std.specs.Prelude.{ℕ, ◌≡◌, ⊤, Bool, true, false, nat_lt, nat_le, ◌==◌, Option, Some, None, if◌then◌else◌}
+use Rattle.std.specs.FinMap as map
+use Rattle.std.specs.Option.{option_or}
 use Rattle.cg_entry.specs.declared.entry.Absorbed.{Absorbed}
 use Rattle.cg_entry.specs.declared.entry.Absorbed.TheVariants.{Taken, Old, Gap}
 use Rattle.cg_entry.specs.Values.{EntryValue, DeltaValue}
+use Rattle.cg_entry.specs.Versioned.{States}
 use Rattle.cg_entry.specs.Entry.{greatest, newest, overlay}
 
 -- the entry that a whole delta carries
 abbrev pub whole_entry : DeltaValue → Option EntryValue
-whole_entry d = if d.above == 0 then Some (record { generation = d.generation; heartbeat = d.heartbeat; states = d.states }) else None
+whole_entry d =
+    if d.above == 0 then Some (record { generation = d.generation; heartbeat = d.heartbeat; states = d.states })
+    else None
 
 abbrev pub taken_or_gap : Option EntryValue → Absorbed
 taken_or_gap None = Gap
@@ -42,3 +47,20 @@ abbrev pub entry_after : Option EntryValue → Absorbed → Option EntryValue
 entry_after held (Taken e) = Some e
 entry_after held Old = held
 entry_after held Gap = held
+
+-- the states that those of a delta come over: what is held of its generation
+abbrev pub states_under : Option EntryValue → DeltaValue → States
+states_under None d = map.empty
+states_under (Some e) d = if e.generation == d.generation then e.states else map.empty
+
+-- The entry that a delta leads to: its generation and heartbeat, and at each key its state, or else the one under it.
+pub record IsTakenEntry (held : Option EntryValue) (d : DeltaValue) (after : EntryValue) : Type 0 where
+  pub generation : after.generation ≡ d.generation
+  pub heartbeat : after.heartbeat ≡ d.heartbeat
+  pub each : (key : ℕ) → map.get after.states key ≡ option_or (map.get d.states key) (map.get (states_under held d) key)
+
+-- where a delta was taken, a fact of the entry that it led to
+abbrev pub IfTaken : Absorbed → (EntryValue → Type 0) → Type 0
+IfTaken (Taken e) P = P e
+IfTaken Old P = ⊤
+IfTaken Gap P = ⊤

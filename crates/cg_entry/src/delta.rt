@@ -3,13 +3,13 @@
 ghost use Rattle.std.specs.Prelude.{◌≡◌, ◌↔◌, IsTrue, IfSome, IfOk, is_some};
 ghost use Rattle.std.specs.FinMap as map;
 ghost use Rattle.cg_types.specs.Numbers.{IsVersionHeld};
-ghost use Rattle.cg_entry.specs.State.{KeysRise, pairs, all_newer as all_newer_of, makes_delta};
+ghost use Rattle.cg_entry.specs.State.{KeysRise, pairs, all_newer as all_newer_of, makes_delta, delta_from};
 ghost use Rattle.cg_entry.specs.Contents.{IsDeltaOfEntry};
 ghost use Rattle.cg_entry.specs.Entry.{greatest, IsDelta};
 
 use crate::state::State;
 use crate::states::{States, keys_rise};
-use cg_types::{Generation, Version};
+use cg_types::{Cause, Generation, Version};
 use std::alloc::{AllocError, Global};
 use std::marker::Model;
 
@@ -55,14 +55,30 @@ impl Delta {
         ensures when { is_some result ≡ makes_delta above heartbeat states.items }
         ensures value { IfSome result (λ d. d ≡ record { generation = generation; above = above; heartbeat = heartbeat; states = map.from_sorted (pairs states.items) }) }
     {
-        if !all_newer(above, &states) || !keys_rise(&states) {
-            return None;
+        Delta::try_new(generation, above, heartbeat, states).ok()
+    }
+
+    /// As `new`, with what is wrong: `Version` where a state is not newer than `above`, else `Order` where the keys do
+    /// not rise strictly, else `Empty` where neither a state nor the heartbeat is newer than `above`.
+    pub fn try_new(
+        generation: Generation,
+        above: u32,
+        heartbeat: Version,
+        states: Vec<State>,
+    ) -> Result<Delta, Cause>
+        ensures { result ≡ delta_from generation above heartbeat states.items }
+    {
+        if !all_newer(above, &states) {
+            return Err(Cause::Version);
+        }
+        if !keys_rise(&states) {
+            return Err(Cause::Order);
         }
         let states = States::from_rising(states);
         if states.greatest(heartbeat).get() <= above {
-            return None;
+            return Err(Cause::Empty);
         }
-        Some(Delta::of_parts(generation, above, heartbeat, states))
+        Ok(Delta::of_parts(generation, above, heartbeat, states))
     }
 
     pub(crate) fn of_parts(

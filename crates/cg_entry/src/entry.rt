@@ -1,14 +1,14 @@
 //! What is held of one endpoint.
 
-ghost use Rattle.std.specs.Prelude.{◌≡◌, ◌↔◌, true, IsTrue, IfOk, IfErr, OnOk, OnErr, None, Ok, option_copied};
+ghost use Rattle.std.specs.Prelude.{◌≡◌, ◌↔◌, true, IsTrue, IfOk, IfErr, OnOk, OnErr, IsOk, Some, None, Ok, option_copied};
 ghost use Rattle.std.specs.FinMap as map;
 ghost use Rattle.std.specs.Option.{option_map};
 ghost use Rattle.cg_types.specs.Answer.{Answers, AnswersExactly};
 ghost use Rattle.cg_version.specs.Version.{next_version};
 ghost use Rattle.cg_entry.specs.Contents.{IsEntry};
-ghost use Rattle.cg_entry.specs.Entry.{newest, delta_above, started, beaten, with_state, is_later as is_later_of};
+ghost use Rattle.cg_entry.specs.Entry.{newest, newer_than, delta_above, started, beaten, with_state, is_later as is_later_of};
 ghost use Rattle.cg_entry.specs.State.{KeysRise, pairs};
-ghost use Rattle.cg_entry.specs.Taking.{whole_entry, taken_or_gap, absorbed, is_taken, met as met_of};
+ghost use Rattle.cg_entry.specs.Taking.{whole_entry, taken_or_gap, advanced, absorbed, is_taken, met as met_of, IsTakenEntry, IfTaken};
 
 use crate::delta::Delta;
 use crate::state::State;
@@ -57,20 +57,28 @@ fn whole(alloc: Global, delta: &Delta) -> Result<Absorbed, AllocError>
     }
 }
 
-/// What a delta makes of what is held of its endpoint, if anything is. Texts are shared; `AllocError` only where the
-/// delta is to be taken and the new list of states finds no memory.
-pub fn met(alloc: Global, held: Option<&Entry>, delta: &Delta) -> Result<Absorbed, AllocError>
+fn outcome_of(alloc: Global, held: Option<&Entry>, delta: &Delta) -> Result<Absorbed, AllocError>
     ensures value { IfOk result (λ a. a ≡ met_of (option_copied held.entry) delta.now) }
     ensures refused { IfErr result (λ _. is_taken (met_of (option_copied held.entry) delta.now) ≡ true) }
 {
     match held {
-        Some(entry) => entry.absorb(alloc, delta),
+        Some(entry) => entry.outcome(alloc, delta),
         None => whole(alloc, delta),
     }
 }
 
+/// What a delta makes of what is held of its endpoint, if anything is. Texts are shared; `AllocError` only where the
+/// delta is to be taken and the new list of states finds no memory.
+pub fn met(alloc: Global, held: Option<&Entry>, delta: &Delta) -> Result<Absorbed, AllocError>
+    ensures value { IfOk result (λ a. a ≡ met_of (option_copied held.entry) delta.now) }
+    ensures each { IfOk result (λ a. IfTaken a (IsTakenEntry (option_copied held.entry) delta.now)) }
+    ensures refused { IfErr result (λ _. is_taken (met_of (option_copied held.entry) delta.now) ≡ true) }
+{
+    outcome_of(alloc, held, delta)
+}
+
 impl Entry {
-    /// The entry of an endpoint that starts. It takes no memory: `alloc` is kept for what is held later.
+    /// The entry of an endpoint that starts. `alloc` is kept for what is held later.
     pub fn start(alloc: Global, generation: Generation) -> Entry
         ensures { result ≡ started generation }
     {
@@ -97,8 +105,8 @@ impl Entry {
         }))
     }
 
-    /// Sets the heartbeat version to the next version. It takes no memory. `VersionsSpent` where there is none; the
-    /// entry and the versions are then as before.
+    /// Sets the heartbeat version to the next version. `VersionsSpent` where there is none; the entry and the versions
+    /// are then as before. No other refusal comes.
     pub fn beat(&mut self, versions: &mut Versions) -> Result<Version, Fault>
         requires { versions.old ≡ newest self.old }
         ensures version { AnswersExactly (λ v. v) (next_version (newest self.old)) result }
@@ -113,8 +121,8 @@ impl Entry {
         Ok(version)
     }
 
-    /// Gives a key a text with the next version. `VersionsSpent` where there is none, else at most `OutOfMemory`; the
-    /// entry and the versions are then as before.
+    /// Gives a key a text with the next version. `VersionsSpent` where there is none, in whose place `OutOfMemory` never
+    /// comes; else at most `OutOfMemory`. The entry and the versions are then as before.
     pub fn set(
         &mut self,
         versions: &mut Versions,
@@ -157,9 +165,19 @@ impl Entry {
         self.states.as_slice()
     }
 
-    /// What taking a delta about this endpoint makes of the entry, which stays as it is. Texts are shared; `AllocError`
-    /// only where the delta is to be taken and the new list of states finds no memory.
-    pub fn absorb(&self, alloc: Global, delta: &Delta) -> Result<Absorbed, AllocError>
+    // The entry with a delta of its generation.
+    fn advance(&self, alloc: Global, delta: &Delta) -> Result<Entry, AllocError>
+        ensures { IfOk result (λ e. e ≡ advanced self.now delta.now) }
+    {
+        let heartbeat = delta.heartbeat();
+        Ok(Entry {
+            generation: self.generation,
+            heartbeat,
+            states: self.states.overlaid(alloc, delta.held())?,
+        })
+    }
+
+    fn outcome(&self, alloc: Global, delta: &Delta) -> Result<Absorbed, AllocError>
         ensures value { IfOk result (λ a. a ≡ absorbed self.now delta.now) }
         ensures refused { IfErr result (λ _. is_taken (absorbed self.now delta.now) ≡ true) }
     {
@@ -175,11 +193,17 @@ impl Entry {
         if self.newest().get() < delta.above() {
             return Ok(Absorbed::Gap);
         }
-        Ok(Absorbed::Taken(Entry {
-            generation: self.generation,
-            heartbeat: delta.heartbeat(),
-            states: self.states.overlaid(alloc, delta.held())?,
-        }))
+        Ok(Absorbed::Taken(self.advance(alloc, delta)?))
+    }
+
+    /// What taking a delta about this endpoint makes of the entry, which stays as it is. Texts are shared; `AllocError`
+    /// only where the delta is to be taken and the new list of states finds no memory.
+    pub fn absorb(&self, alloc: Global, delta: &Delta) -> Result<Absorbed, AllocError>
+        ensures value { IfOk result (λ a. a ≡ absorbed self.now delta.now) }
+        ensures each { IfOk result (λ a. IfTaken a (IsTakenEntry (Some self.now) delta.now)) }
+        ensures refused { IfErr result (λ _. is_taken (absorbed self.now delta.now) ≡ true) }
+    {
+        met(alloc, Some(self), delta)
     }
 
     /// Which start of the endpoint the entry tells of.
@@ -222,10 +246,12 @@ impl Entry {
     }
 
     /// What a holder of this generation at version `above` lacks; 0 stands for a holder of nothing. `None` where
-    /// it lacks nothing, which takes no memory; else `AllocError` where the list of states finds none.
+    /// it lacks nothing; else `AllocError` where a list of newer states finds no memory.
     pub fn above(&self, alloc: Global, above: u32) -> Result<Option<Delta>, AllocError>
         ensures value { IfOk result (λ d. d ≡ delta_above above self.now) }
         ensures none { delta_above above self.now ≡ None → result ≡ Ok None }
+        // Without a newer state no memory is asked for.
+        ensures bare { newer_than above self.now.states ≡ map.empty → IsOk result }
     {
         if self.newest().get() <= above {
             return Ok(None);

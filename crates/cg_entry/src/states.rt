@@ -1,6 +1,6 @@
 //! A finite map from keys to texts with their versions, kept in the order of the keys.
 
-ghost use Rattle.std.specs.Prelude.{◌≡◌, ◌==◌, ◌↔◌, IsTrue, IfOk, OnOk, OnErr, find, option_copied};
+ghost use Rattle.std.specs.Prelude.{◌≡◌, ◌==◌, ◌↔◌, IsTrue, IfOk, IsOk, OnOk, OnErr, find, option_copied};
 ghost use Rattle.std.specs.FinMap as map;
 ghost use Rattle.std.specs.FinMap.Entries.{put};
 ghost use Rattle.std.specs.Option.{option_map};
@@ -8,7 +8,7 @@ ghost use Rattle.std.specs.Ordering.{nat_cmp};
 ghost use Rattle.std.specs.List.{AllByRecursion};
 ghost use Rattle.cg_entry.specs.Contents.{IsState, AreStates};
 ghost use Rattle.cg_entry.specs.Entry.{greatest, newer_than, overlay};
-ghost use Rattle.cg_entry.specs.State.{KeysRise, keys_rise as keys_rise_of, pair, pairs, place, versioned};
+ghost use Rattle.cg_entry.specs.State.{KeysRise, keys_rise as keys_rise_of, pair, pairs, count_below, versioned};
 
 use crate::state::State;
 use cg_types::{StateKey, Version};
@@ -52,7 +52,7 @@ fn state_of(items: &[State], key: StateKey) -> Option<&State>
 
 // The first place whose key is not below the key.
 fn place_of(items: &[State], key: StateKey) -> usize
-    ensures { result ≡ place key (pairs items.now) }
+    ensures { result ≡ count_below key (pairs items.now) }
 {
     let mut at = 0;
     for state in items {
@@ -136,7 +136,8 @@ impl States {
 
     // The states with a version greater than `above`.
     pub(crate) fn newer_than(&self, alloc: Global, above: u32) -> Result<States, AllocError>
-        ensures { IfOk result (λ s. s ≡ newer_than above self.now) }
+        ensures value { IfOk result (λ s. s ≡ newer_than above self.now) }
+        ensures bare { newer_than above self.now ≡ map.empty → IsOk result }
     {
         let mut items = Vec::new(alloc);
         for state in &self.items {

@@ -1,27 +1,8 @@
-use Rattle.std.proofs.Common.{◌≡◌, ◌<◌, ◌≤◌, true, sym, arith}
-use Rattle.std.specs.FinMap as map
-use Rattle.cg_entry.specs.State.{pairs, all_newer, keys_rise}
-use Rattle.cg_entry.specs.Entry.{greatest}
-use Rattle.cg_entry.proofs.DeltaLemmas.{makes_some, makes_none, listed_is_delta}
+use Rattle.cg_entry.proofs.DeltaLemmas.{delta_made, delta_value}
 use Rattle.cg_entry.proofs.delta.Delta.new.Goals as goal
 
-pub of_parts-requires-clause-valid : goal.of_parts-requires-clause-valid
-of_parts-requires-clause-valid c =
-    let all : all_newer c.args.above c.args.states.items ≡ true = cc in
-    let rise : keys_rise c.args.states.items ≡ true = cc in
-    let newer : c.args.above < greatest c.args.heartbeat (map.from_sorted (pairs c.args.states.items)) = rw (← c.from_rising-states.ensures) (omega arith) in
-    rw c.from_rising-states.ensures (listed_is_delta c.args.above c.args.heartbeat c.args.states.items all rise newer)
-
-pub returns-then-get-above-clause-when : goal.returns-then-get-above-clause-when
-returns-then-get-above-clause-when c =
-    let all : all_newer c.args.above c.args.states.items ≡ true = cc in
-    let rise : keys_rise c.args.states.items ≡ true = cc in
-    let none : greatest c.args.heartbeat (map.from_sorted (pairs c.args.states.items)) ≤ c.args.above = rw (← c.from_rising-states.ensures) (omega arith) in
-    sym (makes_none c.args.above c.args.heartbeat c.args.states.items all rise none)
-
 pub returns-clause-when : goal.returns-clause-when
-returns-clause-when c =
-    let all : all_newer c.args.above c.args.states.items ≡ true = cc in
-    let rise : keys_rise c.args.states.items ≡ true = cc in
-    let newer : c.args.above < greatest c.args.heartbeat (map.from_sorted (pairs c.args.states.items)) = rw (← c.from_rising-states.ensures) (omega arith) in
-    sym (makes_some c.args.above c.args.heartbeat c.args.states.items all rise newer)
+returns-clause-when c = delta_made c.args.above c.args.heartbeat c.args.states.items c.args.generation _ _ c.try_new.ensures c.ok.ensures.value
+
+pub returns-clause-value : goal.returns-clause-value
+returns-clause-value c = delta_value c.args.above c.args.heartbeat c.args.states.items c.args.generation _ _ c.try_new.ensures c.ok.ensures.value
