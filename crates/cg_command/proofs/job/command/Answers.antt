@@ -1,0 +1,12 @@
+use Rattle.std.proofs.Common.{◌≡◌, ◌∙◌, ap, ap₂}
+use Rattle.clap.specs.Words.{App, with_subcommand}
+use Rattle.cg_command.specs.Job.{program}
+use Rattle.cg_command.proofs.job.command.Goals as goal
+
+pub returns : goal.returns
+unfolding program
+returns c =
+    let top = λ (a : App). a.top in
+    c.in_ok-with_sim.ensures.shape c.sim.ensures.local ∙ ap₂ with_subcommand
+    (c.in_ok-with_answer.ensures.shape c.answer.ensures.local ∙ ap₂ with_subcommand c.top.ensures (ap top c.answer.ensures.app))
+    (ap top c.sim.ensures.app)

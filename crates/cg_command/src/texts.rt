@@ -1,0 +1,61 @@
+//! The texts of the command's help.
+
+/// The version that `--version` tells.
+pub const VERSION: &str = "0.1.0";
+
+/// What the program is.
+pub const ABOUT: &str =
+    "Cluster metadata by gossip, as Apache Cassandra's members exchange it. With no command it is `answer`.";
+
+/// What holds of all commands.
+pub const STATUSES: &str = "Every command reads standard input and writes standard output. \
+Endpoints are written as 10.0.0.1:7000.\n\
+\n\
+Exit status: 0 when done; 1 after a fault, which is the last line of the output, as `fault 9 OtherCluster`; \
+2 when the command line can't be read.";
+
+/// `answer` in a line.
+pub const ANSWER_ABOUT: &str = "Answer one SYN as a node that has just started";
+
+/// What `answer` reads and writes.
+pub const ANSWER_HELP: &str =
+    "Reads two lines: the node, as ENDPOINT GENERATION CLUSTER, and the frame of a SYN in \
+hexadecimal digits.\n\
+Writes the frame of the ACK in lower-case hexadecimal digits, and ends with status 0; or one fault line, with \
+status 1.\n\
+\n\
+Example: node 10.0.0.2:7000 in generation 5 of the cluster c1 answers a SYN that names nobody:\n\
+\n  printf '10.0.0.2:7000 5 c1\\n000000080101026331010000\\n' | cg answer\n\
+\n  000000190102000000010a0000021b5800000005000000000000000100";
+
+/// `sim` in a line.
+pub const SIM_ABOUT: &str =
+    "Play a script of starts, changes, messages and losses over the nodes of a cluster";
+
+/// What `sim` reads and writes.
+pub const SIM_HELP: &str =
+    "Reads a script, a line at a time, and writes what each line shows before it reads on:\n\
+\n  seeds EP ..                    the seeds of all nodes, rising; only as the first line\
+\n  start EP GENERATION            started EP GENERATION\
+\n  beat EP                        version N\
+\n  set EP KEY TEXT                version N; KEY is 1 to 16, TEXT the rest of the line\
+\n  open EP                        message N syn\
+\n  tick EP NOW W1 W2 W3 W4        round and its peers, and message N syn; NOW in milliseconds, W random words\
+\n  deliver N EP NOW               took, old, gap or own and EP for each delta, and message N ack or ack2\
+\n  gossipinfo EP                  what the node holds of each endpoint\
+\n  digests EP                     endpoint, generation and newest version of each\
+\n  ring EP                        token and endpoint of each position\
+\n  replicas EP RF TEXT            RF endpoints that keep the key TEXT\n\
+\n\
+A message is lost when it is never delivered, and repeated when it is delivered again. A line that can't be read \
+shows `fault 2 BadText`, a refused one its fault, and the script goes on. Status 0; 1 only where memory, a read or a \
+write fails.\n\
+\n\
+Example:\n\
+\n  printf 'start 10.0.0.1:7000 9\\nset 10.0.0.1:7000 1 NORMAL\\ngossipinfo 10.0.0.1:7000\\n' | cg sim\n\
+\n  started 10.0.0.1:7000 9\
+\n  version 2\
+\n  /10.0.0.1:7000\
+\n    generation:9\
+\n    heartbeat:1\
+\n    STATUS:2:NORMAL";
