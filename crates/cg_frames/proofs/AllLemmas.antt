@@ -20,7 +20,6 @@ use Rattle.cg_exchange.specs.Contents.{IsState, IsOwnerDelta}
 use Rattle.cg_exchange.specs.Messages.{IsMessage}
 pub use Rattle.cg_exchange.proofs.PartLemmas.{all_pairs}
 use Rattle.cg_frames.specs.declared.layout.Layout.{Layout}
-use Rattle.cg_frames.specs.declared.layout.TheConstants.{LAYOUT_1}
 use Rattle.cg_frames.specs.Layouts.{IsWritten}
 use Rattle.cg_frames.specs.Fits.{FitsState, FitsDelta, FitsMembers, Fits}
 use Rattle.cg_frames.proofs.SpelledDeltas.{states_few}
@@ -56,8 +55,9 @@ states_fit layout above m enough newer all = newer_fit layout above (entries m) 
 -- there are no more states than keys
 pub few_states : (d : OwnerDelta) (ss : List State) → IsOwnerDelta d → pairs ss ≡ entries d.delta.states → length ss ≤ STATE_LIMIT
 few_states d ss is same =
-    let fit = states_fit LAYOUT_1 d.delta.above d.delta.states (omega arith) is.carries.newer is.states in
-    omega (arith, states_few LAYOUT_1 d.delta.above (entries d.delta.states) fit (rise_sorted (entries d.delta.states) (entries_sorted d.delta.states)), ap length same, length-map {A = State} {B = ℕ × Versioned})
+    let es = entries d.delta.states in
+    let few = states_few IsState (λ e state. state.key) es is.states (rise_sorted es (entries_sorted d.delta.states)) in
+    omega (arith, few, ap length same, length-map {A = State} {B = ℕ × Versioned})
 
 -- ---- what is true of every message makes it fit
 

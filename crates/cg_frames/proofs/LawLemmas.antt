@@ -60,7 +60,7 @@ short_members spell Fits most short count xs all few = le_trans (each_short spel
 delta_short : (layout : Layout) (d : OwnerDelta) → FitsDelta layout d → length (delta d) ≤ delta_most layout
 delta_short layout d fits =
     let es = entries d.delta.states in
-    let few = states_few layout d.delta.above es fits.states (rise_sorted es (entries_sorted d.delta.states)) in
+    let few = states_few (FitsState layout d.delta.above) (λ e is. is.key) es fits.states (rise_sorted es (entries_sorted d.delta.states)) in
     let states = short_members state (FitsState layout d.delta.above) (state_most layout) (state_short layout d.delta.above) STATE_LIMIT es fits.states few in
     omega (arith, states, length-delta d)
 

@@ -1,5 +1,5 @@
 -- How long spellings are.
-use Rattle.std.proofs.Common.{◌≡◌, ℕ, ◌+◌, ◌*◌, ◌≤◌, List, [], ◌∷◌, ◌++◌, length, refl, sym, ap, ◌∙◌, take, arith, length-append}
+use Rattle.std.proofs.Common.{◌≡◌, ℕ, ◌+◌, ◌*◌, ◌<◌, ◌≤◌, List, [], ◌∷◌, ◌++◌, length, get_or, zero, suc, refl, sym, ap, ◌∙◌, take, arith, length-append}
 use Rattle.std.specs.FinMap.{entries}
 use Rattle.std.proofs.lemmas.List.{take_all}
 use Rattle.cg_entry.specs.declared.state.State.{State}
@@ -10,7 +10,7 @@ use Rattle.cg_entry.specs.Versioned.{Versioned}
 use Rattle.cg_table.specs.declared.digest.Digest.{Digest}
 use Rattle.cg_exchange.specs.declared.owner_delta.OwnerDelta.{OwnerDelta}
 use Rattle.cg_exchange.specs.Values.{RequestValue}
-use Rattle.cg_frames.specs.Spelling.{two_bytes, four_bytes, endpoint, digest, request, text, state, delta}
+use Rattle.cg_frames.specs.Spelling.{two_bytes, four_bytes, endpoint, digest, request, text, state, delta, members}
 
 pub length-two_bytes : (n : ℕ) → length (two_bytes n) ≡ 2
 unfolding two_bytes
@@ -62,6 +62,21 @@ length-delta d =
       length-four_bytes d.delta.above,
       length-four_bytes d.delta.heartbeat,
     )
+
+-- ---- counted members
+
+pub length-members : {X : Type 0} (spell : X → List ℕ) (xs : List X) → length (members spell xs) ≡ 2 + length (flat_map spell xs)
+length-members spell xs = omega (arith, length-append (two_bytes (length xs)) (flat_map spell xs), length-two_bytes (length xs))
+
+-- What is spelled up to a member, and that member, is no longer than what is spelled of all.
+pub part_shorter : {X : Type 0} (spell : X → List ℕ) (xs : List X) (i : ℕ) (x : X) → i < length xs → x ≡ get_or xs i x
+    → length (flat_map spell (take i xs)) + length (spell x) ≤ length (flat_map spell xs)
+part_shorter spell [] i x lt at = absurd (omega arith)
+part_shorter spell (y ∷ ys) zero x lt at =
+    rw (flat_map-cons spell y ys) (omega (arith, length-append (spell y) (flat_map spell ys), ap (λ z. length (spell z)) at))
+part_shorter spell (y ∷ ys) (suc i) x lt at =
+    rw (flat_map-cons spell y ys, flat_map-cons spell y (take i ys))
+    (omega (arith, length-append (spell y) (flat_map spell ys), length-append (spell y) (flat_map spell (take i ys)), part_shorter spell ys i x (omega arith) at))
 
 -- ---- states
 

@@ -6,6 +6,7 @@ use Rattle.std.specs.FinMap.{entries, entries_sorted, from_sorted, entries-from_
 use Rattle.std.specs.Ordering.{nat_cmp}
 use Rattle.std.proofs.lemmas.Bool.{le-ltb, lt-ltb, ltb-true, ne_eqb}
 use Rattle.cg_types.specs.declared.fault.Cause.TheVariants as causes
+use Rattle.cg_types.specs.Numbers.{IsKey}
 use Rattle.cg_types.specs.Rising.{is_past, rise_past, Rises}
 use Rattle.cg_types.proofs.RisingLemmas.{first_of, second_of, rise_sorted}
 use Rattle.cg_entry.specs.declared.state.State.{State}
@@ -42,19 +43,27 @@ fits_unpair : (layout : Layout) (above : ℕ) (es : List (ℕ × Versioned)) →
 fits_unpair layout above [] all = tt
 fits_unpair layout above (e ∷ es) all = (all.0, fits_unpair layout above es all.1)
 
-keys_few : (layout : Layout) (above last : ℕ) (es : List (ℕ × Versioned)) → AllByRecursion (FitsState layout above) es → rise_past (Some last) (map (λ (e : ℕ × Versioned). e.0) es) ≡ true → last ≤ STATE_LIMIT → last + length es ≤ STATE_LIMIT
-keys_few layout above last [] all rise le = omega arith
-keys_few layout above last (e ∷ es) all rise le =
-    let lt : last < e.0 = ltb-true last e.0 (first_of (nat_lt last e.0) (rise_past (Some e.0) (map (λ (e : ℕ × Versioned). e.0) es)) rise) in
-    let others = keys_few layout above e.0 es all.1 (second_of (nat_lt last e.0) (rise_past (Some e.0) (map (λ (e : ℕ × Versioned). e.0) es)) rise) all.0.key.1 in
-    omega arith
+-- keys of states, whatever else holds of each
+abbrev keys : List (ℕ × Versioned) → List ℕ
+keys es = map (λ (e : ℕ × Versioned). e.0) es
 
--- there are no more states than keys
-pub states_few : (layout : Layout) (above : ℕ) (es : List (ℕ × Versioned)) → AllByRecursion (FitsState layout above) es → Rises (map (λ (e : ℕ × Versioned). e.0) es) → length es ≤ STATE_LIMIT
-states_few layout above [] all rise = omega arith
-states_few layout above (e ∷ es) all rise =
-    let others = keys_few layout above e.0 es all.1 (second_of true (rise_past (Some e.0) (map (λ (e : ℕ × Versioned). e.0) es)) rise) all.0.key.1 in
-    omega (arith, others, all.0.key.0)
+module _ (P : ℕ × Versioned → Type 0) (key : (e : ℕ × Versioned) → P e → IsKey e.0) where
+  keys_few : (last : ℕ) (es : List (ℕ × Versioned)) → AllByRecursion P es → rise_past (Some last) (keys es) ≡ true
+      → last ≤ STATE_LIMIT → last + length es ≤ STATE_LIMIT
+  keys_few last [] all rise le = omega arith
+  keys_few last (e ∷ es) all rise le =
+      let lt : last < e.0 = ltb-true last e.0 (first_of (nat_lt last e.0) (rise_past (Some e.0) (keys es)) rise) in
+      let here : IsKey e.0 = key e all.0 in
+      let others = keys_few e.0 es all.1 (second_of (nat_lt last e.0) (rise_past (Some e.0) (keys es)) rise) here.1 in
+      omega arith
+
+  -- there are no more states than keys
+  pub states_few : (es : List (ℕ × Versioned)) → AllByRecursion P es → Rises (map (λ (e : ℕ × Versioned). e.0) es) → length es ≤ STATE_LIMIT
+  states_few [] all rise = omega arith
+  states_few (e ∷ es) all rise =
+      let here : IsKey e.0 = key e all.0 in
+      let others = keys_few e.0 es all.1 (second_of true (rise_past (Some e.0) (keys es)) rise) here.1 in
+      omega (arith, others, here.0)
 
 or_true : (b : Bool) → (b || true) ≡ true
 or_true true = refl
@@ -90,7 +99,7 @@ counted_from layout bytes d from = state_count_at from >>= λ n. states_at layou
 counted_again : (layout : Layout) (bytes : List ℕ) (d : OwnerDelta) (rest : List ℕ) → layout.text < 2 ^ 16 → FitsDelta layout d → counted_from layout bytes d (length (entries d.delta.states) ∷ (flat_map state (entries d.delta.states) ++ rest)) ≡ Ok (d, rest)
 counted_again layout bytes d rest wide fits =
     let es = entries d.delta.states in
-    let few = states_few layout d.delta.above es fits.states (rise_sorted es (entries_sorted d.delta.states)) in
+    let few = states_few (FitsState layout d.delta.above) (λ e is. is.key) es fits.states (rise_sorted es (entries_sorted d.delta.states)) in
     let some = carries_again d.delta.above d.delta.heartbeat es fits.something in
     ap (λ (r : Field ℕ). r >>= λ n. states_at layout d.delta.above n.0 None n.1 >>= λ ss. delta_from bytes d.endpoint d.delta.generation d.delta.above d.delta.heartbeat n.0 ss.0 ss.1) (state_count_again (length es) (flat_map state es ++ rest) few)
     ∙ ap (λ (r : Field (List State)). r >>= λ ss. delta_from bytes d.endpoint d.delta.generation d.delta.above d.delta.heartbeat (length es) ss.0 ss.1) (states_again layout d.delta.above d.delta.states rest wide fits.states)

@@ -19,7 +19,8 @@ pub record IsRead (layout : Layout) : Type 0 where
   pub length : layout.length < 2 ^ 32
   pub marks : layout.marks ≡ false
 
--- The layout allows what messages hold, so that each of them can be written.
+-- The layout allows what messages hold, so that each of them can be written. No layout with marks is written.
 pub record IsWritten (layout : Layout) : Type 0 where
   pub members : MEMBER_LIMIT ≤ layout.members
   pub text : TEXT_LIMIT ≤ layout.text
+  pub marks : layout.marks ≡ false

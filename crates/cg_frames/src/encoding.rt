@@ -7,16 +7,18 @@ ghost use Rattle.cg_entry.specs.State.{pair, pairs};
 ghost use Rattle.std.specs.List.{AllByRecursion, flat_map};
 ghost use Rattle.cg_exchange.specs.declared.message.Message.TheVariants as messages;
 ghost use Rattle.cg_exchange.specs.Contents.{IsOwnerDelta};
-ghost use Rattle.cg_frames.specs.declared.layout.TheConstants.{LAYOUT_1};
+ghost use Rattle.cg_exchange.specs.Lent.{lent_message};
+ghost use Rattle.cg_frames.specs.declared.layout.TheConstants.{WRITTEN};
 ghost use Rattle.cg_frames.specs.Fits.{Fits};
 ghost use Rattle.cg_frames.specs.Layouts.{IsLayout, IsWritten};
 ghost use Rattle.cg_frames.specs.Spelling as spelling;
 
-use crate::fitting::{message_fits, message_length};
-use crate::layout::{LAYOUT_1, Layout};
+use crate::fits::message_fits;
+use crate::layout::{Layout, WRITTEN};
+use crate::lengths::message_length;
 use bytes::{BufMut, Bytes};
 use cg_entry::State;
-use cg_exchange::{Ack, Ack2, Message, OwnerDelta, Request, Syn};
+use cg_exchange::{Ack, Ack2, Lent, Message, OwnerDelta, Request, Syn};
 use cg_table::Digest;
 use cg_types::{Cluster, Endpoint, StateText};
 use std::alloc::{AllocError, Global};
@@ -179,27 +181,28 @@ fn put_ack2(out: &mut Vec<u8>, ack2: &Ack2) -> Result<(), AllocError>
     Ok(())
 }
 
-fn put_message(out: &mut Vec<u8>, message: &Message) -> Result<(), AllocError>
-    ensures { OnOk result (out.new.items ≡ out.old.items ++ spelling.message message.now) }
+fn put_message(out: &mut Vec<u8>, message: Lent<'_>) -> Result<(), AllocError>
+    ensures { OnOk result (out.new.items ≡ out.old.items ++ spelling.message (lent_message message.entry)) }
 {
     match message {
-        Message::Syn(syn) => put_syn(out, syn)?,
-        Message::Ack(ack) => put_ack(out, ack)?,
-        Message::Ack2(ack2) => put_ack2(out, ack2)?,
+        Lent::Syn(syn) => put_syn(out, syn)?,
+        Lent::Ack(ack) => put_ack(out, ack)?,
+        Lent::Ack2(ack2) => put_ack2(out, ack2)?,
     }
     Ok(())
 }
 
-/// As `encode`, in any layout that allows what messages hold. The message fits it, so its length fits into four bytes.
+/// As `encode_lent`, in any layout that allows what messages hold. The message fits it, so its length fits into four
+/// bytes.
 pub(crate) fn encode_in(
     alloc: Global,
     layout: &Layout,
-    message: &Message,
+    message: Lent<'_>,
 ) -> Result<Bytes, AllocError>
     requires layout { IsLayout layout.now }
     requires written { IsWritten layout.now }
-    ensures written { IfOk result (λ b. b ≡ spelling.frame layout.now message.now) }
-    ensures fits { Fits layout.now message.now }
+    ensures written { IfOk result (λ b. b ≡ spelling.frame layout.now (lent_message message.entry)) }
+    ensures fits { Fits layout.now (lent_message message.entry) }
 {
     message_fits(layout, message);
     let length = 1 + message_length(message);
@@ -215,9 +218,17 @@ pub(crate) fn encode_in(
 /// `AllocError` where memory is short, and no other refusal, since each message is short enough for its length: at most
 /// 4,231,430 bytes stand behind it (`laws::each_is_short`).
 pub fn encode(alloc: Global, message: &Message) -> Result<Bytes, AllocError>
-    ensures written { IfOk result (λ b. b ≡ spelling.frame LAYOUT_1 message.now) }
+    ensures written { IfOk result (λ b. b ≡ spelling.frame WRITTEN message.now) }
     // So what is written is read again.
-    ensures fits { Fits LAYOUT_1 message.now }
+    ensures fits { Fits WRITTEN message.now }
 {
-    encode_in(alloc, &LAYOUT_1, message)
+    encode_lent(alloc, message.lent())
+}
+
+/// As `encode`, of a message that is lent: what holds one in another form writes it without a copy.
+pub fn encode_lent(alloc: Global, message: Lent<'_>) -> Result<Bytes, AllocError>
+    ensures written { IfOk result (λ b. b ≡ spelling.frame WRITTEN (lent_message message.entry)) }
+    ensures fits { Fits WRITTEN (lent_message message.entry) }
+{
+    encode_in(alloc, &WRITTEN, message)
 }

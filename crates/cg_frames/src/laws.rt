@@ -1,10 +1,10 @@
 //! Laws of frames, each the contract of an empty function.
 
-ghost use Rattle.std.specs.Prelude.{◌≡◌, ◌<◌, List, length};
+ghost use Rattle.std.specs.Prelude.{◌≡◌, ◌<◌, List, length, false};
 ghost use Rattle.cg_frames.specs.declared.layout.Layout.{Layout};
-ghost use Rattle.cg_frames.specs.declared.layout.TheConstants.{LAYOUT_1, LAYOUTS};
+ghost use Rattle.cg_frames.specs.declared.layout.TheConstants.{LAYOUT_1, LAYOUTS, WRITTEN};
 ghost use Rattle.cg_frames.specs.Layouts.{IsLayout, IsRead, IsWritten};
-ghost use Rattle.cg_frames.specs.Choosing.{AreLayouts, AreRead};
+ghost use Rattle.cg_frames.specs.Choosing.{AreLayouts, AreRead, IsOneOf};
 ghost use Rattle.cg_frames.specs.Lengths.{greatest_length};
 ghost use Rattle.cg_frames.specs.Laws.{NoSpellingBeginsAnother, EachIsShort, ChoosesByTheByte, SomeAreLacking, PiecesAddUp, EveryCuttingIsTheWhole, WhatIsHeldIsPartial, FaultsAreBadFrames, TwoPiecesAreOne, OneAtATime, AllIsSpelled, NothingElseIsSpelled};
 
@@ -13,19 +13,23 @@ pub fn no_spelling_begins_another()
     ensures { (layouts : List Layout) → AreLayouts layouts → NoSpellingBeginsAnother layouts }
 {}
 
-/// No message's frame has more bytes behind its length than its layout's greatest, by the limits: in the layout of
-/// this version, 4,231,430.
+/// No message's frame has more bytes behind its length than its layout's greatest, by the limits: in the first layout,
+/// 4,231,430.
 pub fn each_is_short()
     ensures each { (layout : Layout) → EachIsShort layout }
     ensures greatest { greatest_length LAYOUT_1 ≡ 4231430 }
 {}
 
-/// The limits of this version's layout fit into the fields that count and measure, and its greatest frame is read;
-/// messages hold exactly what it allows.
+/// The numbers of the first layout. They fit into the fields that count and measure, and its greatest frame is read.
 pub fn layout_1_is_one()
+    ensures numbers { LAYOUT_1 ≡ record { byte = 1; members = 256; text = 1024; length = 5000000; marks = false } }
     ensures layout { IsLayout LAYOUT_1 }
-    ensures read { IsRead LAYOUT_1 }
-    ensures written { IsWritten LAYOUT_1 }
+{}
+
+/// The layout that is written allows what messages hold, and is one of those that are read.
+pub fn what_is_written_is_read()
+    ensures written { IsWritten WRITTEN }
+    ensures read { IsOneOf LAYOUTS WRITTEN }
 {}
 
 /// The layouts of this version are told apart by their bytes; the limits of each fit, and messages hold what it allows.

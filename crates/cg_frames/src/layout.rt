@@ -1,7 +1,5 @@
 //! The layouts of frames.
 
-use cg_types::{LENGTH_LIMIT, MEMBER_LIMIT, TEXT_LIMIT};
-
 /// What tells one layout of frames from another: its byte, its limits, and whether it has marks. The fields of a frame,
 /// and their order, are the same in each.
 #[derive(Clone, Copy, Debug, PartialEq, Eq)]
@@ -15,19 +13,23 @@ pub struct Layout {
     /// The most bytes after the length, which has four bytes.
     pub length: usize,
     /// Whether a state's length of 65,535 is the mark of a removed key, with no text behind it. No message holds such a
-    /// mark in this version, so no layout that has them is read (`IsRead`), and nothing else looks at this: what is said
-    /// of spelling is of messages without marks.
+    /// mark in this version, so no layout that has them is read or written (`IsRead`, `IsWritten`), and nothing else
+    /// looks at this: what is said of spelling is of messages without marks.
     pub marks: bool,
 }
 
-/// The layout of this version.
+/// The first layout. Its numbers are its own: members of other versions read and write by them, so a change of what
+/// messages may hold leaves them as they are.
 pub const LAYOUT_1: Layout = Layout {
     byte: 1,
-    members: MEMBER_LIMIT,
-    text: TEXT_LIMIT,
-    length: LENGTH_LIMIT,
+    members: 256,
+    text: 1_024,
+    length: 5_000_000,
     marks: false,
 };
+
+/// The layout that frames are written in.
+pub const WRITTEN: Layout = LAYOUT_1;
 
 /// The layouts that frames are read in, told apart by their bytes.
 pub const LAYOUTS: [Layout; 1] = [LAYOUT_1];

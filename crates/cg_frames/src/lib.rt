@@ -6,26 +6,18 @@ mod decoding;
 mod deltas;
 mod encoding;
 mod feed;
-mod fitting;
+mod fits;
 pub mod laws;
 mod layout;
+mod lengths;
 mod lists;
 mod messages;
 mod misread;
 mod reader;
 
-pub use cg_exchange::{Ack, Ack2, Message, OwnerDelta, Request, Syn};
+pub use cg_exchange::{Ack, Ack2, Lent, Message, OwnerDelta, Request, Syn};
 pub use decoding::decode;
-pub use encoding::encode;
+pub use encoding::{encode, encode_lent};
 pub use feed::{Fed, Feed};
-pub use fitting::every_message_fits;
-pub use layout::{LAYOUT_1, LAYOUTS, Layout};
-
-#[cfg(test)]
-mod fault_tests;
-#[cfg(test)]
-mod feed_tests;
-#[cfg(test)]
-mod layout_tests;
-#[cfg(test)]
-mod tests;
+pub use fits::every_message_fits;
+pub use layout::{LAYOUT_1, LAYOUTS, Layout, WRITTEN};

@@ -13,7 +13,7 @@ use Rattle.cg_exchange.specs.declared.message.Message.{Message}
 use Rattle.cg_exchange.specs.declared.message.Message.TheVariants as messages
 use Rattle.cg_exchange.specs.Values.{SynValue}
 use Rattle.cg_exchange.specs.Answering.{answer_to_syn}
-use Rattle.cg_frames.specs.declared.layout.TheConstants.{LAYOUT_1, LAYOUTS}
+use Rattle.cg_frames.specs.declared.layout.TheConstants.{WRITTEN, LAYOUTS}
 use Rattle.cg_frames.specs.Choosing.{frame_among}
 use Rattle.cg_frames.specs.Spelling.{frame}
 use Rattle.cg_tool.specs.declared.request.Header.{Header}
@@ -44,7 +44,7 @@ unfoldable pub answer_to_frame : Header → List ℕ → Result (List ℕ) Fault
 answer_to_frame h bytes = do
   syn ← syn_in bytes
   ack ← answer_to_syn (started_table h) h.cluster syn
-  Ok (frame LAYOUT_1 (messages.Ack ack))
+  Ok (frame WRITTEN (messages.Ack ack))
 
 abbrev pub answer_to_request : Option (Header × List ℕ) → Result (List ℕ) Fault
 answer_to_request None = Err fault.BadText

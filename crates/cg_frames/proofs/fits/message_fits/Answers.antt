@@ -1,0 +1,6 @@
+use Rattle.cg_exchange.specs.Lent.{lent_message}
+use Rattle.cg_frames.proofs.AllLemmas.{message_fits}
+use Rattle.cg_frames.proofs.fits.message_fits.Goals as goal
+
+pub returns : goal.returns
+returns c = message_fits c.args.layout.now c.requires (lent_message c.args.message) c.show_message.ensures

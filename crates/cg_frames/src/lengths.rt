@@ -1,0 +1,97 @@
+//! How long the spellings of messages are. None of this takes memory.
+
+ghost use Rattle.std.specs.Prelude.{◌≡◌, ◌<◌, ◌+◌, ◌^◌, length};
+ghost use Rattle.std.specs.List.{AllByRecursion, flat_map};
+ghost use Rattle.cg_entry.specs.State.{pair, pairs};
+ghost use Rattle.cg_exchange.specs.declared.message.Message.TheVariants as messages;
+ghost use Rattle.cg_exchange.specs.Lent.{lent_message};
+ghost use Rattle.cg_frames.specs.Spelling as spelling;
+
+use cg_entry::State;
+use cg_exchange::{Ack, Ack2, Lent, OwnerDelta, Request, Syn};
+use cg_table::Digest;
+
+fn digests_length(digests: &[Digest]) -> usize
+    requires { length (spelling.members spelling.digest digests.now) < 2 ^ 32 }
+    ensures { result ≡ length (spelling.members spelling.digest digests.now) }
+{
+    2 + 14 * digests.len()
+}
+
+fn requests_length(requests: &[Request]) -> usize
+    requires { length (spelling.members spelling.request requests.now) < 2 ^ 32 }
+    ensures { result ≡ length (spelling.members spelling.request requests.now) }
+{
+    2 + 14 * requests.len()
+}
+
+fn state_length(state: &State) -> usize
+    requires { length (spelling.state (pair state.now)) < 2 ^ 32 }
+    ensures { result ≡ length (spelling.state (pair state.now)) }
+{
+    7 + state.text.as_str().len()
+}
+
+// The states and their count.
+fn states_length(states: &[State]) -> usize
+    requires { 1 + length (flat_map spelling.state (pairs states.now)) < 2 ^ 32 }
+    ensures { result ≡ 1 + length (flat_map spelling.state (pairs states.now)) }
+{
+    let mut length = 1;
+    for state in states {
+        length += state_length(state);
+    }
+    length
+}
+
+fn delta_length(delta: &OwnerDelta) -> usize
+    requires { length (spelling.delta delta.now) < 2 ^ 32 }
+    ensures { result ≡ length (spelling.delta delta.now) }
+{
+    18 + states_length(delta.delta.states())
+}
+
+fn deltas_length(deltas: &[OwnerDelta]) -> usize
+    requires { length (spelling.members spelling.delta deltas.now) < 2 ^ 32 }
+    ensures { result ≡ length (spelling.members spelling.delta deltas.now) }
+{
+    let mut length = 2;
+    for delta in deltas {
+        length += delta_length(delta);
+    }
+    length
+}
+
+fn syn_length(syn: &Syn) -> usize
+    requires { length (spelling.message (messages.Syn syn.now)) < 2 ^ 32 }
+    ensures { result ≡ length (spelling.message (messages.Syn syn.now)) }
+{
+    3 + syn.cluster().name().len() + digests_length(syn.digests())
+}
+
+fn ack_length(ack: &Ack) -> usize
+    requires { length (spelling.message (messages.Ack ack.now)) < 2 ^ 32 }
+    ensures { result ≡ length (spelling.message (messages.Ack ack.now)) }
+{
+    1 + requests_length(ack.requests()) + deltas_length(ack.deltas())
+}
+
+fn ack2_length(ack2: &Ack2) -> usize
+    requires { length (spelling.message (messages.Ack2 ack2.now)) < 2 ^ 32 }
+    ensures { result ≡ length (spelling.message (messages.Ack2 ack2.now)) }
+{
+    1 + deltas_length(ack2.deltas())
+}
+
+/// How long the message is, with its kind: a byte may stand before it.
+pub(crate) fn message_length(message: Lent<'_>) -> usize
+    requires { 1 + length (spelling.message (lent_message message)) < 2 ^ 32 }
+    ensures value { result ≡ length (spelling.message (lent_message message.entry)) }
+    ensures short { 1 + result < 2 ^ 32 }
+{
+    match message {
+        Lent::Syn(syn) => syn_length(syn),
+        Lent::Ack(ack) => ack_length(ack),
+        Lent::Ack2(ack2) => ack2_length(ack2),
+    }
+}
