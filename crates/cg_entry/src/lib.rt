@@ -11,8 +11,6 @@ mod entry;
 pub mod laws;
 mod state;
 mod states;
-#[cfg(test)]
-mod tests;
 
 pub use delta::Delta;
 pub use entry::{Absorbed, Entry, met};

@@ -22,6 +22,3 @@ pub use state_key::StateKey;
 pub use text::{Cluster, StateText, is_plain};
 pub use version::Version;
 pub use words::{cut, number, number_between};
-
-#[cfg(test)]
-mod tests;

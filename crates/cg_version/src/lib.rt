@@ -6,6 +6,3 @@ mod versions;
 
 pub use generation::next_generation;
 pub use versions::Versions;
-
-#[cfg(test)]
-mod tests;

@@ -1,7 +1,7 @@
 //! The worked examples, and each call once.
 
-use super::*;
 use cg_types::{Fault, Generation, Version};
+use cg_version::{Versions, next_generation};
 
 #[test]
 fn versions_rise(rt: HostRuntime) {
@@ -25,12 +25,12 @@ fn versions_spent(rt: HostRuntime) {
 }
 
 // The generation of a start, as numbers.
-fn started(stored: Option<u32>, now_secs: u64) -> Result<u32, Fault> {
-    crate::next_generation(stored.and_then(Generation::new), now_secs).map(|g| g.get())
+fn generation_of(stored: Option<u32>, now_secs: u64) -> Result<u32, Fault> {
+    next_generation(stored.and_then(Generation::new), now_secs).map(|g| g.get())
 }
 
 #[test]
-fn next_generation(rt: HostRuntime) {
+fn generations_of_starts(rt: HostRuntime) {
     for (stored, now_secs, next) in [
         (Some(9), 1700000000, Ok(1700000000)),
         (Some(1700000005), 1700000000, Ok(1700000006)),
@@ -42,6 +42,6 @@ fn next_generation(rt: HostRuntime) {
         (Some(5), 2147483648, Err(Fault::VersionsSpent)),
         (None, 18446744073709551615, Err(Fault::VersionsSpent)),
     ] {
-        assert_eq!(rt; started(stored, now_secs), next);
+        assert_eq!(rt; generation_of(stored, now_secs), next);
     }
 }

@@ -1,6 +1,10 @@
 //! What no clause says: the texts of faults and keys, and each call once with ample memory.
 
-use super::*;
+use cg_samples::long_text;
+use cg_types::{
+    Cause, Cluster, Endpoint, Fault, Generation, StateKey, StateText, Version, cut, is_plain,
+    number,
+};
 use std::alloc::{AllocError, Global};
 use std::test::Fail;
 
@@ -122,17 +126,8 @@ fn keys_have_names(rt: HostRuntime) {
     }
 }
 
-// A text of so many bytes.
-fn text_of(alloc: Global, count: usize) -> Result<String, AllocError> {
-    let mut text = String::new(alloc);
-    for _ in 0..count {
-        text.push('x')?;
-    }
-    Ok(text)
-}
-
 fn refusal_of_text(alloc: Global, count: usize) -> Result<Option<Fault>, AllocError> {
-    let text = text_of(alloc, count)?;
+    let text = long_text(alloc, count)?;
     Ok(StateText::new(alloc, text.as_str()).err())
 }
 
@@ -154,7 +149,7 @@ fn texts_are_plain(rt: HostRuntime) -> Result<(), Fail> {
             Some(Fault::BadText)
         );
     }
-    let mut long = text_of(rt.alloc(), 1025)?;
+    let mut long = long_text(rt.alloc(), 1025)?;
     long.push('\n')?;
     assert_eq!(rt;
         StateText::new(rt.alloc(), long.as_str()).err(),
@@ -175,7 +170,7 @@ fn texts_are_copied(rt: HostRuntime) -> Result<(), Fail> {
 }
 
 fn refusal_of_name(alloc: Global, count: usize) -> Result<Option<Fault>, AllocError> {
-    let name = text_of(alloc, count)?;
+    let name = long_text(alloc, count)?;
     Ok(Cluster::new(alloc, name.as_str()).err())
 }
 

@@ -1,30 +1,11 @@
-use crate::{Absorbed, Delta, Entry, State, met};
-use cg_types::{Fault, Generation, StateKey, StateText, Version};
+use cg_entry::{Absorbed, Delta, Entry, State, met};
+use cg_samples::{bare_delta, delta, entry_at_start, generation, key, state, version};
+use cg_types::{Fault, StateKey, StateText};
 use cg_version::Versions;
 use std::alloc::Global;
 use std::test::Fail;
 
-fn generation(number: u32) -> Result<Generation, Fail> {
-    Ok(Generation::new(number).ok_or("a generation")?)
-}
-
-fn version(number: u32) -> Result<Version, Fail> {
-    Ok(Version::new(number).ok_or("a version")?)
-}
-
-fn state_key(key: u8) -> Result<StateKey, Fail> {
-    Ok(StateKey::new(key).ok_or("a key")?)
-}
-
 // ---- states and deltas
-
-// Key `key` at `at`, with the text "N".
-fn state(alloc: Global, key: u8, at: u32) -> Result<State, Fail> {
-    let key = state_key(key)?;
-    let version = version(at)?;
-    let text = StateText::new(alloc, "N")?;
-    Ok(State { key, version, text })
-}
 
 fn parts_of_state(state: &State) -> (u8, u32, &str) {
     (state.key.get(), state.version.get(), state.text.as_str())
@@ -32,35 +13,25 @@ fn parts_of_state(state: &State) -> (u8, u32, &str) {
 
 #[test]
 fn a_state_is_copied(rt: HostRuntime) -> Result<(), Fail> {
-    let copy = state(rt.alloc(), 2, 4)?.copy()?;
+    let copy = state(rt.alloc(), 2, 4, "N")?.copy()?;
     assert_eq!(rt; parts_of_state(&copy), (2, 4, "N"));
     Ok(())
 }
 
 fn one_state(alloc: Global, key: u8, at: u32) -> Result<Vec<State>, Fail> {
-    Ok(vec![in alloc; state(alloc, key, at)?]?)
+    Ok(vec![in alloc; state(alloc, key, at, "N")?]?)
 }
 
 // Two states, each with its key and its version.
 fn two_states(alloc: Global, first: (u8, u32), second: (u8, u32)) -> Result<Vec<State>, Fail> {
     let mut states = one_state(alloc, first.0, first.1)?;
-    states.push(state(alloc, second.0, second.1)?)?;
+    states.push(state(alloc, second.0, second.1, "N")?)?;
     Ok(states)
-}
-
-fn delta(of: u32, above: u32, heartbeat: u32, states: Vec<State>) -> Result<Delta, Fail> {
-    let delta = Delta::new(generation(of)?, above, version(heartbeat)?, states);
-    Ok(delta.ok_or("a delta")?)
-}
-
-// A delta with no states.
-fn bare_delta(alloc: Global, of: u32, above: u32, heartbeat: u32) -> Result<Delta, Fail> {
-    delta(of, above, heartbeat, Vec::new(alloc))
 }
 
 // A delta of generation 9 with key 2 at 4.
 fn delta_with_key_2(alloc: Global, above: u32, heartbeat: u32) -> Result<Delta, Fail> {
-    delta(9, above, heartbeat, one_state(alloc, 2, 4)?)
+    delta((9, above, heartbeat), one_state(alloc, 2, 4)?)
 }
 
 // The generation, the version that it stands above, the heartbeat version, the newest version, and the number of
@@ -80,14 +51,14 @@ fn parts_of(delta: &Delta) -> Parts {
 #[test]
 fn a_delta_has_its_parts(rt: HostRuntime) -> Result<(), Fail> {
     let states = two_states(rt.alloc(), (2, 4), (3, 6))?;
-    let copy = delta(9, 2, 5, states)?.copy(rt.alloc())?;
+    let copy = delta((9, 2, 5), states)?.copy(rt.alloc())?;
     assert_eq!(rt; parts_of(&copy), (9, 2, 5, 6, 2));
     Ok(())
 }
 
 // Whether these states make a delta above version 2.
 fn makes_a_delta(heartbeat: u32, states: Vec<State>) -> Result<bool, Fail> {
-    Ok(Delta::new(generation(9)?, 2, version(heartbeat)?, states).is_some())
+    Ok(Delta::new(generation(9), 2, version(heartbeat), states).is_some())
 }
 
 #[test]
@@ -115,7 +86,7 @@ fn a_delta_with_no_state_has_a_later_heartbeat(rt: HostRuntime) -> Result<(), Fa
 
 // Whether deltas at generation 9 above 2, with key 2 at this version and heartbeat 5, are the same as one at 4.
 fn is_like_one_at_4(alloc: Global, at: u32) -> Result<bool, Fail> {
-    let like = delta(9, 2, 5, one_state(alloc, 2, at)?)?;
+    let like = delta((9, 2, 5), one_state(alloc, 2, at)?)?;
     Ok(like.is_same(&delta_with_key_2(alloc, 2, 5)?))
 }
 
@@ -127,11 +98,6 @@ fn deltas_are_compared(rt: HostRuntime) -> Result<(), Fail> {
 }
 
 // ---- entries
-
-// An entry that starts at generation 9.
-fn started(alloc: Global) -> Result<Entry, Fail> {
-    Ok(Entry::start(alloc, generation(9)?))
-}
 
 // The generation, the heartbeat version and the newest version.
 fn numbers_of(entry: &Entry) -> (u32, u32, u32) {
@@ -158,18 +124,17 @@ fn version_at(entry: &Entry, key: u8) -> Option<u32> {
 
 #[test]
 fn an_entry_starts_at_version_1(rt: HostRuntime) -> Result<(), Fail> {
-    let entry = started(rt.alloc())?.copy(rt.alloc())?;
+    let entry = entry_at_start(rt.alloc(), 9).copy(rt.alloc())?;
     assert_eq!(rt; numbers_of(&entry), (9, 1, 1));
     Ok(())
 }
 
 // Generation 9 sets key 1 to NORMAL, and beats.
 fn set_and_beaten(alloc: Global) -> Result<Entry, Fail> {
-    let key = state_key(1)?;
     let text = StateText::new(alloc, "NORMAL")?;
-    let mut entry = started(alloc)?;
+    let mut entry = entry_at_start(alloc, 9);
     let mut versions = Versions::after(entry.newest());
-    entry.set(&mut versions, key, text)?;
+    entry.set(&mut versions, key(1), text)?;
     entry.beat(&mut versions)?;
     Ok(entry)
 }
@@ -193,7 +158,7 @@ fn above(alloc: Global, entry: &Entry, version: u32) -> Result<Option<Parts>, Fa
 
 #[test]
 fn above_a_start(rt: HostRuntime) -> Result<(), Fail> {
-    let entry = started(rt.alloc())?;
+    let entry = entry_at_start(rt.alloc(), 9);
     for (version, parts) in [(0, Some((9, 0, 1, 1, 0))), (1, None)] {
         assert_eq!(rt; above(rt.alloc(), &entry, version)?, parts);
     }
@@ -215,13 +180,13 @@ fn above_by_version(rt: HostRuntime) -> Result<(), Fail> {
 
 // Generation 9 at heartbeat 1 with key 1 at 2, as a whole delta carried it.
 fn held_entry(alloc: Global) -> Result<Entry, Fail> {
-    let whole = delta(9, 0, 1, one_state(alloc, 1, 2)?)?;
+    let whole = delta((9, 0, 1), one_state(alloc, 1, 2)?)?;
     Ok(Entry::of_delta(alloc, &whole)?.ok_or("an entry")?)
 }
 
 // An entry whose newest version is the last.
 fn spent_entry(alloc: Global) -> Result<Entry, Fail> {
-    let last = bare_delta(alloc, 9, 0, 2147483647)?;
+    let last = bare_delta(alloc, (9, 0, 2147483647))?;
     Ok(Entry::of_delta(alloc, &last)?.ok_or("an entry")?)
 }
 
@@ -237,12 +202,11 @@ fn a_part_is_no_entry(rt: HostRuntime) -> Result<(), Fail> {
 type Refused = (Option<Fault>, Option<Fault>, u32, bool);
 
 fn refused(alloc: Global) -> Result<Refused, Fail> {
-    let key = state_key(1)?;
     let text = StateText::new(alloc, "N")?;
     let before = spent_entry(alloc)?;
     let mut entry = before.copy(alloc)?;
     let mut versions = Versions::after(entry.newest());
-    let set = entry.set(&mut versions, key, text).err();
+    let set = entry.set(&mut versions, key(1), text).err();
     let beat = entry.beat(&mut versions).err();
     Ok((set, beat, versions.last(), entry.is_same(&before)))
 }
@@ -280,7 +244,7 @@ fn name_of(what: &Absorbed) -> &'static str {
 
 // Where nothing is held, of a delta of generation 9 with no states.
 fn met_by_nothing(alloc: Global, above: u32) -> Result<&'static str, Fail> {
-    let delta = bare_delta(alloc, 9, above, 5)?;
+    let delta = bare_delta(alloc, (9, above, 5))?;
     Ok(name_of(&met(alloc, None, &delta)?))
 }
 
@@ -325,7 +289,7 @@ fn partial_delta_taken_again(rt: HostRuntime) -> Result<(), Fail> {
 // Of a delta with no states, where the entry is at generation 9, newest 2.
 fn bare_outcome(alloc: Global, of: u32, above: u32, heartbeat: u32) -> Result<&'static str, Fail> {
     let held = held_entry(alloc)?;
-    let bare = bare_delta(alloc, of, above, heartbeat)?;
+    let bare = bare_delta(alloc, (of, above, heartbeat))?;
     Ok(name_of(&held.absorb(alloc, &bare)?))
 }
 

@@ -1,0 +1,10 @@
+//! Tests of the types that members share, of versions, and of entries and deltas: what no clause says, worked
+//! examples, and each call once with ample memory.
+#![tactic(auto)]
+
+#[cfg(test)]
+mod entries;
+#[cfg(test)]
+mod types;
+#[cfg(test)]
+mod versions;
