@@ -34,7 +34,8 @@ deltas_in (event.Ack2 now ack2) = ack2.deltas
 abbrev pub taken_owners : List Outcome → List ℕ
 taken_owners outcomes = map (λ o. o.endpoint) (filter (λ o. is_taken o.took) outcomes)
 
--- the owners whose entry a step changes, by what it answers: the own one, nobody, or those of the deltas that were taken
+-- the owners whose entry a step changes, by what it answers: the own one, nobody, or those of the deltas that were
+-- taken
 abbrev pub changed_owners : ℕ → Reply → List ℕ
 changed_owners own (reply.Done version) = own ∷ []
 changed_owners own (reply.Round peers syn) = own ∷ []
@@ -45,5 +46,6 @@ changed_owners own (reply.Took outcomes) = taken_owners outcomes
 -- The puts of a step are the new rows of exactly these owners.
 abbrev pub PutsAreTheChangedRows : Type 0
 PutsAreTheChangedRows =
-    (n : NodeValue) (e : Event) (after : NodeValue) (answer : Reply) → IsSmall n → Rises (endpoints_of_deltas (deltas_in e))
-    → Leads n e after answer → puts n.table after.table ≡ rows_at after.table.entries (changed_owners n.table.own answer)
+    (n : NodeValue) (e : Event) (after : NodeValue) (answer : Reply) → IsSmall n
+    → Rises (endpoints_of_deltas (deltas_in e)) → Leads n e after answer
+    → puts n.table after.table ≡ rows_at after.table.entries (changed_owners n.table.own answer)

@@ -1,5 +1,5 @@
 -- What holds of the steps of a node.
-use Rattle.std.specs.Prelude.{◌≡◌, ◌≤◌, ℕ, Bool, true, false, List, [], ◌∷◌, Some, None, Ok}
+use Rattle.std.specs.Prelude.{◌≡◌, ◌≤◌, ℕ, Bool, true, false, List, [], ◌∷◌, Some, Ok}
 use Rattle.std.specs.FinMap as map
 use Rattle.cg_types.specs.Rising.{Rises}
 use Rattle.cg_types.specs.declared.limits.TheConstants.{MEMBER_LIMIT}
@@ -13,9 +13,15 @@ use Rattle.cg_core.specs.declared.event.Event.{Event}
 use Rattle.cg_core.specs.declared.event.Event.TheVariants as event
 use Rattle.cg_core.specs.declared.reply.Reply.{Reply}
 use Rattle.cg_core.specs.declared.reply.Reply.TheVariants as reply
-use Rattle.cg_core.specs.Values.{SettingsValue, NodeValue}
+use Rattle.cg_core.specs.declared.limits.TheConstants.{SEED_LIMIT}
+use Rattle.cg_core.specs.Values.{SettingsValue, NodeValue, HearsOthersAlone}
 use Rattle.cg_core.specs.Step.{begun, node_step, after_events, replay}
+use Rattle.cg_core.specs.Arrivals.{moments_taken, window_of}
 use Rattle.cg_table.specs.Puts.{puts, with_puts, keep_order}
+
+-- The seeds of a node.
+abbrev pub LimitsAreThese : Type 0
+LimitsAreThese = SEED_LIMIT ≡ 16
 
 -- The table is one that a member may hold: its own endpoint is held, and few are.
 abbrev pub IsSmall : NodeValue → Type 0
@@ -42,7 +48,9 @@ TableAfter t (event.Ack2 now ack2) after = IsAfter t ack2.deltas after
 
 -- The table part of a step is the rule of tables and messages.
 abbrev pub TablesGoByTheirRules : Type 0
-TablesGoByTheirRules = (n : NodeValue) (e : Event) (after : NodeValue) (answer : Reply) → Leads n e after answer → TableAfter n.table e after.table
+TablesGoByTheirRules =
+    (n : NodeValue) (e : Event) (after : NodeValue) (answer : Reply) → Leads n e after answer
+    → TableAfter n.table e after.table
 
 -- What the puts between two tables do.
 pub record ArePuts (before after : TableValue) : Type 0 where
@@ -55,7 +63,9 @@ pub record ArePuts (before after : TableValue) : Type 0 where
 
 -- The puts of a step keep their order, and lead from its old table to its new one.
 abbrev pub PutsKeepTheirOrder : Type 0
-PutsKeepTheirOrder = (n : NodeValue) (e : Event) (after : NodeValue) (answer : Reply) → IsSmall n → Leads n e after answer → ArePuts n.table after.table
+PutsKeepTheirOrder =
+    (n : NodeValue) (e : Event) (after : NodeValue) (answer : Reply) → IsSmall n → Leads n e after answer
+    → ArePuts n.table after.table
 
 -- What a Set puts.
 pub record PutsIts (key : ℕ) (text : List ℕ) (n after : NodeValue) (answer : Reply) : Type 0 where
@@ -65,12 +75,15 @@ pub record PutsIts (key : ℕ) (text : List ℕ) (n after : NodeValue) (answer :
   -- the own entry, and nothing else
   pub only : puts n.table after.table ≡ (n.table.own, with_state key text (own_entry n.table)) ∷ []
   -- it has the key's text at that version, which is its newest
-  pub given : map.get (with_state key text (own_entry n.table)).states key ≡ Some (record { text = text; version = version })
+  pub given :
+      map.get (with_state key text (own_entry n.table)).states key ≡ Some (record { text = text; version = version })
   pub is_newest : newest (with_state key text (own_entry n.table)) ≡ version
 
 -- A Set puts the own entry, with the key's text at the reply's version.
 abbrev pub SetsPutTheirText : Type 0
-SetsPutTheirText = (n : NodeValue) (key : ℕ) (text : List ℕ) (after : NodeValue) (answer : Reply) → IsSmall n → Leads n (event.Set key text) after answer → PutsIts key text n after answer
+SetsPutTheirText =
+    (n : NodeValue) (key : ℕ) (text : List ℕ) (after : NodeValue) (answer : Reply) → IsSmall n
+    → Leads n (event.Set key text) after answer → PutsIts key text n after answer
 
 -- the events that change the own entry
 abbrev pub is_own_change : Event → Bool
@@ -85,24 +98,37 @@ is_own_change (event.Ack2 now ack2) = false
 -- No other event changes the own entry.
 abbrev pub OnlyOwnEventsChangeTheOwnEntry : Type 0
 OnlyOwnEventsChangeTheOwnEntry =
-    (n : NodeValue) (e : Event) (after : NodeValue) (answer : Reply) → Leads n e after answer → is_own_change e ≡ false → map.get after.table.entries after.table.own ≡ map.get n.table.entries n.table.own
+    (n : NodeValue) (e : Event) (after : NodeValue) (answer : Reply) → Leads n e after answer
+    → is_own_change e ≡ false
+    → map.get after.table.entries after.table.own ≡ map.get n.table.entries n.table.own
 
 -- A node that starts is small, and stays so, whatever comes; events that are refused are among them.
 pub record NodesStaySmall : Type 0 where
   pub starts : (own generation : ℕ) (settings : SettingsValue) → IsSmall (begun own generation settings)
-  pub steps : (n : NodeValue) (e : Event) (after : NodeValue) (answer : Reply) → IsSmall n → Leads n e after answer → IsSmall after
+  pub steps :
+      (n : NodeValue) (e : Event) (after : NodeValue) (answer : Reply) → IsSmall n → Leads n e after answer
+      → IsSmall after
   pub stays : (n : NodeValue) (events : List Event) → IsSmall n → IsSmall (after_events n events)
-
--- No window is kept of the own endpoint, so that its verdict is Unheard.
-abbrev pub HearsOthersAlone : NodeValue → Type 0
-HearsOthersAlone n = map.get n.windows n.table.own ≡ None
 
 -- A node that starts hears others alone, and goes on so, whatever comes.
 pub record NodesHearOthersAlone : Type 0 where
   pub starts : (own generation : ℕ) (settings : SettingsValue) → HearsOthersAlone (begun own generation settings)
-  pub steps : (n : NodeValue) (e : Event) (after : NodeValue) (answer : Reply) → HearsOthersAlone n → Leads n e after answer → HearsOthersAlone after
+  pub steps :
+      (n : NodeValue) (e : Event) (after : NodeValue) (answer : Reply) → HearsOthersAlone n → Leads n e after answer
+      → HearsOthersAlone after
   pub stays : (n : NodeValue) (events : List Event) → HearsOthersAlone n → HearsOthersAlone (after_events n events)
+
+-- The windows of a node that started show all moments at which it took deltas of their endpoints, and it has a window
+-- of no endpoint but these.
+abbrev pub WindowsShowAllTaken : Type 0
+WindowsShowAllTaken =
+    (own generation : ℕ) (settings : SettingsValue) (events : List Event) (endpoint : ℕ)
+    → let n = begun own generation settings in
+    map.get (after_events n events).windows endpoint
+    ≡ window_of settings.silence (moments_taken endpoint n events)
 
 -- A run leads to where its events lead, one after the other.
 abbrev pub RunsGoEventByEvent : Type 0
-RunsGoEventByEvent = (n : NodeValue) (events : List Event) (after : NodeValue) (answers : List Reply) → replay n events ≡ Ok (after, answers) → after ≡ after_events n events
+RunsGoEventByEvent =
+    (n : NodeValue) (events : List Event) (after : NodeValue) (answers : List Reply)
+    → replay n events ≡ Ok (after, answers) → after ≡ after_events n events

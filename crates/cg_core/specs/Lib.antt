@@ -1,10 +1,12 @@
 pub mod Values
+pub mod Settings
 pub mod Codes
 pub mod EventCodes
 pub mod Windows
 pub mod Claims
 pub mod Round
 pub mod Step
+pub mod Arrivals
 pub mod Parts
 pub mod Laws
 pub mod Changes

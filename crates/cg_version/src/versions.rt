@@ -1,8 +1,9 @@
 //! The one generator of a node's versions, as Cassandra's VersionGenerator.
 
-ghost use Rattle.std.specs.Prelude.{◌≡◌, ◌<◌, IfOk, OnErr};
+ghost use Rattle.std.specs.Prelude.{◌≡◌, ◌↔◌, ◌<◌, Err, IsTrue, IfOk, OnErr};
 ghost use Rattle.cg_types.specs.declared.limits.TheConstants.{NUMBER_LIMIT};
 ghost use Rattle.cg_types.specs.Answer.{AnswersExactly};
+ghost use Rattle.cg_types.specs.declared.fault.Fault.TheVariants.{VersionsSpent};
 ghost use Rattle.cg_version.specs.Version.{next_version};
 
 use cg_types::{Fault, NUMBER_LIMIT, Version};
@@ -50,6 +51,13 @@ impl Versions {
         ensures range { result < NUMBER_LIMIT }
     {
         self.last
+    }
+
+    /// Whether the greatest version was given: none is left for `next`.
+    pub fn is_spent(self) -> bool
+        ensures { IsTrue result ↔ (next_version self ≡ Err VersionsSpent) }
+    {
+        Version::new(self.last + 1).is_none()
     }
 
     /// The version after the last one, which is then the last. VersionsSpent after 2,147,483,647, which stays.
