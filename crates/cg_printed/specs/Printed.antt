@@ -6,11 +6,10 @@ use Rattle.cg_types.specs.EndpointText.{endpoint_text}
 use Rattle.cg_types.specs.Key.{key_name}
 use Rattle.cg_entry.specs.Versioned.{Versioned}
 use Rattle.cg_entry.specs.Values.{EntryValue}
-use Rattle.cg_table.specs.declared.digest.Digest.{Digest}
+use Rattle.cg_entry.specs.Entry.{newest}
 use Rattle.cg_table.specs.declared.took.Took.{Took}
 use Rattle.cg_table.specs.declared.took.Took.TheVariants.{Taken, Old, Gap, Own}
 use Rattle.cg_table.specs.Values.{Entries}
-use Rattle.cg_table.specs.Table.{digests_of}
 use Rattle.cg_tokens.specs.Tokens.{token_text}
 use Rattle.cg_tokens.specs.Ring.{Positions, replicas}
 use Rattle.cg_exchange.specs.declared.message.Message.{Message}
@@ -87,13 +86,13 @@ abbrev pub gossipinfo : Entries → List ℕ
 gossipinfo entries = flat_map entry_lines (map.entries entries)
 
 -- an endpoint, its generation and its newest version
-unfoldable pub digest_line : Digest → List ℕ
-digest_line d =
-    endpoint_text d.endpoint ++ (codes " " ++ (decimal d.generation ++ (codes " " ++ (decimal d.newest ++ codes "\n"))))
+unfoldable pub digest_line : ℕ × EntryValue → List ℕ
+digest_line e =
+    endpoint_text e.0 ++ (codes " " ++ (decimal e.1.generation ++ (codes " " ++ (decimal (newest e.1) ++ codes "\n"))))
 
 -- a digest of each entry, rising by endpoint
 abbrev pub digest_lines : Entries → List ℕ
-digest_lines entries = flat_map digest_line (digests_of entries)
+digest_lines entries = flat_map digest_line (map.entries entries)
 
 -- a token and the endpoint that has it
 unfoldable pub position_line : ℕ × ℕ → List ℕ

@@ -7,7 +7,7 @@ ghost use Rattle.cg_printed.specs.Printed.{state_line, owner_line, generation_li
 
 use cg_entry::{Entry, State};
 use cg_map::Row;
-use cg_table::{Digest, Table};
+use cg_table::Table;
 use cg_tokens::{Ring, Token};
 use cg_types::{Endpoint, Generation, Version};
 use std::alloc::{AllocError, Global};
@@ -83,22 +83,21 @@ pub fn add_gossipinfo(text: &mut String, table: &Table) -> Result<(), AllocError
 
 // Adds an endpoint, its generation and its newest version.
 #[tactic(auto, unfolding(crate::specs::Printed::digest_line))]
-fn add_digest(text: &mut String, digest: Digest) -> Result<(), AllocError>
-    ensures { OnOk result (string_bytes text.new ≡ string_bytes text.old ++ digest_line digest) }
+fn add_digest(text: &mut String, row: &Row<Entry>) -> Result<(), AllocError>
+    ensures { OnOk result (string_bytes text.new ≡ string_bytes text.old ++ digest_line row.now) }
 {
-    let endpoint = digest.endpoint;
-    let generation = digest.generation.get();
-    let newest = digest.newest.get();
+    let endpoint = row.endpoint();
+    let generation = row.value().generation().get();
+    let newest = row.value().newest().get();
     writeln!(text, "{endpoint} {generation} {newest}")
 }
 
 /// Adds a line for each entry of a table, rising by endpoint: the endpoint, its generation and its newest version.
-pub fn add_digests(alloc: Global, text: &mut String, table: &Table) -> Result<(), AllocError>
+pub fn add_digests(text: &mut String, table: &Table) -> Result<(), AllocError>
     ensures { OnOk result (string_bytes text.new ≡ string_bytes text.old ++ digest_lines table.now.entries) }
 {
-    let digests = table.digests(alloc)?;
-    for digest in &digests {
-        add_digest(text, *digest)?;
+    for row in table.owners() {
+        add_digest(text, row)?;
     }
     Ok(())
 }

@@ -1,0 +1,120 @@
+-- Endpoints, word by word.
+use Rattle.std.proofs.Common.{◌≡◌, ℕ, ◌+◌, ◌-◌, ◌<◌, ◌≤◌, suc, zero, Bool, true, false, cond, List, [], ◌∷◌, ◌++◌, length, Option, Some, None, option_map, refl, sym, ap, ◌∙◌, append_assoc, append-nil, arith}
+use Rattle.cg_types.specs.Rising.{Rises, rise_past}
+use Rattle.cg_types.specs.Words.{cut_at}
+use Rattle.cg_types.specs.OptionSteps.{◌>>=◌}
+use Rattle.cg_types.specs.EndpointText.{endpoint_in}
+use Rattle.cg_core.specs.declared.limits.TheConstants.{SEED_LIMIT}
+use Rattle.cg_core.specs.Values.{IsSettings}
+use Rattle.cg_script.specs.declared.line.Line.{Line}
+use Rattle.cg_script.specs.declared.line.Line.TheVariants.{Seeds}
+use Rattle.cg_script.specs.Words.{endpoints_by, endpoints_in, seeds_in}
+use Rattle.cg_script.specs.Script.{settings_with, seeds_line}
+
+-- behind those that were read
+abbrev pub behind : List ℕ → Option (List ℕ) → Option (List ℕ)
+behind read others = option_map (λ es. read ++ es) others
+
+-- so many may still come
+abbrev pub left : ℕ → List ℕ → Option (List ℕ)
+left count rest = endpoints_in (SEED_LIMIT - count) rest
+
+one_less : (n : ℕ) (text : List ℕ) → endpoints_in (suc n) text ≡ endpoints_by (endpoints_in n) text (cut_at 32 text)
+unfolding endpoints_in
+one_less n text = refl
+
+left-step : (count : ℕ) (rest : List ℕ) → count < SEED_LIMIT → left count rest ≡ endpoints_by (left (count + 1)) rest (cut_at 32 rest)
+left-step count rest less =
+    let fewer : SEED_LIMIT - count ≡ suc (SEED_LIMIT - (count + 1)) = omega arith in
+    ap (λ (n : ℕ). endpoints_in n rest) fewer ∙ one_less (SEED_LIMIT - (count + 1)) rest
+
+pub begins : (text : List ℕ) → endpoints_in SEED_LIMIT text ≡ behind [] (left 0 text)
+begins text = nothing_before (endpoints_in SEED_LIMIT text)
+  where
+    nothing_before : (o : Option (List ℕ)) → o ≡ behind [] o
+    nothing_before None = refl
+    nothing_before (Some es) = refl
+
+-- the rest is one word
+pub last_word : (count : ℕ) (all : Option (List ℕ)) (read rest : List ℕ) → count < SEED_LIMIT → all ≡ behind read (left count rest) → cut_at 32 rest ≡ None
+    → all ≡ behind read (endpoint_in rest >>= (λ e. Some (e ∷ [])))
+last_word count all read rest less e cut =
+    e ∙ ap (behind read) (left-step count rest less ∙ ap (endpoints_by (left (count + 1)) rest) cut)
+
+pub last_bad : (count : ℕ) (all : Option (List ℕ)) (read rest : List ℕ) → count < SEED_LIMIT → all ≡ behind read (left count rest) → cut_at 32 rest ≡ None
+    → endpoint_in rest ≡ None → None ≡ all
+last_bad count all read rest less e cut bad = sym (last_word count all read rest less e cut ∙ ap (λ (o : Option ℕ). behind read (o >>= (λ e. Some (e ∷ [])))) bad)
+
+pub last_good : (count : ℕ) (all : Option (List ℕ)) (read rest : List ℕ) (endpoint : ℕ) → count < SEED_LIMIT → all ≡ behind read (left count rest) → cut_at 32 rest ≡ None
+    → endpoint_in rest ≡ Some endpoint → Some (read ++ endpoint ∷ []) ≡ all
+last_good count all read rest endpoint less e cut good = sym (last_word count all read rest less e cut ∙ ap (λ (o : Option ℕ). behind read (o >>= (λ e. Some (e ∷ [])))) good)
+
+-- a word and a rest
+next_word : (count : ℕ) (all : Option (List ℕ)) (read rest : List ℕ) (parts : List ℕ × List ℕ) → count < SEED_LIMIT → all ≡ behind read (left count rest) → cut_at 32 rest ≡ Some parts
+    → all ≡ behind read (endpoint_in parts.0 >>= (λ e. left (count + 1) parts.1 >>= (λ es. Some (e ∷ es))))
+next_word count all read rest parts less e cut =
+    e ∙ ap (behind read) (left-step count rest less ∙ ap (endpoints_by (left (count + 1)) rest) cut)
+
+pub next_bad : (count : ℕ) (all : Option (List ℕ)) (read rest : List ℕ) (parts : List ℕ × List ℕ) → count < SEED_LIMIT → all ≡ behind read (left count rest) → cut_at 32 rest ≡ Some parts
+    → endpoint_in parts.0 ≡ None → None ≡ all
+next_bad count all read rest parts less e cut bad =
+    sym (next_word count all read rest parts less e cut ∙ ap (λ (o : Option ℕ). behind read (o >>= (λ e. left (count + 1) parts.1 >>= (λ es. Some (e ∷ es))))) bad)
+
+moved : (read : List ℕ) (endpoint : ℕ) (others : Option (List ℕ)) → behind read (others >>= (λ es. Some (endpoint ∷ es))) ≡ behind (read ++ endpoint ∷ []) others
+moved read endpoint None = refl
+moved read endpoint (Some es) = ap Some (sym (append_assoc read (endpoint ∷ []) es))
+
+pub next_good : (count : ℕ) (all : Option (List ℕ)) (read rest : List ℕ) (parts : List ℕ × List ℕ) (endpoint : ℕ) → count < SEED_LIMIT → all ≡ behind read (left count rest)
+    → cut_at 32 rest ≡ Some parts → endpoint_in parts.0 ≡ Some endpoint → all ≡ behind (read ++ endpoint ∷ []) (left (count + 1) parts.1)
+next_good count all read rest parts endpoint less e cut good =
+    next_word count all read rest parts less e cut
+    ∙ ap (λ (o : Option ℕ). behind read (o >>= (λ e. left (count + 1) parts.1 >>= (λ es. Some (e ∷ es))))) good
+    ∙ moved read endpoint (left (count + 1) parts.1)
+
+pub too_many : (count : ℕ) (all : Option (List ℕ)) (read rest : List ℕ) → SEED_LIMIT ≤ count → all ≡ behind read (left count rest) → None ≡ all
+unfolding endpoints_in
+too_many count all read rest over e =
+    let none : SEED_LIMIT - count ≡ 0 = omega arith in
+    sym (e ∙ ap (λ (n : ℕ). behind read (endpoints_in n rest)) none)
+
+-- ---- at most as many as there may be
+
+few_behind : (n : ℕ) (text : List ℕ) (parts : Option (List ℕ × List ℕ)) (others : List ℕ → Option (List ℕ)) (es : List ℕ)
+    → ((rest fs : List ℕ) → others rest ≡ Some fs → length fs ≤ n) → endpoints_by others text parts ≡ Some es → length es ≤ n + 1
+few_behind n text None others es few h = one (endpoint_in text) h
+  where
+    one : (o : Option ℕ) → (o >>= (λ e. Some (e ∷ []))) ≡ Some es → length es ≤ n + 1
+    one None h = absurd cc
+    one (Some e) h = let same : e ∷ [] ≡ es = cc in let lengths = ap length same in omega (arith, lengths)
+few_behind n text (Some parts) others es few h = more (endpoint_in parts.0) (others parts.1) refl h
+  where
+    more : (o : Option ℕ) (q : Option (List ℕ)) → others parts.1 ≡ q → (o >>= (λ e. q >>= (λ fs. Some (e ∷ fs)))) ≡ Some es → length es ≤ n + 1
+    more None q is h = absurd cc
+    more (Some e) None is h = absurd cc
+    more (Some e) (Some fs) is h = let same : e ∷ fs ≡ es = cc in let lengths = ap length same in let less = few parts.1 fs is in omega (arith, lengths, less)
+
+few : (n : ℕ) (text es : List ℕ) → endpoints_in n text ≡ Some es → length es ≤ n
+unfolding endpoints_in
+few zero text es h = absurd cc
+few (suc n) text es h = let less = few_behind n text (cut_at 32 text) (endpoints_in n) es (few n) h in omega (arith, less)
+
+-- ---- settings with seeds
+
+pub are_settings : (text es : List ℕ) → endpoints_in SEED_LIMIT text ≡ Some es → rise_past None es ≡ true → IsSettings (settings_with es)
+are_settings text es h rise = record { in_use = refl; rise = rise; few = few SEED_LIMIT text es h }
+
+pub no_seeds : (text es : List ℕ) → endpoints_in SEED_LIMIT text ≡ Some es → (IsSettings (settings_with es) → ⊥) → seeds_line text ≡ None
+unfolding seeds_line seeds_in
+no_seeds text es h refused =
+    rw h (elim (rise_past None es) as (λ b. rise_past None es ≡ b → (cond b (Some es) None >>= (λ seeds. Some (Seeds (settings_with seeds)))) ≡ None) [
+      | true ↦ λ e. absurd (refused (are_settings text es h e))
+      | false ↦ λ e. refl
+    ] refl)
+
+pub some_seeds : (text es : List ℕ) → endpoints_in SEED_LIMIT text ≡ Some es → IsSettings (settings_with es) → seeds_line text ≡ Some (Seeds (settings_with es))
+unfolding seeds_line seeds_in
+some_seeds text es h is = rw h (rw is.rise refl)
+
+pub no_endpoints : (text : List ℕ) → endpoints_in SEED_LIMIT text ≡ None → seeds_line text ≡ None
+unfolding seeds_line seeds_in
+no_endpoints text h = rw h refl

@@ -1,0 +1,13 @@
+-- Bytes that are no text.
+use Rattle.std.proofs.Common.{◌≡◌, ℕ, Bool, true, false, cond, List, Option, Some, None, refl}
+use Rattle.std.specs.Str.{IsUtf8, is_utf8}
+use Rattle.std.proofs.lemmas.Str.{IsUtf8-from_is_utf8}
+use Rattle.cg_script.specs.Words.{text_in}
+
+pub no_text : (bytes : List ℕ) → (IsUtf8 bytes → ⊥) → text_in bytes ≡ None
+unfolding text_in
+no_text bytes refused =
+    elim (is_utf8 bytes) as (λ b. is_utf8 bytes ≡ b → cond b (Some bytes) None ≡ None) [
+      | true ↦ λ e. absurd (refused (IsUtf8-from_is_utf8 bytes e))
+      | false ↦ λ e. refl
+    ] refl

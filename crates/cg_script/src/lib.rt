@@ -1,0 +1,16 @@
+//! The lines of a script: what each asks for, or why it can't be read.
+//!
+//! Words are parted by single spaces. An endpoint is as `10.0.0.1:7000`; numbers are decimal with no leading zeros:
+//! generations 1 to 2,147,483,647, keys 1 to 16, moments in milliseconds, random words, numbers of replicas and of
+//! messages 0 to 2^64 - 1. A text is the rest of the line behind one space, may be empty, and is UTF-8.
+#![tactic(auto)]
+
+mod line;
+mod reading;
+mod seeds;
+mod settings;
+mod word;
+
+pub use line::{Line, View};
+pub use reading::read_line;
+pub use settings::settings_with;

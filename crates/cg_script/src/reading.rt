@@ -1,0 +1,258 @@
+//! Reading a line, word by word.
+
+ghost use Rattle.std.specs.Prelude.{◌≡◌, option_map};
+ghost use Rattle.cg_script.specs.Words.{count_in as text_count_in};
+ghost use Rattle.cg_script.specs.Words.{endpoint_before as text_endpoint_before, count_before as text_count_before, key_before as text_key_before};
+ghost use Rattle.cg_script.specs.Words.{text_in as text_of_bytes, state_text_in as text_state_text_in};
+ghost use Rattle.cg_script.specs.Script.{seeds_line as seeds_of, start_line as start_of, beat_line as beat_of, set_line as set_of};
+ghost use Rattle.cg_script.specs.Script.{open_line as open_of, tick_line as tick_of, four_in as four_of, deliver_line as deliver_of};
+ghost use Rattle.cg_script.specs.Script.{gossipinfo_line as gossipinfo_of, ring_line as ring_of, digests_line as digests_of};
+ghost use Rattle.cg_script.specs.Script.{replicas_line as replicas_of, line_of_word as line_of_word_of, line_in, or_unreadable as read_or_refused};
+ghost use Rattle.cg_script.specs.Gives.{Gives};
+
+use crate::line::{GREATEST, Line, View};
+use crate::seeds::endpoints_in;
+use crate::settings::settings_with;
+use crate::word::{Word, word_named};
+use cg_tokens::token_of;
+use cg_types::{Endpoint, Fault, Generation, StateKey, StateText, cut, number};
+use cg_world::{Action, LocalEvent};
+use std::alloc::Global;
+
+#[tactic(auto, unfolding(crate::specs::Words::count_in))]
+fn count_in(text: &[u8]) -> Option<u64>
+    ensures { result ≡ text_count_in text.now }
+{
+    number(text, GREATEST)
+}
+
+// An endpoint, and what stands behind the space after it.
+#[tactic(auto, unfolding(crate::specs::Words::endpoint_before))]
+fn endpoint_before(words: &[u8]) -> Option<(Endpoint, &[u8])>
+    ensures { option_map (λ p. (p.0, p.1.now)) result ≡ text_endpoint_before words.now }
+{
+    let Some((word, rest)) = cut(words, b' ') else {
+        return None;
+    };
+    let endpoint = Endpoint::from_bytes(word)?;
+    Some((endpoint, rest))
+}
+
+// A number of at most `GREATEST`, and what stands behind the space after it.
+#[tactic(auto, unfolding(crate::specs::Words::count_before))]
+fn count_before(words: &[u8]) -> Option<(u64, &[u8])>
+    ensures { option_map (λ p. (p.0, p.1.now)) result ≡ text_count_before words.now }
+{
+    let Some((word, rest)) = cut(words, b' ') else {
+        return None;
+    };
+    let count = count_in(word)?;
+    Some((count, rest))
+}
+
+// A key, and what stands behind the space after it.
+#[tactic(auto, unfolding(crate::specs::Words::key_before))]
+fn key_before(words: &[u8]) -> Option<(StateKey, &[u8])>
+    ensures { option_map (λ p. (p.0, p.1.now)) result ≡ text_key_before words.now }
+{
+    let Some((word, rest)) = cut(words, b' ') else {
+        return None;
+    };
+    let key = StateKey::from_bytes(word)?;
+    Some((key, rest))
+}
+
+// A text that is UTF-8.
+fn text_in(text: &[u8]) -> Option<&str>
+    ensures { option_map (λ t. t.now) result ≡ text_of_bytes text.now }
+{
+    match std::str::from_utf8(text) {
+        Ok(text) => Some(text),
+        Err(_) => None,
+    }
+}
+
+#[tactic(auto, unfolding(crate::specs::Words::state_text_in))]
+fn state_text_in(alloc: Global, text: &[u8]) -> Result<StateText, Fault>
+    ensures { Gives (λ t. t) result (text_state_text_in text.now) }
+{
+    match text_in(text) {
+        Some(text) => StateText::new(alloc, text),
+        None => Err(Fault::BadText),
+    }
+}
+
+#[tactic(auto, unfolding(crate::specs::Script::start_line))]
+fn start_line(words: &[u8]) -> Option<Line>
+    ensures { result ≡ start_of words.now }
+{
+    let Some((node, rest)) = endpoint_before(words) else {
+        return None;
+    };
+    let generation = Generation::from_bytes(rest)?;
+    Some(Line::Act(Action::Start(node, generation)))
+}
+
+#[tactic(auto, unfolding(crate::specs::Script::beat_line))]
+fn beat_line(words: &[u8]) -> Option<Line>
+    ensures { result ≡ beat_of words.now }
+{
+    let node = Endpoint::from_bytes(words)?;
+    Some(Line::Act(Action::Local(node, LocalEvent::Beat)))
+}
+
+#[tactic(auto, unfolding(crate::specs::Script::open_line))]
+fn open_line(words: &[u8]) -> Option<Line>
+    ensures { result ≡ open_of words.now }
+{
+    let node = Endpoint::from_bytes(words)?;
+    Some(Line::Act(Action::Local(node, LocalEvent::Opening)))
+}
+
+#[tactic(auto, unfolding(crate::specs::Script::four_in))]
+fn four_in(words: &[u8]) -> Option<[u64; 4]>
+    ensures { result ≡ four_of words.now }
+{
+    let (a, rest) = count_before(words)?;
+    let (b, rest) = count_before(rest)?;
+    let (c, rest) = count_before(rest)?;
+    let d = count_in(rest)?;
+    Some([a, b, c, d])
+}
+
+#[tactic(auto, unfolding(crate::specs::Script::tick_line))]
+fn tick_line(text: &[u8]) -> Option<Line>
+    ensures { result ≡ tick_of text.now }
+{
+    let Some((node, rest)) = endpoint_before(text) else {
+        return None;
+    };
+    let (now, rest) = count_before(rest)?;
+    let words = four_in(rest)?;
+    Some(Line::Act(Action::Local(node, LocalEvent::Tick { now, words })))
+}
+
+#[tactic(auto, unfolding(crate::specs::Script::deliver_line))]
+fn deliver_line(words: &[u8]) -> Option<Line>
+    ensures { result ≡ deliver_of words.now }
+{
+    let (number, rest) = count_before(words)?;
+    let Some((to, rest)) = endpoint_before(rest) else {
+        return None;
+    };
+    let now = count_in(rest)?;
+    Some(Line::Act(Action::Deliver { number, to, now }))
+}
+
+#[tactic(auto, unfolding(crate::specs::Script::gossipinfo_line))]
+fn gossipinfo_line(words: &[u8]) -> Option<Line>
+    ensures { result ≡ gossipinfo_of words.now }
+{
+    let node = Endpoint::from_bytes(words)?;
+    Some(Line::Show(node, View::Gossipinfo))
+}
+
+#[tactic(auto, unfolding(crate::specs::Script::ring_line))]
+fn ring_line(words: &[u8]) -> Option<Line>
+    ensures { result ≡ ring_of words.now }
+{
+    let node = Endpoint::from_bytes(words)?;
+    Some(Line::Show(node, View::Ring))
+}
+
+#[tactic(auto, unfolding(crate::specs::Script::digests_line))]
+fn digests_line(words: &[u8]) -> Option<Line>
+    ensures { result ≡ digests_of words.now }
+{
+    let node = Endpoint::from_bytes(words)?;
+    Some(Line::Show(node, View::Digests))
+}
+
+#[tactic(auto, unfolding(crate::specs::Script::replicas_line))]
+fn replicas_line(words: &[u8]) -> Option<Line>
+    ensures { result ≡ replicas_of words.now }
+{
+    let Some((node, rest)) = endpoint_before(words) else {
+        return None;
+    };
+    let (rf, rest) = count_before(rest)?;
+    let text = text_in(rest)?;
+    let token = token_of(text.as_bytes());
+    Some(Line::Show(node, View::Replicas { token, rf }))
+}
+
+#[tactic(auto, unfolding(crate::specs::Script::set_line))]
+fn set_line(alloc: Global, words: &[u8]) -> Result<Line, Fault>
+    ensures { Gives (λ l. l) result (set_of words.now) }
+{
+    let Some((node, rest)) = endpoint_before(words) else {
+        return Err(Fault::BadText);
+    };
+    let Some((key, text)) = key_before(rest) else {
+        return Err(Fault::BadText);
+    };
+    match state_text_in(alloc, text) {
+        Ok(text) => Ok(Line::Act(Action::Local(node, LocalEvent::Set { key, text }))),
+        Err(fault) => Err(fault),
+    }
+}
+
+fn seeds_line(alloc: Global, words: &[u8]) -> Result<Line, Fault>
+    ensures { Gives (λ l. l) result (read_or_refused (seeds_of words.now)) }
+{
+    let Some(seeds) = endpoints_in(alloc, words)? else {
+        return Err(Fault::BadText);
+    };
+    match settings_with(alloc, seeds)? {
+        Some(settings) => Ok(Line::Seeds(settings)),
+        None => Err(Fault::BadText),
+    }
+}
+
+// What a line that takes no memory asks for.
+fn or_unreadable(line: Option<Line>) -> Result<Line, Fault>
+    ensures { result ≡ read_or_refused line }
+{
+    match line {
+        Some(line) => Ok(line),
+        None => Err(Fault::BadText),
+    }
+}
+
+// What the words behind the first one say.
+fn line_of_word(alloc: Global, word: Word, words: &[u8]) -> Result<Line, Fault>
+    ensures { Gives (λ l. l) result (line_of_word_of word words.now) }
+{
+    match word {
+        Word::Seeds => seeds_line(alloc, words),
+        Word::Start => or_unreadable(start_line(words)),
+        Word::Beat => or_unreadable(beat_line(words)),
+        Word::Set => set_line(alloc, words),
+        Word::Open => or_unreadable(open_line(words)),
+        Word::Tick => or_unreadable(tick_line(words)),
+        Word::Deliver => or_unreadable(deliver_line(words)),
+        Word::Gossipinfo => or_unreadable(gossipinfo_line(words)),
+        Word::Ring => or_unreadable(ring_line(words)),
+        Word::Digests => or_unreadable(digests_line(words)),
+        Word::Replicas => or_unreadable(replicas_line(words)),
+    }
+}
+
+/// What a line of a script, without its line feed, asks for.
+///
+/// `TooLong` and `BadText` where only the text of a `set` is refused: over 1,024 bytes, or with control characters.
+/// `BadText` where anything else can't be read: another first word, a word too few or too many, a number of another form
+/// or out of its range, a text that is not UTF-8; seeds that don't rise strictly, or more than 16. `OutOfMemory` where
+/// memory runs out on the way.
+#[tactic(auto, unfolding(crate::specs::Script::line_in))]
+pub fn read_line(alloc: Global, line: &[u8]) -> Result<Line, Fault>
+    ensures { Gives (λ l. l) result (line_in line.now) }
+{
+    let Some((name, words)) = cut(line, b' ') else {
+        return Err(Fault::BadText);
+    };
+    let Some(word) = word_named(name) else {
+        return Err(Fault::BadText);
+    };
+    line_of_word(alloc, word, words)
+}

@@ -1,0 +1,32 @@
+//! The endpoints that a line names.
+
+ghost use Rattle.std.specs.Prelude.{◌≡◌, IfOk, option_map};
+ghost use Rattle.cg_core.specs.declared.limits.TheConstants.{SEED_LIMIT};
+ghost use Rattle.cg_script.specs.Words.{endpoints_in as endpoints_of};
+
+use cg_core::SEED_LIMIT;
+use cg_types::{Endpoint, cut};
+use std::alloc::{AllocError, Global};
+
+/// The endpoints that the words are, if each is one: at least one, and at most `SEED_LIMIT`.
+pub(crate) fn endpoints_in(alloc: Global, text: &[u8]) -> Result<Option<Vec<Endpoint>>, AllocError>
+    ensures { IfOk result (λ endpoints. option_map (λ v. v.items) endpoints ≡ endpoints_of SEED_LIMIT text.now) }
+{
+    let mut endpoints = Vec::new(alloc);
+    let mut rest = text;
+    for _ in 0..SEED_LIMIT {
+        let Some((word, behind)) = cut(rest, b' ') else {
+            let Some(endpoint) = Endpoint::from_bytes(rest) else {
+                return Ok(None);
+            };
+            endpoints.push(endpoint)?;
+            return Ok(Some(endpoints));
+        };
+        let Some(endpoint) = Endpoint::from_bytes(word) else {
+            return Ok(None);
+        };
+        endpoints.push(endpoint)?;
+        rest = behind;
+    }
+    Ok(None)
+}

@@ -1,0 +1,31 @@
+//! What the nodes of a script are set to.
+
+ghost use Rattle.std.specs.Prelude.{◌≡◌, ◌↔◌, IfOk, IsSome, IfSome, codes};
+ghost use Rattle.cg_types.specs.declared.limits.TheConstants.{PARTITIONER};
+ghost use Rattle.cg_core.specs.Values.{IsSettings};
+ghost use Rattle.cg_script.specs.Script.{settings_with as settings_of_seeds};
+
+use cg_core::Settings;
+use cg_silence::Silence;
+use cg_types::{Cluster, Endpoint, Fault};
+use std::alloc::{AllocError, Global};
+
+// The cluster of all scripts.
+fn cluster(alloc: Global) -> Result<Cluster, AllocError>
+    ensures { IfOk result (λ c. c ≡ record { name = codes "sim"; partitioner = PARTITIONER }) }
+{
+    match Cluster::new(alloc, "sim") {
+        Ok(cluster) => Ok(cluster),
+        Err(_) => Err(AllocError),
+    }
+}
+
+/// What the nodes of a script are set to: the cluster `sim`, these seeds, and silence as it is judged where nothing else
+/// is set. `None` where the seeds don't rise strictly or are more than there may be.
+pub fn settings_with(alloc: Global, seeds: Vec<Endpoint>) -> Result<Option<Settings>, AllocError>
+    ensures valid { IfOk result (λ s. IsSome s ↔ IsSettings (settings_of_seeds seeds.items)) }
+    ensures value { IfOk result (λ s. IfSome s (λ s. s ≡ settings_of_seeds seeds.items)) }
+{
+    let cluster = cluster(alloc)?;
+    Ok(Settings::new(cluster, seeds, Silence::default()))
+}

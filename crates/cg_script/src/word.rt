@@ -1,0 +1,68 @@
+//! The first words of lines.
+
+ghost use Rattle.std.specs.Prelude.{◌≡◌, bytes_eq};
+ghost use Rattle.cg_script.specs.Words.{word_named as named};
+
+/// The first word of a line.
+#[derive(Clone, Copy, Debug, PartialEq, Eq)]
+pub(crate) enum Word {
+    Seeds,
+    Start,
+    Beat,
+    Set,
+    Open,
+    Tick,
+    Deliver,
+    Gossipinfo,
+    Ring,
+    Digests,
+    Replicas,
+}
+
+// Whether the letters are those of a word.
+fn is(name: &[u8], word: &str) -> bool
+    ensures { result ≡ bytes_eq name.now word.now }
+{
+    name == word.as_bytes()
+}
+
+/// The word that these letters are.
+#[tactic(auto, unfolding(crate::specs::Words::word_named))]
+pub(crate) fn word_named(name: &[u8]) -> Option<Word>
+    ensures { result ≡ named name.now }
+{
+    if is(name, "seeds") {
+        return Some(Word::Seeds);
+    }
+    if is(name, "start") {
+        return Some(Word::Start);
+    }
+    if is(name, "beat") {
+        return Some(Word::Beat);
+    }
+    if is(name, "set") {
+        return Some(Word::Set);
+    }
+    if is(name, "open") {
+        return Some(Word::Open);
+    }
+    if is(name, "tick") {
+        return Some(Word::Tick);
+    }
+    if is(name, "deliver") {
+        return Some(Word::Deliver);
+    }
+    if is(name, "gossipinfo") {
+        return Some(Word::Gossipinfo);
+    }
+    if is(name, "ring") {
+        return Some(Word::Ring);
+    }
+    if is(name, "digests") {
+        return Some(Word::Digests);
+    }
+    if is(name, "replicas") {
+        return Some(Word::Replicas);
+    }
+    None
+}
