@@ -1,0 +1,380 @@
+//! The first fault of a frame, field by field, from both sides of each limit.
+
+use crate::messages::{bytes_of, fault_of};
+use cg_types::Cause;
+use std::alloc::Global;
+use std::test::Fail;
+
+// A SYN of the cluster c1 with a digest of A.
+const SYN: &str = "00000016 0101 026331 01 0001 0a0000011b58 00000009 00000001";
+
+// A SYN with digests of A and B.
+const TWO_DIGESTS: &str =
+    "00000024 0101 026331 01 0002 0a0000011b58 00000009 00000001 0a0000021b58 00000009 00000001";
+
+// An ACK with a request of A, and a delta of B with nothing but its heartbeat.
+const ACK: &str =
+    "00000027 0102 0001 0a0000011b58 00000009 00000000 0001 0a0000021b58 00000005 00000000 00000001 00";
+
+// An ACK with a request of A, and a delta of B above 2 that has one state, of key 1 at version 4.
+const ACK_WITH_STATE: &str =
+    "0000002f 0102 0001 0a0000011b58 00000009 00000000 0001 0a0000021b58 00000005 00000002 00000003 01 01 00000004 0001 4e";
+
+// An ACK with a request of A, and a delta of B with two empty states, of keys 1 and 2.
+const ACK_WITH_STATES: &str =
+    "00000035 0102 0001 0a0000011b58 00000009 00000000 0001 0a0000021b58 00000005 00000000 00000001 02 01 00000002 0000 02 00000002 0000";
+
+// An ACK with requests and deltas of A and B.
+const TWO_OF_EACH: &str =
+    "00000048 0102 0002 0a0000011b58 00000009 00000000 0a0000021b58 00000009 00000000 0002 0a0000011b58 00000009 00000000 00000001 00 0a0000021b58 00000009 00000000 00000001 00";
+
+// An ACK2 with a delta of A above 2 that has one state, of key 1 at version 4.
+const ACK2: &str =
+    "0000001f 0103 0001 0a0000011b58 00000009 00000002 00000003 01 01 00000004 0001 4e";
+
+// An ACK2 with a delta of A above 2 that has its heartbeat alone.
+const ACK2_WITHOUT_STATE: &str = "00000017 0103 0001 0a0000011b58 00000009 00000002 00000003 00";
+
+// An ACK2 with a delta of A that has two empty states, of keys 1 and 2.
+const ACK2_WITH_STATES: &str =
+    "00000025 0103 0001 0a0000011b58 00000009 00000000 00000001 02 01 00000002 0000 02 00000002 0000";
+
+// An ACK2 with deltas of A and B.
+const TWO_DELTAS: &str =
+    "0000002a 0103 0002 0a0000011b58 00000009 00000000 00000001 00 0a0000021b58 00000009 00000000 00000001 00";
+
+// The frame with other bytes at a place.
+fn with_part(alloc: Global, frame: &str, place: usize, part: &str) -> Result<Vec<u8>, Fail> {
+    let mut bytes = bytes_of(alloc, frame)?;
+    let other = bytes_of(alloc, part)?;
+    for i in 0..other.len() {
+        if let Some(at) = place.checked_add(i)
+            && let Some(byte) = bytes.get_mut(at)
+        {
+            *byte = other[i];
+        }
+    }
+    Ok(bytes)
+}
+
+// The first fault of the frame with other bytes at a place.
+fn fault_with(
+    alloc: Global,
+    frame: &str,
+    place: usize,
+    part: &str,
+) -> Result<Option<(usize, Cause)>, Fail> {
+    let bytes = with_part(alloc, frame, place, part)?;
+    Ok(fault_of(alloc, bytes.as_slice()))
+}
+
+// The first fault of the frame's first bytes, so many, with the length that this makes.
+fn fault_within(alloc: Global, frame: &str, size: u8) -> Result<Option<(usize, Cause)>, Fail> {
+    let mut bytes = bytes_of(alloc, frame)?;
+    bytes.truncate(size as usize);
+    if let Some(byte) = bytes.get_mut(3) {
+        *byte = size.saturating_sub(4);
+    }
+    Ok(fault_of(alloc, bytes.as_slice()))
+}
+
+// Whether each shorter frame is Short at the last of these places that it reaches.
+fn is_short_in_each_field(
+    alloc: Global,
+    frame: &str,
+    size: u8,
+    starts: &[u8],
+) -> Result<bool, Fail> {
+    for shorter in 4..size {
+        let start = starts
+            .iter()
+            .rev()
+            .find(|start| **start <= shorter)
+            .copied();
+        let place = start.ok_or("a field")? as usize;
+        if fault_within(alloc, frame, shorter)? != Some((place, Cause::Short)) {
+            return Ok(false);
+        }
+    }
+    Ok(true)
+}
+
+#[test]
+fn fields_of_a_syn_that_do_not_fit(rt: HostRuntime) -> Result<(), Fail> {
+    let starts = [4, 5, 6, 7, 9, 10, 12, 18, 22];
+    assert!(rt; is_short_in_each_field(rt.alloc(), SYN, 26, &starts)?);
+    Ok(())
+}
+
+#[test]
+fn fields_of_an_ack_that_do_not_fit(rt: HostRuntime) -> Result<(), Fail> {
+    let starts = [4, 5, 6, 8, 14, 18, 22, 24, 30, 34, 38, 42, 43, 44, 48, 50];
+    assert!(rt; is_short_in_each_field(rt.alloc(), ACK_WITH_STATE, 51, &starts)?);
+    Ok(())
+}
+
+#[test]
+fn fields_of_an_ack2_that_do_not_fit(rt: HostRuntime) -> Result<(), Fail> {
+    let starts = [4, 5, 6, 8, 14, 18, 22, 26, 27, 28, 32, 34];
+    assert!(rt; is_short_in_each_field(rt.alloc(), ACK2, 35, &starts)?);
+    Ok(())
+}
+
+#[test]
+fn faults_of_a_syn(rt: HostRuntime) -> Result<(), Fail> {
+    for (place, part, fault) in [
+        (4, "00", Some((4, Cause::Layout))),
+        (4, "02", Some((4, Cause::Layout))),
+        (5, "00", Some((5, Cause::Kind))),
+        (5, "04", Some((5, Cause::Kind))),
+        (6, "00", Some((6, Cause::Name))),
+        (6, "30", Some((7, Cause::Short))),
+        (6, "31", Some((6, Cause::Name))),
+        (7, "1f", Some((7, Cause::Name))),
+        (7, "20", None),
+        (7, "7e", None),
+        (7, "7f", Some((7, Cause::Name))),
+        (8, "7f", Some((7, Cause::Name))),
+        (8, "80", Some((7, Cause::Name))),
+        (9, "00", None),
+        (9, "ff", None),
+        (10, "0101", Some((10, Cause::Count))),
+        (10, "0100", Some((26, Cause::Short))),
+        (10, "0000", Some((12, Cause::Rest))),
+    ] {
+        let found = fault_with(rt.alloc(), SYN, place, part)?;
+        assert_eq!(rt; found, fault, "{part} at {place}");
+    }
+    Ok(())
+}
+
+#[test]
+fn faults_of_a_digest(rt: HostRuntime) -> Result<(), Fail> {
+    for (place, part, fault) in [
+        (16, "0000", Some((12, Cause::Endpoint))),
+        (16, "0001", None),
+        (18, "00000000", Some((18, Cause::Generation))),
+        (18, "00000001", None),
+        (18, "7fffffff", None),
+        (18, "80000000", Some((18, Cause::Generation))),
+        (22, "00000000", Some((22, Cause::Version))),
+        (22, "00000001", None),
+        (22, "7fffffff", None),
+        (22, "80000000", Some((22, Cause::Version))),
+    ] {
+        let found = fault_with(rt.alloc(), SYN, place, part)?;
+        assert_eq!(rt; found, fault, "{part} at {place}");
+    }
+    Ok(())
+}
+
+#[test]
+fn faults_of_a_request(rt: HostRuntime) -> Result<(), Fail> {
+    for (place, part, fault) in [
+        (6, "0000", Some((8, Cause::Count))),
+        (6, "0100", Some((22, Cause::Order))),
+        (6, "0101", Some((6, Cause::Count))),
+        (12, "0000", Some((8, Cause::Endpoint))),
+        (12, "0001", None),
+        (14, "00000000", Some((14, Cause::Generation))),
+        (14, "00000001", None),
+        (14, "7fffffff", None),
+        (14, "80000000", Some((14, Cause::Generation))),
+        (18, "7fffffff", None),
+        (18, "80000000", Some((18, Cause::Version))),
+    ] {
+        let found = fault_with(rt.alloc(), ACK, place, part)?;
+        assert_eq!(rt; found, fault, "{part} at {place}");
+    }
+    Ok(())
+}
+
+#[test]
+fn faults_of_a_delta_in_an_ack(rt: HostRuntime) -> Result<(), Fail> {
+    for (place, part, fault) in [
+        (22, "0000", Some((24, Cause::Rest))),
+        (22, "0100", Some((51, Cause::Short))),
+        (22, "0101", Some((22, Cause::Count))),
+        (28, "0000", Some((24, Cause::Endpoint))),
+        (28, "0001", None),
+        (30, "00000000", Some((30, Cause::Generation))),
+        (30, "00000001", None),
+        (30, "7fffffff", None),
+        (30, "80000000", Some((30, Cause::Generation))),
+        (34, "00000000", None),
+        (34, "7fffffff", Some((44, Cause::Version))),
+        (34, "80000000", Some((34, Cause::Above))),
+        (38, "00000000", Some((38, Cause::Heartbeat))),
+        (38, "00000001", None),
+        (38, "7fffffff", None),
+        (38, "80000000", Some((38, Cause::Heartbeat))),
+    ] {
+        let found = fault_with(rt.alloc(), ACK_WITH_STATE, place, part)?;
+        assert_eq!(rt; found, fault, "{part} at {place}");
+    }
+    Ok(())
+}
+
+#[test]
+fn faults_of_a_state_in_an_ack(rt: HostRuntime) -> Result<(), Fail> {
+    for (place, part, fault) in [
+        (42, "00", Some((43, Cause::Rest))),
+        (42, "10", Some((51, Cause::Short))),
+        (42, "11", Some((42, Cause::Count))),
+        (43, "00", Some((43, Cause::Key))),
+        (43, "10", None),
+        (43, "11", Some((43, Cause::Key))),
+        (44, "00000000", Some((44, Cause::Version))),
+        (44, "00000002", Some((44, Cause::Version))),
+        (44, "00000003", None),
+        (44, "80000000", Some((44, Cause::Version))),
+        (48, "0000", Some((50, Cause::Rest))),
+        (48, "0400", Some((50, Cause::Short))),
+        (48, "0401", Some((48, Cause::Text))),
+        (50, "1f", Some((50, Cause::Text))),
+        (50, "20", None),
+        (50, "7e", None),
+        (50, "7f", Some((50, Cause::Text))),
+    ] {
+        let found = fault_with(rt.alloc(), ACK_WITH_STATE, place, part)?;
+        assert_eq!(rt; found, fault, "{part} at {place}");
+    }
+    Ok(())
+}
+
+#[test]
+fn faults_of_an_ack2(rt: HostRuntime) -> Result<(), Fail> {
+    for (place, part, fault) in [
+        (6, "0101", Some((6, Cause::Count))),
+        (6, "0100", Some((35, Cause::Short))),
+        (6, "0000", Some((8, Cause::Rest))),
+        (12, "0000", Some((8, Cause::Endpoint))),
+        (12, "0001", None),
+        (12, "ffff", None),
+        (14, "00000000", Some((14, Cause::Generation))),
+        (14, "00000001", None),
+        (14, "7fffffff", None),
+        (14, "80000000", Some((14, Cause::Generation))),
+        (18, "00000000", None),
+        (18, "00000003", None),
+        (18, "7fffffff", Some((28, Cause::Version))),
+        (18, "80000000", Some((18, Cause::Above))),
+        (22, "00000000", Some((22, Cause::Heartbeat))),
+        (22, "7fffffff", None),
+        (22, "80000000", Some((22, Cause::Heartbeat))),
+    ] {
+        let found = fault_with(rt.alloc(), ACK2, place, part)?;
+        assert_eq!(rt; found, fault, "{part} at {place}");
+    }
+    Ok(())
+}
+
+#[test]
+fn faults_of_a_state(rt: HostRuntime) -> Result<(), Fail> {
+    for (place, part, fault) in [
+        (26, "00", Some((27, Cause::Rest))),
+        (26, "10", Some((35, Cause::Short))),
+        (26, "11", Some((26, Cause::Count))),
+        (27, "00", Some((27, Cause::Key))),
+        (27, "10", None),
+        (27, "11", Some((27, Cause::Key))),
+        (28, "00000000", Some((28, Cause::Version))),
+        (28, "00000002", Some((28, Cause::Version))),
+        (28, "00000003", None),
+        (28, "7fffffff", None),
+        (28, "80000000", Some((28, Cause::Version))),
+        (32, "0000", Some((34, Cause::Rest))),
+        (32, "0002", Some((34, Cause::Short))),
+        (32, "0400", Some((34, Cause::Short))),
+        (32, "0401", Some((32, Cause::Text))),
+        (34, "1f", Some((34, Cause::Text))),
+        (34, "20", None),
+        (34, "7e", None),
+        (34, "7f", Some((34, Cause::Text))),
+        (34, "80", Some((34, Cause::Text))),
+    ] {
+        let found = fault_with(rt.alloc(), ACK2, place, part)?;
+        assert_eq!(rt; found, fault, "{part} at {place}");
+    }
+    Ok(())
+}
+
+// A heartbeat that is not above `above` is no fault beside a state; alone, it leaves the delta empty.
+#[test]
+fn faults_of_a_heartbeat(rt: HostRuntime) -> Result<(), Fail> {
+    for (frame, place, part, fault) in [
+        (ACK2, 22, "00000001", None),
+        (ACK2, 22, "00000002", None),
+        (ACK2_WITHOUT_STATE, 22, "00000001", Some((8, Cause::Empty))),
+        (ACK2_WITHOUT_STATE, 22, "00000002", Some((8, Cause::Empty))),
+        (ACK2_WITHOUT_STATE, 22, "00000003", None),
+        (ACK, 34, "00000001", Some((24, Cause::Empty))),
+        (ACK, 34, "0000000100000002", None),
+        (ACK, 34, "0000000200000001", Some((24, Cause::Empty))),
+    ] {
+        let found = fault_with(rt.alloc(), frame, place, part)?;
+        assert_eq!(rt; found, fault, "{part} at {place}");
+    }
+    Ok(())
+}
+
+#[test]
+fn endpoints_rise(rt: HostRuntime) -> Result<(), Fail> {
+    for (frame, place) in [
+        (TWO_DIGESTS, 26),
+        (TWO_OF_EACH, 22),
+        (TWO_OF_EACH, 57),
+        (TWO_DELTAS, 27),
+    ] {
+        for (endpoint, fault) in [
+            ("0a0000011b57", Some((place, Cause::Order))),
+            ("0a0000011b58", Some((place, Cause::Order))),
+            ("0a0000011b59", None),
+            ("090000021b59", Some((place, Cause::Order))),
+            ("0a0000010000", Some((place, Cause::Endpoint))),
+        ] {
+            let found = fault_with(rt.alloc(), frame, place, endpoint)?;
+            assert_eq!(rt; found, fault, "{endpoint} at {place}");
+        }
+    }
+    Ok(())
+}
+
+#[test]
+fn keys_rise(rt: HostRuntime) -> Result<(), Fail> {
+    for (frame, place) in [(ACK_WITH_STATES, 50), (ACK2_WITH_STATES, 34)] {
+        for (key, fault) in [
+            ("00", Some((place, Cause::Key))),
+            ("01", Some((place, Cause::Order))),
+            ("02", None),
+            ("10", None),
+            ("11", Some((place, Cause::Key))),
+        ] {
+            let found = fault_with(rt.alloc(), frame, place, key)?;
+            assert_eq!(rt; found, fault, "{key} at {place}");
+        }
+    }
+    for (frame, place) in [(ACK_WITH_STATES, 43), (ACK2_WITH_STATES, 27)] {
+        let found = fault_with(rt.alloc(), frame, place, "03")?;
+        assert_eq!(rt; found, Some((place + 7, Cause::Order)));
+    }
+    Ok(())
+}
+
+#[test]
+fn bytes_behind_the_last_field(rt: HostRuntime) -> Result<(), Fail> {
+    for (frame, place) in [
+        ("00000009 0101 026331 01 0000 00", 12),
+        ("00000007 0102 0000 0000 00", 10),
+        ("00000005 0103 0000 00", 8),
+        (
+            "00000018 0103 0001 0a0000011b58 00000009 00000000 00000001 00 00",
+            27,
+        ),
+    ] {
+        let bytes = bytes_of(rt.alloc(), frame)?;
+        let found = fault_of(rt.alloc(), bytes.as_slice());
+        assert_eq!(rt; found, Some((place, Cause::Rest)), "{frame}");
+    }
+    Ok(())
+}

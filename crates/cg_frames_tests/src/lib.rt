@@ -1,0 +1,11 @@
+//! Tests of frames and of streams of them, over their public calls.
+#![tactic(auto)]
+
+#[cfg(test)]
+mod faults;
+#[cfg(test)]
+mod feeds;
+#[cfg(test)]
+mod layouts;
+#[cfg(test)]
+mod messages;
