@@ -6,7 +6,7 @@ use Rattle.std.specs.declared.cmp.Ordering.TheVariants.{Less, Equal, Greater}
 use Rattle.std.specs.FinMap.Entries.{put, by_order}
 use Rattle.cg_entry.specs.declared.state.State.{State}
 use Rattle.cg_entry.specs.Contents.{IsState}
-use Rattle.cg_entry.specs.State.{pairs}
+use Rattle.cg_entry.specs.State.{pair, pairs}
 use Rattle.cg_entry.specs.Versioned.{Versioned}
 use Rattle.cg_entry.proofs.PutLemmas.{put_all}
 use Rattle.cg_entry.proofs.StateLemmas.{newer, pairs-filter}
@@ -37,3 +37,8 @@ put_valid k v (e ∷ es) is all =
 pub put_all_valid : (news olds : List (ℕ × Versioned)) → AreValid news → AreValid olds → AreValid (put_all news olds)
 put_all_valid [] olds fresh all = all
 put_all_valid (e ∷ es) olds fresh all = put_all_valid es (put nat_cmp e.0 e.1 olds) fresh.1 (put_valid e.0 e.1 olds fresh.0 all)
+
+-- what holds of each state of a list holds of each entry that it is
+pub all_pairs : (P : ℕ × Versioned → Type 0) (ss : List State) → AllByRecursion (λ (s : State). P (pair s)) ss → AllByRecursion P (pairs ss)
+all_pairs P [] all = tt
+all_pairs P (s ∷ ss) all = (all.0, all_pairs P ss all.1)

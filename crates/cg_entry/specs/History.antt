@@ -13,7 +13,8 @@ pub data Follows (x y : EntryValue) : Type 0 where
 -- The entries of one owner, oldest first: the first is a start, and each other follows the one before.
 pub record IsHistory (history : List EntryValue) : Type 0 where
   pub begins : (x : EntryValue) → at_place history 1 ≡ Some x → (generation : ℕ) × (x ≡ started generation)
-  pub goes_on : (place : ℕ) (x y : EntryValue) → at_place history place ≡ Some x → at_place history (suc place) ≡ Some y → Follows x y
+  pub goes_on : (place : ℕ) (x y : EntryValue)
+      → at_place history place ≡ Some x → at_place history (suc place) ≡ Some y → Follows x y
 
 abbrev pub generation_of : Option EntryValue → ℕ
 generation_of None = 0

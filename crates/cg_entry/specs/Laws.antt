@@ -11,29 +11,36 @@ use Rattle.cg_entry.specs.Spelling.{version_at, delta_of, absorbed_of}
 -- A start alone is a history, and a history goes on by each entry that may follow its last one.
 pub record HistoriesGrow : Type 0 where
   pub first : (generation : ℕ) → IsHistory (started generation ∷ [])
-  pub next : (history : List EntryValue) (x y : EntryValue) → IsHistory history → at_place history (length history) ≡ Some x → Follows x y → IsHistory (history ++ y ∷ [])
+  pub next : (history : List EntryValue) (x y : EntryValue)
+      → IsHistory history → at_place history (length history) ≡ Some x → Follows x y → IsHistory (history ++ y ∷ [])
 
 -- Each entry of a history is later than those before it: generation and version rise strictly.
 abbrev pub EntriesRise : Type 0
-EntriesRise = (history : List EntryValue) → IsHistory history → (p q : ℕ) (x y : EntryValue) → at_place history p ≡ Some x → at_place history q ≡ Some y → p < q → is_later y x ≡ true
+EntriesRise =
+    (history : List EntryValue) → IsHistory history → (p q : ℕ) (x y : EntryValue)
+    → at_place history p ≡ Some x → at_place history q ≡ Some y → p < q → is_later y x ≡ true
 
 -- A generation and a version name at most one place of a history, and so one entry.
 abbrev pub VersionsNameEntries : Type 0
 VersionsNameEntries =
-    (history : List EntryValue) → IsHistory history → (p q : ℕ) (x y : EntryValue) → at_place history p ≡ Some x → at_place history q ≡ Some y
+    (history : List EntryValue) → IsHistory history → (p q : ℕ) (x y : EntryValue)
+    → at_place history p ≡ Some x → at_place history q ≡ Some y
     → x.generation ≡ y.generation → newest x ≡ newest y → (p ≡ q) × (x ≡ y)
 
 -- What is said of a delta that spells a span, at a holder at a place of the history.
 pub record IsTakenAsItsSpan (history : List EntryValue) (span : Span) (place : ℕ) (delta : DeltaValue) : Type 0 where
-  -- what becomes of it is what becomes of the span: where it is taken, the entry that it leads to is the whole entry at the span's end
+  -- what becomes of it is what becomes of the span: where it is taken, the entry that it leads to is the whole entry at
+  -- the span's end
   pub outcome : met (at_place history place) delta ≡ absorbed_of history span (taking place span)
   -- what is then held is the whole entry at the new place
-  pub held : entry_after (at_place history place) (met (at_place history place) delta) ≡ at_place history (place_after (taking place span) place span)
+  pub held : entry_after (at_place history place) (met (at_place history place) delta)
+      ≡ at_place history (place_after (taking place span) place span)
 
 -- A delta that spells a span is taken as the span is, at each place of its history.
 abbrev pub SpelledDeltasAreTaken : Type 0
 SpelledDeltasAreTaken =
-    (history : List EntryValue) → IsHistory history → (span : Span) → IsSpan history span → (place : ℕ) → place ≤ length history
+    (history : List EntryValue) → IsHistory history → (span : Span) → IsSpan history span
+    → (place : ℕ) → place ≤ length history
     → (delta : DeltaValue) → delta_of history span ≡ Some delta → IsTakenAsItsSpan history span place delta
 
 -- What the entry at one place has above the version at another one.
@@ -41,10 +48,13 @@ pub record IsDeltaOfPlaces (history : List EntryValue) (from to : ℕ) (delta : 
   -- it is there exactly where the first place is later
   pub exists : IsSome delta ↔ (from < to)
   -- it spells the span from one place to the other
-  pub spells : (d : DeltaValue) → delta ≡ Some d → IsSpan history (record { from = from; to = to }) × (delta_of history (record { from = from; to = to }) ≡ Some d)
+  pub spells : (d : DeltaValue) → delta ≡ Some d
+      → IsSpan history (record { from = from; to = to }) × (delta_of history (record { from = from; to = to }) ≡ Some d)
 
 -- What an entry has above the version at a place of its generation, or at none, spells a span.
 abbrev pub DeltasSpellSpans : Type 0
 DeltasSpellSpans =
-    (history : List EntryValue) → IsHistory history → (from to : ℕ) (entry : EntryValue) → from ≤ length history → at_place history to ≡ Some entry
-    → (from ≡ 0) ⊎ (generation_at history from ≡ entry.generation) → IsDeltaOfPlaces history from to (delta_above (version_at history from) entry)
+    (history : List EntryValue) → IsHistory history → (from to : ℕ) (entry : EntryValue)
+    → from ≤ length history → at_place history to ≡ Some entry
+    → (from ≡ 0) ⊎ (generation_at history from ≡ entry.generation)
+    → IsDeltaOfPlaces history from to (delta_above (version_at history from) entry)

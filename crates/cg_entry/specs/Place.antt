@@ -1,4 +1,5 @@
--- Places in an owner's history. A place is how many of its entries were seen: 0 is none, and the entry held is the one at that place.
+-- Places in an owner's history. A place is how many of its entries were seen: 0 is none, and the entry held is the one
+-- at that place.
 use Rattle.std.specs.Prelude.{◌≡◌, ℕ, ◌<◌, ◌≤◌, ◌⊎◌, List, length, nat_le, if◌then◌else◌}
 use Rattle.cg_entry.specs.Values.{EntryValue}
 use Rattle.cg_entry.specs.History.{generation_at}

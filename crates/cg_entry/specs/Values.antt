@@ -18,7 +18,13 @@ pub record DeltaValue : Type 0 where
 
 -- the codes that models of such values ask for
 abbrev pub entry_code : Coded EntryValue
-entry_code = code_by (ℕ × (ℕ × States)) (coded× coded_ℕ (coded× coded_ℕ states_code)) (λ e. (e.generation, (e.heartbeat, e.states))) (λ p. record { generation = p.0; heartbeat = p.1.0; states = p.1.1 }) (λ _. refl)
+entry_code =
+    code_by (ℕ × (ℕ × States)) (coded× coded_ℕ (coded× coded_ℕ states_code))
+    (λ e. (e.generation, (e.heartbeat, e.states)))
+    (λ p. record { generation = p.0; heartbeat = p.1.0; states = p.1.1 }) (λ _. refl)
 
 abbrev pub delta_code : Coded DeltaValue
-delta_code = code_by (ℕ × (ℕ × (ℕ × States))) (coded× coded_ℕ (coded× coded_ℕ (coded× coded_ℕ states_code))) (λ d. (d.generation, (d.above, (d.heartbeat, d.states)))) (λ p. record { generation = p.0; above = p.1.0; heartbeat = p.1.1.0; states = p.1.1.1 }) (λ _. refl)
+delta_code =
+    code_by (ℕ × (ℕ × (ℕ × States))) (coded× coded_ℕ (coded× coded_ℕ (coded× coded_ℕ states_code)))
+    (λ d. (d.generation, (d.above, (d.heartbeat, d.states))))
+    (λ p. record { generation = p.0; above = p.1.0; heartbeat = p.1.1.0; states = p.1.1.1 }) (λ _. refl)

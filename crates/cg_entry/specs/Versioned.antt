@@ -14,7 +14,9 @@ States = map.FinMap nat_cmp Versioned
 
 -- the code that a model of such values asks for
 abbrev pub versioned_code : Coded Versioned
-versioned_code = code_by (List ℕ × ℕ) (coded× (coded_list coded_ℕ) coded_ℕ) (λ v. (v.text, v.version)) (λ p. record { text = p.0; version = p.1 }) (λ _. refl)
+versioned_code =
+    code_by (List ℕ × ℕ) (coded× (coded_list coded_ℕ) coded_ℕ) (λ v. (v.text, v.version))
+    (λ p. record { text = p.0; version = p.1 }) (λ _. refl)
 
 abbrev pub states_code : Coded States
 states_code = map.code coded_ℕ versioned_code

@@ -3,7 +3,7 @@
 ghost use Rattle.std.specs.Prelude.{◌≡◌, ◌↔◌, IsTrue, IfSome, IfOk, is_some};
 ghost use Rattle.std.specs.FinMap as map;
 ghost use Rattle.cg_types.specs.Numbers.{IsVersionHeld};
-ghost use Rattle.cg_entry.specs.State.{KeysRise, pairs, all_newer as all_newer_of, makes_delta, delta_from};
+ghost use Rattle.cg_entry.specs.State.{KeysRise, pairs, all_newer as all_newer_of, delta_of, makes_delta, delta_from};
 ghost use Rattle.cg_entry.specs.Contents.{IsDeltaOfEntry};
 ghost use Rattle.cg_entry.specs.Entry.{greatest, IsDelta};
 
@@ -53,7 +53,7 @@ impl Delta {
         states: Vec<State>,
     ) -> Option<Delta>
         ensures when { is_some result ≡ makes_delta above heartbeat states.items }
-        ensures value { IfSome result (λ d. d ≡ record { generation = generation; above = above; heartbeat = heartbeat; states = map.from_sorted (pairs states.items) }) }
+        ensures value { IfSome result (λ d. d ≡ delta_of generation above heartbeat states.items) }
     {
         Delta::try_new(generation, above, heartbeat, states).ok()
     }

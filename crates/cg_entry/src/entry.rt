@@ -121,8 +121,8 @@ impl Entry {
         Ok(version)
     }
 
-    /// Gives a key a text with the next version. `VersionsSpent` where there is none, in whose place `OutOfMemory` never
-    /// comes; else at most `OutOfMemory`. The entry and the versions are then as before.
+    /// Gives a key a text with the next version. `VersionsSpent` where there is none, in whose place `OutOfMemory`
+    /// never comes; else at most `OutOfMemory`. The entry and the versions are then as before.
     pub fn set(
         &mut self,
         versions: &mut Versions,

@@ -30,7 +30,9 @@ pub record ClusterValue : Type 0 where
 
 -- the code that models of values with a cluster ask for
 abbrev pub cluster_code : Coded ClusterValue
-cluster_code = code_by (List ℕ × ℕ) (coded× (coded_list coded_ℕ) coded_ℕ) (λ c. (c.name, c.partitioner)) (λ p. record { name = p.0; partitioner = p.1 }) (λ _. refl)
+cluster_code =
+    code_by (List ℕ × ℕ) (coded× (coded_list coded_ℕ) coded_ℕ) (λ c. (c.name, c.partitioner))
+    (λ p. record { name = p.0; partitioner = p.1 }) (λ _. refl)
 
 pub record IsCluster (c : ClusterValue) : Type 0 where
   pub is_named : IsClusterName c.name

@@ -113,7 +113,7 @@ impl Endpoint {
     }
 
     /// The endpoint that a text is, as `10.0.0.1:7000`: four numbers from 0 to 255 and a port from 1 to
-    /// 65,535, with no leading zeros. Any other text is BadText. It takes no memory.
+    /// 65,535, with no leading zeros. Any other text is `BadText`, and no other refusal comes.
     pub fn read(text: &str) -> Result<Endpoint, Fault>
         ensures value { MatchResult result (λ e. endpoint_in text.now ≡ Some e) (λ _. endpoint_in text.now ≡ None) }
         // The text is the one that the endpoint writes.

@@ -11,8 +11,8 @@ use bytes::ByteStr;
 use std::alloc::{AllocError, Global};
 use std::marker::Model;
 
-// Whether the bytes have no control character: none below 32, and no 127. It looks at each byte, also after a bad one, so
-// that many are compared at once.
+// Whether the bytes have no control character: none below 32, and no 127. It looks at each byte, also after a bad one,
+// so that many are compared at once.
 fn is_printable(bytes: &[u8]) -> bool
     ensures { result ≡ printable bytes.now }
 {
@@ -50,7 +50,8 @@ impl Model for StateText {
 }
 
 impl StateText {
-    /// TooLong over 1,024 bytes, else BadText where it is not plain, else at most OutOfMemory.
+    /// `TooLong` over 1,024 bytes, else `BadText` where it is not plain, else at most `OutOfMemory`, which never comes
+    /// in another refusal's place.
     pub fn new(alloc: Global, text: &str) -> Result<StateText, Fault>
         ensures { Answers (λ t. t) (state_text_of text.now) result }
     {
@@ -63,8 +64,8 @@ impl StateText {
         Ok(StateText::of_plain(alloc, text)?)
     }
 
-    /// As `new`, of a text that is known to be one: it is not tested again. `AllocError` where there is no memory for its
-    /// bytes.
+    /// As `new`, of a text that is known to be one: it is not tested again. `AllocError` where there is no memory for
+    /// its bytes.
     pub fn of_plain(alloc: Global, text: &str) -> Result<StateText, AllocError>
         requires { IsStateText text.now }
         ensures { IfOk result (λ t. t ≡ text.now) }
@@ -82,8 +83,8 @@ impl StateText {
         self.text.as_str()
     }
 
-    /// The same text. It copies no byte and takes no memory; only a count of owners that is at its
-    /// greatest, 2^63 - 1, could refuse it.
+    /// The same text, which shares its bytes: only a count of owners that is at its greatest, 2^63 - 1, could refuse
+    /// it, as `AllocError`.
     pub fn copy(&self) -> Result<StateText, AllocError>
         ensures { IfOk result (λ t. t ≡ self.now) }
     {
@@ -120,7 +121,8 @@ impl Cluster {
         Cluster::with(alloc, name, PARTITIONER)
     }
 
-    /// TooLong over 48 bytes, else BadText where the name is empty or not plain, else at most OutOfMemory.
+    /// `TooLong` over 48 bytes, else `BadText` where the name is empty or not plain, else at most `OutOfMemory`, which
+    /// never comes in another refusal's place.
     pub fn with(alloc: Global, name: &str, partitioner: u8) -> Result<Cluster, Fault>
         ensures { Answers (λ c. c) (cluster_of name.now partitioner) result }
     {
@@ -151,7 +153,7 @@ impl Cluster {
         self.partitioner
     }
 
-    /// The same cluster. It copies no byte and takes no memory, as `StateText::copy`.
+    /// The same cluster, which shares the name's bytes. Refused as `StateText::copy` is.
     pub fn copy(&self) -> Result<Cluster, AllocError>
         ensures { IfOk result (λ c. c ≡ self.now) }
     {

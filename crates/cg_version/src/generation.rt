@@ -17,7 +17,7 @@ fn generation_after(stored: Option<Generation>) -> u32
 }
 
 /// The generation of a start at so many seconds since 1970: one more than the stored one (1 where none is
-/// stored), or the seconds where these are more. VersionsSpent above 2,147,483,647.
+/// stored), or the seconds where these are more. `VersionsSpent` above 2,147,483,647; no other refusal comes.
 pub fn next_generation(stored: Option<Generation>, now_secs: u64) -> Result<Generation, Fault>
     ensures { AnswersExactly (λ g. g) (generation_at_start stored now_secs) result }
 {

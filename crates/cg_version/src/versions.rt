@@ -9,7 +9,8 @@ ghost use Rattle.cg_version.specs.Version.{next_version};
 use cg_types::{Fault, NUMBER_LIMIT, Version};
 use std::marker::Model;
 
-/// Versions from 1 on, each given once. A contract sees the last one given, 0 before the first.
+/// Versions from 1 on, each greater than the last one given. A copy gives the same versions again. A contract sees the
+/// last one given, 0 before the first.
 #[derive(Clone, Copy, Debug, PartialEq, Eq)]
 pub struct Versions {
     last: u32,
@@ -60,7 +61,8 @@ impl Versions {
         Version::new(self.last + 1).is_none()
     }
 
-    /// The version after the last one, which is then the last. VersionsSpent after 2,147,483,647, which stays.
+    /// The version after the last one, which is then the last. `VersionsSpent` after 2,147,483,647, which stays the
+    /// last; no other refusal comes.
     pub fn next(&mut self) -> Result<Version, Fault>
         ensures value { AnswersExactly (λ v. v) (next_version self.old) result }
         ensures ok { IfOk result (λ v. self.new ≡ v) }
