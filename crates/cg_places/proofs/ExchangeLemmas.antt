@@ -7,7 +7,7 @@ use Rattle.cg_entry.proofs.PlaceLemmas.{at_place_last}
 use Rattle.cg_exchange.specs.Places.{Ask, span_for, ask_for}
 use Rattle.cg_exchange.specs.PlaceMessages.{PlaceMessage, Syn, Ack, Ack2, places_after, grants_at, AreSpans}
 use Rattle.cg_places.specs.PlaceWorld.{PlaceWorld, Opening, Deliver, runs, with_message, with_spans, received, after_action}
-use Rattle.cg_places.specs.Exchange.{PlaceExchange, after_opening, at_syn, after_syn, at_ack, after_ack, at_ack2, exchanged, NeverStarts, StartsNeither}
+use Rattle.cg_places.specs.Exchange.{PlaceExchange, after_opening, at_syn, after_syn, at_ack, after_ack, at_ack2, exchanged, NoStartsOf, NoStartsOfEither}
 use Rattle.cg_places.specs.Refusals.{refusal}
 use Rattle.cg_places.specs.Laws.{exchange_join, BothRun, ReachesTheJoin}
 use Rattle.cg_places.proofs.PutLemmas.{length_push, put_at_here, same_number}
@@ -65,7 +65,7 @@ end_places w number node spans e there owner = rw (receives w number node (Ack2 
 
 -- ---- the exchange
 
-module _ (w : PlaceWorld) (x : PlaceExchange) (s : IsSound w) (both : BothRun w x) (neither : StartsNeither x) where
+module _ (w : PlaceWorld) (x : PlaceExchange) (s : IsSound w) (both : BothRun w x) (neither : NoStartsOfEither x) where
   after_opening_sound : IsSound (after_opening w x)
   after_opening_sound = action_sound w (Opening x.opener) s
 
@@ -93,14 +93,14 @@ module _ (w : PlaceWorld) (x : PlaceExchange) (s : IsSound w) (both : BothRun w 
   pub to_at_ack2 : Keeps (at_ack w x) (at_ack2 w x)
   to_at_ack2 = keeps_on (action_keeps (at_ack w x) (Deliver (length (after_syn w x).sent) x.opener)) (actions_from_keeps (after_ack w x) x.before_ack2)
 
-  holds_to_at_syn : (n : ℕ) → NeverStarts n x.before_syn → HoldsOn n w (at_syn w x)
+  holds_to_at_syn : (n : ℕ) → NoStartsOf n x.before_syn → HoldsOn n w (at_syn w x)
   holds_to_at_syn n never = holds_further n w (after_opening w x) (at_syn w x) (action_holds n w (Opening x.opener) s tt) (actions_from_holds n (after_opening w x) x.before_syn after_opening_sound never)
 
-  holds_to_at_ack : (n : ℕ) → NeverStarts n x.before_ack → HoldsOn n (at_syn w x) (at_ack w x)
+  holds_to_at_ack : (n : ℕ) → NoStartsOf n x.before_ack → HoldsOn n (at_syn w x) (at_ack w x)
   holds_to_at_ack n never =
       holds_further n (at_syn w x) (after_syn w x) (at_ack w x) (action_holds n (at_syn w x) (Deliver (length (after_opening w x).sent) x.answerer) at_syn_sound tt) (actions_from_holds n (after_syn w x) x.before_ack after_syn_sound never)
 
-  holds_to_at_ack2 : (n : ℕ) → NeverStarts n x.before_ack2 → HoldsOn n (at_ack w x) (at_ack2 w x)
+  holds_to_at_ack2 : (n : ℕ) → NoStartsOf n x.before_ack2 → HoldsOn n (at_ack w x) (at_ack2 w x)
   holds_to_at_ack2 n never =
       holds_further n (at_ack w x) (after_ack w x) (at_ack2 w x) (action_holds n (at_ack w x) (Deliver (length (after_syn w x).sent) x.opener) at_ack_sound tt) (actions_from_holds n (after_ack w x) x.before_ack2 after_ack_sound never)
 

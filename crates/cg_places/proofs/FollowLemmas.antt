@@ -21,7 +21,7 @@ use Rattle.cg_exchange.specs.Spelling.{request_of}
 use Rattle.cg_exchange.specs.Members.{about}
 use Rattle.cg_places.specs.PlaceWorld.{PlaceWorld, world_after, put_at, grown, runs, with_start, with_entry, with_message, with_spans}
 use Rattle.cg_places.specs.Laws.{Continues}
-use Rattle.cg_places.specs.Spelling.{SpellsNode, SpellsNodes, SpellingStays, IsReplaced, Follow, TablesFollow}
+use Rattle.cg_places.specs.Spelling.{SpellsNode, SpellsNodes, SpellingStays, IsReplaced, Follow, TablesFollow, IsChangedAt}
 use Rattle.cg_places.proofs.PutLemmas.{put_at-each, put_at_here, put_at_other, same_number, test_same, test_other}
 use Rattle.cg_places.proofs.GrowthLemmas.{AllContinue, continues_itself, grown_continue, grown_length}
 use Rattle.cg_places.proofs.WorldLemmas.{IsSound, actions_sound}
@@ -59,20 +59,13 @@ spelling_stays old new c = record {
 
 -- ---- a table that is replaced
 
--- what the world must have kept
-record Kept (w v : PlaceWorld) (node : ℕ) (entries : Entries) : Type 0 where
-  histories : AllContinue w.histories v.histories
-  running : (n : ℕ) → runs v n ≡ cond (n == node) true (runs w n)
-  here : SpellsPlaces v.histories entries (v.places node)
-  elsewhere : (n : ℕ) → n ≢ node → v.places n ≡ w.places n
-
-module _ (tables later : ℕ → Option Entries) (w v : PlaceWorld) (node : ℕ) (entries : Entries) (s : SpellsNodes tables w) (sound : IsSound w) (k : Kept w v node entries) (r : IsReplaced tables later node entries) where
+module _ (tables later : ℕ → Option Entries) (w v : PlaceWorld) (node : ℕ) (entries : Entries) (s : SpellsNodes tables w) (k : IsChangedAt w v node entries) (r : IsReplaced tables later node entries) where
   -- at the node, and at the others
   at_each : (P : ℕ → Type 0) → P node → ((n : ℕ) → n ≢ node → P n) → (n : ℕ) → P n
   at_each P at_node at_other n = put_at-each (λ m u. P m) (λ m. m) node node at_node at_other n
 
-  replaced : SpellsNodes later v
-  replaced = record {
+  pub replaced_spells : SpellsNodes later v
+  replaced_spells = record {
     running = at_each (λ n. is_some (later n) ≡ runs v n)
         (ap is_some r.here ∙ sym (k.running node ∙ ap (λ b. cond b true (runs w node)) (test_same node)))
         (λ n apart. ap is_some (r.elsewhere n apart) ∙ s.running n ∙ sym (k.running n ∙ ap (λ b. cond b true (runs w n)) (test_other n node apart)));
@@ -107,9 +100,9 @@ own_put w node entry entries row stand there = record {
         there owner apart ∙ ap (λ h. at_place h (row owner)) (sym (put_at_other w.histories node (w.histories node ++ entry ∷ []) owner apart))
         ∙ ap (at_place (grown w.histories node entry owner)) (sym (put_at_other row node (length (w.histories node) + 1) owner apart))
 
-entry_kept : (w : PlaceWorld) (node : ℕ) (entry : EntryValue) (entries : Entries) → SpellsNode w node entries → Kept w (with_entry w node entry) node (table.insert entries node entry)
+pub entry_changes : (w : PlaceWorld) (node : ℕ) (entry : EntryValue) (entries : Entries) → SpellsNode w node entries → IsChangedAt w (with_entry w node entry) node (table.insert entries node entry)
 unfolding with_entry
-entry_kept w node entry entries s = record {
+entry_changes w node entry entries s = record {
   histories = grown_continue w.histories node entry;
   running = grown_runs w node entry;
   here = subst (SpellsPlaces (grown w.histories node entry) (table.insert entries node entry)) (sym (put_at_here w.places node (put_at (w.places node) node (length (w.histories node) + 1))))
@@ -117,9 +110,9 @@ entry_kept w node entry entries s = record {
   elsewhere = λ n apart. put_at_other w.places node (put_at (w.places node) node (length (w.histories node) + 1)) n apart;
 }
 
-start_kept : (w : PlaceWorld) (node generation : ℕ) → Kept w (with_start w node generation) node (alone node (started generation)).entries
+pub start_changes : (w : PlaceWorld) (node generation : ℕ) → IsChangedAt w (with_start w node generation) node (alone node (started generation)).entries
 unfolding with_start
-start_kept w node generation = record {
+start_changes w node generation = record {
   histories = grown_continue w.histories node (started generation);
   running = grown_runs w node (started generation);
   here = subst (SpellsPlaces (grown w.histories node (started generation)) (alone node (started generation)).entries) (sym (put_at_here w.places node (put_at (λ owner. 0) node (length (w.histories node) + 1))))
@@ -127,14 +120,27 @@ start_kept w node generation = record {
   elsewhere = λ n apart. put_at_other w.places node (put_at (λ owner. 0) node (length (w.histories node) + 1)) n apart;
 }
 
-spans_kept : (w : PlaceWorld) (node : ℕ) (spans : ℕ → Option Span) (entries : Entries) → runs w node ≡ true → SpellsPlaces w.histories entries (places_after node (w.places node) spans) → Kept w (with_spans w node spans) node entries
+pub spans_change : (w : PlaceWorld) (node : ℕ) (spans : ℕ → Option Span) (entries : Entries) → runs w node ≡ true → SpellsPlaces w.histories entries (places_after node (w.places node) spans) → IsChangedAt w (with_spans w node spans) node entries
 unfolding with_spans
-spans_kept w node spans entries running s = record {
+spans_change w node spans entries running s = record {
   histories = λ owner. continues_itself (w.histories owner);
   running = λ n. sym (runs_on w node n running);
   here = subst (SpellsPlaces w.histories entries) (sym (put_at_here w.places node (λ owner. places_after node (w.places node) spans owner))) (record { at = s.at; stand = s.stand });
   elsewhere = λ n apart. put_at_other w.places node (λ owner. places_after node (w.places node) spans owner) n apart;
 }
+
+pub message_changes : (w : PlaceWorld) (node : ℕ) (message : PlaceMessage) (entries : Entries) → runs w node ≡ true → SpellsNode w node entries → IsChangedAt w (with_message w message) node entries
+unfolding with_message
+message_changes w node message entries running s = record {
+  histories = λ owner. continues_itself (w.histories owner);
+  running = λ n. sym (runs_on w node n running);
+  here = s;
+  elsewhere = λ n apart. refl;
+}
+
+-- the node runs
+pub running_here : (w v : PlaceWorld) (node : ℕ) (entries : Entries) → IsChangedAt w v node entries → runs v node ≡ true
+running_here w v node entries k = k.running node ∙ ap (λ b. cond b true (runs w node)) (test_same node)
 
 message_spelled : (tables : ℕ → Option Entries) (w : PlaceWorld) (message : PlaceMessage) → SpellsNodes tables w → SpellsNodes tables (with_message w message)
 unfolding with_message
@@ -142,10 +148,10 @@ message_spelled tables w message s = record { running = s.running; spelled = s.s
 
 pub follow : (tables : ℕ → Option Entries) (w : PlaceWorld) → IsSound w → SpellsNodes tables w → Follow tables w
 follow tables w sound s = record {
-  start = λ node generation later r. replaced tables later w (with_start w node generation) node _ s sound (start_kept w node generation) r;
-  entry = λ node entries entry later there r. replaced tables later w (with_entry w node entry) node _ s sound (entry_kept w node entry entries (s.spelled node entries there)) r;
+  start = λ node generation later r. replaced_spells tables later w (with_start w node generation) node _ s (start_changes w node generation) r;
+  entry = λ node entries entry later there r. replaced_spells tables later w (with_entry w node entry) node _ s (entry_changes w node entry entries (s.spelled node entries there)) r;
   message = λ message. message_spelled tables w message s;
-  spans = λ node spans entries later running spelled r. replaced tables later w (with_spans w node spans) node entries s sound (spans_kept w node spans entries running spelled) r;
+  spans = λ node spans entries later running spelled r. replaced_spells tables later w (with_spans w node spans) node entries s (spans_change w node spans entries running spelled) r;
 }
 
 pub tables_follow : TablesFollow

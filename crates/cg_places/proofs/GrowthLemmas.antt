@@ -56,7 +56,7 @@ history_starts h g is rises = go (last_entry h) refl
 
 -- ---- messages of a history that goes on
 
-span_stays : {h k : List EntryValue} → Continues h k → (span : Span) → IsSpan h span → IsSpan k span
+pub span_stays : {h k : List EntryValue} → Continues h k → (span : Span) → IsSpan h span → IsSpan k span
 span_stays c span is = record {
   rises = is.rises;
   stands = omega (arith, c.longer, is.stands);

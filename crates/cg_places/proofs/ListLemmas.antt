@@ -2,7 +2,7 @@
 use Rattle.std.proofs.Common.{◌≡◌, ℕ, List, [], ◌∷◌, ◌++◌, length, refl, ◌∙◌, Option, Some, None}
 use Rattle.cg_types.specs.declared.fault.Fault.{Fault}
 use Rattle.cg_places.specs.PlaceWorld.{PlaceWorld, PlaceAction, Deliver, nobody, after_action, after_actions, world_after}
-use Rattle.cg_places.specs.Exchange.{PlaceExchange, after_opening, after_syn, after_ack, exchanged, NeverStarts, StartsNeither}
+use Rattle.cg_places.specs.Exchange.{PlaceExchange, after_opening, after_syn, after_ack, exchanged, NoStartsOf, NoStartsOfEither}
 use Rattle.cg_places.specs.Laws.{BothRun}
 use Rattle.cg_places.specs.Refusals.{refusal, unless_refused, done_from, done_before_syn, done_before_ack, done_exchange, actions_of, AreDone}
 use Rattle.cg_places.proofs.WorldLemmas.{IsSound}
@@ -29,15 +29,15 @@ module _ (w : PlaceWorld) (x : PlaceExchange) where
 pub listed : (actions : List PlaceAction) (x : PlaceExchange) → world_after (actions ++ actions_of (world_after actions) x) ≡ exchanged (world_after actions) x
 listed actions x = after_actions_both nobody actions (actions_of (world_after actions) x) ∙ listed_from (world_after actions) x
 
-done_never : (n : ℕ) (w : PlaceWorld) (actions : List PlaceAction) → NeverStarts n actions → NeverStarts n (done_from w actions)
+done_never : (n : ℕ) (w : PlaceWorld) (actions : List PlaceAction) → NoStartsOf n actions → NoStartsOf n (done_from w actions)
 done_never n w [] never = tt
 done_never n w (action ∷ actions) never = go (refusal w action) (done_never n (after_action w action) actions never.1) (done_never n w actions never.1)
   where
-    go : (o : Option Fault) → NeverStarts n (done_from (after_action w action) actions) → NeverStarts n (done_from w actions) → NeverStarts n (unless_refused o action (done_from (after_action w action) actions) (done_from w actions))
+    go : (o : Option Fault) → NoStartsOf n (done_from (after_action w action) actions) → NoStartsOf n (done_from w actions) → NoStartsOf n (unless_refused o action (done_from (after_action w action) actions) (done_from w actions))
     go None a b = (never.0, a)
     go (Some fault) a b = b
 
-pub done_neither : (w : PlaceWorld) (x : PlaceExchange) → StartsNeither x → StartsNeither (done_exchange w x)
+pub done_neither : (w : PlaceWorld) (x : PlaceExchange) → NoStartsOfEither x → NoStartsOfEither (done_exchange w x)
 done_neither w x s =
     let y : PlaceExchange = done_before_syn w x in
     let z : PlaceExchange = done_before_ack w y in
@@ -61,10 +61,10 @@ done_both : (w : PlaceWorld) (xs ys : List PlaceAction) → AreDone w xs → Are
 done_both w [] ys a b = b
 done_both w (x ∷ xs) ys a b = (a.0, done_both (after_action w x) xs ys a.1 b)
 
-pub exchange_done : (w : PlaceWorld) (x : PlaceExchange) → IsSound w → BothRun w x → StartsNeither x → AreDone w (actions_of w (done_exchange w x))
+pub exchange_done : (w : PlaceWorld) (x : PlaceExchange) → IsSound w → BothRun w x → NoStartsOfEither x → AreDone w (actions_of w (done_exchange w x))
 exchange_done w x s runs_both neither =
     let y : PlaceExchange = done_exchange w x in
-    let never : StartsNeither y = done_neither w x neither in
+    let never : NoStartsOfEither y = done_neither w x neither in
     let both : BothRun w y = record { opener = runs_both.opener; answerer = runs_both.answerer } in (
       opening_is_due w y s both never,
       done_both (after_opening w y) y.before_syn (from_syn w y) (all_done (after_opening w y) x.before_syn) (

@@ -8,7 +8,7 @@ use Rattle.cg_entry.specs.History.{at_place}
 use Rattle.cg_entry.specs.Place.{Span}
 use Rattle.cg_exchange.specs.PlaceMessages.{PlaceMessage, Syn, Ack, Ack2}
 use Rattle.cg_places.specs.PlaceWorld.{PlaceWorld, PlaceAction, Start, Beat, Set, Opening, Tick, Deliver, put_at, runs, with_start, with_entry, with_message, with_spans, may_start, last_entry, changed, opened, received, delivered, after_action, after_actions}
-use Rattle.cg_places.specs.Exchange.{IsNoStartOf, NeverStarts}
+use Rattle.cg_places.specs.Exchange.{IsNoStartOf, NoStartsOf}
 use Rattle.cg_places.proofs.PutLemmas.{put_at-each, put_at_other, at_place_longer}
 use Rattle.cg_places.proofs.GrowthLemmas.{AllContinue, continues_itself, continues_on, grown_continue}
 use Rattle.cg_places.proofs.StepLemmas.{place_with_rises}
@@ -157,6 +157,6 @@ action_holds n w (Opening node) s apart = opened_holds n w node
 action_holds n w (Tick node) s apart = holds_further n w (changed w node beaten (last_entry (w.histories node))) (opened (changed w node beaten (last_entry (w.histories node))) node) (changed_holds n w node beaten s (last_entry (w.histories node))) (opened_holds n (changed w node beaten (last_entry (w.histories node))) node)
 action_holds n w (Deliver number to) s apart = delivered_holds n w to (at_place w.sent number)
 
-pub actions_from_holds : (n : ℕ) (w : PlaceWorld) (actions : List PlaceAction) → IsSound w → NeverStarts n actions → HoldsOn n w (after_actions w actions)
+pub actions_from_holds : (n : ℕ) (w : PlaceWorld) (actions : List PlaceAction) → IsSound w → NoStartsOf n actions → HoldsOn n w (after_actions w actions)
 actions_from_holds n w [] s never = holds_itself n w
 actions_from_holds n w (action ∷ actions) s never = holds_further n w (after_action w action) (after_actions (after_action w action) actions) (action_holds n w action s never.0) (actions_from_holds n (after_action w action) actions (action_sound w action s) never.1)

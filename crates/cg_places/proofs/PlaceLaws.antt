@@ -5,12 +5,12 @@ use Rattle.std.specs.Cmp.{nat_eq_equiv}
 use Rattle.std.specs.Prelude.{nat_eq}
 use Rattle.std.proofs.lemmas.Map.Views.{Contains-from_any, list_any-from_Contains}
 use Rattle.std.proofs.lemmas.Bool.Decides.{nat_tests}
-use Rattle.cg_places.specs.PlaceWorld.{world_after}
+use Rattle.cg_places.specs.PlaceWorld.{PlaceWorld, world_after}
 use Rattle.cg_places.specs.Join.{furthest, sources, SamePlaces}
-use Rattle.cg_places.specs.Laws.{ActionsMakeWorlds, PlacesAreJoins, EqualSourcesEqualPlaces, HistoriesContinue, JoinsAreLeast, ExchangesReachTheJoin, UndisturbedExchangesEqual, PlaceExchangesAreLists, ExchangesAreDone, DoneActionsKeepLimits}
-use Rattle.cg_places.proofs.WorldLemmas.{actions_sound, places_join}
+use Rattle.cg_places.specs.Laws.{IsWorld, ActionsMakeWorlds, PlacesAreJoins, EqualSourcesEqualPlaces, HistoriesContinue, JoinsAreLeast, ExchangesReachTheJoin, UndisturbedExchangesEqual, PlaceExchangesAreLists, ExchangesAreDone, DoneActionsKeepLimits}
+use Rattle.cg_places.proofs.WorldLemmas.{IsSound, actions_sound, places_join}
 use Rattle.cg_places.proofs.OnwardLemmas.{actions_from_keeps}
-use Rattle.cg_places.proofs.OwnerLemmas.{actions_knows}
+use Rattle.cg_places.proofs.OwnerLemmas.{KnowsOwners, actions_knows}
 use Rattle.cg_places.proofs.ExchangeLemmas.{exchange_reaches}
 use Rattle.cg_places.proofs.UndisturbedLemmas.{undisturbed_ends}
 use Rattle.cg_places.proofs.ListLemmas.{after_actions_both, listed, done_neither, exchange_done}
@@ -20,30 +20,30 @@ use Rattle.cg_places.proofs.GrowthLemmas.{AllContinue}
 same_from_test : (x y : ℕ) → nat_eq x y ≡ true → x ≡ y
 same_from_test x y e = grind (arith, nat_tests)
 
+pub world_is : (w : PlaceWorld) → IsSound w → KnowsOwners w → IsWorld w
+world_is w s k = record {
+  histories = s.histories;
+  places = s.stands;
+  own = s.own;
+  messages = s.messages;
+  owners = λ owner. (λ c. sym (k.known owner) ∙ list_any-from_Contains nat_eq_equiv owner w.owners c, λ e. Contains-from_any same_from_test owner w.owners (k.known owner ∙ e));
+  once = k.once;
+}
+
 pub actions_make_worlds : ActionsMakeWorlds
-actions_make_worlds actions =
-    let s = actions_sound actions in
-    let k = actions_knows actions in
-    record {
-      histories = s.histories;
-      places = s.stands;
-      own = s.own;
-      messages = s.messages;
-      owners = λ owner. (λ c. sym (k.known owner) ∙ list_any-from_Contains nat_eq_equiv owner (world_after actions).owners c, λ e. Contains-from_any same_from_test owner (world_after actions).owners (k.known owner ∙ e));
-      once = k.once;
-    }
+actions_make_worlds actions = world_is (world_after actions) (actions_sound actions) (actions_knows actions)
 
 pub places_are_joins : PlacesAreJoins
 places_are_joins actions node owner = places_join (world_after actions) (actions_sound actions) node owner
 
 -- ---- the furthest of some places
 
-furthest_bounds : (xs : List ℕ) (k x : ℕ) → k < length xs → get_or xs k x ≡ x → x ≤ furthest xs
+pub furthest_bounds : (xs : List ℕ) (k x : ℕ) → k < length xs → get_or xs k x ≡ x → x ≤ furthest xs
 furthest_bounds [] k x lt e = absurd (omega (arith, lt))
 furthest_bounds (y ∷ xs) zero x lt e = omega (arith, e)
 furthest_bounds (y ∷ xs) (suc k) x lt e = omega (arith, furthest_bounds xs k x (omega (arith, lt)) e)
 
-furthest_stands : (xs : List ℕ) → (furthest xs ≡ 0) ⊎ Contains xs (furthest xs)
+pub furthest_stands : (xs : List ℕ) → (furthest xs ≡ 0) ⊎ Contains xs (furthest xs)
 furthest_stands [] = inl refl
 furthest_stands (x ∷ xs) = go (furthest_stands xs) (grind arith)
   where

@@ -6,7 +6,7 @@ use Rattle.cg_entry.specs.Place.{Span}
 use Rattle.cg_exchange.specs.Places.{Ask}
 use Rattle.cg_exchange.specs.PlaceMessages.{PlaceMessage, Syn, Ack, Ack2}
 use Rattle.cg_places.specs.PlaceWorld.{PlaceWorld, Opening, Deliver, runs, with_message, with_spans, after_action}
-use Rattle.cg_places.specs.Exchange.{PlaceExchange, undisturbed, after_opening, after_syn, after_ack, exchanged, StartsNeither}
+use Rattle.cg_places.specs.Exchange.{PlaceExchange, undisturbed, after_opening, after_syn, after_ack, exchanged, NoStartsOfEither}
 use Rattle.cg_places.specs.Laws.{BothRun, EndsAtTheJoin}
 use Rattle.cg_places.proofs.PutLemmas.{put_at-each}
 use Rattle.cg_places.proofs.StepLemmas.{place_with_below}
@@ -48,7 +48,7 @@ module _ (w : PlaceWorld) (opener answerer : ℕ) (s : IsSound w) (both : BothRu
   abbrev x : PlaceExchange
   x = undisturbed opener answerer
 
-  neither : StartsNeither (undisturbed opener answerer)
+  neither : NoStartsOfEither (undisturbed opener answerer)
   neither = record { opener = (tt, tt, tt); answerer = (tt, tt, tt) }
 
   after_opening_places : (after_opening w x).places ≡ w.places

@@ -52,11 +52,11 @@ IsNoStartOf node (Tick other) = ⊤
 IsNoStartOf node (Deliver number to) = ⊤
 
 -- None of the actions starts the node.
-abbrev pub NeverStarts : ℕ → List PlaceAction → Type 0
-NeverStarts node [] = ⊤
-NeverStarts node (action ∷ actions) = IsNoStartOf node action × NeverStarts node actions
+abbrev pub NoStartsOf : ℕ → List PlaceAction → Type 0
+NoStartsOf node [] = ⊤
+NoStartsOf node (action ∷ actions) = IsNoStartOf node action × NoStartsOf node actions
 
 -- Neither node is started anew before the exchange is over.
-pub record StartsNeither (x : PlaceExchange) : Type 0 where
-  pub opener : NeverStarts x.opener x.before_syn × NeverStarts x.opener x.before_ack × NeverStarts x.opener x.before_ack2
-  pub answerer : NeverStarts x.answerer x.before_syn × NeverStarts x.answerer x.before_ack × NeverStarts x.answerer x.before_ack2
+pub record NoStartsOfEither (x : PlaceExchange) : Type 0 where
+  pub opener : NoStartsOf x.opener x.before_syn × NoStartsOf x.opener x.before_ack × NoStartsOf x.opener x.before_ack2
+  pub answerer : NoStartsOf x.answerer x.before_syn × NoStartsOf x.answerer x.before_ack × NoStartsOf x.answerer x.before_ack2

@@ -8,7 +8,7 @@ use Rattle.cg_entry.specs.History.{IsHistory, at_place}
 use Rattle.cg_exchange.specs.PlaceMessages.{PlaceMessage, Stand, IsPlaceMessage}
 use Rattle.cg_places.specs.PlaceWorld.{nobody, PlaceAction, PlaceWorld, runs, world_after}
 use Rattle.cg_places.specs.Join.{join, Within, furthest, sources, SamePlaces}
-use Rattle.cg_places.specs.Exchange.{PlaceExchange, undisturbed, at_syn, exchanged, StartsNeither}
+use Rattle.cg_places.specs.Exchange.{PlaceExchange, undisturbed, at_syn, exchanged, NoStartsOfEither}
 use Rattle.cg_places.specs.Refusals.{AreDone, done_exchange, actions_of}
 
 -- Histories, places and messages are as they should be.
@@ -78,7 +78,7 @@ pub record ReachesTheJoin (w : PlaceWorld) (x : PlaceExchange) : Type 0 where
 
 -- An exchange takes both of its nodes to the join, whatever is done between its messages but a start of the two.
 abbrev pub ExchangesReachTheJoin : Type 0
-ExchangesReachTheJoin = (actions : List PlaceAction) (x : PlaceExchange) → BothRun (world_after actions) x → StartsNeither x → ReachesTheJoin (world_after actions) x
+ExchangesReachTheJoin = (actions : List PlaceAction) (x : PlaceExchange) → BothRun (world_after actions) x → NoStartsOfEither x → ReachesTheJoin (world_after actions) x
 
 -- Both nodes end at the join of what they held.
 pub record EndsAtTheJoin (w : PlaceWorld) (opener answerer : ℕ) : Type 0 where
@@ -95,12 +95,12 @@ PlaceExchangesAreLists = (actions : List PlaceAction) (x : PlaceExchange) → wo
 
 -- What is done of an exchange: it starts neither node, and none of its actions is refused.
 pub record IsDone (w : PlaceWorld) (x : PlaceExchange) : Type 0 where
-  pub neither : StartsNeither (done_exchange w x)
+  pub neither : NoStartsOfEither (done_exchange w x)
   pub done : AreDone w (actions_of w (done_exchange w x))
 
 -- An exchange is done, where the refused actions are left out.
 abbrev pub ExchangesAreDone : Type 0
-ExchangesAreDone = (actions : List PlaceAction) (x : PlaceExchange) → BothRun (world_after actions) x → StartsNeither x → IsDone (world_after actions) x
+ExchangesAreDone = (actions : List PlaceAction) (x : PlaceExchange) → BothRun (world_after actions) x → NoStartsOfEither x → IsDone (world_after actions) x
 
 -- ---- limits
 

@@ -1,5 +1,5 @@
 -- How tables and messages spell a world, and go on to spell it as it changes.
-use Rattle.std.specs.Prelude.{ℕ, ◌≡◌, ◌≢◌, true, Option, Some, is_some, List}
+use Rattle.std.specs.Prelude.{ℕ, ◌≡◌, ◌≢◌, ◌==◌, true, Option, Some, is_some, List, if◌then◌else◌}
 use Rattle.std.specs.FinMap as table
 use Rattle.cg_entry.specs.Values.{EntryValue}
 use Rattle.cg_entry.specs.Entry.{started}
@@ -61,3 +61,16 @@ pub record Follow (tables : ℕ → Option Entries) (w : PlaceWorld) : Type 0 wh
 -- Tables that spell a world follow its changes.
 abbrev pub TablesFollow : Type 0
 TablesFollow = (actions : List PlaceAction) (tables : ℕ → Option Entries) → SpellsNodes tables (world_after actions) → Follow tables (world_after actions)
+
+-- ---- what one node's action changes
+
+-- The later world is the earlier one after an action of this node, which then has this table.
+pub record IsChangedAt (w v : PlaceWorld) (node : ℕ) (entries : Entries) : Type 0 where
+  -- each history goes on
+  pub histories : (owner : ℕ) → Continues (w.histories owner) (v.histories owner)
+  -- this node runs, and of the others those that ran
+  pub running : (other : ℕ) → runs v other ≡ (if other == node then true else runs w other)
+  -- the table spells its places
+  pub here : SpellsNode v node entries
+  -- the others hold what they held
+  pub elsewhere : (other : ℕ) → other ≢ node → v.places other ≡ w.places other

@@ -1,6 +1,6 @@
 -- Each action of the nodes is the action of the places.
-use Rattle.std.proofs.Common.{◌≡◌, ◌≤◌, ◌+◌, ℕ, List, ◌∷◌, length, refl, sym, ◌∙◌, ap, subst, arith, Bool, true, false, Option, Some, None, Result, Ok, Err}
-use Rattle.std.specs.Prelude.{◌||◌, cond, is_some, nat_lt, unwrap_or}
+use Rattle.std.proofs.Common.{◌≡◌, ◌≤◌, ◌+◌, ℕ, List, [], ◌∷◌, ◌++◌, length, refl, sym, ◌∙◌, ap, subst, arith, Bool, true, false, Option, Some, None, Result, Ok, Err}
+use Rattle.std.specs.Prelude.{◌||◌, cond, is_some, nat_lt, nat_eq}
 use Rattle.std.specs.Option.{option_map}
 use Rattle.std.specs.FinMap as map
 use Rattle.std.proofs.lemmas.Bool.Decides.{nat_tests}
@@ -10,43 +10,42 @@ use Rattle.cg_types.specs.declared.fault.Fault.TheVariants.{TableFull, NotRising
 use Rattle.cg_types.specs.declared.limits.TheConstants.{MEMBER_LIMIT}
 use Rattle.cg_types.specs.Rising.{Rises}
 use Rattle.cg_types.specs.Text.{ClusterValue}
-use Rattle.cg_entry.specs.Values.{EntryValue}
-use Rattle.cg_entry.specs.Entry.{started, beaten, with_state}
-use Rattle.cg_entry.specs.History.{at_place, generation_of, generation_at, Beats}
+use Rattle.cg_entry.specs.Entry.{started}
+use Rattle.cg_entry.specs.History.{at_place, generation_of, generation_at}
 use Rattle.cg_entry.specs.Place.{Span}
-use Rattle.cg_entry.proofs.PlaceLemmas.{at_place_none}
 use Rattle.cg_table.specs.Values.{TableValue}
-use Rattle.cg_table.specs.Spelling.{SpellsPlaces}
-use Rattle.cg_table.specs.Own.{own_entry, with_own}
+use Rattle.cg_table.specs.Own.{own_entry}
 use Rattle.cg_exchange.specs.declared.message.Message.{Message}
 use Rattle.cg_exchange.specs.declared.message.Message.TheVariants as message
-use Rattle.cg_exchange.specs.declared.outcome.Outcome.{Outcome}
 use Rattle.cg_exchange.specs.declared.owner_delta.OwnerDelta.{OwnerDelta}
 use Rattle.cg_exchange.specs.Members.{endpoints_of_deltas}
 use Rattle.cg_exchange.specs.Values.{SynValue, AckValue, Ack2Value}
 use Rattle.cg_exchange.specs.Answering.{same_cluster}
+use Rattle.cg_exchange.specs.declared.outcome.Outcome.{Outcome}
 use Rattle.cg_exchange.specs.Taking.{table_after, outcomes_of, held_after, deltas_granted, taking_ack, taking_ack2}
 use Rattle.cg_exchange.specs.Spelling.{SpellsSpans}
 use Rattle.cg_exchange.specs.Places.{Ask}
-use Rattle.cg_exchange.specs.PlaceMessages.{PlaceMessage, Syn, Ack, Ack2, AreSpans, answer_at, places_after, grants_at}
-use Rattle.cg_exchange.specs.Laws.{Says, IsMoved, AckMoves, IsAnswered}
-use Rattle.cg_exchange.proofs.MessageLaws.{syn_says_places, syn_is_answered, ack_is_taken, ack2_is_taken}
+use Rattle.cg_exchange.specs.PlaceMessages.{PlaceMessage, Syn, Ack, Ack2, AreSpans}
+use Rattle.cg_exchange.specs.Laws.{IsMoved, AckMoves, IsAnswered}
+use Rattle.cg_exchange.proofs.MessageLaws.{syn_is_answered, ack_is_taken, ack2_is_taken}
+use Rattle.cg_core.specs.declared.event.Event.{Event}
 use Rattle.cg_core.specs.declared.event.Event.TheVariants as event
 use Rattle.cg_core.specs.declared.reply.Reply.{Reply}
-use Rattle.cg_core.specs.declared.reply.Reply.TheVariants as reply
 use Rattle.cg_core.specs.Values.{NodeValue}
-use Rattle.cg_core.specs.Step.{then, with_table, begun, next_of, beating, setting, opening, round_of, after_taking, node_step}
-use Rattle.cg_places.specs.PlaceWorld.{PlaceWorld, runs, with_start, with_entry, with_message, with_spans, may_start, last_entry, changed, opened, received, delivered, after_action}
+use Rattle.cg_core.specs.Step.{Step, then, begun, next_of, node_step}
+use Rattle.cg_places.specs.PlaceWorld.{PlaceWorld, runs, with_start, may_start, last_entry, delivered, after_action}
+use Rattle.cg_places.specs.PlaceWorld as places
 use Rattle.cg_places.specs.Refusals.{fault_of, change_refusal, node_refusal, deliver_refusal, refusal}
-use Rattle.cg_places.specs.Spelling.{SpellsNode, IsReplaced}
-use Rattle.cg_world.specs.World.{LocalEvent, Beat, Set, Opening, Tick, Action, Start, Local, Deliver, WorldValue, tables_of, with_node, with_sent, message_of, after_step, handed, generation_held, event_of, arrival_of, delivering, acting, plain_local, plain}
-use Rattle.cg_world.specs.WorldLaws.{IsSent, IsNodeAt, SpellsWorld}
-use Rattle.cg_places.proofs.PutLemmas.{put_at_here, test_same}
-use Rattle.cg_places.proofs.GrowthLemmas.{continues_itself, grown_continue}
-use Rattle.cg_places.proofs.WorldLemmas.{changed_sound}
+use Rattle.cg_places.specs.Spelling.{SpellsNode, SpellsNodes}
+use Rattle.cg_places.proofs.PutLemmas.{test_same, same_number}
+use Rattle.cg_places.proofs.GrowthLemmas.{grown_continue}
 use Rattle.cg_places.proofs.RoomLemmas.{room_for_deltas}
-use Rattle.cg_places.proofs.FollowLemmas.{follow}
-use Rattle.cg_world.proofs.SpellingLemmas.{Tied, Bounded, BothSent, both_at, node_here, node_itself, replaced, len_with, entries_in, node_spells, message_spells}
+use Rattle.cg_places.proofs.FollowLemmas.{follow, replaced_spells}
+use Rattle.cg_steps.specs.Step.{message_in, message_of, action_at, IsPlaced, IsSentBefore, IsSent, Sends, IsStepAt}
+use Rattle.cg_steps.proofs.StepLaws.{own_held as own_is_held, steps_are_by_places}
+use Rattle.cg_world.specs.World.{LocalEvent, Beat, Set, Opening, Tick, Action, Start, Local, Deliver, WorldValue, tables_of, with_node, with_sent, after_step, handed, generation_held, event_of, arrival_of, delivering, acting, plain_local, plain}
+use Rattle.cg_world.specs.WorldLaws.{AllSent, IsNodeAt, SpellsWorld}
+use Rattle.cg_world.proofs.SpellingLemmas.{Tied, Bounded, BothSent, both_at, all_stay, all_push, nodes_with, replaced, len_with, entries_in, node_spells}
 
 -- the refusals are the same, and what is done is the same
 abbrev pub AgreesBy : Option Fault → PlaceWorld → Result WorldValue Fault → Type 0
@@ -59,16 +58,8 @@ is_some_mapped : (o : Option NodeValue) → is_some (option_map entries_in o) �
 is_some_mapped None = refl
 is_some_mapped (Some n) = refl
 
--- where nothing stands at the end, there is nothing
-none_at_end : (h : List EntryValue) → at_place h (length h) ≡ None → length h ≡ 0
-none_at_end h e = at_place_none h (length h) (omega arith) e
-
 none_runs : (w : PlaceWorld) (node : ℕ) → runs w node ≡ false → length (w.histories node) ≡ 0
 none_runs w node e = grind (arith, nat_tests)
-
-same_generation : (o : Option EntryValue) → (unwrap_or o (started 0)).generation ≡ generation_of o
-same_generation None = refl
-same_generation (Some x) = refl
 
 module _ (c : WorldValue) (w : PlaceWorld) (t : Tied c w) (node : ℕ) where
   pub running : is_some (map.get c.nodes node) ≡ runs w node
@@ -96,25 +87,18 @@ module _ (c : WorldValue) (w : PlaceWorld) (t : Tied c w) (node : ℕ) where
     spells_here : SpellsNode w node n.table.entries
     spells_here = t.is.tables.spelled node n.table.entries table_here
 
-    own_at : map.get n.table.entries node ≡ last_entry (w.histories node)
-    own_at = spells_here.at node ∙ ap (at_place (w.histories node)) (t.sound.own node)
-
-    own_by : own_entry n.table ≡ unwrap_or (last_entry (w.histories node)) (started 0)
-    own_by = ap (λ k. unwrap_or (map.get n.table.entries k) (started 0)) at_node.its_endpoint ∙ ap (λ o. unwrap_or o (started 0)) own_at
+    placed_here : IsPlaced w node n
+    placed_here = record { runs_here = runs_here; own = at_node.its_endpoint; spells = spells_here }
 
     pub own_held : last_entry (w.histories node) ≡ Some (own_entry n.table)
-    own_held = go (last_entry (w.histories node)) refl
-      where
-        go : (o : Option EntryValue) → last_entry (w.histories node) ≡ o → last_entry (w.histories node) ≡ Some (own_entry n.table)
-        go None is = absurd (let z = none_at_end (w.histories node) is in let r = runs_here in grind (arith, nat_tests))
-        go (Some x) is = is ∙ ap Some (sym (own_by ∙ ap (λ o. unwrap_or o (started 0)) is))
+    own_held = own_is_held w (t.is_world) node n placed_here
 
     many_still : (m : NodeValue) → map.len (map.insert c.nodes node m) ≡ length w.owners
     many_still m = len_with c node m true (ap is_some e) ∙ t.is.as_many
 
   generation_by : (o : Option NodeValue) → map.get c.nodes node ≡ o → generation_held o ≡ generation_at (w.histories node) (length (w.histories node))
   generation_by None e = ap generation_of (sym (no_entry e))
-  generation_by (Some n) e = ap (λ (x : EntryValue). x.generation) (own_by n e) ∙ same_generation (last_entry (w.histories node))
+  generation_by (Some n) e = sym (ap generation_of (own_held n e))
 
 -- ---- a start
 
@@ -150,81 +134,63 @@ module _ (c : WorldValue) (w : PlaceWorld) (t : Tied c w) (node generation : ℕ
       (nat_lt (generation_held (map.get c.nodes node)) generation) (may_start w node generation) (map.contains_key c.nodes node) (runs w node) (nat_lt (map.len c.nodes) MEMBER_LIMIT) (nat_lt (length w.owners) MEMBER_LIMIT)
       (ap (λ g. nat_lt g generation) (generation_by c w t node (map.get c.nodes node) refl)) (running c w t node) (ap (λ k. nat_lt k MEMBER_LIMIT) t.is.as_many)
 
--- ---- a change of the own entry
+-- ---- a step
 
--- what a step leaves that has a next version
-step_by : (c : WorldValue) (node : ℕ) (m : NodeValue) (answer : ℕ → Reply) (v : PlaceWorld) → ((version : ℕ) → SpellsWorld (with_sent (with_node c node m) (message_of (answer version))) v) → (due : Result ℕ Fault)
-    → AgreesBy (fault_of due) v (after_step c node (then due (λ version. (m, answer version))))
-step_by c node m answer v p (Ok version) = (refl, p version)
-step_by c node m answer v p (Err fault) = refl
+-- a step is refused where its first part is
+then_refused : {A B : Type 0} (due : Result A Fault) (go : A → B) → fault_of (then due go) ≡ fault_of due
+then_refused (Ok x) go = refl
+then_refused (Err fault) go = refl
 
-module _ (c : WorldValue) (w : PlaceWorld) (t : Tied c w) (node : ℕ) where
-  -- a node that does not run changes nothing
-  no_change : map.get c.nodes node ≡ None → change_refusal (last_entry (w.histories node)) ≡ Some NoSuchNode
-  no_change none = ap change_refusal (no_entry c w t node none)
+-- what is sent says what is sent by places
+sent_after : (c : WorldValue) (node : ℕ) (n : NodeValue) (w v : PlaceWorld) (o : Option Message) → AllSent c.settings.cluster v.histories c.sent w.sent → Sends c.settings.cluster w v o
+    → AllSent c.settings.cluster v.histories (with_sent (with_node c node n) o).sent v.sent
+sent_after c node n w v None all same = subst (AllSent c.settings.cluster v.histories c.sent) (sym same) all
+sent_after c node n w v (Some m) all s = subst (AllSent c.settings.cluster v.histories (c.sent ++ m ∷ [])) (sym s.added) (all_push c.settings.cluster v.histories c.sent w.sent m s.said all s.is_sent)
 
-  no_delivery : map.get c.nodes node ≡ None → node_refusal w node ≡ Some NoSuchNode
-  no_delivery none = ap (λ b. cond b None (Some NoSuchNode)) (not_running c w t node none)
+-- the nodes after a message was sent are the same
+sent_spells : (c : WorldValue) (node : ℕ) (n : NodeValue) (v : PlaceWorld) (o : Option Message) → SpellsNodes (tables_of (with_node c node n)) v → AllSent c.settings.cluster v.histories (with_sent (with_node c node n) o).sent v.sent
+    → ((q : ℕ) (m : NodeValue) → map.get (with_node c node n).nodes q ≡ Some m → IsNodeAt c.settings q m) → map.len (with_node c node n).nodes ≡ length v.owners → SpellsWorld (with_sent (with_node c node n) o) v
+sent_spells c node n v None tables messages each many = record { tables = tables; messages = messages; each = each; as_many = many }
+sent_spells c node n v (Some m) tables messages each many = record { tables = record { running = tables.running; spelled = tables.spelled }; messages = messages; each = each; as_many = many }
 
-  module _ (n : NodeValue) (e : map.get c.nodes node ≡ Some n) where
-    abbrev own : EntryValue
-    own = own_entry n.table
-
-    -- the node with another own entry
-    entry_spells : (y : EntryValue) → SpellsWorld (with_node c node (with_table (with_own y n.table) n)) (with_entry w node y)
-    unfolding with_entry
-    entry_spells y =
-        let m : NodeValue = with_table (with_own y n.table) n in
-        let at : IsNodeAt c.settings node n = at_node c w t node n e in
-        let put : IsReplaced (tables_of c) (tables_of (with_node c node m)) node (map.insert n.table.entries node y) =
-        subst (λ k. IsReplaced (tables_of c) (tables_of (with_node c node m)) node (map.insert n.table.entries k y)) at.its_endpoint (replaced c node m) in
-        node_spells c w (with_entry w node y) node m t.is
-        ((follow (tables_of c) w t.sound t.is.tables).entry node n.table.entries y (tables_of (with_node c node m)) (table_here c w t node n e) put)
-        (grown_continue w.histories node y) refl (record { its_settings = at.its_settings; its_endpoint = at.its_endpoint }) (many_still c w t node n e m)
-
-    beat_agrees : AgreesBy (change_refusal (last_entry (w.histories node))) (changed w node beaten (last_entry (w.histories node))) (after_step c node (node_step n event.Beat))
-    beat_agrees = rw (own_held c w t node n e) (step_by c node (beating n) reply.Done (with_entry w node (beaten own)) (λ version. entry_spells (beaten own)) (next_of n))
-
-    set_agrees : (key : ℕ) (text : List ℕ) → AgreesBy (change_refusal (last_entry (w.histories node))) (changed w node (with_state key text) (last_entry (w.histories node))) (after_step c node (node_step n (event.Set key text)))
-    set_agrees key text = rw (own_held c w t node n e) (step_by c node (setting key text n) reply.Done (with_entry w node (with_state key text own)) (λ version. entry_spells (with_state key text own)) (next_of n))
-
-    -- ---- an opening
-
-    opened_spells : SpellsWorld (with_sent (with_node c node n) (Some (message.Syn (opening n)))) (with_message w (Syn (w.places node)))
-    opened_spells = subst (λ d. SpellsWorld (with_sent d (Some (message.Syn (opening n)))) (with_message w (Syn (w.places node)))) (sym (node_itself c node n e))
-        (message_spells c w (message.Syn (opening n)) (Syn (w.places node)) t.is (record {
-          says = syn_says_places w.histories n.table n.settings.cluster (w.places node) (spells_here c w t node n e);
-          names = ap (λ s. s.cluster) (at_node c w t node n e).its_settings;
-        }))
-
-    opening_agrees : AgreesBy (node_refusal w node) (opened w node) (after_step c node (node_step n event.Opening))
-    opening_agrees = rw (runs_here c w t node n e) (refl, opened_spells)
-
-    -- ---- a tick
-
-    beaten_tied : Tied (with_node c node (beating n)) (with_entry w node (beaten own))
-    beaten_tied = record { sound = changed_sound w node beaten (λ x. Beats refl) t.sound (Some own) (own_held c w t node n e); is = entry_spells (beaten own) }
-
--- after a beat
 module _ (c : WorldValue) (w : PlaceWorld) (t : Tied c w) (node : ℕ) (n : NodeValue) (e : map.get c.nodes node ≡ Some n) where
-  abbrev d : WorldValue
-  d = with_node c node (beating n)
+  at : IsNodeAt c.settings node n
+  at = at_node c w t node n e
 
-  abbrev v : PlaceWorld
-  v = with_entry w node (beaten (own_entry n.table))
+  -- a step that is one by places leaves what the places say
+  step_spells : (v : PlaceWorld) (x : NodeValue × Reply) → IsStepAt w v node n x → SpellsWorld (with_sent (with_node c node x.0) (message_of x.1)) v
+  step_spells v x s = sent_spells c node x.0 v (message_of x.1)
+      (replaced_spells (tables_of c) (tables_of (with_node c node x.0)) w v node x.0.table.entries t.is.tables s.changed (replaced c node x.0))
+      (sent_after c node x.0 w v (message_of x.1) (all_stay c.settings.cluster w.histories v.histories s.changed.histories c.sent w.sent t.is.messages)
+      (subst (λ cluster. Sends cluster w v (message_of x.1)) (ap (λ s. s.cluster) at.its_settings) s.sends))
+      (λ q m is. each q m (nat_eq q node) refl (sym (nodes_with c.nodes node x.0 q) ∙ is))
+      (many_still c w t node n e x.0 ∙ ap length (sym s.owners))
+    where
+      here : IsNodeAt c.settings node x.0
+      here = record { its_settings = s.settings ∙ at.its_settings; its_endpoint = s.own ∙ at.its_endpoint }
 
-  tied : Tied d v
-  tied = beaten_tied c w t node n e
+      each : (q : ℕ) (m : NodeValue) (b : Bool) → nat_eq q node ≡ b → cond b (Some x.0) (map.get c.nodes q) ≡ Some m → IsNodeAt c.settings q m
+      each q m true same is = let gives : x.0 ≡ m = cc in subst (λ k. IsNodeAt c.settings k m) (sym (same_number q node same)) (subst (IsNodeAt c.settings node) gives here)
+      each q m false apart is = t.is.each q m is
 
-  here : map.get d.nodes node ≡ Some (beating n)
-  here = node_here c.nodes node (beating n)
+  -- where it is refused as it is by places, both agree
+  step_agrees : (number : ℕ) (f : Event) → IsSentBefore w number (message_in f) → fault_of (node_step n f) ≡ refusal w (action_at node number f)
+      → AgreesBy (refusal w (action_at node number f)) (after_action w (action_at node number f)) (after_step c node (node_step n f))
+  step_agrees number f sent alike = go (node_step n f) refl alike
+    where
+      v : PlaceWorld
+      v = after_action w (action_at node number f)
 
-  tick_spells : SpellsWorld (with_sent d (Some (message.Syn (opening (beating n))))) (opened v node)
-  tick_spells = rw (runs_here d v tied node (beating n) here)
-      (subst (λ d. SpellsWorld (with_sent d (Some (message.Syn (opening (beating n))))) (with_message v (Syn (v.places node)))) (node_itself d node (beating n) here) (opened_spells d v tied node (beating n) here))
+      go : (due : Step) → node_step n f ≡ due → fault_of due ≡ refusal w (action_at node number f) → AgreesBy (refusal w (action_at node number f)) (after_action w (action_at node number f)) (after_step c node due)
+      go (Ok x) is alike = (sym alike, step_spells (after_action w (action_at node number f)) x (steps_are_by_places w node number n f x t.is_world (placed_here c w t node n e) sent is))
+      go (Err fault) is alike = sym alike
 
-  tick_agrees : (now : ℕ) (words : List ℕ) → AgreesBy (change_refusal (last_entry (w.histories node))) (opened (changed w node beaten (last_entry (w.histories node))) node) (after_step c node (node_step n (event.Tick now words)))
-  tick_agrees now words = rw (own_held c w t node n e) (step_by c node (beating n) (λ version. reply.Round (round_of (beating n) now words) (opening (beating n))) (opened v node) (λ version. tick_spells) (next_of n))
+  -- a change of the own entry is refused where there is no next version
+  change_alike : (X : Type 0) (go : ℕ → X) → fault_of (then (next_of n) go) ≡ change_refusal (last_entry (w.histories node))
+  change_alike X go = then_refused (next_of n) go ∙ ap change_refusal (sym (own_held c w t node n e))
+
+  node_alike : None ≡ node_refusal w node
+  node_alike = ap (λ b. cond b None (Some NoSuchNode)) (sym (runs_here c w t node n e))
 
 -- ---- a delivery
 
@@ -232,21 +198,13 @@ same_by : (a b : ClusterValue) → a ≡ b → same_cluster a b ≡ true
 same_by a b e = subst (λ b. same_cluster a b ≡ true) e (rw ((bytes_eq-Decides a.name a.name).1 refl) (test_same a.partitioner))
 
 module _ (c : WorldValue) (w : PlaceWorld) (t : Tied c w) (b : Bounded w) (node : ℕ) (n : NodeValue) (e : map.get c.nodes node ≡ Some n) where
-  at : IsNodeAt c.settings node n
-  at = at_node c w t node n e
-
-  syn_agrees : (syn : SynValue) (theirs : ℕ → ℕ) → IsSent c.settings.cluster w.histories (message.Syn syn) (Syn theirs)
-      → AgreesBy (node_refusal w node) (cond (runs w node) (received w node (Syn theirs)) w) (after_step c node (node_step n (event.Syn syn)))
-  syn_agrees syn theirs s =
-      let same : same_cluster n.settings.cluster syn.cluster ≡ true = same_by n.settings.cluster syn.cluster (ap (λ s. s.cluster) at.its_settings ∙ sym s.names) in
+  -- a SYN of this cluster is answered
+  syn_due : (syn : SynValue) (theirs : ℕ → ℕ) → IsSent c.settings.cluster w.histories (message.Syn syn) (Syn theirs) → fault_of (node_step n (event.Syn syn)) ≡ None
+  syn_due syn theirs s =
+      let same : same_cluster n.settings.cluster syn.cluster ≡ true = same_by n.settings.cluster syn.cluster (ap (λ s. s.cluster) (at_node c w t node n e).its_settings ∙ sym s.names) in
       let a : IsAnswered w.histories n.table n.settings.cluster syn (w.places node) theirs =
       syn_is_answered w.histories t.sound.histories n.table n.settings.cluster syn (w.places node) theirs (spells_here c w t node n e) s.says same in
-      let said : PlaceMessage = answer_at w.histories (w.places node) theirs in
-      rw (runs_here c w t node n e) (rw a.answer (
-        refl,
-        subst (λ d. SpellsWorld (with_sent d (Some (message.Ack a.ack))) (with_message w said)) (sym (node_itself c node n e))
-            (message_spells c w (message.Ack a.ack) said t.is (record { says = a.says; names = tt })),
-      ))
+      rw a.answer refl
 
   -- there is room for the deltas of each message
   room : (deltas : List OwnerDelta) (spans : ℕ → Option Span) → Rises (endpoints_of_deltas deltas) → SpellsSpans w.histories deltas spans → AreSpans w.histories spans → nat_lt MEMBER_LIMIT (held_after n.table deltas) ≡ false
@@ -254,24 +212,6 @@ module _ (c : WorldValue) (w : PlaceWorld) (t : Tied c w) (b : Bounded w) (node 
       let few : held_after n.table deltas ≤ length w.owners = room_for_deltas w b.knows n.table deltas (w.places node) spans (spells_here c w t node n e) rise spelled are in
       let small : length w.owners ≤ MEMBER_LIMIT = b.limits.owners in
       grind (arith, nat_tests, few, small)
-
-  spans_spell : (spans : ℕ → Option Span) (now : ℕ) (after : TableValue) (outcomes : List Outcome) → IsMoved w.histories n.table (w.places node) spans after outcomes
-      → SpellsWorld (with_node c node (after_taking n now after outcomes)) (with_spans w node spans)
-  unfolding with_spans
-  spans_spell spans now after outcomes moved =
-      let m : NodeValue = after_taking n now after outcomes in
-      node_spells c w (with_spans w node spans) node m t.is
-      ((follow (tables_of c) w t.sound t.is.tables).spans node spans after.entries (tables_of (with_node c node m)) (runs_here c w t node n e)
-      (subst (λ k. SpellsPlaces w.histories after.entries (places_after k (w.places node) spans)) at.its_endpoint moved.places) (replaced c node m))
-      (λ owner. continues_itself (w.histories owner)) refl (record { its_settings = at.its_settings; its_endpoint = moved.own ∙ at.its_endpoint }) (many_still c w t node n e m)
-
-  -- what is sent back is what the places say
-  back_said : (asks : ℕ → Option Ask) (spans : ℕ → Option Span) (ack2 : Ack2Value) → Says w.histories (message.Ack2 ack2) (Ack2 (grants_at w.histories (places_after n.table.own (w.places node) spans) asks))
-      → Says (with_spans w node spans).histories (message.Ack2 ack2) (Ack2 (grants_at (with_spans w node spans).histories ((with_spans w node spans).places node) asks))
-  unfolding with_spans
-  back_said asks spans ack2 s =
-      subst (λ (row : ℕ → ℕ). Says w.histories (message.Ack2 ack2) (Ack2 (grants_at w.histories row asks))) (sym (put_at_here w.places node (λ owner. places_after node (w.places node) spans owner)))
-      (subst (λ k. Says w.histories (message.Ack2 ack2) (Ack2 (grants_at w.histories (places_after k (w.places node) spans) asks))) at.its_endpoint s)
 
   -- an ACK of the world fits, and is taken so
   pub ack_fits : (ack : AckValue) (asks : ℕ → Option Ask) (spans : ℕ → Option Span) → IsSent c.settings.cluster w.histories (message.Ack ack) (Ack asks spans) → nat_lt MEMBER_LIMIT (held_after n.table ack.deltas) ≡ false
@@ -286,19 +226,6 @@ module _ (c : WorldValue) (w : PlaceWorld) (t : Tied c w) (b : Bounded w) (node 
       let taken : taking_ack n.table ack ≡ Ok (after, ack2, outcomes) = rw (ack_fits ack asks spans s) refl in
       ack_is_taken w.histories t.sound.histories n.table ack (w.places node) asks spans (spells_here c w t node n e) s.says after ack2 outcomes taken
 
-  ack_agrees : (now : ℕ) (ack : AckValue) (asks : ℕ → Option Ask) (spans : ℕ → Option Span) → IsSent c.settings.cluster w.histories (message.Ack ack) (Ack asks spans)
-      → AgreesBy (node_refusal w node) (cond (runs w node) (received w node (Ack asks spans)) w) (after_step c node (node_step n (event.Ack now ack)))
-  ack_agrees now ack asks spans s =
-      let after : TableValue = table_after n.table ack.deltas in
-      let ack2 : Ack2Value = record { deltas = deltas_granted after.entries ack.requests } in
-      let outcomes : List Outcome = outcomes_of n.table ack.deltas in
-      let moves : AckMoves w.histories n.table (w.places node) asks spans after ack2 outcomes = ack_moves ack asks spans s in
-      rw (runs_here c w t node n e) (rw (ack_fits ack asks spans s) (
-        refl,
-        message_spells (with_node c node (after_taking n now after outcomes)) (with_spans w node spans) (message.Ack2 ack2) _ (spans_spell spans now after outcomes moves.moved)
-            (record { says = back_said asks spans ack2 moves.says; names = tt }),
-      ))
-
   -- so does an ACK2
   pub ack2_fits : (ack2 : Ack2Value) (spans : ℕ → Option Span) → IsSent c.settings.cluster w.histories (message.Ack2 ack2) (Ack2 spans) → nat_lt MEMBER_LIMIT (held_after n.table ack2.deltas) ≡ false
   ack2_fits ack2 spans s = room ack2.deltas spans s.says.spells.rise s.says.spells.deltas s.says.stands
@@ -311,50 +238,60 @@ module _ (c : WorldValue) (w : PlaceWorld) (t : Tied c w) (b : Bounded w) (node 
       let taken : taking_ack2 n.table ack2 ≡ Ok (after, outcomes) = rw (ack2_fits ack2 spans s) refl in
       ack2_is_taken w.histories t.sound.histories n.table ack2 (w.places node) spans (spells_here c w t node n e) s.says after outcomes taken
 
-  ack2_agrees : (now : ℕ) (ack2 : Ack2Value) (spans : ℕ → Option Span) → IsSent c.settings.cluster w.histories (message.Ack2 ack2) (Ack2 spans)
-      → AgreesBy (node_refusal w node) (cond (runs w node) (received w node (Ack2 spans)) w) (after_step c node (node_step n (event.Ack2 now ack2)))
-  ack2_agrees now ack2 spans s =
-      rw (runs_here c w t node n e) (rw (ack2_fits ack2 spans s) (refl, spans_spell spans now (table_after n.table ack2.deltas) (outcomes_of n.table ack2.deltas) (ack2_moves ack2 spans s)))
+  -- no message of the world is refused
+  message_due : (now : ℕ) (m : Message) (said : PlaceMessage) → IsSent c.settings.cluster w.histories m said → fault_of (node_step n (arrival_of now m)) ≡ None
+  message_due now (message.Syn syn) (Syn theirs) s = syn_due syn theirs s
+  message_due now (message.Ack ack) (Ack asks spans) s = rw (ack_fits ack asks spans s) refl
+  message_due now (message.Ack2 ack2) (Ack2 spans) s = rw (ack2_fits ack2 spans s) refl
+  message_due now (message.Syn syn) (Ack asks spans) s = absurd s.says.spells
+  message_due now (message.Syn syn) (Ack2 spans) s = absurd s.says.spells
+  message_due now (message.Ack ack) (Syn places) s = absurd s.says.spells
+  message_due now (message.Ack ack) (Ack2 spans) s = absurd s.says.spells
+  message_due now (message.Ack2 ack2) (Syn places) s = absurd s.says.spells
+  message_due now (message.Ack2 ack2) (Ack asks spans) s = absurd s.says.spells
 
-  message_agrees : (now : ℕ) (m : Message) (said : PlaceMessage) → IsSent c.settings.cluster w.histories m said
-      → AgreesBy (node_refusal w node) (cond (runs w node) (received w node said) w) (after_step c node (node_step n (arrival_of now m)))
-  message_agrees now (message.Syn syn) (Syn theirs) s = syn_agrees syn theirs s
-  message_agrees now (message.Ack ack) (Ack asks spans) s = ack_agrees now ack asks spans s
-  message_agrees now (message.Ack2 ack2) (Ack2 spans) s = ack2_agrees now ack2 spans s
-  message_agrees now (message.Syn syn) (Ack asks spans) s = absurd s.says.spells
-  message_agrees now (message.Syn syn) (Ack2 spans) s = absurd s.says.spells
-  message_agrees now (message.Ack ack) (Syn places) s = absurd s.says.spells
-  message_agrees now (message.Ack ack) (Ack2 spans) s = absurd s.says.spells
-  message_agrees now (message.Ack2 ack2) (Syn places) s = absurd s.says.spells
-  message_agrees now (message.Ack2 ack2) (Ack asks spans) s = absurd s.says.spells
+  delivery_agrees : (number now : ℕ) (m : Message) (said : PlaceMessage) → at_place w.sent number ≡ Some said → IsSent c.settings.cluster w.histories m said
+      → AgreesBy (refusal w (places.Deliver number node)) (after_action w (places.Deliver number node)) (after_step c node (node_step n (arrival_of now m)))
+  delivery_agrees number now m said is s = by m s (message_due now m said s ∙ free)
+    where
+      free : None ≡ deliver_refusal w node (at_place w.sent number)
+      free = node_alike c w t node n e ∙ ap (deliver_refusal w node) (sym is)
+
+      by : (m : Message) → IsSent c.settings.cluster w.histories m said → fault_of (node_step n (arrival_of now m)) ≡ deliver_refusal w node (at_place w.sent number)
+          → AgreesBy (refusal w (places.Deliver number node)) (after_action w (places.Deliver number node)) (after_step c node (node_step n (arrival_of now m)))
+      by (message.Syn syn) s alike = step_agrees c w t node n e number (event.Syn syn) (record { said = said; is_said = is; says = s.says }) alike
+      by (message.Ack ack) s alike = step_agrees c w t node n e number (event.Ack now ack) (record { said = said; is_said = is; says = s.says }) alike
+      by (message.Ack2 ack2) s alike = step_agrees c w t node n e number (event.Ack2 now ack2) (record { said = said; is_said = is; says = s.says }) alike
 
 -- ---- an action
 
 module _ (c : WorldValue) (w : PlaceWorld) (t : Tied c w) (b : Bounded w) where
+  -- a node that does not run changes nothing
+  no_change : (node : ℕ) → map.get c.nodes node ≡ None → change_refusal (last_entry (w.histories node)) ≡ Some NoSuchNode
+  no_change node none = ap change_refusal (no_entry c w t node none)
+
+  no_delivery : (node : ℕ) → map.get c.nodes node ≡ None → node_refusal w node ≡ Some NoSuchNode
+  no_delivery node none = ap (λ b. cond b None (Some NoSuchNode)) (not_running c w t node none)
+
   local_agrees : (node : ℕ) (change : LocalEvent) (o : Option NodeValue) → map.get c.nodes node ≡ o → AgreesBy (refusal w (plain_local node change)) (after_action w (plain_local node change)) (handed c node o (event_of change))
-  unfolding after_action
-  local_agrees node Beat None e = no_change c w t node e
-  local_agrees node (Set key text) None e = no_change c w t node e
-  local_agrees node Opening None e = no_delivery c w t node e
-  local_agrees node (Tick now words) None e = no_change c w t node e
-  local_agrees node Beat (Some n) e = beat_agrees c w t node n e
-  local_agrees node (Set key text) (Some n) e = set_agrees c w t node n e key text
-  local_agrees node Opening (Some n) e = opening_agrees c w t node n e
-  local_agrees node (Tick now words) (Some n) e = tick_agrees c w t node n e now words
+  local_agrees node Beat None e = no_change node e
+  local_agrees node (Set key text) None e = no_change node e
+  local_agrees node Opening None e = no_delivery node e
+  local_agrees node (Tick now words) None e = no_change node e
+  local_agrees node Beat (Some n) e = step_agrees c w t node n e 0 event.Beat tt (change_alike c w t node n e _ _)
+  local_agrees node (Set key text) (Some n) e = step_agrees c w t node n e 0 (event.Set key text) tt (change_alike c w t node n e _ _)
+  local_agrees node Opening (Some n) e = step_agrees c w t node n e 0 event.Opening tt (node_alike c w t node n e)
+  local_agrees node (Tick now words) (Some n) e = step_agrees c w t node n e 0 (event.Tick now words) tt (change_alike c w t node n e _ _)
 
-  handed_agrees : (now node : ℕ) (m : Message) (said : PlaceMessage) → IsSent c.settings.cluster w.histories m said → (o : Option NodeValue) → map.get c.nodes node ≡ o
-      → AgreesBy (node_refusal w node) (cond (runs w node) (received w node said) w) (handed c node o (arrival_of now m))
-  handed_agrees now node m said s None e = no_delivery c w t node e
-  handed_agrees now node m said s (Some n) e = message_agrees c w t b node n e now m said s
-
-  deliver_agrees : (now node : ℕ) (o : Option Message) (said : Option PlaceMessage) → BothSent c.settings.cluster w.histories o said → AgreesBy (deliver_refusal w node said) (delivered w node said) (delivering c node now o)
-  deliver_agrees now node None None s = refl
-  deliver_agrees now node None (Some said) s = absurd s
-  deliver_agrees now node (Some m) None s = absurd s
-  deliver_agrees now node (Some m) (Some said) s = handed_agrees now node m said s (map.get c.nodes node) refl
+  deliver_agrees : (number now node : ℕ) (o : Option Message) (said : Option PlaceMessage) → at_place w.sent number ≡ said → BothSent c.settings.cluster w.histories o said
+      → (held : Option NodeValue) → map.get c.nodes node ≡ held → AgreesBy (refusal w (places.Deliver number node)) (after_action w (places.Deliver number node)) (delivering c node now o)
+  deliver_agrees number now node None None is s held e = ap (deliver_refusal w node) is
+  deliver_agrees number now node None (Some said) is s held e = absurd s
+  deliver_agrees number now node (Some m) None is s held e = absurd s
+  deliver_agrees number now node (Some m) (Some said) is s None e = rw e (ap (deliver_refusal w node) is ∙ no_delivery node e)
+  deliver_agrees number now node (Some m) (Some said) is s (Some n) e = rw e (delivery_agrees c w t b node n e number now m said is s)
 
   pub action_agrees : (action : Action) → AgreesBy (refusal w (plain action)) (after_action w (plain action)) (acting c action)
-  unfolding after_action
   action_agrees (Start node generation) = start_agrees c w t node generation
   action_agrees (Local node change) = local_agrees node change (map.get c.nodes node) refl
-  action_agrees (Deliver number to now) = deliver_agrees now to (at_place c.sent number) (at_place w.sent number) (both_at c.settings.cluster w.histories c.sent w.sent t.is.messages number)
+  action_agrees (Deliver number to now) = deliver_agrees number now to (at_place c.sent number) (at_place w.sent number) refl (both_at c.settings.cluster w.histories c.sent w.sent t.is.messages number) (map.get c.nodes to) refl

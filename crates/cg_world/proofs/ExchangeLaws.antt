@@ -1,6 +1,7 @@
 -- Exchanges between nodes that run.
-use Rattle.std.proofs.Common.{◌≡◌, ℕ, List, [], ◌∷◌, ◌++◌, length, refl, sym, ◌∙◌, ap, subst, arith, true, Option, Some, None, Result, Ok, Err, max}
-use Rattle.std.specs.Prelude.{is_some, IsOk}
+use Rattle.std.proofs.Common.{◌≡◌, ℕ, List, [], ◌∷◌, ◌++◌, length, refl, sym, ◌∙◌, ap, subst, arith, Bool, true, false, Option, Some, None, Result, Ok, Err, max}
+use Rattle.std.specs.Prelude.{◌||◌, ◌==◌, is_some, IsOk, map as map_list}
+use Rattle.std.specs.List.{list_any}
 use Rattle.std.specs.Option.{option_map}
 use Rattle.std.specs.Cmp.{nat_cmp_total}
 use Rattle.std.specs.FinMap as map
@@ -20,14 +21,15 @@ use Rattle.cg_core.specs.Values.{NodeValue}
 use Rattle.cg_places.specs.PlaceWorld.{PlaceWorld, runs, after_action}
 use Rattle.cg_places.specs.PlaceWorld as world
 use Rattle.cg_places.specs.Join.{Within}
-use Rattle.cg_places.specs.Exchange.{PlaceExchange, StartsNeither}
+use Rattle.cg_places.specs.Exchange.{PlaceExchange, IsNoStartOf, NoStartsOf, NoStartsOfEither}
 use Rattle.cg_places.specs.Exchange as places
 use Rattle.cg_places.specs.Laws.{exchange_join, BothRun, ReachesTheJoin, EndsAtTheJoin}
 use Rattle.cg_places.specs.Refusals.{refusal, done_exchange}
 use Rattle.cg_places.specs.Spelling.{StaySpelled}
-use Rattle.cg_world.specs.World.{Action, Local, Beat, Opening, Tick, Deliver, WorldValue, acting, or_unchanged, act, run_from, run, new_world, plain, placed}
+use Rattle.cg_world.specs.World.{Action, Start, Local, LocalEvent, Beat, Set, Opening, Tick, Deliver, WorldValue, acting, or_unchanged, act, run_from, run, new_world, plain, placed}
 use Rattle.cg_world.specs.WorldLaws.{AllSent, Runs, IsBeatAndOpening}
-use Rattle.cg_world.specs.Exchange.{Exchange, undisturbed, after_opening, at_syn, after_syn, at_ack, after_ack, at_ack2, exchanged, following, actions_of, ExchangesAreLists, TickedExchangesFollowBeats, plain_exchange, IsPast, ExchangesEndAtTheJoin, UndisturbedExchangesMerge}
+use Rattle.cg_world.specs.Exchange.{Exchange, starts, NeverStarts, StartsNeither, undisturbed, after_opening, at_syn, after_syn, at_ack, after_ack, at_ack2, exchanged, following, actions_of, ExchangesAreLists, TickedExchangesFollowBeats, plain_exchange, IsPast, ExchangesEndAtTheJoin, UndisturbedExchangesMerge}
+use Rattle.cg_places.proofs.PutLemmas.{test_same}
 use Rattle.cg_places.proofs.WorldLemmas.{IsSound}
 use Rattle.cg_places.proofs.OnwardLemmas.{Keeps, keeps_on, action_keeps, still_runs}
 use Rattle.cg_places.proofs.ExchangeLemmas.{to_at_syn, to_at_ack, to_at_ack2, opening_is_due, syn_is_due, ack_is_due, ack2_is_due, exchange_reaches}
@@ -80,6 +82,30 @@ ticked_exchanges_follow_beats settings actions x now words ok =
     (both_from (new_world settings) actions (Local x.opener (Tick now words) ∷ following d x)
     ∙ ap (λ (e : WorldValue). run_from e (following d x)) (ticked_opening c x now words ok) ∙ followed_from d x)
 
+-- ---- what starts a node, by places
+
+neither_is : (a b : Bool) → (a || b) ≡ false → (a ≡ false) × (b ≡ false)
+neither_is true b e = absurd cc
+neither_is false b e = (refl, e)
+
+no_start : (node : ℕ) (action : Action) → starts node action ≡ false → IsNoStartOf node (plain action)
+no_start node (Start other generation) e = λ same. let t : (other == node) ≡ true = ap (λ k. k == node) same ∙ test_same node in cc
+no_start node (Local other Beat) e = tt
+no_start node (Local other (Set key text)) e = tt
+no_start node (Local other Opening) e = tt
+no_start node (Local other (Tick now words)) e = tt
+no_start node (Deliver number to now) e = tt
+
+no_starts : (node : ℕ) (actions : List Action) → NeverStarts node actions → NoStartsOf node (map_list plain actions)
+no_starts node [] e = tt
+no_starts node (action ∷ actions) e = let both = neither_is (starts node action) (list_any (starts node) actions) e in (no_start node action both.0, no_starts node actions both.1)
+
+plain_neither : (x : Exchange) → StartsNeither x → NoStartsOfEither (plain_exchange x)
+plain_neither x s = record {
+  opener = (no_starts x.opener x.before_syn s.opener.0, no_starts x.opener x.before_ack s.opener.1, no_starts x.opener x.before_ack2 s.opener.2);
+  answerer = (no_starts x.answerer x.before_syn s.answerer.0, no_starts x.answerer x.before_ack s.answerer.1, no_starts x.answerer x.before_ack2 s.answerer.2);
+}
+
 -- ---- an exchange by places
 
 as_many : (cluster : ClusterValue) (histories : ℕ → List EntryValue) (ms : List Message) (more : List PlaceMessage) → AllSent cluster histories ms more → length ms ≡ length more
@@ -103,11 +129,11 @@ act_joined c w action j free = go (acting c action) (action_agrees c w j.tied j.
 deliver_joined : (c : WorldValue) (w : PlaceWorld) (sent : ℕ) (to now number : ℕ) → sent ≡ number → Joined c w → refusal w (world.Deliver number to) ≡ None → Joined (act c (Deliver sent to now)) (after_action w (world.Deliver number to))
 deliver_joined c w sent to now number same j free = subst (λ k. Joined (act c (Deliver k to now)) (after_action w (world.Deliver number to))) (sym same) (act_joined c w (Deliver number to now) j free)
 
-module _ (c : WorldValue) (w : PlaceWorld) (x : Exchange) (j : Joined c w) (both : BothRun w (plain_exchange x)) (neither : StartsNeither (plain_exchange x)) where
+module _ (c : WorldValue) (w : PlaceWorld) (x : Exchange) (j : Joined c w) (both : BothRun w (plain_exchange x)) (neither : NoStartsOfEither (plain_exchange x)) where
   abbrev pub y : PlaceExchange
   y = done_exchange w (plain_exchange x)
 
-  pub never : StartsNeither y
+  pub never : NoStartsOfEither y
   never = done_neither w (plain_exchange x) neither
 
   pub both_run : BothRun w y
@@ -174,7 +200,8 @@ past_by v s one other mine theirs a b within =
     same_spelled v.histories (merged one other) one (λ owner. max (mine owner) (theirs owner)) mine (merge_is_the_join v.histories s.histories one other mine theirs a b) a (λ owner. omega (arith, within owner))
 
 pub exchanges_end_at_the_join : ExchangesEndAtTheJoin
-exchanges_end_at_the_join settings actions x opening other ro ra neither =
+exchanges_end_at_the_join settings actions x opening other ro ra starts_neither =
+    let neither : NoStartsOfEither (plain_exchange x) = plain_neither x starts_neither in
     let c : WorldValue = run settings actions in
     let w : PlaceWorld = placed actions in
     let j : Joined c w = joined settings actions in
@@ -210,7 +237,7 @@ undisturbed_exchanges_merge settings actions a b syn_at ack_at ack2_at opening a
     let j : Joined c w = joined settings actions in
     let x : Exchange = undisturbed a b syn_at ack_at ack2_at in
     let both : BothRun w (plain_exchange x) = record { opener = runs_by c w j a opening ro; answerer = runs_by c w j b answering ra } in
-    let neither : StartsNeither (plain_exchange x) = record { opener = (tt, tt, tt); answerer = (tt, tt, tt) } in
+    let neither : NoStartsOfEither (plain_exchange x) = record { opener = (tt, tt, tt); answerer = (tt, tt, tt) } in
     let z : PlaceExchange = y c w x j both neither in
     let v : PlaceWorld = places.exchanged w z in
     let k : Joined (exchanged c x) v = exchanged_joined c w x j both neither in

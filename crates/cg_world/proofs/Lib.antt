@@ -8,3 +8,6 @@ pub mod WholeEntries
 pub mod WorkedRuns
 pub mod ActingLemmas
 pub mod MergingLemmas
+pub mod ExchangeCalls
+pub mod MarkLemmas
+pub mod HeadlineLaws

@@ -16,15 +16,17 @@ use Rattle.cg_exchange.specs.PlaceMessages.{PlaceMessage, Syn, Ack, Ack2}
 use Rattle.cg_exchange.specs.Spelling.{SpellsMessage}
 use Rattle.cg_exchange.specs.Laws.{Says}
 use Rattle.cg_core.specs.Values.{SettingsValue, NodeValue}
-use Rattle.cg_places.specs.PlaceWorld.{PlaceWorld, nobody, with_message}
+use Rattle.cg_steps.specs.Step.{IsSent}
+use Rattle.cg_places.specs.PlaceWorld.{PlaceWorld, nobody}
 use Rattle.cg_places.specs.Spelling.{SpellsNodes, StaySpelled, IsReplaced}
-use Rattle.cg_places.specs.Laws.{IsWithinLimits}
+use Rattle.cg_places.specs.Laws.{IsWorld, IsWithinLimits}
 use Rattle.cg_world.specs.World.{WorldValue, new_world, tables_of, with_node, with_sent}
-use Rattle.cg_world.specs.WorldLaws.{IsSent, AllSent, IsNodeAt, SpellsWorld}
+use Rattle.cg_world.specs.WorldLaws.{AllSent, IsNodeAt, SpellsWorld}
 use Rattle.cg_places.proofs.PutLemmas.{same_number, test_same, test_other}
 use Rattle.cg_places.proofs.GrowthLemmas.{AllContinue, message_stays}
 use Rattle.cg_places.proofs.WorldLemmas.{IsSound, nobody_sound}
 use Rattle.cg_places.proofs.OwnerLemmas.{KnowsOwners, nobody_knows, same_test}
+use Rattle.cg_places.proofs.PlaceLaws.{world_is}
 use Rattle.cg_places.proofs.LimitLemmas.{nobody_limited}
 use Rattle.cg_places.proofs.FollowLemmas.{spelling_stays}
 
@@ -33,7 +35,7 @@ use Rattle.cg_places.proofs.FollowLemmas.{spelling_stays}
 abbrev NodeMap : Type 0
 NodeMap = map.FinMap nat_cmp NodeValue
 
-nodes_with : (m : NodeMap) (k : ℕ) (n : NodeValue) (q : ℕ) → map.get (map.insert m k n) q ≡ cond (nat_eq q k) (Some n) (map.get m q)
+pub nodes_with : (m : NodeMap) (k : ℕ) (n : NodeValue) (q : ℕ) → map.get (map.insert m k n) q ≡ cond (nat_eq q k) (Some n) (map.get m q)
 nodes_with m k n q = get-insert nat_cmp_total m k n q ∙ ap (λ b. cond b (Some n) (map.get m q)) (same_test q k)
 
 pub node_here : (m : NodeMap) (k : ℕ) (n : NodeValue) → map.get (map.insert m k n) k ≡ Some n
@@ -90,14 +92,14 @@ module _ (cluster : ClusterValue) (old new : ℕ → List EntryValue) (on : AllC
   says_on m said s = record { spells = spells_on m said s; stands = message_stays old new on said s.stands }
 
   -- what was sent goes on to be what it says
-  all_stay : (ms : List Message) (more : List PlaceMessage) → AllSent cluster old ms more → AllSent cluster new ms more
+  pub all_stay : (ms : List Message) (more : List PlaceMessage) → AllSent cluster old ms more → AllSent cluster new ms more
   all_stay [] [] a = tt
   all_stay [] (said ∷ more) a = a
   all_stay (m ∷ ms) [] a = a
   all_stay (m ∷ ms) (said ∷ more) a = (record { says = says_on m said a.0.says; names = a.0.names }, all_stay ms more a.1)
 
 module _ (cluster : ClusterValue) (histories : ℕ → List EntryValue) where
-  all_push : (ms : List Message) (more : List PlaceMessage) (m : Message) (said : PlaceMessage) → AllSent cluster histories ms more → IsSent cluster histories m said → AllSent cluster histories (ms ++ m ∷ []) (more ++ said ∷ [])
+  pub all_push : (ms : List Message) (more : List PlaceMessage) (m : Message) (said : PlaceMessage) → AllSent cluster histories ms more → IsSent cluster histories m said → AllSent cluster histories (ms ++ m ∷ []) (more ++ said ∷ [])
   all_push [] [] m said a s = (s, tt)
   all_push [] (x ∷ more) m said a s = absurd a
   all_push (y ∷ ms) [] m said a s = absurd a
@@ -137,19 +139,10 @@ node_spells c w v node n p tables on same at many = record {
     go q m true t e = let same : n ≡ m = cc in subst (λ k. IsNodeAt c.settings k m) (sym (same_number q node t)) (subst (IsNodeAt c.settings node) same at)
     go q m false t e = p.each q m e
 
--- and with one more message
-pub message_spells : (c : WorldValue) (w : PlaceWorld) (m : Message) (said : PlaceMessage) → SpellsWorld c w → IsSent c.settings.cluster w.histories m said → SpellsWorld (with_sent c (Some m)) (with_message w said)
-unfolding with_message
-message_spells c w m said p s = record {
-  tables = record { running = p.tables.running; spelled = p.tables.spelled };
-  messages = all_push c.settings.cluster w.histories c.sent w.sent m said p.messages s;
-  each = p.each;
-  as_many = p.as_many;
-}
-
 -- what is known of the nodes and of the places of the same actions
 pub record Tied (c : WorldValue) (w : PlaceWorld) : Type 0 where
   pub sound : IsSound w
+  pub is_world : IsWorld w
   pub is : SpellsWorld c w
 
 -- what is known of the owners of places
@@ -164,6 +157,7 @@ pub new_world_tied : (settings : SettingsValue) → Tied (new_world settings) no
 unfolding nobody
 new_world_tied settings = record {
   sound = nobody_sound;
+  is_world = world_is nobody nobody_sound nobody_knows;
   is = record {
     tables = record {
       running = λ node. ap (λ (o : Option NodeValue). is_some (option_map entries_in o)) (get-empty nat_cmp node);

@@ -36,7 +36,7 @@ use Rattle.cg_places.specs.PlaceWorld.{PlaceWorld, nobody, runs, with_start, wit
 use Rattle.cg_places.specs.PlaceWorld as places
 use Rattle.cg_places.specs.Refusals.{fault_of, start_refusal, refusal, unless_refused}
 use Rattle.cg_world.specs.World.{LocalEvent, Beat, Set, Opening, Tick, Action, Start, Local, Deliver, WorldValue, arrival_of, reply_of, reply_by, reply_on, reply_to, acting, run, plain, placed}
-use Rattle.cg_world.specs.WorldLaws.{IsSent}
+use Rattle.cg_steps.specs.Step.{IsSent}
 use Rattle.cg_world.specs.SingleActions.{outcomes_in}
 use Rattle.cg_world.specs.Taken.{deltas_in, spans_in, counted, taker, AreCounted, OutcomesTellWhatIsTaken}
 use Rattle.cg_places.proofs.PutLemmas.{put_at_here, put_at_other}
@@ -141,18 +141,21 @@ module _ (c : WorldValue) (w : PlaceWorld) (t : Tied c w) (b : Bounded w) (node 
 
 -- ---- one more action
 
--- one more action is done, or not, after all others
-one_more : (w : PlaceWorld) (actions : List Action) (action : Action)
-    → after_actions w (done_of w (actions ++ action ∷ [])) ≡ after_actions (after_actions w (done_of w actions)) (done_of (after_actions w (done_of w actions)) (action ∷ []))
-one_more w [] action = refl
-one_more w (first ∷ actions) action = go (refusal w (plain first)) (λ v. one_more v actions action)
+-- more actions are done, or not, after all others
+pub all_more : (w : PlaceWorld) (actions more : List Action) → after_actions w (done_of w (actions ++ more)) ≡ after_actions (after_actions w (done_of w actions)) (done_of (after_actions w (done_of w actions)) more)
+all_more w [] more = refl
+all_more w (first ∷ actions) more = go (refusal w (plain first)) (λ v. all_more v actions more)
   where
-    go : (due : Option Fault) → ((v : PlaceWorld) → after_actions v (done_of v (actions ++ action ∷ [])) ≡ after_actions (after_actions v (done_of v actions)) (done_of (after_actions v (done_of v actions)) (action ∷ [])))
-        → after_actions w (unless_refused due (plain first) (done_of (after_action w (plain first)) (actions ++ action ∷ [])) (done_of w (actions ++ action ∷ [])))
+    go : (due : Option Fault) → ((v : PlaceWorld) → after_actions v (done_of v (actions ++ more)) ≡ after_actions (after_actions v (done_of v actions)) (done_of (after_actions v (done_of v actions)) more))
+        → after_actions w (unless_refused due (plain first) (done_of (after_action w (plain first)) (actions ++ more)) (done_of w (actions ++ more)))
         ≡ after_actions (after_actions w (unless_refused due (plain first) (done_of (after_action w (plain first)) actions) (done_of w actions)))
-        (done_of (after_actions w (unless_refused due (plain first) (done_of (after_action w (plain first)) actions) (done_of w actions))) (action ∷ []))
+        (done_of (after_actions w (unless_refused due (plain first) (done_of (after_action w (plain first)) actions) (done_of w actions))) more)
     go None rest = rest (after_action w (plain first))
     go (Some fault) rest = rest w
+
+one_more : (w : PlaceWorld) (actions : List Action) (action : Action)
+    → after_actions w (done_of w (actions ++ action ∷ [])) ≡ after_actions (after_actions w (done_of w actions)) (done_of (after_actions w (done_of w actions)) (action ∷ []))
+one_more w actions action = all_more w actions (action ∷ [])
 
 -- ---- what an action leaves as it was
 

@@ -6,7 +6,7 @@ use Rattle.cg_entry.specs.Values.{EntryValue}
 use Rattle.cg_entry.specs.Entry.{started, beaten, with_state}
 use Rattle.cg_entry.specs.History.{at_place}
 use Rattle.cg_exchange.specs.PlaceMessages.{PlaceMessage, Syn, Ack, Ack2}
-use Rattle.cg_core.specs.Values.{NodeValue}
+use Rattle.cg_core.specs.Values.{SettingsValue, NodeValue}
 use Rattle.cg_places.specs.PlaceWorld.{PlaceWorld, PlaceAction, Start, Beat, Set, Opening, Tick, Deliver, nobody, grown, runs, with_start, with_entry, with_message, with_spans, may_start, last_entry, changed, opened, received, delivered, after_action, after_actions}
 use Rattle.cg_places.specs.Refusals.{refusal, unless_refused}
 use Rattle.cg_world.specs.World.{Action, WorldValue, new_world, acting, or_unchanged, act, run_from, plain, placed}
@@ -144,15 +144,18 @@ stood_from : (c : WorldValue) (w : PlaceWorld) (actions : List Action) → Joine
 stood_from c w [] j = λ owner place entry e. inl e
 stood_from c w (action ∷ actions) j = next_stood c w j action actions (λ d v k. stood_from d v actions k) (acting c action) refl (action_agrees c w j.tied j.bounded action)
 
-pub entries_are_whole : EntriesAreWhole
+-- each entry of a history was its owner's own
+pub places_were_own : (settings : SettingsValue) (actions : List Action) (owner place : ℕ) (entry : EntryValue) → at_place ((placed actions).histories owner) place ≡ Some entry → WasOwn (new_world settings) actions owner entry
 unfolding nobody
-entries_are_whole settings actions node n e owner entry held =
-    go (stood_from (new_world settings) nobody actions (joined settings []) owner ((placed actions).places node owner) entry (sym ((spelled settings actions node n e).at owner) ∙ held))
+places_were_own settings actions owner place entry e = go (stood_from (new_world settings) nobody actions (joined settings []) owner place entry e)
   where
     nowhere : (place : ℕ) → at_place [] place ≡ Some entry → WasOwn (new_world settings) actions owner entry
     nowhere zero e = absurd cc
     nowhere (suc place) e = absurd cc
 
-    go : (at_place (nobody.histories owner) ((placed actions).places node owner) ≡ Some entry) ⊎ WasOwn (new_world settings) actions owner entry → WasOwn (new_world settings) actions owner entry
-    go (inl e) = nowhere ((placed actions).places node owner) e
+    go : (at_place (nobody.histories owner) place ≡ Some entry) ⊎ WasOwn (new_world settings) actions owner entry → WasOwn (new_world settings) actions owner entry
+    go (inl e) = nowhere place e
     go (inr was) = was
+
+pub entries_are_whole : EntriesAreWhole
+entries_are_whole settings actions node n e owner entry held = places_were_own settings actions owner ((placed actions).places node owner) entry (sym ((spelled settings actions node n e).at owner) ∙ held)

@@ -21,6 +21,7 @@ use Rattle.cg_places.specs.Refusals.{fault_of, deliver_refusal, refusal, unless_
 use Rattle.cg_places.specs.Spelling.{SpellsNode}
 use Rattle.cg_world.specs.World.{Action, Start, Local, Opening, Deliver, WorldValue, with_node, with_sent, message_of, after_step, handed, generation_held, has_room, event_of, arrival_of, delivering, reply_of, reply_by, reply_on, message_to, acting, or_unchanged, act, run_from, run, new_world, plain, placed}
 use Rattle.cg_world.specs.WorldLaws.{Runs, ActionsOneByOne, MessagesAreNumbered, IsBeatAndOpening, TicksAreBeatsAndOpenings, NodesSpellPlaces, RefusalsAgree, DeliveriesFindRoom, DeliveriesAreDone, ReachedWorlds, TablesAreTheJoin, EqualSetsGiveEqualTables, EqualDigestsGiveEqualTables, MergesOfNodesAreTheJoin}
+use Rattle.cg_places.proofs.PlaceLaws.{world_is}
 use Rattle.cg_places.proofs.WorldLemmas.{action_sound}
 use Rattle.cg_places.proofs.OwnerLemmas.{action_knows}
 use Rattle.cg_places.proofs.LimitLemmas.{action_limited}
@@ -41,10 +42,13 @@ pub record Joined (c : WorldValue) (w : PlaceWorld) : Type 0 where
 
 -- an action that is done
 pub done_joined : (c : WorldValue) (w : PlaceWorld) (action : Action) (d : WorldValue) → Joined c w → AgreesBy (refusal w (plain action)) (after_action w (plain action)) (Ok d) → Joined d (after_action w (plain action))
-done_joined c w action d j a = record {
-  tied = record { sound = action_sound w (plain action) j.tied.sound; is = a.1 };
-  bounded = record { knows = action_knows w (plain action) j.bounded.knows; limits = action_limited w (plain action) a.0 j.bounded.limits };
-}
+done_joined c w action d j a =
+    let sound = action_sound w (plain action) j.tied.sound in
+    let knows = action_knows w (plain action) j.bounded.knows in
+    record {
+      tied = record { sound = sound; is_world = world_is (after_action w (plain action)) sound knows; is = a.1 };
+      bounded = record { knows = knows; limits = action_limited w (plain action) a.0 j.bounded.limits };
+    }
 
 -- one action, and those after it
 next_joined : (c : WorldValue) (w : PlaceWorld) (j : Joined c w) (action : Action) (actions : List Action) → ((d : WorldValue) (v : PlaceWorld) → Joined d v → Joined (run_from d actions) (after_actions v (done_of v actions)))
@@ -62,7 +66,7 @@ joined settings actions = joined_from (new_world settings) nobody actions (recor
 
 -- ---- the laws
 
-run_on : (c : WorldValue) (actions : List Action) (action : Action) → run_from c (actions ++ action ∷ []) ≡ act (run_from c actions) action
+pub run_on : (c : WorldValue) (actions : List Action) (action : Action) → run_from c (actions ++ action ∷ []) ≡ act (run_from c actions) action
 run_on c [] action = refl
 run_on c (first ∷ actions) action = run_on (act c first) actions action
 

@@ -1,5 +1,5 @@
 -- What is true of the nodes that run after a list of actions.
-use Rattle.std.specs.Prelude.{ℕ, ◌≡◌, List, Some}
+use Rattle.std.specs.Prelude.{ℕ, ◌≡◌, ◌++◌, List, Some}
 use Rattle.std.specs.FinMap as map
 use Rattle.cg_entry.specs.Values.{EntryValue}
 use Rattle.cg_table.specs.Table.{digests_of}
@@ -7,20 +7,33 @@ use Rattle.cg_core.specs.Values.{SettingsValue, NodeValue}
 use Rattle.cg_places.specs.Join.{sources, SamePlaces}
 use Rattle.cg_places.specs.TableLaws.{IsJoined, AreEqual}
 use Rattle.cg_world.specs.World.{Action, WorldValue, new_world, run, placed}
-use Rattle.cg_world.specs.WorldLaws.{Runs, WasOwn}
+use Rattle.cg_world.specs.WorldLaws.{IsReached, Runs, SpellsWorld, WasOwn}
+use Rattle.cg_world.specs.Taken.{IsTold}
+use Rattle.cg_world.specs.Headline.{Headline}
 
 pub record IsConsistent (settings : SettingsValue) (actions : List Action) (c : WorldValue) : Type 0 where
-  -- each node's table is the join of its own newest entry and of the entries to which the deltas led that it took since its start
+  -- the actions lead here
+  pub led : c ≡ run settings actions
+  -- the headline, over nodes, replies and messages; what follows says the same by places
+  pub headline : Headline settings actions c
+  -- the nodes hold and have sent what the places of the actions say
+  pub spelled : SpellsWorld c (placed actions)
+  -- each change of what the places say that a node took is what the node's reply told
+  pub told : (earlier later : List Action) → earlier ++ later ≡ actions → IsTold settings earlier
+  -- each node's table is the join of its own newest entry and of those to which the deltas led that it took since its start
   pub joined : (node : ℕ) (n : NodeValue) → Runs c node n → IsJoined (placed actions) node n.table.entries
   -- each entry in it was its owner's own, whole, after some of the first actions
-  pub whole : (node : ℕ) (n : NodeValue) → Runs c node n → (owner : ℕ) (entry : EntryValue) → map.get n.table.entries owner ≡ Some entry → WasOwn (new_world settings) actions owner entry
+  pub whole : (node : ℕ) (n : NodeValue) → Runs c node n → (owner : ℕ) (entry : EntryValue)
+      → map.get n.table.entries owner ≡ Some entry → WasOwn (new_world settings) actions owner entry
   -- nodes that took the same have equal tables and rings
-  pub equal_sets : (a b : ℕ) (one other : NodeValue) → Runs c a one → Runs c b other → ((owner : ℕ) → SamePlaces (sources (placed actions) a owner) (sources (placed actions) b owner)) → AreEqual one.table.entries other.table.entries
+  pub equal_sets : (a b : ℕ) (one other : NodeValue) → Runs c a one → Runs c b other
+      → ((owner : ℕ) → SamePlaces (sources (placed actions) a owner) (sources (placed actions) b owner))
+      → AreEqual one.table.entries other.table.entries
   -- and so have nodes with equal digests
-  pub equal_digests : (a b : ℕ) (one other : NodeValue) → Runs c a one → Runs c b other → digests_of one.table.entries ≡ digests_of other.table.entries → AreEqual one.table.entries other.table.entries
+  pub equal_digests : (a b : ℕ) (one other : NodeValue) → Runs c a one → Runs c b other
+      → digests_of one.table.entries ≡ digests_of other.table.entries → AreEqual one.table.entries other.table.entries
 
--- A world is where some actions led, and consistent after them.
+-- A world is where some actions led, and consistent after whatever list of actions leads to it.
 pub record IsConsistentWorld (c : WorldValue) : Type 0 where
-  pub actions : List Action
-  pub is : c ≡ run c.settings actions
-  pub consistent : IsConsistent c.settings actions c
+  pub reached : IsReached c
+  pub consistent : (actions : List Action) → c ≡ run c.settings actions → IsConsistent c.settings actions c

@@ -1,11 +1,15 @@
 -- A whole exchange between two nodes that run, with other actions between its messages, and where it ends.
-use Rattle.std.specs.Prelude.{ℕ, ◌≡◌, IsOk, List, [], ◌∷◌, ◌++◌, length, map as map_list}
+use Rattle.std.specs.Prelude.{ℕ, ◌≡◌, ◌==◌, ◌&&◌, Bool, false, IsOk, List, [], ◌∷◌, ◌++◌, length, Result, Ok, Err, map as map_list, slice_index_or, if◌then◌else◌}
+use Rattle.std.specs.List.{list_any}
+use Rattle.std.specs.FinMap as map
+use Rattle.cg_types.specs.declared.fault.Fault.{Fault}
+use Rattle.cg_types.specs.declared.fault.Fault.TheVariants.{NoSuchNode}
 use Rattle.cg_table.specs.Values.{Entries}
 use Rattle.cg_table.specs.Merge.{merged}
 use Rattle.cg_core.specs.Values.{SettingsValue, NodeValue}
-use Rattle.cg_places.specs.Exchange.{PlaceExchange, StartsNeither}
+use Rattle.cg_places.specs.Exchange.{PlaceExchange}
 use Rattle.cg_places.specs.TableLaws.{AreEqual}
-use Rattle.cg_world.specs.World.{Action, Local, Beat, Opening, Tick, Deliver, WorldValue, acting, act, run_from, run, plain}
+use Rattle.cg_world.specs.World.{Action, Start, Local, Beat, Opening, Tick, Deliver, WorldValue, acting, act, run_from, run, plain}
 use Rattle.cg_world.specs.WorldLaws.{Runs}
 
 -- who opens, who answers, what is done before each of the three messages is handed to its addressee, and when that is
@@ -83,6 +87,21 @@ plain_exchange x = record {
   before_ack2 = map_list plain x.before_ack2;
 }
 
+-- whether an action starts a node
+abbrev pub starts : ℕ → Action → Bool
+starts node (Start other generation) = other == node
+starts node (Local other change) = false
+starts node (Deliver number to now) = false
+
+-- None of the actions starts the node.
+abbrev pub NeverStarts : ℕ → List Action → Type 0
+NeverStarts node actions = list_any (starts node) actions ≡ false
+
+-- Nothing that is done between its messages starts one of the two nodes of an exchange.
+pub record StartsNeither (x : Exchange) : Type 0 where
+  pub opener : NeverStarts x.opener x.before_syn × NeverStarts x.opener x.before_ack × NeverStarts x.opener x.before_ack2
+  pub answerer : NeverStarts x.answerer x.before_syn × NeverStarts x.answerer x.before_ack × NeverStarts x.answerer x.before_ack2
+
 -- ---- where it ends
 
 -- The entries are at or past the others: a merge with those changes nothing.
@@ -106,7 +125,7 @@ pub record ReachesTheMerge (c : WorldValue) (x : Exchange) (opening : NodeValue)
 abbrev pub ExchangesEndAtTheJoin : Type 0
 ExchangesEndAtTheJoin =
     (settings : SettingsValue) (actions : List Action) (x : Exchange) (opening other : NodeValue) → Runs (run settings actions) x.opener opening → Runs (run settings actions) x.answerer other
-    → StartsNeither (plain_exchange x) → ReachesTheMerge (run settings actions) x opening
+    → StartsNeither x → ReachesTheMerge (run settings actions) x opening
 
 -- Both nodes end with equal tables and rings, and each table is the merge of what the two held.
 pub record EndsAtTheMerge (c : WorldValue) (x : Exchange) (opening answering : NodeValue) : Type 0 where
@@ -123,3 +142,35 @@ abbrev pub UndisturbedExchangesMerge : Type 0
 UndisturbedExchangesMerge =
     (settings : SettingsValue) (actions : List Action) (a b syn_at ack_at ack2_at : ℕ) (opening answering : NodeValue) → Runs (run settings actions) a opening → Runs (run settings actions) b answering
     → EndsAtTheMerge (run settings actions) (undisturbed a b syn_at ack_at ack2_at) opening answering
+
+-- ---- as a call
+
+-- an exchange whose messages are handed over at one moment, each after one of three lists of actions
+abbrev pub exchange_among : ℕ → ℕ → ℕ → List (List Action) → Exchange
+exchange_among opener answerer now between = record {
+  opener = opener;
+  answerer = answerer;
+  before_syn = slice_index_or between 0 [];
+  syn_at = now;
+  before_ack = slice_index_or between 1 [];
+  ack_at = now;
+  before_ack2 = slice_index_or between 2 [];
+  ack2_at = now;
+}
+
+-- the message that was sent last is handed to a node, after a list of actions
+abbrev pub handed_last : WorldValue → List Action → ℕ → ℕ → WorldValue
+handed_last c between to now = act (run_from c between) (Deliver (length c.sent) to now)
+
+-- the world after an exchange; or one of the two nodes does not run
+abbrev pub exchanging : WorldValue → Exchange → Result WorldValue Fault
+exchanging c x = if map.contains_key c.nodes x.opener && map.contains_key c.nodes x.answerer then Ok (exchanged c x) else Err NoSuchNode
+
+-- Where an exchange leads, of two nodes that run.
+pub record JoinsBoth (c : WorldValue) (x : Exchange) : Type 0 where
+  pub opening : NodeValue
+  pub opens : Runs c x.opener opening
+  -- both end at or past the merge of what the opener held when it opened and the answerer when it answered
+  pub joined : ReachesTheMerge c x opening
+  -- with nothing between its messages both end with the merge of what they held, and so with the same entries
+  pub equal : (answering : NodeValue) → Runs c x.answerer answering → x.before_syn ≡ [] → x.before_ack ≡ [] → x.before_ack2 ≡ [] → EndsAtTheMerge c x opening answering

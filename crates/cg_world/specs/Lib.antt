@@ -7,3 +7,4 @@ pub mod SingleActions
 pub mod Taken
 pub mod Exchange
 pub mod WorkedRuns
+pub mod Headline

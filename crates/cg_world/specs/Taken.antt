@@ -1,10 +1,12 @@
 -- What a node took, by the outcomes that its replies have.
-use Rattle.std.specs.Prelude.{ℕ, ◌≡◌, ◌≢◌, ◌==◌, IsOk, Err, List, [], ◌∷◌, ◌++◌, Option, Some, None}
-use Rattle.std.specs.Option.{option_map}
+use Rattle.std.specs.Prelude.{ℕ, ◌≡◌, ◌≢◌, ◌==◌, Bool, true, false, IsOk, Err, List, [], ◌∷◌, ◌++◌, Option, Some, None}
+use Rattle.std.specs.Option.{option_map, option_map_or}
 use Rattle.cg_types.specs.declared.fault.Fault.{Fault}
 use Rattle.cg_types.specs.Rising.{Rises}
 use Rattle.cg_entry.specs.History.{at_place}
 use Rattle.cg_entry.specs.Place.{Span}
+use Rattle.cg_table.specs.declared.took.Took.{Took}
+use Rattle.cg_table.specs.declared.took.Took.TheVariants as took
 use Rattle.cg_exchange.specs.declared.message.Message.{Message}
 use Rattle.cg_exchange.specs.declared.message.Message.TheVariants as kinds
 use Rattle.cg_exchange.specs.declared.outcome.Outcome.{Outcome}
@@ -25,6 +27,17 @@ abbrev pub deltas_in : Message → List OwnerDelta
 deltas_in (kinds.Syn syn) = []
 deltas_in (kinds.Ack ack) = ack.deltas
 deltas_in (kinds.Ack2 ack2) = ack2.deltas
+
+-- the deltas that were sent under a number
+abbrev pub deltas_sent : WorldValue → ℕ → List OwnerDelta
+deltas_sent c number = option_map_or deltas_in (at_place c.sent number) []
+
+-- whether a delta was left out
+abbrev pub is_gap : Took → Bool
+is_gap took.Gap = true
+is_gap took.Taken = false
+is_gap took.Old = false
+is_gap took.Own = false
 
 -- the spans that it has by places
 abbrev pub spans_in : PlaceMessage → ℕ → Option Span

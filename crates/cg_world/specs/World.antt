@@ -20,6 +20,7 @@ use Rattle.cg_core.specs.declared.reply.Reply.TheVariants as reply
 use Rattle.cg_core.specs.Values.{SettingsValue, NodeValue, settings_code, node_code}
 use Rattle.cg_core.specs.Step.{Step, begun, node_step}
 pub use Rattle.cg_core.specs.Step.{arrival_of}
+pub use Rattle.cg_steps.specs.Step.{message_of}
 pub use Rattle.cg_world.specs.declared.action.Action.{Action}
 pub use Rattle.cg_world.specs.declared.action.Action.TheVariants.{Start, Local, Deliver}
 pub use Rattle.cg_world.specs.declared.action.LocalEvent.{LocalEvent}
@@ -60,14 +61,6 @@ with_node c node n = record { settings = c.settings; nodes = map.insert c.nodes 
 abbrev pub with_sent : WorldValue → Option Message → WorldValue
 with_sent c None = c
 with_sent c (Some m) = record { settings = c.settings; nodes = c.nodes; sent = c.sent ++ m ∷ [] }
-
--- the message that a reply sends
-abbrev pub message_of : Reply → Option Message
-message_of (reply.Done version) = None
-message_of (reply.Round peers syn) = Some (message.Syn syn)
-message_of (reply.Sent m) = Some m
-message_of (reply.Both outcomes ack2) = Some (message.Ack2 ack2)
-message_of (reply.Took outcomes) = None
 
 -- A node's step leaves the new node, and what it answers is sent.
 abbrev pub after_step : WorldValue → ℕ → Step → Result WorldValue Fault

@@ -13,7 +13,7 @@ use Rattle.cg_table.specs.Merge.{merged}
 use Rattle.cg_exchange.specs.declared.message.Message.{Message}
 use Rattle.cg_exchange.specs.declared.message.Message.TheVariants as message
 use Rattle.cg_exchange.specs.PlaceMessages.{PlaceMessage}
-use Rattle.cg_exchange.specs.Laws.{Says}
+use Rattle.cg_steps.specs.Step.{IsSent}
 use Rattle.cg_core.specs.Values.{SettingsValue, NodeValue}
 use Rattle.cg_places.specs.PlaceWorld.{PlaceWorld}
 use Rattle.cg_places.specs.Join.{sources, SamePlaces}
@@ -55,16 +55,6 @@ pub record ReachedWorlds : Type 0 where
   pub go_on : (c : WorldValue) (action : Action) → IsReached c → IsReached (act c action)
 
 -- ---- what is held and sent, by places
-
--- A SYN names this cluster.
-abbrev pub NamesCluster : ClusterValue → Message → Type 0
-NamesCluster cluster (message.Syn syn) = syn.cluster ≡ cluster
-NamesCluster cluster (message.Ack ack) = ⊤
-NamesCluster cluster (message.Ack2 ack2) = ⊤
-
-pub record IsSent (cluster : ClusterValue) (histories : ℕ → List EntryValue) (m : Message) (said : PlaceMessage) : Type 0 where
-  pub says : Says histories m said
-  pub names : NamesCluster cluster m
 
 -- Each message says the one by places of the same number, and there are as many of both.
 abbrev pub AllSent : ClusterValue → (ℕ → List EntryValue) → List Message → List PlaceMessage → Type 0

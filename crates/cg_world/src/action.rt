@@ -1,6 +1,7 @@
 //! What is done to the nodes of a cluster.
 
 ghost use Rattle.std.specs.Prelude.{◌≡◌, IfOk};
+ghost use Rattle.cg_world.specs.Exchange.{starts};
 
 use cg_types::{Endpoint, Generation, StateKey, StateText};
 use std::alloc::AllocError;
@@ -50,6 +51,16 @@ pub enum Action {
 }
 
 impl Action {
+    /// Whether it starts the node of this endpoint.
+    pub fn starts(&self, endpoint: Endpoint) -> bool
+        ensures { result ≡ starts endpoint self.now }
+    {
+        match self {
+            Action::Start(node, _) => *node == endpoint,
+            Action::Local(..) | Action::Deliver { .. } => false,
+        }
+    }
+
     /// The same action, which shares its text.
     pub fn copy(&self) -> Result<Action, AllocError>
         ensures { IfOk result (λ a. a ≡ self.now) }

@@ -8,6 +8,7 @@ ghost use Rattle.cg_world.specs.Exchange.{
   TickedExchangesFollowBeats,
   UndisturbedExchangesMerge,
 };
+ghost use Rattle.cg_world.specs.Headline.{HeadlineHolds};
 ghost use Rattle.cg_world.specs.WorldLaws.{
   DeliveriesAreDone,
   DeliveriesFindRoom,
@@ -37,6 +38,13 @@ mod worlds;
 pub use worlds::{equal_digests, merge_is_join};
 
 // ---- the headline
+
+/// The headline: after every list of actions each node's table holds of each owner the furthest of its own entry and of
+/// those to which the deltas led that it took since its start; each was its owner's own, whole, at one past time; so equal
+/// sets give equal tables, and equal digests give equal tables and rings.
+pub fn headline()
+    ensures { HeadlineHolds }
+{}
 
 /// Each node's table is the join of its own newest entry and of the entries to which the deltas led that it took since
 /// its start; each entry in it is its owner's whole entry at one past place; and it has no more than owners started.

@@ -9,11 +9,7 @@
 mod action;
 pub mod laws;
 mod nodes;
-#[cfg(test)]
-mod tests;
 mod world;
-#[cfg(test)]
-mod world_tests;
 
 pub use action::{Action, LocalEvent};
 pub use world::{Shown, World};

@@ -94,6 +94,25 @@ impl Nodes {
         self.sent.get(place as usize)
     }
 
+    /// How many messages were sent.
+    pub(crate) fn message_count(&self) -> u64
+        ensures { result ≡ length self.now.sent }
+    {
+        self.sent.len() as u64
+    }
+
+    /// The endpoints of the nodes that run, rising.
+    pub(crate) fn endpoints(&self, alloc: Global) -> Result<Vec<Endpoint>, AllocError>
+        ensures { IfOk result (λ endpoints. endpoints.items ≡ map.keys self.now.nodes) }
+    {
+        let rows = self.nodes.rows();
+        let mut endpoints = Vec::with_capacity(alloc, rows.len())?;
+        for row in rows {
+            endpoints.push(row.endpoint())?;
+        }
+        Ok(endpoints)
+    }
+
     // The generation in which an endpoint started last, and 0 where it never did.
     fn generation_held(&self, endpoint: Endpoint) -> u32
         ensures { result ≡ generation_held (map.get self.now.nodes endpoint) }

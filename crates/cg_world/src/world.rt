@@ -1,12 +1,12 @@
 //! All nodes of a cluster, as a list of actions leaves them.
 
-ghost use Rattle.std.specs.Prelude.{◌≡◌, ◌↔◌, IsTrue, IfOk, IfErr, OnOk, OnErr, Err, option_copied};
+ghost use Rattle.std.specs.Prelude.{◌≡◌, IfOk, IfErr, OnOk, OnErr, length, option_copied};
 ghost use Rattle.std.specs.FinMap as map;
 ghost use Rattle.cg_types.specs.declared.fault.Fault.TheVariants as faults;
 ghost use Rattle.cg_types.specs.Answer.{Answers};
 ghost use Rattle.cg_entry.specs.History.{at_place};
-ghost use Rattle.cg_world.specs.Acting.{showing, showing_all};
-ghost use Rattle.cg_world.specs.World.{new_world, act as after_act, run as after_run};
+ghost use Rattle.cg_world.specs.Acting.{showing, found_no_memory, done_of, Ran};
+ghost use Rattle.cg_world.specs.World.{new_world, act as after_act};
 ghost use Rattle.cg_world.specs.Consistent.{IsConsistent, IsConsistentWorld};
 
 use crate::action::Action;
@@ -14,16 +14,32 @@ use crate::nodes::Nodes;
 use cg_core::{Node, Reply, Settings};
 use cg_exchange::Message;
 use cg_types::{Endpoint, Fault};
-use std::alloc::Global;
+use std::alloc::{AllocError, Global};
 use std::marker::Model;
 
 /// What an action shows.
-#[derive(Debug, Drop)]
+#[derive(Debug, Drop, PartialEq, Eq)]
 pub struct Shown {
     /// The reply of the node that made a step; `None` of a start.
     pub reply: Option<Reply>,
     /// The number of the message that was sent, if one was; they are numbered from 1.
     pub sent: Option<u64>,
+}
+
+impl Shown {
+    /// The same, which shares its texts.
+    pub fn copy(&self, alloc: Global) -> Result<Shown, AllocError>
+        ensures { IfOk result (λ s. s ≡ self.now) }
+    {
+        let reply = match &self.reply {
+            Some(reply) => Some(reply.copy(alloc)?),
+            None => None,
+        };
+        Ok(Shown {
+            reply,
+            sent: self.sent,
+        })
+    }
 }
 
 /// The nodes that run and all messages that were ever sent, as some list of actions leaves them. So what holds after
@@ -46,11 +62,11 @@ impl Model for World {
     ghost invariant = { λ w. IsReached w.nodes };
 }
 
-// Whether memory was short.
-fn is_short(shown: &Result<Shown, Fault>) -> bool
-    ensures { IsTrue result ↔ (shown.now ≡ Err faults.OutOfMemory) }
+/// Whether an action found no memory.
+pub(crate) fn is_short(answer: &Result<Shown, Fault>) -> bool
+    ensures { result ≡ found_no_memory answer.now }
 {
-    matches!(shown, Err(Fault::OutOfMemory))
+    matches!(answer, Err(Fault::OutOfMemory))
 }
 
 impl World {
@@ -71,10 +87,9 @@ impl World {
     }
 
     /// The node of an endpoint, if it runs.
-    #[tactic(auto, using(crate::proofs::ActingLemmas::consistent_reached))]
     pub fn node(&self, endpoint: Endpoint) -> Option<&Node>
         ensures value { option_copied result ≡ map.get self.now.nodes endpoint }
-        // The world is where some actions led: its tables are joins, their entries whole.
+        // Whatever list of actions leads here, the tables are joins after it, and their entries whole.
         ensures consistent { IsConsistentWorld self.now }
     {
         self.nodes.node(endpoint)
@@ -85,6 +100,20 @@ impl World {
         ensures { option_copied result ≡ at_place self.now.sent number }
     {
         self.nodes.message(number)
+    }
+
+    /// How many messages were sent, which is the number of the last one.
+    pub fn message_count(&self) -> u64
+        ensures { result ≡ length self.now.sent }
+    {
+        self.nodes.message_count()
+    }
+
+    /// The endpoints of the nodes that run, rising.
+    pub fn endpoints(&self, alloc: Global) -> Result<Vec<Endpoint>, AllocError>
+        ensures { IfOk result (λ endpoints. endpoints.items ≡ map.keys self.now.nodes) }
+    {
+        self.nodes.endpoints(alloc)
     }
 
     /// Does an action, and tells what it shows. A refused action changes nothing.
@@ -98,31 +127,38 @@ impl World {
         ensures shown { Answers (λ s. s) (showing self.old action.now) result }
         ensures done { OnOk result (self.new ≡ after_act self.old action.now) }
         ensures err { OnErr result (self.new ≡ self.old) }
+        // Whatever list of actions leads here, the tables are joins after it, and their entries whole.
+        ensures consistent { IsConsistentWorld self.new }
     {
         self.nodes.act(alloc, action)
     }
 
-    /// The world after a list of actions, and what each shows; a refused one is kept in its place as its fault, and the
-    /// run goes on. `OutOfMemory` ends it, and there is no other refusal.
+    /// The world after a list of actions, and an answer for each: what it shows, or why it is refused, and then the run goes
+    /// on. An action that finds no memory ends the run: its `OutOfMemory` is the last answer, and the world is the one before
+    /// it, after the actions that were done.
+    ///
+    /// `OutOfMemory` comes in place of a world only where the list of answers could not be made, before the first action.
     pub fn run(
         alloc: Global,
         settings: Settings,
         actions: &[Action],
     ) -> Result<(World, Vec<Result<Shown, Fault>>), Fault>
-        ensures world { IfOk result (λ x. x.0 ≡ after_run settings actions.now) }
-        ensures shown { IfOk result (λ x. x.1.items ≡ showing_all (new_world settings) actions.now) }
-        ensures consistent { IfOk result (λ x. IsConsistent settings actions.now x.0) }
+        ensures ran { IfOk result (λ x. Ran (new_world settings) actions.now x.1.items x.0) }
+        ensures consistent { IfOk result (λ x. IsConsistent settings (done_of actions.now x.1.items) x.0) }
         ensures err { IfErr result (λ f. f ≡ faults.OutOfMemory) }
     {
         let mut world = World::new(alloc, settings);
-        let mut shown = Vec::with_capacity(alloc, actions.len())?;
+        let mut answers = Vec::with_capacity(alloc, actions.len())?;
         for action in actions {
-            let result = world.act(alloc, action);
-            if is_short(&result) {
-                return Err(Fault::OutOfMemory);
+            let answer = world.act(alloc, action);
+            let ends = is_short(&answer);
+            let Ok(()) = answers.push(answer) else {
+                unreachable!()
+            };
+            if ends {
+                return Ok((world, answers));
             }
-            shown.push(result)?;
         }
-        Ok((world, shown))
+        Ok((world, answers))
     }
 }

@@ -8,7 +8,7 @@ use Rattle.cg_world.proofs.laws.worlds.merge_is_join.Goals as goal
 found : (c : goal.After-table-3) → FindTheJoin c.args.world.now c.args.a c.args.b c.args.c c.in-Some-Some-Some.one.now c.in-Some-Some-Some.two.now c.in-Some-Some-Some.three.now
 found c =
     let s = c.in-Some-Some-Some in
-    let reached : IsReached c.args.world.now = record { actions = c.node.ensures.consistent.actions; is = c.node.ensures.consistent.is } in
+    let reached : IsReached c.args.world.now = c.node.ensures.consistent.reached in
     find_the_join c.args.world.now reached c.args.a c.args.b c.args.c s.one.now s.two.now s.three.now
     (sym c.node.ensures.value ∙ ap option_copied s.is-0) (sym c.node-2.ensures.value ∙ ap option_copied s.is-1) (sym c.node-3.ensures.value ∙ ap option_copied s.is-2)
 
@@ -18,7 +18,7 @@ merge_three-requires c = rw (c.table.ensures, c.table-2.ensures, c.table-3.ensur
 found_then : (c : goal.After-merge_three) → FindTheJoin c.args.world.now c.args.a c.args.b c.args.c c.in-Some-Some-Some.one.now c.in-Some-Some-Some.two.now c.in-Some-Some-Some.three.now
 found_then c =
     let s = c.in-Some-Some-Some in
-    let reached : IsReached c.args.world.now = record { actions = c.node.ensures.consistent.actions; is = c.node.ensures.consistent.is } in
+    let reached : IsReached c.args.world.now = c.node.ensures.consistent.reached in
     find_the_join c.args.world.now reached c.args.a c.args.b c.args.c s.one.now s.two.now s.three.now
     (sym c.node.ensures.value ∙ ap option_copied s.is-0) (sym c.node-2.ensures.value ∙ ap option_copied s.is-1) (sym c.node-3.ensures.value ∙ ap option_copied s.is-2)
 

@@ -1,9 +1,10 @@
-use Rattle.std.proofs.Common.{◌≡◌, ◌+◌, ◌++◌, [], ◌∷◌, Err, ap, sym, ◌∙◌, take, take_all}
-use Rattle.std.proofs.lemmas.List.{take_more}
-use Rattle.cg_types.specs.declared.fault.Fault.TheVariants as faults
-use Rattle.cg_world.specs.Acting.{showing, showing_all}
-use Rattle.cg_world.specs.World.{new_world, act, run_from}
-use Rattle.cg_world.proofs.ActingLemmas.{acted, consistent_after, run_push, showing_push}
+use Rattle.std.proofs.Common.{◌≡◌, ◌+◌, List, Result, drop, sym, subst, ◌∙◌, arith, true, false}
+use Rattle.std.proofs.lemmas.List.{drop_all}
+use Rattle.cg_types.specs.declared.fault.Fault.{Fault}
+use Rattle.cg_world.specs.declared.world.Shown.{Shown}
+use Rattle.cg_world.specs.Acting.{found_no_memory, Ran}
+use Rattle.cg_world.specs.World.{new_world}
+use Rattle.cg_world.proofs.ActingLemmas.{RunsOn, runs_next, runs_out, runs_end, split_at, consistent_ran}
 use Rattle.cg_world.proofs.world.World.run.Goals as goal
 
 pub loop-action-preserved : goal.loop-action-preserved
@@ -12,17 +13,32 @@ loop-action-preserved c =
     let at = c.loop-action.action-index in
     let actions = c.args.actions.now in
     let action = c.action-item.result in
-    let w = c.loop-action.world in
-    let other : c.act-result.result ≡ Err faults.OutOfMemory → ⊥ = λ e. let short = c.is_short.ensures.1 e in cc in
-    let is = acted w c.act-result.new.self action c.act-result.result other c.act-result.ensures.shown c.act-result.ensures.done c.act-result.ensures.err in
-    let more : take (at + 1) actions ≡ take at actions ++ action ∷ [] = take_more actions at action c.loop-action-test.true ∙ ap (λ a. take at actions ++ a ∷ []) (sym c.action-item.is) in (
-      is.world ∙ ap (λ v. act v action) c.loop-action.invariant.0 ∙ sym (run_push begin (take at actions) action) ∙ ap (run_from begin) (sym more),
-      c.in_ok-push.ensures.items ∙ (λ i. c.loop-action.invariant.1 i ++ is.shows i ∷ []) ∙ ap (λ v. showing_all begin (take at actions) ++ showing v action ∷ []) c.loop-action.invariant.0
-          ∙ sym (showing_push begin (take at actions) action) ∙ ap (showing_all begin) (sym more),
+    let next = c.act-answer.new.self in
+    let found : found_no_memory c.act-answer.result ≡ false = sym c.is_short-ends.ensures ∙ c.if-ends.false in
+    let runs = runs_next begin c.loop-action.world next actions (drop at actions) (drop (at + 1) actions) action c.loop-action.answers.items c.act-answer.result c.loop-action.invariant.0
+    (split_at actions at action c.loop-action-test.true c.action-item.is) c.act-answer.ensures.shown found c.act-answer.ensures.done c.act-answer.ensures.err in (
+      subst (λ (items : List (Result Shown Fault)). RunsOn begin actions next (drop (at + 1) actions) items) (sym c.in-Ok.ensures.items) runs,
+      omega (arith, c.in-Ok.ensures.len, c.loop-action.invariant.1),
+      omega (arith, c.in-Ok.ensures.capacity, c.loop-action.invariant.2),
     )
 
-pub returns-clause-consistent : goal.returns-clause-consistent
-returns-clause-consistent c =
+pub returns-then-ends-clause-consistent : goal.returns-then-ends-clause-consistent
+returns-then-ends-clause-consistent c =
+    let begin = new_world c.args.settings in
+    let at = c.loop-action.action-index in
     let actions = c.args.actions.now in
-    let all : take c.loop-action.action-index actions ≡ actions = take_all c.loop-action.action-index actions c.loop-action-test.false in
-    consistent_after c.args.settings actions c.loop-action.world (c.loop-action.invariant.0 ∙ ap (run_from (new_world c.args.settings)) all)
+    let action = c.action-item.result in
+    let next = c.act-answer.new.self in
+    let short : found_no_memory c.act-answer.result ≡ true = sym c.is_short-ends.ensures ∙ c.if-ends.true in
+    let ran = runs_out begin c.loop-action.world next actions (drop at actions) (drop (at + 1) actions) action c.loop-action.answers.items c.act-answer.result c.loop-action.invariant.0
+    (split_at actions at action c.loop-action-test.true c.action-item.is) c.act-answer.ensures.shown short c.act-answer.ensures.err in
+    consistent_ran c.args.settings actions c.push.new.self.items next (subst (λ (items : List (Result Shown Fault)). Ran begin actions items next) (sym c.in-Ok.ensures.items) ran)
+
+pub returns-clause-ran : goal.returns-clause-ran
+returns-clause-ran c =
+    let at = c.loop-action.action-index in
+    let actions = c.args.actions.now in
+    runs_end (new_world c.args.settings) c.loop-action.world actions (drop at actions) c.loop-action.answers.items c.loop-action.invariant.0 (drop_all at actions c.loop-action-test.false)
+
+pub returns-clause-consistent : goal.returns-clause-consistent
+returns-clause-consistent c = consistent_ran c.args.settings c.args.actions.now c.loop-action.answers.items c.loop-action.world (returns-clause-ran c)

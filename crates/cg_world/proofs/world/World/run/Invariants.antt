@@ -1,9 +1,14 @@
-use Rattle.std.proofs.Common.{◌≡◌, take}
-use Rattle.cg_world.specs.Acting.{showing_all}
-use Rattle.cg_world.specs.World.{new_world, run_from}
+use Rattle.std.proofs.Common.{◌≡◌, ◌≤◌, ◌++◌, List, Result, drop, length, vec_len, vec_capacity}
+use Rattle.cg_types.specs.declared.fault.Fault.{Fault}
+use Rattle.cg_world.specs.declared.world.Shown.{Shown}
+use Rattle.cg_world.specs.Acting.{Ran}
+use Rattle.cg_world.specs.World.{WorldValue, new_world}
 use Rattle.cg_world.proofs.world.World.run.Given as goal
 
+-- What the rest of the actions answer, all of them answer, behind the answers so far, for which there is room.
 abbrev pub invariant-loop-action : goal.invariant-loop-action
 invariant-loop-action l =
-    (l.world ≡ run_from (new_world l.fn.settings) (take l.action-index l.actions))
-    × (l.shown.items ≡ showing_all (new_world l.fn.settings) (take l.action-index l.actions))
+    ((answers : List (Result Shown Fault)) (d : WorldValue) → Ran l.world (drop l.action-index l.actions) answers d
+    → Ran (new_world l.fn.settings) l.actions (l.answers.items ++ answers) d)
+    × (vec_len l.answers ≡ l.action-index)
+    × (length l.actions ≤ vec_capacity l.answers)

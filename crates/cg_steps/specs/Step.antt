@@ -1,0 +1,108 @@
+-- One step of a node, by places.
+use Rattle.std.specs.Prelude.{◌≡◌, ⊤, ℕ, true, List, [], ◌∷◌, ◌++◌, Option, Some, None, Ok}
+use Rattle.cg_types.specs.Text.{ClusterValue}
+use Rattle.cg_entry.specs.Values.{EntryValue}
+use Rattle.cg_entry.specs.History.{at_place}
+use Rattle.cg_exchange.specs.declared.message.Message.{Message}
+use Rattle.cg_exchange.specs.declared.message.Message.TheVariants as message
+use Rattle.cg_exchange.specs.PlaceMessages.{PlaceMessage}
+use Rattle.cg_exchange.specs.Laws.{Says}
+use Rattle.cg_core.specs.declared.event.Event.{Event}
+use Rattle.cg_core.specs.declared.event.Event.TheVariants as event
+use Rattle.cg_core.specs.declared.reply.Reply.{Reply}
+use Rattle.cg_core.specs.declared.reply.Reply.TheVariants as reply
+use Rattle.cg_core.specs.Values.{NodeValue}
+use Rattle.cg_core.specs.Step.{node_step}
+use Rattle.cg_places.specs.PlaceWorld.{PlaceWorld, PlaceAction, Beat, Set, Opening, Tick, Deliver, runs, after_action}
+use Rattle.cg_places.specs.Laws.{IsWorld}
+use Rattle.cg_places.specs.Spelling.{SpellsNode, IsChangedAt}
+
+-- the message that an event hands over, if it hands one over
+abbrev pub message_in : Event → Option Message
+message_in event.Beat = None
+message_in (event.Set key text) = None
+message_in (event.Tick now words) = None
+message_in event.Opening = None
+message_in (event.Syn syn) = Some (message.Syn syn)
+message_in (event.Ack now ack) = Some (message.Ack ack)
+message_in (event.Ack2 now ack2) = Some (message.Ack2 ack2)
+
+-- the message that a reply sends, if it sends one
+abbrev pub message_of : Reply → Option Message
+message_of (reply.Done version) = None
+message_of (reply.Round peers syn) = Some (message.Syn syn)
+message_of (reply.Sent m) = Some m
+message_of (reply.Both outcomes ack2) = Some (message.Ack2 ack2)
+message_of (reply.Took outcomes) = None
+
+-- the action by places that an event of a node is; a message handed over is the one of this number
+abbrev pub action_at : ℕ → ℕ → Event → PlaceAction
+action_at node number event.Beat = Beat node
+action_at node number (event.Set key text) = Set node key text
+action_at node number (event.Tick now words) = Tick node
+action_at node number event.Opening = Opening node
+action_at node number (event.Syn syn) = Deliver number node
+action_at node number (event.Ack now ack) = Deliver number node
+action_at node number (event.Ack2 now ack2) = Deliver number node
+
+-- ---- what a step needs
+
+-- The node runs, and its table spells its places.
+pub record IsPlaced (w : PlaceWorld) (node : ℕ) (n : NodeValue) : Type 0 where
+  pub runs_here : runs w node ≡ true
+  pub own : n.table.own ≡ node
+  pub spells : SpellsNode w node n.table.entries
+
+-- The message says the one that was sent under this number.
+pub record SaysSent (w : PlaceWorld) (number : ℕ) (m : Message) : Type 0 where
+  pub said : PlaceMessage
+  pub is_said : at_place w.sent number ≡ Some said
+  pub says : Says w.histories m said
+
+-- So it is with a message that is handed over, if one is.
+abbrev pub IsSentBefore : PlaceWorld → ℕ → Option Message → Type 0
+IsSentBefore w number None = ⊤
+IsSentBefore w number (Some m) = SaysSent w number m
+
+-- ---- what a step leaves
+
+-- A SYN names this cluster.
+abbrev pub NamesCluster : ClusterValue → Message → Type 0
+NamesCluster cluster (message.Syn syn) = syn.cluster ≡ cluster
+NamesCluster cluster (message.Ack ack) = ⊤
+NamesCluster cluster (message.Ack2 ack2) = ⊤
+
+-- The message says this one of the histories, and names the cluster.
+pub record IsSent (cluster : ClusterValue) (histories : ℕ → List EntryValue) (m : Message) (said : PlaceMessage) : Type 0 where
+  pub says : Says histories m said
+  pub names : NamesCluster cluster m
+
+-- One more message was sent, which this one says.
+pub record SendsOne (cluster : ClusterValue) (w v : PlaceWorld) (m : Message) : Type 0 where
+  pub said : PlaceMessage
+  pub added : v.sent ≡ w.sent ++ said ∷ []
+  pub is_sent : IsSent cluster v.histories m said
+
+-- It was, where a message is sent, and else none was.
+abbrev pub Sends : ClusterValue → PlaceWorld → PlaceWorld → Option Message → Type 0
+Sends cluster w v None = v.sent ≡ w.sent
+Sends cluster w v (Some m) = SendsOne cluster w v m
+
+-- The step of a node n, which gives the node and the reply x, is what one of its actions does by places.
+pub record IsStepAt (w v : PlaceWorld) (node : ℕ) (n : NodeValue) (x : NodeValue × Reply) : Type 0 where
+  pub settings : x.0.settings ≡ n.settings
+  pub own : x.0.table.own ≡ n.table.own
+  -- the table spells the places after the action, which changes those of no other node
+  pub changed : IsChangedAt w v node x.0.table.entries
+  -- the message that is sent says the one by places
+  pub sends : Sends n.settings.cluster w v (message_of x.1)
+  -- nobody started
+  pub owners : v.owners ≡ w.owners
+
+-- Each step of a node whose table spells its places, and that is handed a message that was sent, if it is handed one, is
+-- the step by places, whatever its settings and however many endpoints there are.
+abbrev pub StepsAreByPlaces : Type 0
+StepsAreByPlaces =
+    (w : PlaceWorld) (node number : ℕ) (n : NodeValue) (e : Event) (x : NodeValue × Reply)
+    → IsWorld w → IsPlaced w node n → IsSentBefore w number (message_in e) → node_step n e ≡ Ok x
+    → IsStepAt w (after_action w (action_at node number e)) node n x

@@ -1,0 +1,104 @@
+-- The headline: what is true of the nodes of a cluster after any list of starts, local changes, openings, ticks and
+-- deliveries, whatever messages are lost, repeated and reordered. A refused action changes nothing.
+use Rattle.std.specs.Prelude.{ℕ, ◌≡◌, ◌<◌, ◌≤◌, ◌⊎◌, ◌↔◌, ◌==◌, ◌&&◌, ◌++◌, is_ok, List, [], ◌∷◌, All}
+use Rattle.std.specs.Prelude.{Option, Some, None, if◌then◌else◌}
+use Rattle.std.specs.List.{Contains}
+use Rattle.std.specs.FinMap as map
+use Rattle.cg_entry.specs.Values.{EntryValue, DeltaValue}
+use Rattle.cg_entry.specs.Entry.{newest, greatest}
+use Rattle.cg_table.specs.declared.took.Took.TheVariants.{Gap}
+use Rattle.cg_table.specs.Own.{own_entry}
+use Rattle.cg_table.specs.Table.{digests_of}
+use Rattle.cg_exchange.specs.declared.outcome.Outcome.{Outcome}
+use Rattle.cg_exchange.specs.declared.owner_delta.OwnerDelta.{OwnerDelta}
+use Rattle.cg_exchange.specs.Spelling.{delta_about, outcome_about}
+use Rattle.cg_core.specs.Values.{SettingsValue, NodeValue}
+use Rattle.cg_places.specs.TableLaws.{AreEqual}
+use Rattle.cg_world.specs.World.{Action, Start, Local, Deliver, WorldValue, new_world, acting, act, run, reply_to}
+use Rattle.cg_world.specs.WorldLaws.{Runs, WasOwn}
+use Rattle.cg_world.specs.SingleActions.{outcomes_shown}
+use Rattle.cg_world.specs.Taken.{deltas_sent, is_gap}
+
+-- how far an owner has come: its generation, and the newest version in it
+abbrev pub Mark : Type 0
+Mark = ℕ × ℕ
+
+abbrev pub mark_of : EntryValue → Mark
+mark_of e = (e.generation, newest e)
+
+-- the mark of the entry that a delta leads to
+abbrev pub mark_led_to : DeltaValue → Mark
+mark_led_to d = (d.generation, greatest d.heartbeat d.states)
+
+-- The first mark is the second, or before it.
+abbrev pub IsWithin : Mark → Mark → Type 0
+IsWithin m n = (m.0 < n.0) ⊎ ((m.0 ≡ n.0) × (m.1 ≤ n.1))
+
+-- The entry held has the greatest of the marks; where there are none, nothing is held.
+abbrev pub HasGreatest : Option EntryValue → List Mark → Type 0
+HasGreatest None marks = marks ≡ []
+HasGreatest (Some e) marks = Contains marks (mark_of e) × All (λ m. IsWithin m (mark_of e)) marks
+
+-- ---- what a node took of an owner since its start
+
+-- with the delta about the owner that is handed to it, unless its outcome is a gap
+abbrev pub with_delta : List Mark → Option Outcome → Option OwnerDelta → List Mark
+with_delta marks (Some outcome) (Some d) = if is_gap outcome.took then marks else marks ++ mark_led_to d.delta ∷ []
+with_delta marks outcome d = marks
+
+-- with what one action brings: a start that is done forgets all
+abbrev pub with_action : WorldValue → ℕ → ℕ → List Mark → Action → List Mark
+with_action c node owner marks (Start other generation) =
+    if other == node && is_ok (acting c (Start other generation)) then [] else marks
+with_action c node owner marks (Local other change) = marks
+with_action c node owner marks (Deliver number to now) =
+    if to == node then with_delta marks (outcome_about owner (outcomes_shown (reply_to c (Deliver number to now))))
+    (delta_about owner (deltas_sent c number))
+    else marks
+
+abbrev pub took_from : WorldValue → ℕ → ℕ → List Mark → List Action → List Mark
+took_from c node owner marks [] = marks
+took_from c node owner marks (action ∷ actions) =
+    took_from (act c action) node owner (with_action c node owner marks action) actions
+
+-- ---- after a list of actions
+
+module _ (settings : SettingsValue) (actions : List Action) where
+  -- what a node has of an owner: its own entry's mark, if it is the owner, and those that it took since its start
+  abbrev pub marks_of : ℕ → NodeValue → ℕ → List Mark
+  marks_of node n owner =
+      if owner == node then mark_of (own_entry n.table) ∷ took_from (new_world settings) node owner [] actions
+      else took_from (new_world settings) node owner [] actions
+
+  -- After some of the first actions this was the owner's own entry.
+  abbrev pub Was : ℕ → EntryValue → Type 0
+  Was owner entry = WasOwn (new_world settings) actions owner entry
+
+  -- Such an entry has this mark.
+  abbrev pub IsMarked : ℕ → Mark → Type 0
+  IsMarked owner mark = (entry : EntryValue) × Was owner entry × (mark_of entry ≡ mark)
+
+  -- nodes with the same of every owner
+  abbrev pub SameMarks : ℕ → NodeValue → ℕ → NodeValue → Type 0
+  SameMarks a one b other = (owner : ℕ) (mark : Mark) → Contains (marks_of a one owner) mark ↔ Contains (marks_of b other owner) mark
+
+  pub record Headline (c : WorldValue) : Type 0 where
+    -- each table is the join of the node's own entry and the deltas that it took: it holds the furthest of each owner
+    pub joined : (node : ℕ) (n : NodeValue) → Runs c node n
+        → (owner : ℕ) → HasGreatest (map.get n.table.entries owner) (marks_of node n owner)
+    -- each entry in it was its owner's own, whole, at one past time
+    pub whole : (node : ℕ) (n : NodeValue) → Runs c node n
+        → (owner : ℕ) (entry : EntryValue) → map.get n.table.entries owner ≡ Some entry → Was owner entry
+    -- so was the entry that each delta led to, and a mark names one entry of its owner
+    pub marked : (node : ℕ) (n : NodeValue) → Runs c node n → (owner : ℕ) → All (IsMarked owner) (marks_of node n owner)
+    pub named : (owner : ℕ) (x y : EntryValue) → Was owner x → Was owner y → mark_of x ≡ mark_of y → x ≡ y
+    -- so nodes that took the same have equal tables and rings
+    pub equal_sets : (a b : ℕ) (one other : NodeValue) → Runs c a one → Runs c b other
+        → SameMarks a one b other → AreEqual one.table.entries other.table.entries
+    -- and so have nodes with equal digests
+    pub equal_digests : (a b : ℕ) (one other : NodeValue) → Runs c a one → Runs c b other
+        → digests_of one.table.entries ≡ digests_of other.table.entries → AreEqual one.table.entries other.table.entries
+
+-- After every list of actions the headline holds.
+abbrev pub HeadlineHolds : Type 0
+HeadlineHolds = (settings : SettingsValue) (actions : List Action) → Headline settings actions (run settings actions)
