@@ -1,5 +1,5 @@
 //! Laws of every list of actions: what holds of the nodes as they run. Each is the contract of an empty function, but for
-//! two calls on a world in hand, `merge_is_join` and `equal_digests`. Laws of the same actions by places stand in
+//! three calls on a world in hand, `merge_is_join`, `equal_digests` and `exchange_reaches_join`. Laws of the same actions by places stand in
 //! `cg_places`.
 
 ghost use Rattle.cg_world.specs.Exchange.{
@@ -33,8 +33,10 @@ ghost use Rattle.cg_world.specs.SingleActions.{
 ghost use Rattle.cg_world.specs.Taken.{OutcomesTellWhatIsTaken};
 ghost use Rattle.cg_world.specs.WorkedRuns.{WorkedRuns};
 
+mod exchanges;
 mod worlds;
 
+pub use exchanges::exchange_reaches_join;
 pub use worlds::{equal_digests, merge_is_join};
 
 // ---- the headline
