@@ -1,10 +1,8 @@
 -- What each message holds: numbers in their ranges, plain and short texts, and lists that rise and are few.
-use Rattle.std.specs.Prelude.{ℕ}
 use Rattle.std.specs.List.{AllByRecursion}
-use Rattle.std.specs.FinMap as map
-use Rattle.cg_types.specs.Numbers.{IsEndpoint, IsGeneration, IsVersion, IsVersionHeld, IsKey}
-use Rattle.cg_types.specs.Text.{IsStateText, IsCluster}
-use Rattle.cg_entry.specs.Versioned.{Versioned}
+use Rattle.cg_types.specs.Numbers.{IsEndpoint, IsGeneration, IsVersion, IsVersionHeld}
+use Rattle.cg_types.specs.Text.{IsCluster}
+use Rattle.cg_entry.specs.Contents.{AreStates}
 use Rattle.cg_entry.specs.Entry.{IsDelta}
 use Rattle.cg_table.specs.declared.digest.Digest.{Digest}
 use Rattle.cg_exchange.specs.declared.owner_delta.OwnerDelta.{OwnerDelta}
@@ -21,19 +19,13 @@ pub record IsRequest (r : RequestValue) : Type 0 where
   pub generation : IsGeneration r.generation
   pub version : IsVersionHeld r.version
 
--- a state with its key
-pub record IsState (s : ℕ × Versioned) : Type 0 where
-  pub key : IsKey s.0
-  pub version : IsVersion s.1.version
-  pub text : IsStateText s.1.text
-
 -- Each state of the delta is newer than what the delta stands above, and something is.
 pub record IsOwnerDelta (d : OwnerDelta) : Type 0 where
   pub endpoint : IsEndpoint d.endpoint
   pub generation : IsGeneration d.delta.generation
   pub above : IsVersionHeld d.delta.above
   pub heartbeat : IsVersion d.delta.heartbeat
-  pub states : AllByRecursion IsState (map.entries d.delta.states)
+  pub states : AreStates d.delta.states
   pub carries : IsDelta d.delta.above d.delta.heartbeat d.delta.states
 
 pub record IsSyn (m : SynValue) : Type 0 where

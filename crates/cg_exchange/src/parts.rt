@@ -5,7 +5,6 @@ ghost use Rattle.std.specs.List.{AllByRecursion};
 
 use crate::owner_delta::OwnerDelta;
 use crate::request::Request;
-use cg_entry::State;
 use cg_table::Digest;
 
 /// A part of a message.
@@ -41,19 +40,6 @@ impl Part for Request {
     }
 }
 
-impl Part for State {
-    ghost use Rattle.cg_entry.specs.State.{pair};
-    ghost use Rattle.cg_exchange.specs.Contents.{IsState};
-
-    ghost IsValid = { λ s. IsState (pair s) };
-
-    fn show(&self) {
-        let _key = self.key.get();
-        let _version = self.version.get();
-        let _text = self.text.as_str();
-    }
-}
-
 impl Part for OwnerDelta {
     ghost use Rattle.cg_exchange.specs.Contents.{IsOwnerDelta};
 
@@ -61,10 +47,7 @@ impl Part for OwnerDelta {
 
     fn show(&self) {
         let _port = self.endpoint.port();
-        let _generation = self.delta.generation().get();
-        let _above = self.delta.above();
-        let _heartbeat = self.delta.heartbeat().get();
-        show_all(self.delta.states());
+        let _states = self.delta.states();
     }
 }
 

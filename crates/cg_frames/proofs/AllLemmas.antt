@@ -16,9 +16,10 @@ use Rattle.cg_exchange.specs.declared.owner_delta.OwnerDelta.{OwnerDelta}
 use Rattle.cg_exchange.specs.declared.message.Message.{Message}
 use Rattle.cg_exchange.specs.declared.message.Message.TheVariants.{Syn, Ack, Ack2}
 use Rattle.cg_exchange.specs.Members.{AreListed, endpoints_of_digests, endpoints_of_requests, endpoints_of_deltas}
-use Rattle.cg_exchange.specs.Contents.{IsState, IsOwnerDelta}
+use Rattle.cg_entry.specs.Contents.{IsState}
+use Rattle.cg_exchange.specs.Contents.{IsOwnerDelta}
 use Rattle.cg_exchange.specs.Messages.{IsMessage}
-pub use Rattle.cg_exchange.proofs.PartLemmas.{all_pairs}
+pub use Rattle.cg_entry.proofs.ContentLemmas.{all_pairs}
 use Rattle.cg_frames.specs.declared.layout.Layout.{Layout}
 use Rattle.cg_frames.specs.Layouts.{IsWritten}
 use Rattle.cg_frames.specs.Fits.{FitsState, FitsDelta, FitsMembers, Fits}
