@@ -59,7 +59,7 @@ fn each_write_fails_in_turn(rt: HostRuntime) {
 }
 
 // A node's line, and the digits of a SYN with so many digests, of endpoints 10.0.1.0:7000 and on.
-fn long_input(alloc: Global, count: usize) -> Result<String, Fail> {
+fn long_input(alloc: Global, count: u16) -> Result<String, Fail> {
     let mut text = format!(in alloc;
         "10.0.0.2:7000 5 c1\n{:08x}010102633101{:04x}",
         count * 14 + 8,
@@ -74,8 +74,8 @@ fn long_input(alloc: Global, count: usize) -> Result<String, Fail> {
 }
 
 // The digits of the ACK: a request of each, from 0, and the node's own entry.
-fn long_answer(alloc: Global, count: usize) -> Result<String, Fail> {
-    let mut text = format!(in alloc; "{:08x}0102{:04x}", count * 14 + 25, count)?;
+fn long_answer(alloc: Global, count: u16) -> Result<String, Fail> {
+    let mut text = format!(in alloc; "{:08x}0102{:04x}", u32::from(count) * 14 + 25, count)?;
     for i in 0..count {
         let request = format!(in alloc; "0a0001{:02x}1b580000000900000000", i)?;
         text.push_str(request.as_str())?;
@@ -85,7 +85,7 @@ fn long_answer(alloc: Global, count: usize) -> Result<String, Fail> {
 }
 
 // Whether an input of so many digests is answered, the status, and the reads that it took.
-fn answers_long(alloc: Global, count: usize) -> Result<(bool, u8, u64), Fail> {
+fn answers_long(alloc: Global, count: u16) -> Result<(bool, u8, u64), Fail> {
     let input = long_input(alloc, count)?;
     let mut reader = Counted::new(CountingLink::new(input.as_bytes()));
     let mut writer = Counted::new(Vec::new(alloc));

@@ -1,0 +1,90 @@
+-- What is read of one message.
+use Rattle.std.specs.Prelude.{◌≡◌, ℕ, ◌<◌, ◌⊎◌, List, [], ◌++◌, length, Option, None, Result, Ok, Err, IsErr, MatchResult, MatchOption}
+use Rattle.std.specs.Io.KnownBytes.{Consumes, IsAtEnd}
+use Rattle.cg_types.specs.declared.fault.Fault.{Fault}
+use Rattle.cg_types.specs.declared.fault.Fault.TheVariants as fault
+use Rattle.cg_exchange.specs.declared.message.Message.{Message}
+use Rattle.cg_frames.specs.declared.layout.Layout.{Layout}
+use Rattle.cg_frames.specs.declared.layout.TheConstants.{LAYOUTS}
+use Rattle.cg_frames.specs.Choosing.{frame_among}
+use Rattle.cg_frames.specs.Faults.{IsBadFrame}
+use Rattle.cg_frames.specs.Feeding.{Standing, IsSpellable}
+use Rattle.cg_frames.specs.Spelling.{frame}
+use Rattle.cg_links.specs.declared.counted.Counted.{Counted}
+use Rattle.cg_links.specs.Counted.{KeepsCounts, CountsFailed}
+
+-- The message is spelled by these bytes, in one of the layouts that frames are read in.
+pub record IsSpelledBy (bytes : List ℕ) (m : Message) : Type 0 where
+  pub layout : Layout
+  pub allowed : IsSpellable LAYOUTS (layout, m)
+  pub spelled : bytes ≡ frame layout m
+
+-- the bytes that a feed holds
+abbrev pub held_of : Standing → List ℕ
+held_of (Ok held) = held
+held_of (Err f) = []
+
+-- More is needed: no whole message and no fault stands at the front.
+abbrev pub NeedsMore : List ℕ → Type 0
+NeedsMore bytes = frame_among LAYOUTS bytes ≡ Ok None
+
+-- ---- how reading a message ends, by what is left of the reader before and after, and its counts
+
+module _ {L : Type 0} (before after : Option (List ℕ)) (old new : Counted L) where
+  -- the message was read, and no byte behind it
+  pub record ReceivesMessage (m : Message) : Type 0 where
+    pub bytes : List ℕ
+    pub spelled : IsSpelledBy bytes m
+    pub read : Consumes before after bytes
+    pub kept : KeepsCounts old new
+
+  -- the input ends where a message would begin
+  pub record MeetsEnd : Type 0 where
+    pub read : Consumes before after []
+    pub end : IsAtEnd after
+    pub kept : KeepsCounts old new
+
+  -- Memory ran out for a piece of a message behind what was held, and no read failed. A fault that begins with the
+  -- piece itself is never hidden by that.
+  pub record LacksMemory (f : Fault) : Type 0 where
+    pub fault : f ≡ fault.OutOfMemory
+    pub held : List ℕ
+    pub piece : List ℕ
+    pub read : Consumes before after (held ++ piece)
+    pub partial : NeedsMore held
+    pub unhidden : held ≡ [] → IsErr (frame_among LAYOUTS piece) → ⊥
+    pub kept : KeepsCounts old new
+
+  -- a read failed, before a message was whole
+  pub record ReadFails (f : Fault) : Type 0 where
+    pub fault : f ≡ fault.ReadFault
+    pub bytes : List ℕ
+    pub read : Consumes before after bytes
+    pub partial : NeedsMore bytes
+    pub caused : CountsFailed old new
+
+  -- the input ends inside a message
+  pub record EndsInside (f : Fault) : Type 0 where
+    pub fault : f ≡ fault.Truncated
+    pub bytes : List ℕ
+    pub read : Consumes before after bytes
+    pub some : 0 < length bytes
+    pub partial : NeedsMore bytes
+    pub end : IsAtEnd after
+    pub kept : KeepsCounts old new
+
+  -- the bytes begin with a fault
+  pub record BeginsBadly (f : Fault) : Type 0 where
+    pub bytes : List ℕ
+    pub read : Consumes before after bytes
+    pub bad : IsBadFrame f
+    pub found : frame_among LAYOUTS bytes ≡ Err f
+    pub kept : KeepsCounts old new
+
+  -- why no message was read
+  abbrev pub FailsToReceive : Fault → Type 0
+  FailsToReceive f = LacksMemory f ⊎ (ReadFails f ⊎ (EndsInside f ⊎ BeginsBadly f))
+
+  -- what reading a message came to
+  abbrev pub Receives : Result (Option Message) Fault → Type 0
+  Receives result = MatchResult result (λ o. MatchOption o MeetsEnd ReceivesMessage) FailsToReceive

@@ -1,0 +1,44 @@
+//! The kind of message that is due.
+
+ghost use Rattle.std.specs.Prelude.{◌≡◌};
+ghost use Rattle.cg_wire.specs.Due as spec;
+
+use cg_exchange::{Ack, Ack2, Message, Syn};
+use cg_types::{Cause, Fault};
+
+/// The fault of a message of another kind than the one that is due: the place is that of the kind, behind the length
+/// and the layout.
+pub const UNEXPECTED: Fault = Fault::BadFrame {
+    place: 5,
+    cause: Cause::Unexpected,
+};
+
+/// The SYN, where one is due; `UNEXPECTED` of another message.
+pub fn syn_due(message: Message) -> Result<Syn, Fault>
+    ensures { result ≡ spec.syn_due message }
+{
+    match message {
+        Message::Syn(syn) => Ok(syn),
+        Message::Ack(_) | Message::Ack2(_) => Err(UNEXPECTED),
+    }
+}
+
+/// The ACK, where one is due; `UNEXPECTED` of another message.
+pub fn ack_due(message: Message) -> Result<Ack, Fault>
+    ensures { result ≡ spec.ack_due message }
+{
+    match message {
+        Message::Ack(ack) => Ok(ack),
+        Message::Syn(_) | Message::Ack2(_) => Err(UNEXPECTED),
+    }
+}
+
+/// The ACK2, where one is due; `UNEXPECTED` of another message.
+pub fn ack2_due(message: Message) -> Result<Ack2, Fault>
+    ensures { result ≡ spec.ack2_due message }
+{
+    match message {
+        Message::Ack2(ack2) => Ok(ack2),
+        Message::Syn(_) | Message::Ack(_) => Err(UNEXPECTED),
+    }
+}

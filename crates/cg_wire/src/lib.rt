@@ -1,0 +1,10 @@
+//! One message read from a link, or written to one.
+#![tactic(auto)]
+
+mod due;
+mod receiving;
+mod sending;
+
+pub use due::{UNEXPECTED, ack_due, ack2_due, syn_due};
+pub use receiving::{MOST_TURNS, PIECE_LIMIT, receive};
+pub use sending::send;

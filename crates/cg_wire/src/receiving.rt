@@ -1,0 +1,77 @@
+//! One message from a link.
+
+ghost use Rattle.std.specs.Prelude.{◌≡◌, ◌⊎◌, ◌≤◌, [], ◌++◌, length, Ok, Err, None, IsOk, IsErr, IfOk, IfErr, IfNone, IfSome};
+ghost use Rattle.cg_types.specs.declared.fault.Fault.TheVariants as faults;
+ghost use Rattle.cg_frames.specs.declared.layout.TheConstants.{LAYOUTS};
+ghost use Rattle.cg_frames.specs.Choosing.{frame_among};
+ghost use Rattle.cg_frames.specs.Faults.{IsBadFrame};
+ghost use Rattle.cg_frames.specs.Feeding.{wanted};
+ghost use Rattle.cg_links.specs.Counted.{link_of};
+ghost use Rattle.cg_wire.specs.Received.{IsSpelledBy, NeedsMore, Receives, held_of};
+
+use cg_exchange::Message;
+use cg_frames::{Feed, LAYOUT_1};
+use cg_links::Counted;
+use cg_types::Fault;
+use std::alloc::Global;
+use std::io::Read;
+
+/// The most bytes that one read asks for.
+pub const PIECE_LIMIT: usize = 4096;
+
+/// How many reads are made at most for one message. Each but the last gives a byte or more, so that the longest frame
+/// is whole before as many were made.
+pub const MOST_TURNS: usize = LAYOUT_1.length + 10;
+
+// Takes a piece that passes neither the present length nor the present frame: the message that is whole with it, or
+// nothing.
+fn take_piece(feed: &mut Feed, piece: &[u8]) -> Result<Option<Message>, Fault>
+    requires sound { IsOk feed.old }
+    requires fits { length piece.now ≤ wanted feed.old }
+    ensures more { IfOk result (λ o. IfNone o ((feed.new ≡ Ok (held_of feed.old ++ piece.now))
+        × NeedsMore (held_of feed.old ++ piece.now))) }
+    ensures whole { IfOk result (λ o. IfSome o (IsSpelledBy (held_of feed.old ++ piece.now))) }
+    ensures err { IfErr result (λ f.
+        ((f ≡ faults.OutOfMemory) × (held_of feed.old ≡ [] → IsErr (frame_among LAYOUTS piece.now) → ⊥))
+        ⊎ (IsBadFrame f × (frame_among LAYOUTS (held_of feed.old ++ piece.now) ≡ Err f))) }
+{
+    let mut fed = match feed.push(piece) {
+        Ok(fed) => fed,
+        Err(fault) => return Err(fault),
+    };
+    match fed.fault {
+        Some(fault) => Err(fault),
+        None => Ok(fed.messages.pop()),
+    }
+}
+
+/// Reads one message in whichever layout it comes, and no byte behind it; None where the input ends before it.
+///
+/// Each read asks for what the present length or frame lacks, and for 4,096 bytes at most. `BadFrame` where the bytes
+/// begin with that fault, `Truncated` where the input ends inside the message, `ReadFault` where a read failed, and
+/// `OutOfMemory`.
+pub fn receive<R: Read>(alloc: Global, reader: &mut Counted<R>) -> Result<Option<Message>, Fault>
+    ensures { Receives (R.remaining (link_of reader.old)) (R.remaining (link_of reader.new))
+        reader.old reader.new result }
+{
+    let mut feed = Feed::new(alloc);
+    let mut chunk = [0u8; PIECE_LIMIT];
+    for _ in 0..MOST_TURNS {
+        let room = feed.wants().min(PIECE_LIMIT);
+        match reader.read(&mut chunk[..room]) {
+            Ok(0) => {
+                return match feed.end() {
+                    Ok(()) => Ok(None),
+                    Err(cut) => Err(cut),
+                };
+            }
+            Ok(n) => match take_piece(&mut feed, &chunk[..n]) {
+                Ok(None) => {}
+                Ok(Some(message)) => return Ok(Some(message)),
+                Err(fault) => return Err(fault),
+            },
+            Err(_) => return Err(Fault::ReadFault),
+        }
+    }
+    Err(Fault::ReadFault)
+}

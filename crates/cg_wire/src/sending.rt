@@ -1,0 +1,47 @@
+//! One message to a link.
+
+ghost use Rattle.std.specs.Prelude.{◌≡◌};
+ghost use Rattle.cg_exchange.specs.Lent.{lent_message};
+ghost use Rattle.cg_frames.specs.declared.layout.TheConstants.{WRITTEN};
+ghost use Rattle.cg_frames.specs.Spelling.{frame};
+ghost use Rattle.cg_links.specs.Counted.{link_of};
+ghost use Rattle.cg_wire.specs.Sent.{Sends};
+
+use cg_exchange::Lent;
+use cg_frames::encode_lent;
+use cg_links::{Counted, write_bytes};
+use cg_types::Fault;
+use std::alloc::Global;
+use std::io::Write;
+
+// Writes all of the bytes, and flushes the writer.
+fn send_bytes<W: Write>(writer: &mut Counted<W>, bytes: &[u8]) -> Result<(), Fault>
+    ensures { Sends (W.contents (link_of writer.old)) (W.contents (link_of writer.new)) writer.old writer.new
+        bytes.now result }
+{
+    match write_bytes(writer, bytes) {
+        Ok(()) => match writer.flush() {
+            Ok(()) => Ok(()),
+            Err(_) => Err(Fault::WriteFault),
+        },
+        Err(fault) => Err(fault),
+    }
+}
+
+/// Writes the frame of a message, and flushes the writer.
+///
+/// `WriteFault` where the writer failed or took none of what was left: then a front of the frame was written.
+/// `OutOfMemory` where the frame finds no room, and then nothing was written.
+pub fn send<W: Write>(
+    alloc: Global,
+    writer: &mut Counted<W>,
+    message: Lent<'_>,
+) -> Result<(), Fault>
+    ensures { Sends (W.contents (link_of writer.old)) (W.contents (link_of writer.new)) writer.old writer.new
+        (frame WRITTEN (lent_message message.entry)) result }
+{
+    match encode_lent(alloc, message) {
+        Ok(bytes) => send_bytes(writer, &bytes),
+        Err(_) => Err(Fault::OutOfMemory),
+    }
+}
