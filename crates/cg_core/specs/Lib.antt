@@ -6,6 +6,7 @@ pub mod Windows
 pub mod Claims
 pub mod Round
 pub mod Step
+pub mod Sending
 pub mod Arrivals
 pub mod Parts
 pub mod Laws
