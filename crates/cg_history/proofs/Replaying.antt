@@ -1,0 +1,76 @@
+-- Where records lead, and what one event more does.
+use Rattle.std.proofs.Common.{◌≡◌, ◌≢◌, ℕ, Bool, true, false, cond, List, [], ◌∷◌, ◌++◌, length, refl, sym, ap, subst, Result, Ok, Err, eqb-true}
+use Rattle.std.specs.Prelude.{◌==◌}
+use Rattle.cg_types.specs.declared.fault.Fault.{Fault}
+use Rattle.cg_types.specs.declared.fault.Fault.TheVariants as faults
+use Rattle.cg_types.specs.Answer.{IsRefusal}
+use Rattle.cg_table.specs.Puts.{Put, puts}
+use Rattle.cg_core.specs.declared.event.Event.{Event}
+use Rattle.cg_core.specs.declared.reply.Reply.{Reply}
+use Rattle.cg_core.specs.Values.{SettingsValue, NodeValue}
+use Rattle.cg_core.specs.Step.{Step, node_step, then}
+use Rattle.cg_core.specs.Changes.{step_with_puts}
+use Rattle.cg_core.proofs.NodeLaws.{nodes_stay_small}
+use Rattle.cg_history.specs.declared.item.Item.{Item}
+use Rattle.cg_history.specs.declared.item.Receipt.{Receipt}
+use Rattle.cg_history.specs.Items.{record_of}
+use Rattle.cg_history.specs.History.{HistoryValue, Replays, IsReplayed, new_history, with_record, receipt_of, LAST_NUMBER, with_step, apply}
+
+-- one record more
+pub replays_more : (b : NodeValue) (rs : List Item) (n : NodeValue) (caller : ℕ) (e : Event) (x : NodeValue × Reply) → Replays b rs n → node_step n e ≡ Ok x → Replays b (rs ++ record_of caller e n x ∷ []) x.0
+replays_more b [] n caller e x is step = (x, rw is step, ap (λ (m : NodeValue). record_of caller e m x) (sym is), refl)
+replays_more b (r ∷ rs) n caller e x h step = (h.0, h.1, h.2, replays_more h.0.0 rs n caller e x h.3 step)
+
+-- a history of a node that starts
+pub replayed_new : (own generation : ℕ) (settings : SettingsValue) (h : HistoryValue) → h ≡ new_history own generation settings → IsReplayed h
+replayed_new own generation settings h is = subst IsReplayed (sym is) (record { small = nodes_stay_small.starts own generation settings; replays = refl })
+
+-- ---- what a step leads to
+
+same_ok : {A F : Type 0} (x y : A) → (let r : Result A F = Ok x in r) ≡ Ok y → x ≡ y
+same_ok x y e = cc
+
+module _ (h : HistoryValue) (caller : ℕ) (e : Event) where
+  -- the record of a step
+  abbrev pub item_of : Reply → List Put → Item
+  item_of answer ps = record { caller = caller; event = e; reply = answer; puts = ps }
+
+  with_step_by : (due : Step) (n : NodeValue) (answer : Reply) (ps : List Put) → then {B = NodeValue × Reply × List Put} due (λ x. (x.0, x.1, puts h.node.table x.0.table)) ≡ Ok (n, answer, ps)
+      → with_step h caller e due ≡ Ok (with_record h n (item_of answer ps), receipt_of h caller e answer)
+  with_step_by (Ok x) n answer ps is =
+      let same = same_ok {A = NodeValue × Reply × List Put} (x.0, x.1, puts h.node.table x.0.table) (n, answer, ps) is in
+      ap (λ (y : NodeValue × Reply × List Put). Ok (with_record h y.0 (item_of y.1 y.2), receipt_of h caller e y.1)) same
+  with_step_by (Err fault) n answer ps is = absurd cc
+
+  -- a step that is done has its record
+  pub with_step_ok : (n : NodeValue) (answer : Reply) (ps : List Put) → step_with_puts h.node e ≡ Ok (n, answer, ps)
+      → with_step h caller e (node_step h.node e) ≡ Ok (with_record h n (item_of answer ps), receipt_of h caller e answer)
+  with_step_ok n answer ps is = with_step_by (node_step h.node e) n answer ps is
+
+  refused_by : (fault : Fault) (due : Step) → IsRefusal fault (then {B = NodeValue × Reply × List Put} due (λ x. (x.0, x.1, puts h.node.table x.0.table))) → IsRefusal fault (with_step h caller e due)
+  refused_by faults.OutOfMemory (Ok x) is = refl
+  refused_by faults.OutOfMemory (Err fault) is = absurd cc
+  refused_by fault (Ok x) is = absurd cc
+  refused_by fault (Err other) is = cc
+
+  -- a step that is refused has none
+  pub with_step_err : (fault : Fault) → IsRefusal fault (step_with_puts h.node e) → IsRefusal fault (with_step h caller e (node_step h.node e))
+  with_step_err fault is = refused_by fault (node_step h.node e) is
+
+  replays_by : (due : Step) (n : NodeValue) (r : Item) (q : Receipt) → node_step h.node e ≡ due → Replays h.base h.records h.node → with_step h caller e due ≡ Ok (with_record h n r, q) → Replays h.base (h.records ++ r ∷ []) n
+  replays_by (Ok x) n r q step rest is =
+      let same = same_ok {A = HistoryValue × Receipt} (with_record h x.0 (record_of caller e h.node x), receipt_of h caller e x.1) (with_record h n r, q) is in
+      subst (λ (y : HistoryValue × Receipt). Replays h.base y.0.records y.0.node) same (replays_more h.base h.records h.node caller e x rest step)
+  replays_by (Err fault) n r q step rest is = absurd cc
+
+  -- the record of an event goes on from the others
+  pub replayed_step : (n : NodeValue) (r : Item) (q : Receipt) → IsReplayed h → with_step h caller e (node_step h.node e) ≡ Ok (with_record h n r, q) → IsReplayed (with_record h n r)
+  replayed_step n r q i is = record { small = i.small; replays = replays_by (node_step h.node e) n r q refl i.replays is }
+
+  -- the step with its record is due, unless numbers are spent
+  pub apply_unspent : length h.records ≢ LAST_NUMBER → apply h caller e ≡ with_step h caller e (node_step h.node e)
+  apply_unspent room = unspent (length h.records == LAST_NUMBER) refl
+    where
+      unspent : (b : Bool) → (length h.records == LAST_NUMBER) ≡ b → cond {A = Result (HistoryValue × Receipt) Fault} b (Err faults.VersionsSpent) (with_step h caller e (node_step h.node e)) ≡ with_step h caller e (node_step h.node e)
+      unspent true spent = absurd (room (eqb-true (length h.records) LAST_NUMBER spent))
+      unspent false left = refl

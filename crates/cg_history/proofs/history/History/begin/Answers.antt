@@ -1,0 +1,8 @@
+use Rattle.std.proofs.Common.{◌∙◌}
+use Rattle.cg_history.proofs.Replaying.{replayed_new}
+use Rattle.cg_history.proofs.history.History.begin.Goals as goal
+
+pub invariant_of-result : goal.invariant_of-result
+invariant_of-result c =
+    replayed_new c.args.own c.args.generation c.args.settings _
+    (λ k. record { base = (c.in_ok-copy.ensures ∙ c.in_ok-node.ensures) k; records = c.new.ensures.items k; node = c.in_ok-node.ensures k })

@@ -1,0 +1,67 @@
+-- A history: a node, and records that lead to it.
+use Rattle.std.specs.Prelude.{ℕ, ◌+◌, ◌^◌, ◌-◌, ◌==◌, ◌≡◌, List, [], ◌∷◌, ◌++◌, length, Result, Ok, Err, if◌then◌else◌, refl}
+use Rattle.std.specs.Coded.{Coded, code_by, coded×, coded_list}
+use Rattle.cg_types.specs.declared.fault.Fault.{Fault}
+use Rattle.cg_types.specs.declared.fault.Fault.TheVariants.{VersionsSpent}
+use Rattle.cg_core.specs.declared.event.Event.{Event}
+use Rattle.cg_core.specs.declared.reply.Reply.{Reply}
+use Rattle.cg_core.specs.Values.{SettingsValue, NodeValue, node_code}
+use Rattle.cg_core.specs.Step.{Step, node_step, begun}
+use Rattle.cg_core.specs.Laws.{IsSmall}
+use Rattle.cg_history.specs.declared.item.Item.{Item}
+use Rattle.cg_history.specs.declared.item.Receipt.{Receipt}
+use Rattle.cg_history.specs.Items.{item_code, record_of}
+
+-- where it began, the records since, and where they lead
+pub record HistoryValue : Type 0 where
+  pub base : NodeValue
+  pub records : List Item
+  pub node : NodeValue
+
+-- the code that a model of such a value asks for
+abbrev pub history_code : Coded HistoryValue
+history_code =
+    code_by (NodeValue × (List Item × NodeValue)) (coded× node_code (coded× (coded_list item_code) node_code))
+    (λ h. (h.base, (h.records, h.node)))
+    (λ p. record { base = p.0; records = p.1.0; node = p.1.1 })
+    (λ _. refl)
+
+-- The records lead from one node to another: each event by one step, with its reply and its puts.
+abbrev pub Replays : NodeValue → List Item → NodeValue → Type 0
+Replays b [] n = b ≡ n
+Replays b (r ∷ rs) n =
+    (x : NodeValue × Reply) × (node_step b r.event ≡ Ok x) × (r ≡ record_of r.caller r.event b x) × Replays x.0 rs n
+
+-- It began with a node as a member may be, and its records lead from there to its node.
+pub record IsReplayed (h : HistoryValue) : Type 0 where
+  pub small : IsSmall h.base
+  pub replays : Replays h.base h.records h.node
+
+-- the history of a node that starts
+abbrev pub new_history : ℕ → ℕ → SettingsValue → HistoryValue
+new_history own generation settings =
+    record { base = begun own generation settings; records = []; node = begun own generation settings }
+
+-- the history with one more record, which led to this node
+abbrev pub with_record : HistoryValue → NodeValue → Item → HistoryValue
+with_record h n r = record { base = h.base; records = h.records ++ r ∷ []; node = n }
+
+-- the receipt of the next record
+abbrev pub receipt_of : HistoryValue → ℕ → Event → Reply → Receipt
+receipt_of h caller e answer =
+    record { caller = caller; number = length h.records + 1; event = e; reply = answer }
+
+-- the number of the last record that there can be
+abbrev pub LAST_NUMBER : ℕ
+LAST_NUMBER = 2 ^ 64 - 1
+
+-- what a step leads to: the history with its record, and the receipt; or why the event is refused
+abbrev pub with_step : HistoryValue → ℕ → Event → Step → Result (HistoryValue × Receipt) Fault
+with_step h caller e (Ok x) = Ok (with_record h x.0 (record_of caller e h.node x), receipt_of h caller e x.1)
+with_step h caller e (Err fault) = Err fault
+
+-- what an event is due: one step of the node with its record; or VersionsSpent, where numbers are spent
+abbrev pub apply : HistoryValue → ℕ → Event → Result (HistoryValue × Receipt) Fault
+apply h caller e =
+    if length h.records == LAST_NUMBER then Err VersionsSpent
+    else with_step h caller e (node_step h.node e)

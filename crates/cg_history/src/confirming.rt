@@ -1,0 +1,69 @@
+//! Whether receipts are a history's own.
+
+ghost use Rattle.std.specs.Prelude.{◌↔◌, IsTrue, MatchResult};
+ghost use Rattle.cg_history.specs.Confirming.{IsOf, Stands, Follows, AreInOrder, AreConfirmed, IsFirstStray};
+
+use crate::history::History;
+use crate::item::{Item, Receipt, Stray};
+use cg_types::Fault;
+
+// Whether a receipt comes after the earlier ones of its caller, where each of those does: the nearest one tells.
+fn follows(before: &[Receipt], receipt: &Receipt) -> bool
+    requires { AreInOrder before.now }
+    ensures { IsTrue result ↔ Follows before.now receipt.now }
+{
+    let mut place = before.len();
+    while place > 0 {
+        place -= 1;
+        let earlier = &before[place];
+        if earlier.caller == receipt.caller {
+            return earlier.number < receipt.number;
+        }
+    }
+    true
+}
+
+// Whether a record is the one of a receipt.
+fn is_of(item: &Item, receipt: &Receipt) -> bool
+    ensures { IsTrue result ↔ IsOf item.now receipt.now }
+{
+    item.caller == receipt.caller && item.event == receipt.event && item.reply == receipt.reply
+}
+
+impl History {
+    // Whether the record of a receipt stands in the history.
+    fn has(&self, receipt: &Receipt) -> bool
+        ensures { IsTrue result ↔ Stands self.now.records receipt.now }
+    {
+        match receipt.number.checked_sub(1) {
+            None => false,
+            Some(place) => match self.records().get(place as usize) {
+                None => false,
+                Some(item) => is_of(item, receipt),
+            },
+        }
+    }
+
+    /// Says whether each receipt stands in the history at its number, with its caller, event and reply, and numbers
+    /// rise for each caller. If not, it answers the first receipt that does not, as `Stranger`. It takes no memory.
+    ///
+    /// Each receipt is compared with its record, and its number with that of the nearest earlier receipt of its
+    /// caller: that takes as many steps as there are receipts of others between the two, so it is at its slowest for a
+    /// list in which most callers have a single receipt.
+    pub fn confirms(&self, receipts: &[Receipt]) -> Result<(), Stray>
+        ensures { MatchResult result
+            (λ _. AreConfirmed self.now.records receipts.now)
+            (λ stray. IsFirstStray self.now.records receipts.now stray) }
+    {
+        for place in 0..receipts.len() {
+            let receipt = &receipts[place];
+            if !self.has(receipt) || !follows(&receipts[..place], receipt) {
+                return Err(Stray {
+                    place,
+                    fault: Fault::Stranger,
+                });
+            }
+        }
+        Ok(())
+    }
+}

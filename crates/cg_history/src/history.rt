@@ -1,0 +1,127 @@
+//! A node with the records of all that it did.
+
+ghost use Rattle.std.specs.Prelude.{◌≡◌, ◌<◌, IfOk, OnErr, length};
+ghost use Rattle.cg_types.specs.Answer.{Answers};
+ghost use Rattle.cg_core.specs.Step.{node_step};
+ghost use Rattle.cg_history.specs.History.{IsReplayed, LAST_NUMBER, new_history, receipt_of, with_record, with_step, apply as apply_of};
+
+use crate::item::{Item, Receipt};
+use cg_core::{Event, Node, Reply, Settings};
+use cg_types::{Endpoint, Fault, Generation};
+use std::alloc::{AllocError, Global};
+use std::marker::Model;
+
+/// A node with the records of all that it did since it started.
+#[derive(Drop)]
+pub struct History {
+    base: Node,
+    items: Vec<Item>,
+    node: Node,
+}
+
+/// A contract sees the node that it began with, the records, and the node that they lead to. That they do is kept.
+impl Model for History {
+    ghost use Rattle.cg_history.specs.History.{HistoryValue, IsReplayed, history_code};
+
+    ghost Value = { HistoryValue };
+
+    ghost coded = { history_code };
+
+    ghost view = { λ h. record { base = h.base; records = h.items.items; node = h.node } };
+
+    ghost invariant = { λ h. IsReplayed (record { base = h.base; records = h.items.items; node = h.node }) };
+}
+
+impl History {
+    /// The history of a node that starts. It has no records.
+    pub fn begin(
+        alloc: Global,
+        own: Endpoint,
+        generation: Generation,
+        settings: Settings,
+    ) -> Result<History, AllocError>
+        ensures { IfOk result (λ h. h ≡ new_history own generation settings) }
+    {
+        let node = Node::start(alloc, own, generation, settings)?;
+        Ok(History {
+            base: node.copy()?,
+            items: Vec::new(alloc),
+            node,
+        })
+    }
+
+    /// The node, which is where the records lead from the one that the history began with.
+    pub fn node(&self) -> &Node
+        ensures value { result.now ≡ self.now.node }
+        ensures replayed { IsReplayed self.now }
+    {
+        &self.node
+    }
+
+    /// The records, the first one first; they are numbered from 1.
+    pub fn records(&self) -> &[Item]
+        ensures value { result.now ≡ self.now.records }
+        ensures replayed { IsReplayed self.now }
+    {
+        &self.items
+    }
+
+    // The receipt of the next record.
+    fn receipt(
+        &self,
+        alloc: Global,
+        caller: u32,
+        event: &Event,
+        reply: &Reply,
+    ) -> Result<Receipt, AllocError>
+        requires { length self.now.records < LAST_NUMBER }
+        ensures { IfOk result (λ r. r ≡ receipt_of self.now caller event.now reply.now) }
+    {
+        Ok(Receipt {
+            caller,
+            number: self.items.len() as u64 + 1,
+            event: event.copy(alloc)?,
+            reply: reply.copy(alloc)?,
+        })
+    }
+
+    // The node after an event, the record of that, and the receipt.
+    fn record(
+        &self,
+        alloc: Global,
+        caller: u32,
+        event: Event,
+    ) -> Result<(Node, Item, Receipt), Fault>
+        requires { length self.now.records < LAST_NUMBER }
+        ensures { Answers (λ x. (with_record self.now x.0 x.1, x.2))
+            (with_step self.now caller event (node_step self.now.node event)) result }
+    {
+        let (node, reply, puts) = self.node.stepped_with_puts(alloc, &event)?;
+        let receipt = self.receipt(alloc, caller, &event, &reply)?;
+        let item = Item {
+            caller,
+            event,
+            reply,
+            puts,
+        };
+        Ok((node, item, receipt))
+    }
+
+    /// Has the node do an event for a caller, keeps the record, and answers its receipt. Refused, it changes nothing,
+    /// and no record is made.
+    ///
+    /// `VersionsSpent` for every event, before all else, where the record of the last number, 2^64 - 1, stands; else
+    /// the refusals of `Node::stepped`, and `OutOfMemory` for every event.
+    pub fn apply(&mut self, alloc: Global, caller: u32, event: Event) -> Result<Receipt, Fault>
+        ensures due { Answers (λ receipt. (self.new, receipt)) (apply_of self.old caller event) result }
+        ensures err { OnErr result (self.new ≡ self.old) }
+    {
+        if self.items.len() == usize::MAX {
+            return Err(Fault::VersionsSpent);
+        }
+        let (node, item, receipt) = self.record(alloc, caller, event)?;
+        self.items.push(item)?;
+        self.node = node;
+        Ok(receipt)
+    }
+}

@@ -1,0 +1,4 @@
+pub mod PutsOfRecords
+pub mod OneMore
+pub mod Receipts
+pub mod Covering

@@ -1,0 +1,35 @@
+-- What one event more does to a history.
+use Rattle.std.proofs.Common.{◌≡◌, ℕ, Bool, true, false, cond, refl, sym, ap, ◌∙◌, length}
+use Rattle.std.specs.Prelude.{◌==◌, Result, Ok, Err}
+use Rattle.cg_types.specs.declared.fault.Fault.{Fault}
+use Rattle.cg_types.specs.declared.fault.Fault.TheVariants.{VersionsSpent}
+use Rattle.cg_core.specs.declared.event.Event.{Event}
+use Rattle.cg_core.specs.declared.reply.Reply.{Reply}
+use Rattle.cg_core.specs.Values.{NodeValue}
+use Rattle.cg_core.specs.Step.{Step, node_step}
+use Rattle.cg_history.specs.declared.item.Receipt.{Receipt}
+use Rattle.cg_history.specs.Items.{record_of}
+use Rattle.cg_history.specs.History.{HistoryValue, receipt_of, LAST_NUMBER, with_record, with_step, apply}
+use Rattle.cg_history_laws.specs.Laws.{HasOneMore, EachEventMakesOneRecord}
+
+same_ok : {A F : Type 0} (x y : A) → (let r : Result A F = Ok x in r) ≡ Ok y → x ≡ y
+same_ok x y e = cc
+
+one_more_by : (h : HistoryValue) (caller : ℕ) (e : Event) (after : HistoryValue) (q : Receipt) (spent : Bool) (due : Step) → node_step h.node e ≡ due
+    → cond {A = Result (HistoryValue × Receipt) Fault} spent (Err VersionsSpent) (with_step h caller e due) ≡ Ok (after, q) → HasOneMore h caller e after q
+one_more_by h caller e after q true due step is = absurd cc
+one_more_by h caller e after q false (Err fault) step is = absurd cc
+one_more_by h caller e after q false (Ok x) step is =
+    let same = same_ok {A = HistoryValue × Receipt} (with_record h x.0 (record_of caller e h.node x), receipt_of h caller e x.1) (after, q) is in
+    record {
+      node = x.0;
+      answer = x.1;
+      step = step;
+      base = ap (λ (y : HistoryValue × Receipt). y.0.base) (sym same);
+      led = ap (λ (y : HistoryValue × Receipt). y.0.node) (sym same);
+      records = ap (λ (y : HistoryValue × Receipt). y.0.records) (sym same);
+      receipt = ap (λ (y : HistoryValue × Receipt). y.1) (sym same);
+    }
+
+pub each_event_makes_one_record : EachEventMakesOneRecord
+each_event_makes_one_record h caller e after q is = one_more_by h caller e after q (length h.records == LAST_NUMBER) (node_step h.node e) refl is

@@ -1,0 +1,36 @@
+//! Laws of histories, each the contract of an empty function.
+#![tactic(auto)]
+
+ghost use Rattle.cg_history_laws.specs.Laws.{
+  ConfirmedStandOnce,
+  EachEventMakesOneRecord,
+  EachRecordHasItsReceipt,
+  PutsOfRecordsLead,
+  RecordsReplay,
+};
+
+/// The events of the records, done one after the other, lead to the node, with the records' replies.
+pub fn records_replay()
+    ensures { RecordsReplay }
+{}
+
+/// The puts of the records lead from the table that the history began with to the node's, each later than what stood,
+/// and the own entry goes on from it; the node is as a member may be.
+pub fn puts_of_records_lead()
+    ensures { PutsOfRecordsLead }
+{}
+
+/// An event that is done is one step of the node, one record of it at the end, and the receipt of that record.
+pub fn each_event_makes_one_record()
+    ensures { EachEventMakesOneRecord }
+{}
+
+/// No two confirmed receipts are of one record.
+pub fn confirmed_stand_once()
+    ensures { ConfirmedStandOnce }
+{}
+
+/// Where confirmed receipts are as many as the records, each record has one.
+pub fn each_record_has_its_receipt()
+    ensures { EachRecordHasItsReceipt }
+{}
