@@ -1,6 +1,6 @@
 use cg_entry::{Absorbed, Delta, Entry, State, met};
 use cg_samples::{bare_delta, delta, entry_at_start, generation, key, state, version};
-use cg_types::{Fault, StateKey, StateText};
+use cg_types::{Cause, Fault, StateKey, StateText};
 use cg_version::Versions;
 use std::alloc::Global;
 use std::test::Fail;
@@ -76,6 +76,25 @@ fn states_of_a_delta_rise_and_are_newer(rt: HostRuntime) -> Result<(), Fail> {
     Ok(())
 }
 
+// Why these states make no delta above version 2, if they make none.
+fn cause_of(states: Vec<State>) -> Option<Cause> {
+    Delta::try_new(generation(9), 2, version(1), states).err()
+}
+
+#[test]
+fn what_makes_no_delta_is_told(rt: HostRuntime) -> Result<(), Fail> {
+    let rows = [
+        ((1, 4), (2, 3), None),
+        ((2, 4), (1, 3), Some(Cause::Order)),
+        ((2, 4), (1, 2), Some(Cause::Version)),
+    ];
+    for (first, second, cause) in rows {
+        assert_eq!(rt; cause_of(two_states(rt.alloc(), first, second)?), cause);
+    }
+    assert_eq!(rt; cause_of(Vec::new(rt.alloc())), Some(Cause::Empty));
+    Ok(())
+}
+
 #[test]
 fn a_delta_with_no_state_has_a_later_heartbeat(rt: HostRuntime) -> Result<(), Fail> {
     for (heartbeat, made) in [(3, true), (2, false)] {
@@ -145,6 +164,23 @@ fn a_set_and_a_beat(rt: HostRuntime) -> Result<(), Fail> {
     let versions = (version_at(&entry, 1), version_at(&entry, 2));
     let shown = (numbers_of(&entry), text_at(&entry, 1), versions);
     assert_eq!(rt; shown, ((9, 3, 3), Some("NORMAL"), (Some(2), None)));
+    Ok(())
+}
+
+// The key, version and text of the only state.
+fn only_state(entry: &Entry) -> Option<(u8, u32, &str)> {
+    match entry.states() {
+        [state] => Some(parts_of_state(state)),
+        _ => None,
+    }
+}
+
+#[test]
+fn states_are_listed(rt: HostRuntime) -> Result<(), Fail> {
+    assert_eq!(rt;
+        only_state(&set_and_beaten(rt.alloc())?),
+        Some((1, 2, "NORMAL"))
+    );
     Ok(())
 }
 

@@ -1,9 +1,10 @@
 //! What no clause says: the texts of faults and keys, and each call once with ample memory.
 
 use cg_samples::long_text;
+use cg_types::laws::limits_have_their_values;
 use cg_types::{
     Cause, Cluster, Endpoint, Fault, Generation, StateKey, StateText, Version, cut, is_plain,
-    number,
+    number, number_between,
 };
 use std::alloc::{AllocError, Global};
 use std::test::Fail;
@@ -291,4 +292,33 @@ fn words_are_read(rt: HostRuntime) {
     ] {
         assert_eq!(rt; number(text.as_bytes(), 9), None, "{text}");
     }
+}
+
+// The numbers that a word is, read as a generation, a version and a key.
+fn read_as(word: &[u8]) -> (Option<u32>, Option<u32>, Option<u8>) {
+    (
+        Generation::from_bytes(word).map(|generation| generation.get()),
+        Version::from_bytes(word).map(|version| version.get()),
+        StateKey::from_bytes(word).map(|key| key.get()),
+    )
+}
+
+#[test]
+fn words_are_generations_versions_and_keys(rt: HostRuntime) {
+    assert_eq!(rt; read_as(b"1"), (Some(1), Some(1), Some(1)));
+    assert_eq!(rt; read_as(b"16"), (Some(16), Some(16), Some(16)));
+    assert_eq!(rt;
+        read_as(b"2147483647"),
+        (Some(2147483647), Some(2147483647), None)
+    );
+    for word in ["", "0", "01", "+1", "2147483648", "18446744073709551617"] {
+        assert_eq!(rt; read_as(word.as_bytes()), (None, None, None), "{word}");
+    }
+    let read = [
+        number_between(b"4", 5, 7),
+        number_between(b"5", 5, 7),
+        number_between(b"8", 5, 7),
+    ];
+    assert_eq!(rt; read, [None, Some(5), None]);
+    limits_have_their_values();
 }

@@ -10,6 +10,7 @@ fn versions_rise(rt: HostRuntime) {
     assert_eq!(rt; versions.next().ok(), Version::new(1));
     assert_eq!(rt; versions.next().ok(), Version::new(2));
     assert_eq!(rt; versions.last(), 2);
+    assert!(rt; !versions.is_spent());
 }
 
 #[test]
@@ -20,6 +21,7 @@ fn versions_spent(rt: HostRuntime) {
         let given = versions.next();
         assert_eq!(rt; given.ok(), next);
         assert_eq!(rt; versions.last(), 2147483647);
+        assert!(rt; versions.is_spent());
         assert_eq!(rt; versions.next().err(), Some(Fault::VersionsSpent));
     }
 }
