@@ -10,10 +10,11 @@ use Rattle.cg_exchange.specs.declared.message.Message.{Message}
 use Rattle.cg_frames.specs.declared.layout.Layout.{Layout}
 use Rattle.cg_frames.specs.declared.misread.Misread.{Misread}
 use Rattle.cg_types.specs.ResultSteps.{◌>>=◌}
-use Rattle.cg_frames.specs.Reading.{Field, kind_at, of_kind, inside_at, located, with_size, size_of, frame_at}
+use Rattle.cg_frames.specs.Fields.{Field}
+use Rattle.cg_frames.specs.Reading.{kind_at, of_kind, inside_at, located, with_size, size_of, frame_at}
 use Rattle.cg_frames.specs.Choosing.{named, widest, due, frame_among, IsOneOf}
 use Rattle.cg_frames.specs.Laws.{ChoosesByTheByte}
-use Rattle.cg_frames.proofs.AgainLemmas.{byte_again}
+use Rattle.cg_frames.proofs.SpelledIsReadLemmas.{byte_again}
 use Rattle.cg_frames.proofs.ChoosingLemmas.{named_all, due_all, each_shorter, due_early, due_of, due_unnamed, widest_named}
 use Rattle.cg_frames.proofs.FrontLemmas.{over_is, part_is, whole_is}
 

@@ -27,7 +27,8 @@ use Rattle.cg_frames.specs.declared.misread.Misread.{Misread}
 use Rattle.cg_frames.specs.declared.reader.Kind.{Kind}
 use Rattle.cg_frames.specs.declared.reader.Kind.TheVariants as kinds
 use Rattle.cg_types.specs.ResultSteps.{◌>>=◌}
-use Rattle.cg_frames.specs.Reading.{Field, ended, told, layout_at, kind_from, kind_at, of_kind, syn_at, inside_at, frame_at, ack_at, ack2_at}
+use Rattle.cg_frames.specs.Fields.{Field}
+use Rattle.cg_frames.specs.Reading.{ended, told, layout_at, kind_from, kind_at, of_kind, syn_at, inside_at, frame_at, ack_at, ack2_at}
 use Rattle.cg_frames.specs.Spelling.{two_bytes, four_bytes, digest, request, text, state, delta, members, cluster, kind, body, message, inside, frame}
 use Rattle.cg_frames.specs.Fits.{FitsState, FitsDelta, FitsMembers, FitsSyn, Fits}
 use Rattle.cg_frames.specs.Lengths.{state_most, delta_most, deltas_most, digests_most, syn_most, ack_most}
@@ -35,12 +36,12 @@ use Rattle.cg_frames.specs.Layouts.{IsLayout}
 use Rattle.cg_frames.specs.Choosing.{named, frame_among, IsOneOf, AreLayouts}
 use Rattle.cg_frames.specs.Laws.{GivesEachSpelled, NoSpellingBeginsAnother, EachIsShort}
 use Rattle.cg_frames.proofs.ChoosingLemmas.{named_all, due_of_frame}
-use Rattle.cg_frames.proofs.AgainLemmas.{byte_again, length_keys, syn_again}
-use Rattle.cg_frames.proofs.SpelledDeltas.{states_few}
-use Rattle.cg_frames.proofs.SpelledLists.{ack_again, ack2_again}
+use Rattle.cg_frames.proofs.SpelledIsReadLemmas.{byte_again, length_keys, syn_again}
+use Rattle.cg_frames.proofs.SpelledIsReadDeltas.{states_few}
+use Rattle.cg_frames.proofs.SpelledIsReadLists.{ack_again, ack2_again}
 use Rattle.cg_frames.proofs.LengthLemmas.{length-two_bytes, length-four_bytes, length-state, length-delta, length-digests, length-requests}
 use Rattle.cg_frames.proofs.FrameLemmas.{frame_again}
-use Rattle.cg_frames.proofs.TakenLemmas.{ok_is}
+use Rattle.cg_frames.proofs.ReadIsSpelledParts.{ok_is}
 
 -- ---- lengths
 

@@ -12,8 +12,8 @@ use Rattle.cg_frames.specs.Spelling.{frame}
 use Rattle.cg_frames.specs.Feeding.{cut_by, frames_in, spelling, IsSpellable, Splits}
 use Rattle.cg_frames.specs.Laws.{AreBytes}
 use Rattle.cg_frames.proofs.FrameLemmas.{frame_parts}
-use Rattle.cg_frames.proofs.FoundLemmas.{later_bytes}
-use Rattle.cg_frames.proofs.FoundFrames.{found_among}
+use Rattle.cg_frames.proofs.ReadIsSpelledLemmas.{later_bytes}
+use Rattle.cg_frames.proofs.ReadIsSpelledFrames.{found_among}
 use Rattle.cg_frames.proofs.FeedingLemmas.{frames_by}
 
 module _ (layouts : List Layout) (some : 0 < length layouts) where

@@ -51,7 +51,8 @@ fed layouts (Err f) piece = record { messages = []; rest = Err f }
 -- What pieces give, one after another.
 abbrev pub fed_all : List Layout → Standing → List (List ℕ) → Cut
 fed_all layouts s [] = record { messages = []; rest = s }
-fed_all layouts s (piece ∷ pieces) = with_front (fed layouts s piece).messages (fed_all layouts (fed layouts s piece).rest pieces)
+fed_all layouts s (piece ∷ pieces) =
+    with_front (fed layouts s piece).messages (fed_all layouts (fed layouts s piece).rest pieces)
 
 -- Nothing whole and no fault stands in what is held; the fault that stands is a bad frame.
 abbrev pub IsPartial : List Layout → Standing → Type 0
@@ -105,7 +106,8 @@ HasAtMostOne (m ∷ []) rest = rest ≡ Ok []
 HasAtMostOne (m ∷ (n ∷ ms)) rest = ⊥
 
 -- Cutting gave these messages of so many bytes, and this fault behind them.
-pub record IsCut (layouts : List Layout) (bytes : List ℕ) (messages : List Message) (taken : ℕ) (fault : Option Fault) : Type 0 where
+pub record IsCut (layouts : List Layout) (bytes : List ℕ) (messages : List Message) (taken : ℕ) (fault : Option Fault)
+    : Type 0 where
   pub within : taken ≤ length bytes
   pub all : frames_in layouts bytes ≡ record { messages = messages; rest = standing_of (drop taken bytes) fault }
 

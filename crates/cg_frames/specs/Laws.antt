@@ -24,12 +24,14 @@ pub record IsSpelledIn (layout : Layout) (bytes : List ℕ) (message : Message) 
 -- What is read stands spelled so in the bytes, in a layout of the list.
 abbrev pub TakesOnlySpelled : List Layout → List ℕ → Result (Option (Message × ℕ)) Fault → Type 0
 TakesOnlySpelled layouts bytes result =
-    IfOk result (λ found. IfSome found (λ f. (layout : Layout) × IsOneOf layouts layout × IsSpelledIn layout bytes f.0 f.1))
+    IfOk result (λ found. IfSome found (λ f.
+    (layout : Layout) × IsOneOf layouts layout × IsSpelledIn layout bytes f.0 f.1))
 
 -- A message that a layout of the list can spell, and whose frame in it the bytes begin with, is the answer.
 abbrev pub GivesEachSpelled : List Layout → List ℕ → Result (Option (Message × ℕ)) Fault → Type 0
 GivesEachSpelled layouts bytes result =
-    (layout : Layout) (m : Message) (rest : List ℕ) → IsOneOf layouts layout → Fits layout m → bytes ≡ frame layout m ++ rest
+    (layout : Layout) (m : Message) (rest : List ℕ) → IsOneOf layouts layout → Fits layout m
+    → bytes ≡ frame layout m ++ rest
     → Answers (λ x. x) (Ok (Some (m, length (frame layout m)))) result
 
 -- The frame of a message does not begin with that of another, and no two have the same one, in whichever layouts of the
@@ -47,14 +49,19 @@ EachIsShort layout = (m : Message) → Fits layout m → length (inside layout m
 
 -- Which layout of a list a frame is read in: the one that the byte behind the length names.
 pub record ChoosesByTheByte (layouts : List Layout) : Type 0 where
-  pub by_byte : (layout : Layout) (bytes : List ℕ) → IsOneOf layouts layout → slice_get bytes 4 ≡ Some layout.byte → frame_among layouts bytes ≡ frame_at layout bytes
+  pub by_byte : (layout : Layout) (bytes : List ℕ) → IsOneOf layouts layout → slice_get bytes 4 ≡ Some layout.byte
+      → frame_among layouts bytes ≡ frame_at layout bytes
   -- A length that no layout allows is refused at once;
-  pub over : (bytes : List ℕ) → 4 ≤ length bytes → AllByRecursion (λ l. l.length < size_of bytes) layouts → frame_among layouts bytes ≡ Err (faults.BadFrame 0 causes.Length)
+  pub over : (bytes : List ℕ) → 4 ≤ length bytes → AllByRecursion (λ l. l.length < size_of bytes) layouts
+      → frame_among layouts bytes ≡ Err (faults.BadFrame 0 causes.Length)
   -- one that some layout allows waits for the byte.
-  pub waits : (layout : Layout) (bytes : List ℕ) → IsOneOf layouts layout → length bytes ≡ 4 → 0 < size_of bytes → size_of bytes ≤ layout.length → frame_among layouts bytes ≡ Ok None
+  pub waits : (layout : Layout) (bytes : List ℕ) → IsOneOf layouts layout → length bytes ≡ 4 → 0 < size_of bytes
+      → size_of bytes ≤ layout.length → frame_among layouts bytes ≡ Ok None
   -- A byte that names none is refused once its frame is whole, however long some layout allows it to be.
-  pub unnamed : (byte : ℕ) (bytes : List ℕ) → named layouts byte ≡ None → slice_get bytes 4 ≡ Some byte → 0 < size_of bytes → 4 + size_of bytes ≤ length bytes
-      → (layout : Layout) → IsOneOf layouts layout → size_of bytes ≤ layout.length → frame_among layouts bytes ≡ Err (faults.BadFrame 4 causes.Layout)
+  pub unnamed : (byte : ℕ) (bytes : List ℕ) → named layouts byte ≡ None → slice_get bytes 4 ≡ Some byte
+      → 0 < size_of bytes → 4 + size_of bytes ≤ length bytes
+      → (layout : Layout) → IsOneOf layouts layout → size_of bytes ≤ layout.length
+      → frame_among layouts bytes ≡ Err (faults.BadFrame 4 causes.Layout)
 
 -- ---- of feeding
 
@@ -68,11 +75,15 @@ SomeAreLacking layouts = (held : List ℕ) → frame_among layouts held ≡ Ok N
 
 -- Pieces give what all of them at once give, from wherever a feed may stand.
 abbrev pub PiecesAddUp : List Layout → Type 0
-PiecesAddUp layouts = (s : Standing) (pieces : List (List ℕ)) → IsPartial layouts s → fed_all layouts s pieces ≡ fed layouts s (flat_map (λ (piece : List ℕ). piece) pieces)
+PiecesAddUp layouts =
+    (s : Standing) (pieces : List (List ℕ)) → IsPartial layouts s
+    → fed_all layouts s pieces ≡ fed layouts s (flat_map (λ (piece : List ℕ). piece) pieces)
 
 -- A stream that is cut into pieces gives what its bytes at once give, whatever the pieces are.
 abbrev pub EveryCuttingIsTheWhole : List Layout → Type 0
-EveryCuttingIsTheWhole layouts = (pieces : List (List ℕ)) → fed_all layouts (Ok []) pieces ≡ frames_in layouts (flat_map (λ (piece : List ℕ). piece) pieces)
+EveryCuttingIsTheWhole layouts =
+    (pieces : List (List ℕ))
+    → fed_all layouts (Ok []) pieces ≡ frames_in layouts (flat_map (λ (piece : List ℕ). piece) pieces)
 
 -- Nothing whole and no fault stands in what is held after a piece.
 pub record WhatIsHeldIsPartial (layouts : List Layout) : Type 0 where
@@ -86,7 +97,10 @@ pub record FaultsAreBadFrames (layouts : List Layout) : Type 0 where
 
 -- Two pieces give what both at once give.
 abbrev pub TwoPiecesAreOne : List Layout → Type 0
-TwoPiecesAreOne layouts = (s : Standing) (first second : List ℕ) → fed layouts s (first ++ second) ≡ with_front (fed layouts s first).messages (fed layouts (fed layouts s first).rest second)
+TwoPiecesAreOne layouts =
+    (s : Standing) (first second : List ℕ)
+    → fed layouts s (first ++ second)
+    ≡ with_front (fed layouts s first).messages (fed layouts (fed layouts s first).rest second)
 
 -- A piece that is no longer than what is lacking gives at most one message, and then nothing is held.
 abbrev pub OneAtATime : List Layout → Type 0

@@ -1,3 +1,6 @@
+pub mod Fields
+pub mod Lists
+pub mod Readers
 pub mod Reading
 pub mod Spelling
 pub mod Fits

@@ -10,9 +10,9 @@ ghost use Rattle.cg_frames.specs.Choosing.{frame_among, AreRead};
 ghost use Rattle.cg_frames.specs.Reading as spec;
 ghost use Rattle.cg_frames.specs.Laws.{TakesOnlySpelled, GivesEachSpelled};
 
-use crate::choosing::due;
+use crate::bodies::{check, read};
 use crate::layout::{LAYOUTS, Layout};
-use crate::messages::{check, read};
+use crate::layouts::due;
 use crate::misread::{Misread, ReadError};
 use cg_exchange::Message;
 use cg_types::{Cause, Fault};

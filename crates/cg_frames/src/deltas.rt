@@ -14,14 +14,15 @@ use cg_types::{Cause, Endpoint, StateKey, StateText};
 use std::alloc::Global;
 
 // Reads past a state of a delta above a version, and keeps its key.
-#[tactic(auto, unfolding(crate::specs::Reading::state_at))]
+#[tactic(auto, unfolding(crate::specs::Lists::state_at))]
 fn check_state(
     layout: &Layout,
     above: u32,
     reader: &mut Reader<'_>,
     last: Option<StateKey>,
 ) -> Result<StateKey, Misread>
-    ensures { spec.Reads (λ x. x) result reader.new (spec.seen (λ s. s.key) (spec.state_at layout.now above last reader.old)) }
+    ensures { spec.Reads (λ x. x) result reader.new
+        (spec.seen (λ s. s.key) (spec.state_at layout.now above last reader.old)) }
 {
     let key = reader.key(last)?;
     reader.version_above(above)?;
@@ -47,13 +48,14 @@ fn check_states(
 }
 
 // Reads past a delta, and keeps its endpoint.
-#[tactic(auto, unfolding(crate::specs::Reading::delta_at))]
+#[tactic(auto, unfolding(crate::specs::Lists::delta_at))]
 fn check_delta(
     layout: &Layout,
     reader: &mut Reader<'_>,
     last: Option<Endpoint>,
 ) -> Result<Endpoint, Misread>
-    ensures { spec.Reads (λ x. x) result reader.new (spec.seen (λ d. d.endpoint) (spec.delta_at layout.now last reader.old)) }
+    ensures { spec.Reads (λ x. x) result reader.new
+        (spec.seen (λ d. d.endpoint) (spec.delta_at layout.now last reader.old)) }
 {
     let left = reader.left();
     let endpoint = reader.endpoint(last)?;
@@ -96,7 +98,7 @@ fn text_of(alloc: Global, text: &str) -> Result<StateText, ReadError>
 }
 
 // A state of a delta above a version.
-#[tactic(auto, unfolding(crate::specs::Reading::state_at))]
+#[tactic(auto, unfolding(crate::specs::Lists::state_at))]
 fn state_of(
     alloc: Global,
     layout: &Layout,
@@ -136,7 +138,7 @@ fn states_of(
 }
 
 // A delta; where it would carry nothing, the fault stands at its first byte.
-#[tactic(auto, unfolding(crate::specs::Reading::delta_at))]
+#[tactic(auto, unfolding(crate::specs::Lists::delta_at))]
 fn delta_of(
     alloc: Global,
     layout: &Layout,

@@ -171,10 +171,10 @@ impl Feed {
 
     /// Takes the next piece of the stream, of any length, and gives the messages that are whole now.
     ///
-    /// What was held and the piece are the spellings of these messages, each in a layout that it fits, then a rest: what
-    /// is held from now on, or bytes that begin with the fault. After a fault each piece is dropped, and gives no message
-    /// and that fault. A piece no longer than `wants` gives at most one message, and if it gives one, nothing is held
-    /// after it.
+    /// What was held and the piece are the spellings of these messages, each in a layout that it fits, then a rest:
+    /// what is held from now on, or bytes that begin with the fault. After a fault each piece is dropped, and gives no
+    /// message and that fault. A piece no longer than `wants` gives at most one message, and if it gives one, nothing
+    /// is held after it.
     /// `OutOfMemory` leaves the feed as it was; there is no other refusal. There is none for the empty piece, after a
     /// fault, and where nothing is held and the piece begins with a fault: none of these takes memory.
     pub fn push(&mut self, piece: &[u8]) -> Result<Fed, Fault>
@@ -182,8 +182,10 @@ impl Feed {
         ensures rest { OnOk result (self.new ≡ (spec.fed LAYOUTS self.old piece.now).rest) }
         ensures fault { IfOk result (λ fed. fed.fault ≡ spec.fault_of self.new) }
         ensures bad { IfOk result (λ fed. IfSome fed.fault IsBadFrame) }
-        ensures spelled { IfOk result (λ fed. spec.SplitsFrom LAYOUTS self.old piece.now (record { messages = fed.messages.items; rest = self.new })) }
-        ensures one { IfOk result (λ fed. length piece.now ≤ spec.wanted self.old → spec.HasAtMostOne fed.messages.items self.new) }
+        ensures spelled { IfOk result (λ fed. spec.SplitsFrom LAYOUTS self.old piece.now
+            (record { messages = fed.messages.items; rest = self.new })) }
+        ensures one { IfOk result (λ fed. length piece.now ≤ spec.wanted self.old
+            → spec.HasAtMostOne fed.messages.items self.new) }
         ensures same { OnErr result (self.new ≡ self.old) }
         ensures stands { IsErr self.old → IsOk result }
         ensures nothing { piece.now ≡ [] → IsOk result }

@@ -35,8 +35,8 @@ pub(crate) fn message_fits(layout: &Layout, message: Lent<'_>)
 }
 
 /// The layout that is written can spell each message: its numbers are in their ranges, its lists rise and are few, its
-/// texts are short and plain. So the laws of messages that fit hold of the message in hand. It takes no memory, and walks
-/// nothing.
+/// texts are short and plain. So the laws of messages that fit hold of the message in hand. It takes no memory, and
+/// walks nothing.
 pub fn every_message_fits(message: &Message)
     ensures { Fits WRITTEN message.now }
 {

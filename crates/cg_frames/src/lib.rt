@@ -1,7 +1,7 @@
 //! Messages as bytes, both ways.
 #![tactic(auto)]
 
-mod choosing;
+mod bodies;
 mod decoding;
 mod deltas;
 mod encoding;
@@ -9,9 +9,9 @@ mod feed;
 mod fits;
 pub mod laws;
 mod layout;
+mod layouts;
 mod lengths;
 mod lists;
-mod messages;
 mod misread;
 mod reader;
 

@@ -52,7 +52,7 @@ impl<'a> Reader<'a> {
 
     /// Nothing is left.
     pub(crate) fn end(&self) -> Result<(), Misread>
-        ensures { spec.Ends result self.now }
+        ensures { spec.FindsEnd result self.now }
     {
         if self.rest.len() != 0 {
             return Err(Misread {
@@ -280,7 +280,7 @@ impl<'a> Reader<'a> {
     }
 
     /// A request, which has to come after the last one of its list.
-    #[tactic(auto, unfolding(crate::specs::Reading::request_at))]
+    #[tactic(auto, unfolding(crate::specs::Lists::request_at))]
     pub(crate) fn request(&mut self, last: Option<Endpoint>) -> Result<Request, Misread>
         ensures { spec.Reads (λ x. x) result self.new (spec.request_at last self.old) }
     {
@@ -294,7 +294,7 @@ impl<'a> Reader<'a> {
     }
 
     /// A digest, which has to come after the last one of its list.
-    #[tactic(auto, unfolding(crate::specs::Reading::digest_at))]
+    #[tactic(auto, unfolding(crate::specs::Lists::digest_at))]
     pub(crate) fn digest(&mut self, last: Option<Endpoint>) -> Result<Digest, Misread>
         ensures { spec.Reads (λ x. x) result self.new (spec.digest_at last self.old) }
     {
@@ -323,7 +323,7 @@ impl<'a> Reader<'a> {
     }
 
     /// The name of a cluster, with its length before it.
-    #[tactic(auto, unfolding(crate::specs::Reading::name_at))]
+    #[tactic(auto, unfolding(crate::specs::Fields::name_at))]
     pub(crate) fn name(&mut self) -> Result<&'a str, Misread>
         ensures value { spec.Reads (λ x. x.now) result self.new (spec.name_at self.old) }
         ensures some { IfOk result (λ x. 0 < length x.now) }
@@ -342,7 +342,7 @@ impl<'a> Reader<'a> {
     }
 
     /// A state's text, with its length before it.
-    #[tactic(auto, unfolding(crate::specs::Reading::text_at))]
+    #[tactic(auto, unfolding(crate::specs::Fields::text_at))]
     pub(crate) fn text(&mut self, layout: &Layout) -> Result<&'a str, Misread>
         ensures value { spec.Reads (λ x. x.now) result self.new (spec.text_at layout.now self.old) }
         ensures short { IfOk result (λ x. length x.now ≤ layout.now.text) }

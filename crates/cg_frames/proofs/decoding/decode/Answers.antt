@@ -1,6 +1,6 @@
 use Rattle.std.proofs.Common.{arith}
 use Rattle.cg_frames.specs.declared.layout.TheConstants.{LAYOUTS}
-use Rattle.cg_frames.proofs.FoundFrames.{all_found}
+use Rattle.cg_frames.proofs.ReadIsSpelledFrames.{all_found}
 use Rattle.cg_frames.proofs.FaultLemmas.{refusal_is_bad}
 use Rattle.cg_frames.proofs.LawLemmas.{each_spelled_is_read, layouts_are}
 use Rattle.cg_frames.proofs.decoding.decode.Goals as goal

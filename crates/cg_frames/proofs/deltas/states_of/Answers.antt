@@ -1,7 +1,7 @@
 use Rattle.std.proofs.Common.{None}
 use Rattle.std.proofs.lemmas.Result.{err_from_is_err_and}
 use Rattle.cg_entry.specs.declared.state.State.{State}
-use Rattle.cg_frames.specs.Reading.{states_at, state_at}
+use Rattle.cg_frames.specs.Lists.{states_at, state_at}
 use Rattle.cg_frames.proofs.ListLemmas.{goes_on, ends, is_done}
 use Rattle.cg_frames.proofs.deltas.states_of.Goals as goal
 

@@ -1,5 +1,5 @@
 use Rattle.cg_exchange.specs.Lent.{lent_message}
-use Rattle.cg_frames.proofs.AllLemmas.{message_fits}
+use Rattle.cg_frames.proofs.FitsLemmas.{message_fits}
 use Rattle.cg_frames.proofs.fits.message_fits.Goals as goal
 
 pub returns : goal.returns

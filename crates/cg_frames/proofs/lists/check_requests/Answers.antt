@@ -1,7 +1,8 @@
 use Rattle.std.proofs.Common.{None}
 use Rattle.std.proofs.lemmas.Result.{err_from_is_err_and}
 use Rattle.cg_exchange.specs.Values.{RequestValue}
-use Rattle.cg_frames.specs.Reading.{requests_at, request_at, behind}
+use Rattle.cg_frames.specs.Lists.{requests_at, request_at}
+use Rattle.cg_frames.specs.Readers.{behind}
 use Rattle.cg_frames.proofs.ListLemmas.{passes_on, passes_fault, passed}
 use Rattle.cg_frames.proofs.lists.check_requests.Goals as goal
 

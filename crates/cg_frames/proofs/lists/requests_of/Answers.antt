@@ -2,7 +2,7 @@ use Rattle.std.proofs.Common.{None}
 use Rattle.std.proofs.lemmas.Result.{err_from_is_err_and}
 use Rattle.cg_exchange.specs.Values.{RequestValue}
 use Rattle.cg_frames.specs.declared.misread.ReadError.TheVariants as errors
-use Rattle.cg_frames.specs.Reading.{requests_at, request_at}
+use Rattle.cg_frames.specs.Lists.{requests_at, request_at}
 use Rattle.cg_frames.proofs.ListLemmas.{goes_on, ends, is_done}
 use Rattle.cg_frames.proofs.lists.requests_of.Goals as goal
 

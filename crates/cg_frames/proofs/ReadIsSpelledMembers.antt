@@ -20,15 +20,16 @@ use Rattle.cg_exchange.specs.declared.owner_delta.OwnerDelta.{OwnerDelta}
 use Rattle.cg_exchange.specs.Values.{RequestValue}
 use Rattle.cg_frames.specs.declared.layout.Layout.{Layout}
 use Rattle.cg_frames.specs.declared.misread.Misread.{Misread}
-use Rattle.cg_frames.specs.Reading.{number_at, plain_at, key_at, state_count_at, text_at, request_at, state_at, carries, delta_at}
+use Rattle.cg_frames.specs.Fields.{number_at, plain_at, key_at, state_count_at, text_at}
+use Rattle.cg_frames.specs.Lists.{request_at, state_at, carries, delta_at}
 use Rattle.cg_frames.specs.Spelling.{two_bytes, four_bytes, endpoint, request, text, state, delta}
 use Rattle.cg_exchange.specs.Contents.{IsRequest}
 use Rattle.cg_frames.specs.Fits.{FitsState, FitsDelta}
 use Rattle.cg_frames.specs.Laws.{AreBytes}
-use Rattle.cg_frames.proofs.AllLemmas.{all_pairs}
+use Rattle.cg_frames.proofs.FitsLemmas.{all_pairs}
 use Rattle.cg_frames.proofs.LengthLemmas.{spelled_pairs}
-use Rattle.cg_frames.proofs.TakenLemmas.{bind_ok, ok_is, goes_by, request_parts, key_parts, version_newer, state_parts, states_rise, delta_parts}
-use Rattle.cg_frames.proofs.FoundLemmas.{Stands, then, byte_found, two_found, ranged_found, in_range, positive, endpoint_found, rising_found, plain_found, neither}
+use Rattle.cg_frames.proofs.ReadIsSpelledParts.{bind_ok, ok_is, goes_by, request_parts, key_parts, version_newer, state_parts, states_rise, delta_parts}
+use Rattle.cg_frames.proofs.ReadIsSpelledLemmas.{Stands, then, byte_found, two_found, ranged_found, in_range, positive, endpoint_found, rising_found, plain_found, neither}
 
 pub request_found : (last : Option ℕ) (bytes : List ℕ) (r : RequestValue) (rest : List ℕ) → AreBytes bytes → request_at last bytes ≡ Ok (r, rest) → Stands (request r) bytes rest × IsRequest r
 request_found last bytes r rest small h =

@@ -18,17 +18,19 @@ use Rattle.cg_frames.specs.declared.misread.Misread.{Misread}
 use Rattle.cg_frames.specs.declared.reader.Kind.{Kind}
 use Rattle.cg_frames.specs.declared.reader.Kind.TheVariants as kinds
 use Rattle.cg_types.specs.ResultSteps.{◌>>=◌}
-use Rattle.cg_frames.specs.Reading.{Field, number_at, digest_at, request_at, delta_at, listed_requests_at, listed_deltas_at, syn_at, ack_at, ack2_at, ended, told, layout_at, kind_from, kind_at, of_kind, inside_at, frame_at}
+use Rattle.cg_frames.specs.Fields.{Field, number_at}
+use Rattle.cg_frames.specs.Lists.{digest_at, request_at, delta_at, listed_requests_at, listed_deltas_at}
+use Rattle.cg_frames.specs.Reading.{syn_at, ack_at, ack2_at, ended, told, layout_at, kind_from, kind_at, of_kind, inside_at, frame_at}
 use Rattle.cg_frames.specs.Choosing.{due, frame_among, IsOneOf}
 use Rattle.cg_frames.specs.Spelling.{four_bytes, digest, request, delta, cluster, members, kind, body, inside, frame}
 use Rattle.cg_exchange.specs.Contents.{IsDigest, IsRequest}
 use Rattle.cg_frames.specs.Fits.{Fits, FitsDelta, FitsSyn, FitsAck, FitsAck2}
 use Rattle.cg_frames.specs.Laws.{AreBytes, IsSpelledIn, TakesOnlySpelled}
-use Rattle.cg_frames.proofs.TakenLemmas.{bind_ok, ok_is, goes_on_by, digest_past, request_past, delta_past, syn_parts}
+use Rattle.cg_frames.proofs.ReadIsSpelledParts.{bind_ok, ok_is, goes_on_by, digest_past, request_past, delta_past, syn_parts}
 use Rattle.cg_frames.proofs.ChoosingLemmas.{due_is_one, byte_of_frame}
 use Rattle.cg_frames.proofs.FrameLemmas.{frame_parts}
-use Rattle.cg_frames.proofs.FoundLemmas.{Stands, then, front_bytes, later_bytes, byte_found, digest_found, name_found, MembersFound, members_found, listed_found}
-use Rattle.cg_frames.proofs.FoundMembers.{request_found, delta_found}
+use Rattle.cg_frames.proofs.ReadIsSpelledLemmas.{Stands, then, front_bytes, later_bytes, byte_found, digest_found, name_found, MembersFound, members_found, listed_found}
+use Rattle.cg_frames.proofs.ReadIsSpelledMembers.{request_found, delta_found}
 
 -- ---- bodies
 

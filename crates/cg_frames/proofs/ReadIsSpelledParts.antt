@@ -20,7 +20,9 @@ use Rattle.cg_exchange.specs.Values.{RequestValue, SynValue}
 use Rattle.cg_frames.specs.declared.layout.Layout.{Layout}
 use Rattle.cg_frames.specs.declared.misread.Misread.{Misread}
 use Rattle.cg_types.specs.ResultSteps.{◌>>=◌}
-use Rattle.cg_frames.specs.Reading.{Field, bytes_at, number_at, endpoint_from, endpoint_at, generation_at, version_at, digest_at, rising_at, digests_at, count_at, name_at, syn_at, held_at, heartbeat_at, version_above_at, key_from, key_at, state_count_at, text_at, request_at, state_at, states_at, carries, delta_from, delta_at, listed_requests_at, listed_deltas_at}
+use Rattle.cg_frames.specs.Fields.{Field, bytes_at, number_at, endpoint_from, endpoint_at, generation_at, version_at, count_at, name_at, held_at, heartbeat_at, version_above_at, key_from, key_at, state_count_at, text_at}
+use Rattle.cg_frames.specs.Lists.{digest_at, rising_at, digests_at, request_at, state_at, states_at, carries, delta_from, delta_at, listed_requests_at, listed_deltas_at}
+use Rattle.cg_frames.specs.Reading.{syn_at}
 
 -- the value of a step that did not fail
 pub bind_ok : {A B F : Type 0} (r : Result A F) (f : A → Result B F) (y : B) → (r >>= f) ≡ Ok y → (x : A) × (r ≡ Ok x) × (f x ≡ Ok y)

@@ -19,10 +19,12 @@ use Rattle.cg_types.specs.Rising.{is_past, rise_past}
 use Rattle.cg_types.proofs.RisingLemmas.{first_of, second_of}
 use Rattle.cg_table.specs.declared.digest.Digest.{Digest}
 use Rattle.cg_types.specs.ResultSteps.{◌>>=◌}
-use Rattle.cg_frames.specs.Reading.{Field, bytes_at, number_at, endpoint_from, endpoint_at, ranged_at, digest_at, rising_at, count_at, plain_at, name_at, syn_at}
+use Rattle.cg_frames.specs.Fields.{Field, bytes_at, number_at, endpoint_from, endpoint_at, ranged_at, count_at, plain_at, name_at}
+use Rattle.cg_frames.specs.Lists.{digest_at, rising_at}
+use Rattle.cg_frames.specs.Reading.{syn_at}
 use Rattle.cg_exchange.specs.Contents.{IsDigest}
 use Rattle.cg_frames.specs.Fits.{FitsSyn}
-use Rattle.cg_frames.proofs.TakenLemmas.{syn_made, after_count, after_partitioner, after_name}
+use Rattle.cg_frames.proofs.ReadIsSpelledParts.{syn_made, after_count, after_partitioner, after_name}
 use Rattle.cg_frames.specs.Spelling.{two_bytes, four_bytes, endpoint, digest, members, body}
 
 pub bytes_again : (n : ℕ) (front rest : List ℕ) → length front ≡ n → bytes_at n (front ++ rest) ≡ Ok (front, rest)

@@ -1,6 +1,6 @@
 use Rattle.cg_types.proofs.RisingLemmas.{both}
-use Rattle.cg_frames.proofs.TakenLemmas.{requests_listed, deltas_listed}
-use Rattle.cg_frames.proofs.messages.ack_of.Goals as goal
+use Rattle.cg_frames.proofs.ReadIsSpelledParts.{requests_listed, deltas_listed}
+use Rattle.cg_frames.proofs.bodies.ack_of.Goals as goal
 
 pub unreachable-requires : goal.unreachable-requires
 unreachable-requires c =

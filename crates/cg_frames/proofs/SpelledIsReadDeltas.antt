@@ -17,12 +17,13 @@ use Rattle.cg_exchange.specs.declared.owner_delta.OwnerDelta.{OwnerDelta}
 use Rattle.cg_frames.specs.declared.layout.Layout.{Layout}
 use Rattle.cg_types.specs.declared.limits.TheConstants.{STATE_LIMIT}
 use Rattle.cg_types.specs.ResultSteps.{◌>>=◌}
-use Rattle.cg_frames.specs.Reading.{Field, state_count_at, state_at, states_at, carries, delta_from, delta_at}
+use Rattle.cg_frames.specs.Fields.{Field, state_count_at}
+use Rattle.cg_frames.specs.Lists.{state_at, states_at, carries, delta_from, delta_at}
 use Rattle.cg_frames.specs.Spelling.{four_bytes, endpoint, state, delta}
 use Rattle.cg_frames.specs.Fits.{FitsState, FitsDelta}
-use Rattle.cg_frames.proofs.AgainLemmas.{byte_again, ranged_again, endpoint_again, rising_again}
+use Rattle.cg_frames.proofs.SpelledIsReadLemmas.{byte_again, ranged_again, endpoint_again, rising_again}
 use Rattle.cg_frames.proofs.LengthLemmas.{spelled_pairs}
-use Rattle.cg_frames.proofs.SpelledLemmas.{held_again, state_again}
+use Rattle.cg_frames.proofs.SpelledIsReadMembers.{held_again, state_again}
 
 abbrev unpair : ℕ × Versioned → State
 unpair e = record { key = e.0; version = e.1.version; text = e.1.text }

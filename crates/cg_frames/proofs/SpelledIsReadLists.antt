@@ -4,13 +4,15 @@ use Rattle.cg_exchange.specs.declared.owner_delta.OwnerDelta.{OwnerDelta}
 use Rattle.cg_exchange.specs.Values.{RequestValue, AckValue, Ack2Value}
 use Rattle.cg_frames.specs.declared.layout.Layout.{Layout}
 use Rattle.cg_types.specs.ResultSteps.{◌>>=◌}
-use Rattle.cg_frames.specs.Reading.{Field, request_at, delta_at, listed_deltas_at, ack_at, ack2_at}
+use Rattle.cg_frames.specs.Fields.{Field}
+use Rattle.cg_frames.specs.Lists.{request_at, delta_at, listed_deltas_at}
+use Rattle.cg_frames.specs.Reading.{ack_at, ack2_at}
 use Rattle.cg_frames.specs.Spelling.{members, request, delta}
 use Rattle.cg_exchange.specs.Contents.{IsRequest}
 use Rattle.cg_frames.specs.Fits.{FitsDelta, FitsAck, FitsAck2}
-use Rattle.cg_frames.proofs.AgainLemmas.{counted_again, length_keys}
-use Rattle.cg_frames.proofs.SpelledLemmas.{request_again}
-use Rattle.cg_frames.proofs.SpelledDeltas.{delta_again}
+use Rattle.cg_frames.proofs.SpelledIsReadLemmas.{counted_again, length_keys}
+use Rattle.cg_frames.proofs.SpelledIsReadMembers.{request_again}
+use Rattle.cg_frames.proofs.SpelledIsReadDeltas.{delta_again}
 
 pub ack_again : (layout : Layout) (m : AckValue) (rest : List ℕ) → layout.text < 2 ^ 16 → layout.members < 2 ^ 16 → FitsAck layout m → ack_at layout ((members request m.requests ++ members delta m.deltas) ++ rest) ≡ Ok (m, rest)
 unfolding ack_at

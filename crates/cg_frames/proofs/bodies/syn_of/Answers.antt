@@ -1,7 +1,7 @@
 use Rattle.std.proofs.Common.{◌≡◌, true}
 use Rattle.cg_exchange.specs.Members.{listed, endpoints_of_digests}
-use Rattle.cg_frames.proofs.TakenLemmas.{digests_listed}
-use Rattle.cg_frames.proofs.messages.syn_of.Goals as goal
+use Rattle.cg_frames.proofs.ReadIsSpelledParts.{digests_listed}
+use Rattle.cg_frames.proofs.bodies.syn_of.Goals as goal
 
 pub unreachable-requires : goal.unreachable-requires
 unreachable-requires c =

@@ -11,12 +11,13 @@ use Rattle.cg_entry.specs.State.{pair}
 use Rattle.cg_exchange.specs.Values.{RequestValue}
 use Rattle.cg_frames.specs.declared.layout.Layout.{Layout}
 use Rattle.cg_types.specs.ResultSteps.{◌>>=◌}
-use Rattle.cg_frames.specs.Reading.{Field, held_at, request_at, key_from, key_at, version_above_at, text_at, state_at}
+use Rattle.cg_frames.specs.Fields.{Field, held_at, key_from, key_at, version_above_at, text_at}
+use Rattle.cg_frames.specs.Lists.{request_at, state_at}
 use Rattle.cg_frames.specs.Spelling.{two_bytes, four_bytes, endpoint, request, text, state}
 use Rattle.cg_exchange.specs.Contents.{IsRequest}
 use Rattle.cg_frames.specs.Fits.{FitsState}
 use Rattle.cg_types.specs.declared.fault.Cause.TheVariants as causes
-use Rattle.cg_frames.proofs.AgainLemmas.{bytes_again, byte_again, two_again, four_again, ranged_again, endpoint_again}
+use Rattle.cg_frames.proofs.SpelledIsReadLemmas.{bytes_again, byte_again, two_again, four_again, ranged_again, endpoint_again}
 
 pub held_again : (cause : Cause) (n : ℕ) (rest : List ℕ) → n < NUMBER_LIMIT → held_at cause (four_bytes n ++ rest) ≡ Ok (n, rest)
 held_again cause n rest lt =

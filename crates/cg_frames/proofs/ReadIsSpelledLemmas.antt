@@ -18,12 +18,13 @@ use Rattle.cg_table.specs.declared.digest.Digest.{Digest}
 use Rattle.cg_frames.specs.declared.layout.Layout.{Layout}
 use Rattle.cg_frames.specs.declared.misread.Misread.{Misread}
 use Rattle.cg_types.specs.ResultSteps.{◌>>=◌}
-use Rattle.cg_frames.specs.Reading.{Field, bytes_at, number_at, endpoint_at, ranged_at, digest_at, rising_at, plain_at, name_at, count_at}
+use Rattle.cg_frames.specs.Fields.{Field, bytes_at, number_at, endpoint_at, ranged_at, plain_at, name_at, count_at}
+use Rattle.cg_frames.specs.Lists.{digest_at, rising_at}
 use Rattle.cg_frames.specs.Spelling.{two_bytes, four_bytes, endpoint, digest, members}
 use Rattle.cg_exchange.specs.Contents.{IsDigest}
 use Rattle.cg_frames.specs.Fits.{FitsMembers}
 use Rattle.cg_frames.specs.Laws.{AreBytes}
-use Rattle.cg_frames.proofs.TakenLemmas.{bind_ok, ok_is, goes_by, goes_on_by, endpoint_parts, digest_parts, rising_parts, none_read, rising_taken, count_within, counted_parts}
+use Rattle.cg_frames.proofs.ReadIsSpelledParts.{bind_ok, ok_is, goes_by, goes_on_by, endpoint_parts, digest_parts, rising_parts, none_read, rising_taken, count_within, counted_parts}
 
 pub front_bytes : (n : ℕ) (bytes : List ℕ) → AreBytes bytes → AreBytes (take n bytes)
 front_bytes n bytes small i = elim (cases_lt i n) [

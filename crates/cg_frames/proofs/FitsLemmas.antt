@@ -23,7 +23,7 @@ pub use Rattle.cg_entry.proofs.ContentLemmas.{all_pairs}
 use Rattle.cg_frames.specs.declared.layout.Layout.{Layout}
 use Rattle.cg_frames.specs.Layouts.{IsWritten}
 use Rattle.cg_frames.specs.Fits.{FitsState, FitsDelta, FitsMembers, Fits}
-use Rattle.cg_frames.proofs.SpelledDeltas.{states_few}
+use Rattle.cg_frames.proofs.SpelledIsReadDeltas.{states_few}
 
 -- ---- states
 

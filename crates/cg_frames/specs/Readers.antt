@@ -1,0 +1,50 @@
+-- How a reader answers, beside what reading gives.
+use Rattle.std.specs.Prelude.{◌≡◌, ℕ, true, false, List, length, Result, Ok, Err, IsOk, ◌==◌}
+use Rattle.cg_types.specs.declared.fault.Cause.TheVariants as causes
+use Rattle.cg_frames.specs.declared.misread.Misread.{Misread}
+use Rattle.cg_frames.specs.declared.misread.ReadError.{ReadError}
+use Rattle.cg_frames.specs.declared.misread.ReadError.TheVariants as errors
+use Rattle.cg_frames.specs.Fields.{Field}
+
+-- A reader gives exactly what reading gives, and stands behind it.
+abbrev pub Reads : {X Y : Type 0} → (X → Y) → Result X Misread → List ℕ → Field Y → Type 0
+Reads view (Ok x) rest read = read ≡ Ok (view x, rest)
+Reads view (Err m) rest read = read ≡ Err m
+
+-- a field of which a part is kept
+abbrev pub seen : {X Y : Type 0} → (Y → X) → Field Y → Field X
+seen part (Ok y) = Ok (part y.0, y.1)
+seen part (Err m) = Err m
+
+-- where reading stands behind a field
+abbrev pub behind : {A : Type 0} → Field A → Result (List ℕ) Misread
+behind (Ok x) = Ok x.1
+behind (Err m) = Err m
+
+-- A reader that keeps nothing goes where reading goes.
+abbrev pub Passes : {X Y : Type 0} → Result X Misread → List ℕ → Field Y → Type 0
+Passes (Ok x) rest read = behind read ≡ Ok rest
+Passes (Err m) rest read = behind read ≡ Err m
+
+-- A reader that needs memory gives what reading gives, unless memory ran out.
+abbrev pub Fails : {Y : Type 0} → ReadError → Result Y Misread → Type 0
+Fails errors.Memory read = Unit {0}
+Fails (errors.Misread m) read = read ≡ Err m
+
+abbrev pub Gives : {X Y : Type 0} → (X → Y) → Result X ReadError → List ℕ → Field Y → Type 0
+Gives view (Ok x) rest read = read ≡ Ok (view x, rest)
+Gives view (Err e) rest read = Fails e read
+
+-- Nothing is left, or the fault is a rest.
+abbrev pub FindsEnd : {X : Type 0} → Result X Misread → List ℕ → Type 0
+FindsEnd (Ok x) bytes = (length bytes == 0) ≡ true
+FindsEnd (Err m) bytes = ((length bytes == 0) ≡ false) × (m ≡ record { cause = causes.Rest; left = length bytes })
+
+-- What is checked is read, or has this fault.
+abbrev pub Checks : {X Y : Type 0} → Result X Misread → Result Y Misread → Type 0
+Checks (Ok x) read = IsOk read
+Checks (Err m) read = read ≡ Err m
+
+abbrev pub GivesWhole : {X Y : Type 0} → (X → Y) → Result X ReadError → Result Y Misread → Type 0
+GivesWhole view (Ok x) read = read ≡ Ok (view x)
+GivesWhole view (Err e) read = Fails e read
