@@ -1,20 +1,14 @@
 -- What the input of `answer` asks: a line with the node, and a line with a frame in hexadecimal digits.
-use Rattle.std.specs.Prelude.{◌≡◌, ℕ, ◌-◌, ◌⊎◌, nat_lt, ◌==◌, if◌then◌else◌, List, length, Option, Some, None, Result, Ok, Err, MatchResult}
+use Rattle.std.specs.Prelude.{◌≡◌, ℕ, ◌⊎◌, ◌==◌, if◌then◌else◌, List, length, Option, Some, None, Result, Ok, Err, MatchResult}
 use Rattle.hex.specs.Hex.{decode_of}
 use Rattle.cg_types.specs.declared.fault.Fault.{Fault}
 use Rattle.cg_types.specs.declared.fault.Fault.TheVariants as fault
-use Rattle.cg_types.specs.declared.limits.TheConstants.{NUMBER_LIMIT, PARTITIONER}
-use Rattle.cg_types.specs.Words.{cut_at, number_of}
+use Rattle.cg_types.specs.declared.limits.TheConstants.{PARTITIONER}
+use Rattle.cg_types.specs.Words.{cut_at, generation_in}
 use Rattle.cg_types.specs.OptionSteps.{◌>>=◌}
 use Rattle.cg_types.specs.EndpointText.{endpoint_in}
 use Rattle.cg_types.specs.Text.{cluster_of}
 use Rattle.cg_tool.specs.declared.request.Header.{Header}
-
--- a generation, in decimal digits
-unfoldable pub generation_in : List ℕ → Option ℕ
-generation_in text = do
-  n ← number_of (NUMBER_LIMIT - 1) text
-  if nat_lt 0 n then Some n else None
 
 -- a value, or nothing where it is refused
 abbrev pub readable : {A E : Type 0} → Result A E → Option A

@@ -4,9 +4,9 @@ ghost use Rattle.std.specs.Prelude.{◌≡◌, ℕ, Option, Some, None, option_m
 ghost use Rattle.cg_types.specs.Text.{cluster_of};
 ghost use Rattle.cg_types.specs.declared.limits.TheConstants.{PARTITIONER};
 ghost use Rattle.hex.specs.Hex.{decode_of};
-ghost use Rattle.cg_tool.specs.Request.{generation_in as text_generation_in, header_in, last_line as text_last_line, readable, request_in, Finds};
+ghost use Rattle.cg_tool.specs.Request.{header_in, last_line as text_last_line, readable, request_in, Finds};
 
-use cg_types::{Cluster, Endpoint, Fault, Generation, NUMBER_LIMIT, cut, number};
+use cg_types::{Cluster, Endpoint, Fault, Generation, cut};
 use hex::FromHexError;
 use std::alloc::Global;
 
@@ -16,14 +16,6 @@ pub struct Header {
     pub endpoint: Endpoint,
     pub generation: Generation,
     pub cluster: Cluster,
-}
-
-#[tactic(auto, unfolding(crate::specs::Request::generation_in))]
-fn generation_in(text: &[u8]) -> Option<Generation>
-    ensures { result ≡ text_generation_in text.now }
-{
-    let number = number(text, u64::from(NUMBER_LIMIT) - 1)?;
-    Generation::new(number as u32)
 }
 
 // The cluster that a name names.
@@ -53,7 +45,7 @@ fn header_of(alloc: Global, line: &[u8]) -> Result<Header, Fault>
     let Some((generation, name)) = cut(rest, b' ') else {
         return Err(Fault::BadText);
     };
-    let Some(generation) = generation_in(generation) else {
+    let Some(generation) = Generation::from_bytes(generation) else {
         return Err(Fault::BadText);
     };
     let cluster = cluster_named(alloc, name)?;
