@@ -21,7 +21,8 @@ use Rattle.cg_table.specs.Values.{TableValue, Entries}
 use Rattle.cg_table.specs.Own.{own_entry, with_own}
 use Rattle.cg_table.specs.Merge.{is_ahead}
 use Rattle.cg_table.specs.Puts.{Put, puts, rows_at}
-use Rattle.cg_table.specs.Taking.{taken}
+use Rattle.cg_table.specs.Taking.{change_by}
+use Rattle.cg_table.proofs.PlaceLaws.{row_key}
 use Rattle.cg_table.proofs.PutsLemmas.{AreHeld, later_entries-put_each, put_each-held}
 use Rattle.cg_exchange.specs.declared.message.Message.TheVariants as message
 use Rattle.cg_exchange.specs.declared.outcome.Outcome.{Outcome}
@@ -29,9 +30,9 @@ use Rattle.cg_exchange.specs.declared.owner_delta.OwnerDelta.{OwnerDelta}
 use Rattle.cg_exchange.specs.Values.{Ack2Value}
 use Rattle.cg_exchange.specs.Members.{endpoints_of_deltas}
 use Rattle.cg_exchange.specs.Answering.{answer_to_syn}
-use Rattle.cg_exchange.specs.Changes.{row_of, row_changed, outcome_of, endpoints_of_outcomes}
-use Rattle.cg_exchange.specs.Taking.{taking_ack, taking_ack2}
-use Rattle.cg_exchange.proofs.TakingLemmas.{row_key, rows_rise, taken_at_once, outcomes_rise}
+use Rattle.cg_exchange.specs.Changes.{row_changed, endpoints_of_outcomes}
+use Rattle.cg_exchange.specs.Taking.{outcome_of, taking_ack, taking_ack2}
+use Rattle.cg_exchange.proofs.TakingLemmas.{rows_rise, taken_at_once, outcomes_rise}
 use Rattle.cg_core.specs.declared.event.Event.{Event}
 use Rattle.cg_core.specs.declared.event.Event.TheVariants as event
 use Rattle.cg_core.specs.declared.reply.Reply.{Reply}
@@ -60,7 +61,7 @@ own_row t e held later =
 
 -- ---- the rows of the deltas that were taken
 
-ahead_at : (k : ℕ) (held : Option EntryValue) (d : DeltaValue) (own : Bool) (a : Absorbed) (r : Put) → met held d ≡ a → cond own None (row_of k a) ≡ Some r → is_ahead held r.1 ≡ true
+ahead_at : (k : ℕ) (held : Option EntryValue) (d : DeltaValue) (own : Bool) (a : Absorbed) (r : Put) → met held d ≡ a → (cond own (None, took.Own) (change_by k a)).0 ≡ Some r → is_ahead held r.1 ≡ true
 ahead_at k held d true a r made is = absurd cc
 ahead_at k held d false (absorbed.Taken x) r made is = ap (λ (p : Put). is_ahead held p.1) (sym (same_Some (k, x) r is)) ∙ met_ahead held d x made
 ahead_at k held d false absorbed.Old r made is = absurd cc
@@ -69,7 +70,7 @@ ahead_at k held d false absorbed.Gap r made is = absurd cc
 module _ (t : TableValue) where
   row_ahead : (d : OwnerDelta) (r : Put) → row_changed t d ≡ Some r → is_ahead (get t.entries r.0) r.1 ≡ true
   row_ahead d r is =
-      ap (λ (k : ℕ). is_ahead (get t.entries k) r.1) (row_key t d r is)
+      ap (λ (k : ℕ). is_ahead (get t.entries k) r.1) (row_key t d.endpoint d.delta r is)
       ∙ ahead_at d.endpoint (get t.entries d.endpoint) d.delta (d.endpoint == t.own) (met (get t.entries d.endpoint) d.delta) r refl is
 
   found_by : (q : ℕ) (e : EntryValue) (d : OwnerDelta) (o : Option Put) (rows : List Put) → row_changed t d ≡ o → (find nat_cmp q rows ≡ Some e → is_ahead (get t.entries q) e ≡ true)
@@ -85,8 +86,8 @@ module _ (t : TableValue) where
   found_ahead [] q e at = absurd cc
   found_ahead (d ∷ ds) q e at = found_by q e d (row_changed t d) (filter_map (row_changed t) ds) refl (found_ahead ds q e) at
 
-  row_by : (m : Entries) (k : ℕ) (own : Bool) (a : Absorbed) (os : List Outcome) (rows : List Put) → AreHeld m (cons_option (cond own None (row_of k a)) rows) → (AreHeld m rows → rows_at m (taken_owners os) ≡ rows)
-      → rows_at m (taken_owners (record { endpoint = k; took = (cond own (t, took.Own) (taken t k a)).1 } ∷ os)) ≡ cons_option (cond own None (row_of k a)) rows
+  row_by : (m : Entries) (k : ℕ) (own : Bool) (a : Absorbed) (os : List Outcome) (rows : List Put) → AreHeld m (cons_option (cond own (None, took.Own) (change_by k a)).0 rows) → (AreHeld m rows → rows_at m (taken_owners os) ≡ rows)
+      → rows_at m (taken_owners (record { endpoint = k; took = (cond own (None, took.Own) (change_by k a)).1 } ∷ os)) ≡ cons_option (cond own (None, took.Own) (change_by k a)).0 rows
   row_by m k true a os rows held rest = rest held
   row_by m k false (absorbed.Taken x) os rows held rest = (λ i. cons_option (option_map (λ (e : EntryValue). (k, e)) (held.0 i)) (rows_at m (taken_owners os))) ∙ ap (λ (ps : List Put). (k, x) ∷ ps) (rest held.1)
   row_by m k false absorbed.Old os rows held rest = rest held

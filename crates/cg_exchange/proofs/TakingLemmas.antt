@@ -1,5 +1,5 @@
 -- The deltas of a message are about owners that rise: each meets the table as it was.
-use Rattle.std.proofs.Common.{◌≡◌, ◌+◌, ◌≤◌, ◌==◌, ℕ, Bool, true, false, cond, List, [], ◌∷◌, map, Option, Some, None, refl, sym, ap, subst, arith}
+use Rattle.std.proofs.Common.{◌≡◌, ◌+◌, ◌≤◌, ◌==◌, ℕ, Bool, true, false, cond, List, [], ◌∷◌, map, Option, Some, None, refl, ap, subst, arith}
 use Rattle.std.specs.Prelude.{not, is_some, count_by, ◌&&◌}
 use Rattle.std.specs.List.{filter_map, cons_option}
 use Rattle.std.specs.FinMap.{get, insert, len, contains_key}
@@ -15,13 +15,14 @@ use Rattle.cg_entry.specs.Values.{EntryValue, DeltaValue}
 use Rattle.cg_entry.specs.Taking.{met, taken_or_gap}
 use Rattle.cg_table.specs.declared.took.Took.TheVariants as took
 use Rattle.cg_table.specs.Values.{TableValue, Entries}
-use Rattle.cg_table.specs.Taking.{taken, take_one, needs_room}
+use Rattle.cg_table.specs.Taking.{Change, change_by, after_change, take_one, needs_room}
+use Rattle.cg_table.proofs.PlaceLaws.{row_key}
 use Rattle.cg_table.proofs.RoomLemmas.{count_by-cons, strangers, len-put_each}
 use Rattle.cg_exchange.specs.declared.owner_delta.OwnerDelta.{OwnerDelta}
 use Rattle.cg_exchange.specs.declared.outcome.Outcome.{Outcome}
 use Rattle.cg_exchange.specs.Members.{endpoints_of_deltas}
-use Rattle.cg_exchange.specs.Taking.{table_after, outcomes_of, held_after}
-use Rattle.cg_exchange.specs.Changes.{row_of, row_changed, outcome_of, endpoints_of_outcomes}
+use Rattle.cg_exchange.specs.Taking.{table_after, outcome_of, outcomes_of, held_after}
+use Rattle.cg_exchange.specs.Changes.{row_changed, endpoints_of_outcomes}
 use Rattle.cg_map.proofs.ListLemmas.{rise_mapped}
 
 -- the table that a table's member holds, with these entries
@@ -34,14 +35,18 @@ pub record AreTakenAtOnce (t : TableValue) (m : Entries) (ds : List OwnerDelta) 
   pub outcomes : outcomes_of (holding t m) ds ≡ map (outcome_of t) ds
 
 module _ (t : TableValue) where
-  -- one delta and those after it, by whether it is about the own endpoint and by what it makes of what is held
-  record AreTakenWith (m : Entries) (d : OwnerDelta) (ds : List OwnerDelta) (own : Bool) (a : Absorbed) : Type 0 where
-    after : table_after (cond own (holding t m, took.Own) (taken (holding t m) d.endpoint a)).0 ds ≡ holding t (put_each (cons_option (cond own None (row_of d.endpoint a)) (filter_map (row_changed t) ds)) m)
-    outcomes : ◌≡◌ {A = List Outcome} (record { endpoint = d.endpoint; took = (cond own (holding t m, took.Own) (taken (holding t m) d.endpoint a)).1 } ∷ outcomes_of (cond own (holding t m, took.Own) (taken (holding t m) d.endpoint a)).0 ds)
-        (record { endpoint = d.endpoint; took = (cond own (t, took.Own) (taken t d.endpoint a)).1 } ∷ map (outcome_of t) ds)
+  -- the change of a delta, by whether it is about the own endpoint and by what it makes of what is held
+  abbrev changing : OwnerDelta → Bool → Absorbed → Change
+  changing d own a = cond own (None, took.Own) (change_by d.endpoint a)
+
+  -- one delta and those after it
+  record AreTakenWith (m : Entries) (d : OwnerDelta) (ds : List OwnerDelta) (change : Change) : Type 0 where
+    after : table_after (after_change (holding t m) change).0 ds ≡ holding t (put_each (cons_option change.0 (filter_map (row_changed t) ds)) m)
+    outcomes : ◌≡◌ {A = List Outcome} (record { endpoint = d.endpoint; took = change.1 } ∷ outcomes_of (after_change (holding t m) change).0 ds)
+        (record { endpoint = d.endpoint; took = change.1 } ∷ map (outcome_of t) ds)
 
   step : (m : Entries) (d : OwnerDelta) (ds : List OwnerDelta) (own : Bool) (a : Absorbed) → AgreePast t.entries (Some d.endpoint) m
-      → ((n : Entries) → AgreePast t.entries (Some d.endpoint) n → AreTakenAtOnce t n ds) → AreTakenWith m d ds own a
+      → ((n : Entries) → AgreePast t.entries (Some d.endpoint) n → AreTakenAtOnce t n ds) → AreTakenWith m d ds (changing d own a)
   step m d ds true a same rest = let r = rest m same in record { after = r.after; outcomes = ap (λ (os : List Outcome). record { endpoint = d.endpoint; took = took.Own } ∷ os) r.outcomes }
   step m d ds false (absorbed.Taken x) same rest =
       let r = rest (insert m d.endpoint x) (still_agree t.entries m d.endpoint x same) in record { after = r.after; outcomes = ap (λ (os : List Outcome). record { endpoint = d.endpoint; took = took.Taken } ∷ os) r.outcomes }
@@ -62,25 +67,16 @@ module _ (t : TableValue) where
 
 -- ---- the rows that deltas change
 
-row_key_by : (own : Bool) (e : ℕ) (a : Absorbed) (r : ℕ × EntryValue) → cond own None (row_of e a) ≡ Some r → r.0 ≡ e
-row_key_by true e a r is = absurd cc
-row_key_by false e (absorbed.Taken x) r is = let same : (e, x) ≡ r = cc in ap (λ (r : ℕ × EntryValue). r.0) (sym same)
-row_key_by false e absorbed.Old r is = absurd cc
-row_key_by false e absorbed.Gap r is = absurd cc
-
-pub row_key : (t : TableValue) (d : OwnerDelta) (r : ℕ × EntryValue) → row_changed t d ≡ Some r → r.0 ≡ d.endpoint
-row_key t d r is = row_key_by (d.endpoint == t.own) d.endpoint (met (get t.entries d.endpoint) d.delta) r is
-
 -- the rows that are changed rise, as the deltas do
 pub rows_rise : (t : TableValue) (ds : List OwnerDelta) → Rises (endpoints_of_deltas ds) → Rises (keys_of (filter_map (row_changed t) ds))
-rows_rise t ds rise = rise_mapped (row_changed t) (λ d. d.endpoint) (λ r. r.0) (row_key t) None ds rise
+rows_rise t ds rise = rise_mapped (row_changed t) (λ d. d.endpoint) (λ r. r.0) (λ d. row_key t d.endpoint d.delta) None ds rise
 
-whole_by : (e : ℕ) (whole : Bool) (x : EntryValue) (r : ℕ × EntryValue) → row_of e (taken_or_gap (cond whole (Some x) None)) ≡ Some r → (whole && true) ≡ true
+whole_by : (e : ℕ) (whole : Bool) (x : EntryValue) (r : ℕ × EntryValue) → (change_by e (taken_or_gap (cond whole (Some x) None))).0 ≡ Some r → (whole && true) ≡ true
 whole_by e true x r is = refl
 whole_by e false x r is = absurd cc
 
 -- a row of an owner that was not held is that of a whole delta
-stranger_by : (own : Bool) (e : ℕ) (held : Option EntryValue) (d : DeltaValue) (r : ℕ × EntryValue) → cond own None (row_of e (met held d)) ≡ Some r → not (is_some held) ≡ true
+stranger_by : (own : Bool) (e : ℕ) (held : Option EntryValue) (d : DeltaValue) (r : ℕ × EntryValue) → (cond own (None, took.Own) (change_by e (met held d))).0 ≡ Some r → not (is_some held) ≡ true
     → (d.above == 0 && not (is_some held)) ≡ true
 stranger_by true e held d r is new = absurd cc
 stranger_by false e (Some x) d r is new = absurd cc
@@ -88,7 +84,7 @@ stranger_by false e None d r is new = whole_by e (d.above == 0) (record { genera
 
 stranger_needs : (t : TableValue) (d : OwnerDelta) (r : ℕ × EntryValue) → row_changed t d ≡ Some r → not (contains_key t.entries r.0) ≡ true → needs_room t.entries d.endpoint d.delta ≡ true
 stranger_needs t d r is new =
-    stranger_by (d.endpoint == t.own) d.endpoint (get t.entries d.endpoint) d.delta r is (subst (λ (k : ℕ). not (contains_key t.entries k) ≡ true) (row_key t d r is) new)
+    stranger_by (d.endpoint == t.own) d.endpoint (get t.entries d.endpoint) d.delta r is (subst (λ (k : ℕ). not (contains_key t.entries k) ≡ true) (row_key t d.endpoint d.delta r is) new)
 
 more_by : (q : Bool) (a b : ℕ) → a ≤ b → a ≤ cond q 1 0 + b
 more_by true a b le = omega (arith, le)

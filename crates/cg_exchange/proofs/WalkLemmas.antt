@@ -16,7 +16,7 @@ use Rattle.cg_table.specs.declared.digest.Digest.{Digest}
 use Rattle.cg_table.specs.Values.{Entries}
 use Rattle.cg_exchange.specs.Members.{endpoints_of_digests}
 use Rattle.cg_exchange.specs.Answering.{asked, requests_for, deltas_for}
-use Rattle.cg_exchange.specs.Walking.{from_owner, first_about, side_by_side, asked_by, sent_by}
+use Rattle.cg_exchange.specs.Walking.{from_owner, first_about, asked_by, sent_by}
 
 less_differs : (x k : ℕ) → x < k → (x == k) ≡ false
 less_differs x k lt = grind (arith, nat_tests)
@@ -75,6 +75,12 @@ module _ {X : Type 0} (owner : X → ℕ) where
       let rest = second_of (is_past last (owner y)) (rise_past (Some (owner y)) (map owner ys)) h in
       let later = rise_from k last ys (rise_earlier last (owner y) (map owner ys) here rest) in
       elim (nat_lt (owner y) k) as (λ b. rise_past last (map owner (cond b (from_owner owner k ys) (y ∷ ys))) ≡ true) [ true ↦ later | false ↦ h ]
+
+module _ {X Y Z : Type 0} (key : X → ℕ) (owner : Y → ℕ) (f : X → Option Y → Option Z) where
+  -- what f gives of each member of the first list and of the second list's member about its owner
+  abbrev pub side_by_side : List X → List Y → List Z
+  side_by_side [] ys = []
+  side_by_side (x ∷ xs) ys = cons_option (f x (first_about owner (key x) (from_owner owner (key x) ys))) (side_by_side xs (from_owner owner (key x) ys))
 
 module _ {X Y Z : Type 0} (key : X → ℕ) (owner : Y → ℕ) (f : X → Option Y → Option Z) where
   walked_past : (all : List Y) (last : Option ℕ) (xs : List X) (ys : List Y) → rise_past last (map key xs) ≡ true → Rises (map owner ys)

@@ -1,5 +1,5 @@
 -- The answers to messages, by what the receiver holds.
-use Rattle.std.specs.Prelude.{ℕ, Bool, ◌&&◌, ◌==◌, nat_lt, List, find, Option, Some, None, Result, Ok, Err, if◌then◌else◌}
+use Rattle.std.specs.Prelude.{ℕ, Bool, ◌&&◌, ◌==◌, nat_lt, List, Option, Some, None, Result, Ok, Err, if◌then◌else◌}
 use Rattle.std.specs.List.{filter_map}
 use Rattle.std.specs.Str.{bytes_eq}
 use Rattle.std.specs.Option.{option_map}
@@ -14,7 +14,7 @@ use Rattle.cg_table.specs.Table.{digests_of}
 use Rattle.cg_table.specs.Values.{TableValue, Entries}
 use Rattle.cg_exchange.specs.declared.owner_delta.OwnerDelta.{OwnerDelta}
 use Rattle.cg_exchange.specs.Values.{RequestValue, SynValue, AckValue}
-use Rattle.cg_exchange.specs.Members.{about}
+use Rattle.cg_exchange.specs.Members.{about, digest_about}
 
 -- the same name and the same partitioner
 abbrev pub same_cluster : ClusterValue → ClusterValue → Bool
@@ -43,7 +43,7 @@ sent e (Some d) =
 
 -- what is sent of an endpoint's entry, by the sender's digests
 abbrev pub delta_for : List Digest → ℕ × EntryValue → Option OwnerDelta
-delta_for digests held = option_map (about held.0) (sent held.1 (find (λ d. d.endpoint == held.0) digests))
+delta_for digests held = option_map (about held.0) (sent held.1 (digest_about held.0 digests))
 
 -- what is sent of all entries; one that no digest names is sent whole
 abbrev pub deltas_for : Entries → List Digest → List OwnerDelta

@@ -1,5 +1,5 @@
 -- Lists of members in messages: they rise strictly by endpoint, and are few.
-use Rattle.std.specs.Prelude.{ℕ, Bool, ◌≤◌, ◌&&◌, nat_le, None, List, map, length}
+use Rattle.std.specs.Prelude.{ℕ, Bool, ◌≤◌, ◌&&◌, ◌==◌, nat_le, Option, None, List, find, map, length}
 use Rattle.cg_types.specs.declared.limits.TheConstants.{MEMBER_LIMIT}
 use Rattle.cg_types.specs.Rising.{Rises, rise_past}
 use Rattle.cg_entry.specs.Values.{DeltaValue}
@@ -25,6 +25,10 @@ endpoints_of_requests requests = map (λ r. r.endpoint) requests
 
 abbrev pub endpoints_of_deltas : List OwnerDelta → List ℕ
 endpoints_of_deltas deltas = map (λ d. d.endpoint) deltas
+
+-- the digest about an owner, if there is one
+abbrev pub digest_about : ℕ → List Digest → Option Digest
+digest_about owner digests = find (λ d. d.endpoint == owner) digests
 
 -- a delta about an owner
 abbrev pub about : ℕ → DeltaValue → OwnerDelta

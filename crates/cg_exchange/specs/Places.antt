@@ -1,11 +1,9 @@
 -- The rules of messages, by places in owners' histories. A place is how many of an owner's entries were seen, and 0 is none.
-use Rattle.std.specs.Prelude.{◌≡◌, ℕ, ◌≤◌, ◌⊎◌, ◌==◌, nat_lt, Bool, List, length, Option, Some, None, if◌then◌else◌}
+use Rattle.std.specs.Prelude.{◌≡◌, ℕ, ◌≤◌, ◌⊎◌, ◌==◌, nat_lt, List, length, Option, Some, None, if◌then◌else◌}
 use Rattle.cg_entry.specs.Values.{EntryValue}
 use Rattle.cg_entry.specs.History.{generation_at}
-use Rattle.cg_entry.specs.Place.{Span, SpanOutcome, taking, place_after}
-use Rattle.cg_entry.specs.Place as place
-use Rattle.cg_table.specs.declared.took.Took.{Took}
-use Rattle.cg_table.specs.declared.took.Took.TheVariants as took
+use Rattle.cg_entry.specs.Place.{Span}
+pub use Rattle.cg_table.specs.Places.{took_of_span, took_for, place_with}
 
 -- asks for what lies after a place of a generation
 pub record Ask : Type 0 where
@@ -41,18 +39,3 @@ span_asked history mine ask =
     else if nat_lt ask.generation (generation_at history mine) then Some (record { from = 0; to = mine })
     else if nat_lt ask.from mine then Some (record { from = ask.from; to = mine })
     else None
-
--- what becomes of a span, in the words of deltas
-abbrev pub took_of_span : SpanOutcome → Took
-took_of_span place.Taken = took.Taken
-took_of_span place.Old = took.Old
-took_of_span place.Gap = took.Gap
-
--- what becomes of a span about an owner, which may be the holder itself
-abbrev pub took_for : Bool → ℕ → Span → Took
-took_for own place span = if own then took.Own else took_of_span (taking place span)
-
--- where a holder is after a span about an owner, if it got one; about itself none moves it
-abbrev pub place_with : Bool → ℕ → Option Span → ℕ
-place_with own place None = place
-place_with own place (Some span) = if own then place else place_after (taking place span) place span

@@ -13,14 +13,12 @@ use Rattle.cg_exchange.specs.declared.message.Message.{Message}
 use Rattle.cg_exchange.specs.declared.message.Message.TheVariants as kinds
 use Rattle.cg_exchange.specs.declared.outcome.Outcome.{Outcome}
 use Rattle.cg_exchange.specs.Values.{RequestValue, SynValue, AckValue, Ack2Value}
+pub use Rattle.cg_exchange.specs.Members.{digest_about}
 use Rattle.cg_exchange.specs.Members.{about, endpoints_of_digests, endpoints_of_requests, endpoints_of_deltas}
 use Rattle.cg_exchange.specs.Places.{Ask}
 use Rattle.cg_exchange.specs.PlaceMessages.{PlaceMessage, Syn, Ack, Ack2}
 
 -- what a list has about an owner
-abbrev pub digest_about : ℕ → List Digest → Option Digest
-digest_about owner digests = find (λ d. d.endpoint == owner) digests
-
 abbrev pub request_about : ℕ → List RequestValue → Option RequestValue
 request_about owner requests = find (λ r. r.endpoint == owner) requests
 

@@ -20,12 +20,17 @@ abbrev pub table_after : TableValue → List OwnerDelta → TableValue
 table_after t [] = t
 table_after t (d ∷ ds) = table_after (take_one t d.endpoint d.delta).0 ds
 
+-- what becomes of a delta
+abbrev pub outcome_of : TableValue → OwnerDelta → Outcome
+outcome_of t d = record { endpoint = d.endpoint; took = (take_one t d.endpoint d.delta).1 }
+
 -- what became of each delta, in the order of the deltas
 abbrev pub outcomes_of : TableValue → List OwnerDelta → List Outcome
 outcomes_of t [] = []
-outcomes_of t (d ∷ ds) = record { endpoint = d.endpoint; took = (take_one t d.endpoint d.delta).1 } ∷ outcomes_of (take_one t d.endpoint d.delta).0 ds
+outcomes_of t (d ∷ ds) = outcome_of t d ∷ outcomes_of (take_one t d.endpoint d.delta).0 ds
 
--- How many endpoints would be held: those that are, and those that whole deltas are about and that are not. The own endpoint is always held.
+-- How many endpoints would be held: those that are, and those that whole deltas are about and that are not. The own
+-- endpoint is always held.
 abbrev pub held_after : TableValue → List OwnerDelta → ℕ
 held_after t ds = table.len t.entries + count_by (λ d. needs_room t.entries d.endpoint d.delta) ds
 

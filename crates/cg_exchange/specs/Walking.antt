@@ -1,6 +1,5 @@
 -- Two lists whose owners rise, walked side by side.
 use Rattle.std.specs.Prelude.{ℕ, ◌==◌, nat_lt, List, [], ◌∷◌, Option, Some, None, if◌then◌else◌}
-use Rattle.std.specs.List.{cons_option}
 use Rattle.std.specs.Option.{option_map}
 use Rattle.cg_entry.specs.Values.{EntryValue}
 use Rattle.cg_table.specs.declared.digest.Digest.{Digest}
@@ -19,12 +18,6 @@ module _ {X : Type 0} (owner : X → ℕ) where
   abbrev pub first_about : ℕ → List X → Option X
   first_about k [] = None
   first_about k (x ∷ xs) = if owner x == k then Some x else None
-
-module _ {X Y Z : Type 0} (key : X → ℕ) (owner : Y → ℕ) (f : X → Option Y → Option Z) where
-  -- what f gives of each member of the first list and of the second list's member about its owner
-  abbrev pub side_by_side : List X → List Y → List Z
-  side_by_side [] ys = []
-  side_by_side (x ∷ xs) ys = cons_option (f x (first_about owner (key x) (from_owner owner (key x) ys))) (side_by_side xs (from_owner owner (key x) ys))
 
 -- what is asked of the sender of a digest, by the row of its endpoint
 abbrev pub asked_by : Digest → Option (ℕ × EntryValue) → Option RequestValue

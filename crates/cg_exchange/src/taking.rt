@@ -4,28 +4,20 @@ ghost use Rattle.std.specs.Prelude.{◌≡◌, ◌≤◌, IfOk, length, map, opt
 ghost use Rattle.std.specs.List.{filter_map};
 ghost use Rattle.cg_types.specs.Answer.{Answers};
 ghost use Rattle.cg_types.specs.Rising.{Rises};
-ghost use Rattle.cg_table.specs.Taking.{needs_room as needs_room_for};
 ghost use Rattle.cg_exchange.specs.Members.{endpoints_of_deltas};
-ghost use Rattle.cg_exchange.specs.Taking.{table_after, outcomes_of, held_after as held_after_of, granted as granted_of, delta_granted as delta_granted_of, deltas_granted as deltas_granted_of, taking_ack, taking_ack2};
-ghost use Rattle.cg_exchange.specs.Changes.{row_changed, outcome_of, endpoints_of_outcomes};
+ghost use Rattle.cg_exchange.specs.Taking.{table_after, outcome_of, outcomes_of, held_after as held_after_of, granted as granted_of, delta_granted as delta_granted_of, deltas_granted as deltas_granted_of, taking_ack, taking_ack2};
+ghost use Rattle.cg_exchange.specs.Changes.{row_changed, endpoints_of_outcomes};
 
 use crate::ack::Ack;
 use crate::ack2::Ack2;
 use crate::outcome::Outcome;
 use crate::owner_delta::OwnerDelta;
 use crate::request::Request;
-use cg_entry::{Absorbed, Delta, Entry, met};
+use cg_entry::{Delta, Entry};
 use cg_map::{Row, push_some};
-use cg_table::{Table, Took};
+use cg_table::Table;
 use cg_types::{Fault, MEMBER_LIMIT};
 use std::alloc::{AllocError, Global};
-
-// Whether a delta needs room for one more endpoint.
-fn needs_room(table: &Table, sent: &OwnerDelta) -> bool
-    ensures { result ≡ needs_room_for table.now.entries sent.now.endpoint sent.now.delta }
-{
-    sent.delta.above() == 0 && table.get(sent.endpoint).is_none()
-}
 
 // How many endpoints would be held after the deltas.
 fn held_after(table: &Table, deltas: &[OwnerDelta]) -> usize
@@ -35,32 +27,11 @@ fn held_after(table: &Table, deltas: &[OwnerDelta]) -> usize
     let owners = table.owners();
     let mut count = owners.len();
     for sent in deltas {
-        if needs_room(table, sent) {
+        if table.needs_room(sent.endpoint, &sent.delta) {
             count += 1;
         }
     }
     count
-}
-
-// The row that a delta changes, if it changes one, and what becomes of the delta.
-fn changed(
-    alloc: Global,
-    table: &Table,
-    sent: &OwnerDelta,
-) -> Result<(Option<Row<Entry>>, Outcome), AllocError>
-    ensures { IfOk result (λ x. x ≡ (row_changed table.now sent.now, outcome_of table.now sent.now)) }
-{
-    let endpoint = sent.endpoint;
-    if endpoint == table.own() {
-        let took = Took::Own;
-        return Ok((None, Outcome { endpoint, took }));
-    }
-    let (row, took) = match met(alloc, table.get(endpoint), &sent.delta)? {
-        Absorbed::Taken(entry) => (Some(Row::new(alloc, endpoint, entry)?), Took::Taken),
-        Absorbed::Old => (None, Took::Old),
-        Absorbed::Gap => (None, Took::Gap),
-    };
-    Ok((row, Outcome { endpoint, took }))
 }
 
 // The rows that the deltas change, and what becomes of each delta.
@@ -75,9 +46,10 @@ fn changes(
     let mut rows = Vec::new(alloc);
     let mut outcomes = Vec::new(alloc);
     for sent in deltas {
-        let (row, outcome) = changed(alloc, table, sent)?;
+        let endpoint = sent.endpoint;
+        let (row, took) = table.delta_change(alloc, endpoint, &sent.delta)?;
         push_some(&mut rows, row)?;
-        outcomes.push(outcome)?;
+        outcomes.push(Outcome { endpoint, took })?;
     }
     Ok((rows, outcomes))
 }

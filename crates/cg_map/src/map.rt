@@ -74,7 +74,7 @@ impl<T: Drop> SharedMap<T> {
         &self.rows
     }
 
-    /// A map with one value put, which shares all others. `AllocError` where its list of rows or the new row finds no
+    /// A map with one value put, which shares all others. `AllocError` where the new row or the list of rows finds no
     /// memory.
     pub fn put(
         &self,
@@ -84,10 +84,17 @@ impl<T: Drop> SharedMap<T> {
     ) -> Result<SharedMap<T>, AllocError>
         ensures { IfOk result (λ m. m ≡ map.insert self.now endpoint value) }
     {
-        let (before, after) = around(&self.rows, endpoint);
+        self.put_row(alloc, Row::new(alloc, endpoint, value)?)
+    }
+
+    /// A map with one row put, which shares all others. `AllocError` where the list of rows finds no memory.
+    pub fn put_row(&self, alloc: Global, row: Row<T>) -> Result<SharedMap<T>, AllocError>
+        ensures { IfOk result (λ m. m ≡ map.insert self.now row.0 row.1) }
+    {
+        let (before, after) = around(&self.rows, row.endpoint());
         let mut rows = Vec::with_capacity(alloc, before.len() + 1 + after.len())?;
         share_all(&mut rows, before)?;
-        rows.push(Row::new(alloc, endpoint, value)?)?;
+        rows.push(row)?;
         share_all(&mut rows, after)?;
         Ok(SharedMap { rows })
     }

@@ -3,7 +3,7 @@
 ghost use Rattle.std.specs.Prelude.{◌≡◌, ◌≤◌, ◌↔◌, ℕ, true, false, IsTrue, IfOk, is_some, length, option_copied};
 ghost use Rattle.cg_types.specs.Answer.{Answers};
 ghost use Rattle.cg_table.specs.Merge.{is_ahead as is_ahead_of, later_of, later_entries as later_entries_of, owners_together as owners_together_of, merging};
-ghost use Rattle.cg_table.specs.Taking.{entries_after, taken, take_one as take_one_of, needs_room as needs_room_for, is_full_for, putting_delta};
+ghost use Rattle.cg_table.specs.Taking.{change_of, with_row as with_row_of, needs_room as needs_room_for, putting_delta};
 ghost use Rattle.std.specs.FinMap as table;
 ghost use Rattle.cg_types.specs.Rising.{Rises};
 ghost use Rattle.cg_map.specs.Rows.{keys_of};
@@ -173,75 +173,55 @@ impl Table {
         are_same_rows(self.owners(), other.owners())
     }
 
-    // Whether a delta needs room for one more endpoint: it is whole, and about one that is not held.
-    fn needs_room(&self, endpoint: Endpoint, delta: &Delta) -> bool
+    /// Whether a delta needs room for one more endpoint: it is whole, and about one that is not held.
+    pub fn needs_room(&self, endpoint: Endpoint, delta: &Delta) -> bool
         ensures { result ≡ needs_room_for self.now.entries endpoint delta.now }
     {
         delta.above() == 0 && self.get(endpoint).is_none()
     }
 
-    // A table with one entry put, which shares all others.
-    fn with_entry(
-        &self,
-        alloc: Global,
-        endpoint: Endpoint,
-        entry: Entry,
-    ) -> Result<Table, AllocError>
-        requires { table.len (table.insert self.now.entries endpoint entry) ≤ MEMBER_LIMIT }
-        ensures { IfOk result (λ t. t ≡ record { own = self.now.own; entries = table.insert self.now.entries endpoint entry }) }
+    // A table with a row put, if there is one, which shares all others.
+    fn with_row(&self, alloc: Global, row: Option<Row<Entry>>) -> Result<Table, AllocError>
+        requires { table.len (with_row_of row self.now.entries) ≤ MEMBER_LIMIT }
+        ensures { IfOk result (λ t. t ≡ record { own = self.now.own; entries = with_row_of row self.now.entries }) }
     {
+        let Some(row) = row else {
+            return self.copy(alloc);
+        };
         Ok(Table {
             own: self.own,
-            entries: self.entries.put(alloc, endpoint, entry)?,
+            entries: self.entries.put_row(alloc, row)?,
         })
     }
 
-    /// The table with another entry for its own endpoint. It shares all others.
+    /// The table with another entry for its own endpoint. It shares all others. `AllocError` where the new row or the
+    /// list of rows finds no memory.
     pub fn with_own(&self, alloc: Global, entry: Entry) -> Result<Table, AllocError>
         ensures { IfOk result (λ t. t ≡ with_own_of entry self.now) }
     {
-        self.with_entry(alloc, self.own, entry)
+        let row = Row::new(alloc, self.own, entry)?;
+        self.with_row(alloc, Some(row))
     }
 
-    // The table where a delta about an endpoint came to this.
-    fn after(
-        &self,
-        alloc: Global,
-        endpoint: Endpoint,
-        met: Absorbed,
-    ) -> Result<(Table, Took), AllocError>
-        requires { table.len (entries_after self.now.entries endpoint met) ≤ MEMBER_LIMIT }
-        ensures { IfOk result (λ x. x ≡ taken self.now endpoint met) }
-    {
-        match met {
-            Absorbed::Taken(entry) => Ok((self.with_entry(alloc, endpoint, entry)?, Took::Taken)),
-            Absorbed::Old => Ok((self.copy(alloc)?, Took::Old)),
-            Absorbed::Gap => Ok((self.copy(alloc)?, Took::Gap)),
-        }
-    }
-
-    // The table after a delta about an endpoint, for which there is room.
-    fn take_one(
+    /// What a delta about an endpoint changes: the row that it leads to, if it is taken, and what becomes of it. None
+    /// changes the own entry. The table itself stays as it is: `with_rows` puts such rows. `AllocError` where the new
+    /// entry or its row finds no memory.
+    pub fn delta_change(
         &self,
         alloc: Global,
         endpoint: Endpoint,
         delta: &Delta,
-    ) -> Result<(Table, Took), AllocError>
-        requires { is_full_for self.now.entries endpoint delta.now ≡ false }
-        ensures { IfOk result (λ x. x ≡ take_one_of self.now endpoint delta.now) }
+    ) -> Result<(Option<Row<Entry>>, Took), AllocError>
+        ensures { IfOk result (λ x. x ≡ change_of self.now endpoint delta.now) }
     {
         if endpoint == self.own {
-            return Ok((self.copy(alloc)?, Took::Own));
+            return Ok((None, Took::Own));
         }
-        let met = met(alloc, self.get(endpoint), delta)?;
-        self.after(alloc, endpoint, met)
-    }
-
-    // Whether a delta finds no room.
-    fn is_full_for(&self, endpoint: Endpoint, delta: &Delta) -> bool
-        ensures { result ≡ is_full_for self.now.entries endpoint delta.now }
-    {
-        self.needs_room(endpoint, delta) && MEMBER_LIMIT < self.len() + 1
+        Ok(match met(alloc, self.get(endpoint), delta)? {
+            Absorbed::Taken(entry) => (Some(Row::new(alloc, endpoint, entry)?), Took::Taken),
+            Absorbed::Old => (None, Took::Old),
+            Absorbed::Gap => (None, Took::Gap),
+        })
     }
 
     /// The table after a delta about an endpoint, and what became of the delta. No other owner's entry changes.
@@ -255,10 +235,12 @@ impl Table {
     ) -> Result<(Table, Took), Fault>
         ensures { Answers (λ x. x) (putting_delta self.now endpoint delta.now) result }
     {
-        if self.is_full_for(endpoint, delta) {
+        let held = self.len();
+        if self.needs_room(endpoint, delta) && held + 1 > MEMBER_LIMIT {
             return Err(Fault::TableFull);
         }
-        Ok(self.take_one(alloc, endpoint, delta)?)
+        let (row, took) = self.delta_change(alloc, endpoint, delta)?;
+        Ok((self.with_row(alloc, row)?, took))
     }
 
     // How many endpoints both tables hold together.

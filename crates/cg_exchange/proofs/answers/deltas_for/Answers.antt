@@ -1,9 +1,9 @@
 use Rattle.std.proofs.Common.{◌≡◌, ◌∙◌, ap, sym}
 use Rattle.std.specs.List.{filter_map}
-use Rattle.cg_exchange.specs.Walking.{side_by_side, sent_by}
+use Rattle.cg_exchange.specs.Walking.{sent_by}
 use Rattle.cg_exchange.specs.Answering.{delta_for}
 use Rattle.cg_exchange.proofs.AnswerLemmas.{deltas_listed}
-use Rattle.cg_exchange.proofs.WalkLemmas.{walk_end, deltas_walked}
+use Rattle.cg_exchange.proofs.WalkLemmas.{side_by_side, walk_end, deltas_walked}
 use Rattle.cg_exchange.proofs.answers.deltas_for.Goals as goal
 
 pub returns-clause-value : goal.returns-clause-value

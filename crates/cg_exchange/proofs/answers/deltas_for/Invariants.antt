@@ -1,5 +1,6 @@
 use Rattle.std.proofs.Common.{◌≡◌, ◌++◌, drop}
-use Rattle.cg_exchange.specs.Walking.{side_by_side, sent_by}
+use Rattle.cg_exchange.specs.Walking.{sent_by}
+use Rattle.cg_exchange.proofs.WalkLemmas.{side_by_side}
 use Rattle.cg_exchange.proofs.answers.deltas_for.Given as goal
 
 abbrev pub invariant-loop-row : goal.invariant-loop-row

@@ -1,6 +1,7 @@
 use Rattle.std.proofs.Common.{◌≡◌, take, map}
 use Rattle.std.specs.List.{filter_map}
-use Rattle.cg_exchange.specs.Changes.{row_changed, outcome_of}
+use Rattle.cg_exchange.specs.Taking.{outcome_of}
+use Rattle.cg_exchange.specs.Changes.{row_changed}
 use Rattle.cg_exchange.proofs.taking.changes.Given as goal
 
 abbrev pub invariant-loop-sent : goal.invariant-loop-sent
