@@ -2,16 +2,16 @@
 use Rattle.std.proofs.Common.{◌≡◌, ℕ, List, [], ◌∷◌, ◌++◌, get_or, Some, None, refl, sym, ap, ◌∙◌}
 use Rattle.std.specs.Ordering.{nat_cmp}
 use Rattle.std.specs.Cmp.{nat_cmp_total}
-use Rattle.std.specs.FinMap.{FinMap, entries, entries_sorted, insert, get, from_sorted, same_entries_map, entries-from_sorted, entries-insert}
+use Rattle.std.specs.FinMap.{FinMap, empty, entries, entries_sorted, insert, get, from_sorted, same_entries_map, entries-from_sorted, entries-insert}
 use Rattle.cg_types.specs.Rising.{Rises}
-use Rattle.cg_types.proofs.RisingLemmas.{entries_rising, get_rising, rise_sorted}
+use Rattle.cg_types.proofs.RisingLemmas.{entries_rising, from_sorted-none, get_rising, rise_sorted}
 use Rattle.cg_map.specs.Rows.{keys_of, before, after, walked, IsRowAt, IsGapAt}
 use Rattle.cg_map.specs.Map.{put_each}
 use Rattle.cg_map.proofs.RowLemmas.{find_row, find_in_gap}
 use Rattle.cg_map.proofs.PutLemmas.{put_all, put_all-walked, walk_step}
 
 module _ {X : Type 0} where
-  from_sorted-entries : (m : FinMap nat_cmp X) → from_sorted (entries m) ≡ m
+  pub from_sorted-entries : (m : FinMap nat_cmp X) → from_sorted (entries m) ≡ m
   from_sorted-entries m = same_entries_map (from_sorted (entries m)) m (entries-from_sorted nat_cmp (entries m) (entries_sorted m))
 
   entries-put_each : (cs : List (ℕ × X)) (m : FinMap nat_cmp X) → entries (put_each cs m) ≡ put_all cs (entries m)
@@ -39,6 +39,16 @@ module _ {X : Type 0} where
   pub not_got : (rows given : List (ℕ × X)) (m : FinMap nat_cmp X) (k at : ℕ) → given ≡ rows → Rises (keys_of rows) → from_sorted {R = nat_cmp} rows ≡ m → IsGapAt given k at → None ≡ get m k
   not_got rows given m k at same valid seen gap =
       sym (find_in_gap k rows at (rw same at gap)) ∙ sym (get_rising rows k valid) ∙ ap (λ (n : FinMap nat_cmp X). get n k) seen
+
+  -- a map is empty exactly where it has no rows
+  pub entries-empty : entries (empty {X = X} {R = nat_cmp}) ≡ []
+  entries-empty = ap (λ (n : FinMap nat_cmp X). entries n) (sym from_sorted-none) ∙ entries_rising [] refl
+
+  pub no_rows : (rows : List (ℕ × X)) (m : FinMap nat_cmp X) → rows ≡ entries m → m ≡ empty → rows ≡ []
+  no_rows rows m is none = is ∙ ap (λ (n : FinMap nat_cmp X). entries n) none ∙ entries-empty
+
+  pub is_empty : (rows : List (ℕ × X)) (m : FinMap nat_cmp X) → rows ≡ entries m → rows ≡ [] → empty ≡ m
+  is_empty rows m is none = same_entries_map empty m (entries-empty ∙ sym none ∙ is)
 
   -- what `put` makes of the rows around the key
   pub put_rows : (rows given b a : List (ℕ × X)) (k : ℕ) (v : X) → given ≡ rows → b ≡ before k given → a ≡ after k given → ((b ++ (k, v) ∷ []) ++ a) ≡ walked ((k, v) ∷ []) rows

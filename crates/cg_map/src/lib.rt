@@ -4,9 +4,7 @@
 mod lists;
 mod map;
 mod rows;
-#[cfg(test)]
-mod tests;
 
 pub use lists::push_some;
 pub use map::SharedMap;
-pub use rows::Row;
+pub use rows::{Row, rows_rise};

@@ -1,14 +1,15 @@
 //! Lists that are made item by item.
 
-ghost use Rattle.std.specs.Prelude.{◌≡◌, ◌++◌, OnErr, OnOk};
+ghost use Rattle.std.specs.Prelude.{◌≡◌, ◌++◌, IsNone, IsOk, OnErr, OnOk};
 ghost use Rattle.std.specs.Option.{option_to_list};
 
 use std::alloc::AllocError;
 
 /// Puts an item at the end, if there is one. `AllocError` where the list finds no room for it; the list is then as it
-/// was, and the item is gone.
+/// was, and the item is gone. No item needs no room.
 pub fn push_some<T: Drop>(items: &mut Vec<T>, item: Option<T>) -> Result<(), AllocError>
     ensures ok { OnOk result (items.new.items ≡ items.old.items ++ option_to_list item) }
+    ensures none { IsNone item → IsOk result }
     ensures err { OnErr result (items.new.items ≡ items.old.items) }
 {
     if let Some(item) = item {

@@ -1,6 +1,6 @@
 //! A finite map from endpoints to shared values.
 
-ghost use Rattle.std.specs.Prelude.{◌≡◌, IfOk, option_copied};
+ghost use Rattle.std.specs.Prelude.{◌≡◌, IfOk, IsOk, option_copied};
 ghost use Rattle.std.specs.Option.{option_map};
 ghost use Rattle.std.specs.FinMap as map;
 ghost use Rattle.cg_types.specs.Rising.{Rises};
@@ -99,7 +99,8 @@ impl<T: Drop> SharedMap<T> {
         Ok(SharedMap { rows })
     }
 
-    /// A map with each of the rows put, in one walk. It shares all values. The rows have to rise by endpoint.
+    /// A map with each of the rows put, in one walk. It shares all values. The rows have to rise by endpoint, as
+    /// `rows_rise` tells.
     /// `AllocError` where the list of rows finds no memory.
     pub fn with_rows(&self, alloc: Global, changes: &[Row<T>]) -> Result<SharedMap<T>, AllocError>
         requires { Rises (keys_of changes.now) }
@@ -110,12 +111,18 @@ impl<T: Drop> SharedMap<T> {
         })
     }
 
-    /// The same map, which shares its values. `AllocError` where its list of rows finds no memory.
+    /// The same map, which shares its values. `AllocError` where its list of rows finds no memory; an empty map needs
+    /// none.
     pub fn copy(&self, alloc: Global) -> Result<SharedMap<T>, AllocError>
-        ensures { IfOk result (λ m. m ≡ self.now) }
+        ensures value { IfOk result (λ m. m ≡ self.now) }
+        ensures empty { self.now ≡ map.empty → IsOk result }
     {
-        let mut rows = Vec::with_capacity(alloc, self.rows.len())?;
-        share_all(&mut rows, &self.rows)?;
+        let shared = self.rows();
+        if shared.is_empty() {
+            return Ok(SharedMap::new(alloc));
+        }
+        let mut rows = Vec::with_capacity(alloc, shared.len())?;
+        share_all(&mut rows, shared)?;
         Ok(SharedMap { rows })
     }
 }

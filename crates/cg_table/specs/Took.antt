@@ -1,8 +1,15 @@
--- The code of what became of a delta, by which `==` of what holds one tells values apart.
-use Rattle.std.specs.Prelude.{ℕ, zero, suc, ◌≡◌, refl}
+-- What becomes of deltas: its names, and the code by which `==` of what holds one tells values apart.
+use Rattle.std.specs.Prelude.{ℕ, zero, suc, ◌≡◌, List, codes, refl}
 use Rattle.std.specs.Coded.{Coded, code_by, coded_ℕ}
 use Rattle.cg_table.specs.declared.took.Took.{Took}
 use Rattle.cg_table.specs.declared.took.Took.TheVariants.{Taken, Old, Gap, Own}
+
+-- the name of what became of a delta
+abbrev pub took_name : Took → List ℕ
+took_name Taken = codes "took"
+took_name Old = codes "old"
+took_name Gap = codes "gap"
+took_name Own = codes "own"
 
 abbrev number_of : Took → ℕ
 number_of Taken = 0

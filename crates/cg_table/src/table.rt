@@ -2,15 +2,17 @@
 
 ghost use Rattle.std.specs.Prelude.{◌≡◌, ◌≤◌, ◌↔◌, ℕ, true, false, IsTrue, IfOk, is_some, length, option_copied};
 ghost use Rattle.cg_types.specs.Answer.{Answers};
-ghost use Rattle.cg_table.specs.Merge.{is_ahead as is_ahead_of, later_of, later_entries as later_entries_of, owners_together as owners_together_of, merging};
+ghost use Rattle.cg_table.specs.Merge.{is_ahead as is_ahead_of, later_of, later_entries as later_entries_of, strangers as strangers_of, owners_together as owners_together_of, merging};
 ghost use Rattle.cg_table.specs.Taking.{change_of, with_row as with_row_of, needs_room as needs_room_for, putting_delta};
 ghost use Rattle.std.specs.FinMap as table;
+ghost use Rattle.std.specs.List.{AllByRecursion};
 ghost use Rattle.cg_types.specs.Rising.{Rises};
 ghost use Rattle.cg_map.specs.Rows.{keys_of};
 ghost use Rattle.cg_map.specs.Map.{put_each};
 ghost use Rattle.cg_table.specs.Own.{own_entry as own_entry_of, with_own as with_own_of};
 ghost use Rattle.cg_table.specs.Puts.{row_at};
 ghost use Rattle.cg_table.specs.Table.{alone, digest_of, digests_of};
+ghost use Rattle.cg_table.specs.Values.{AreOwnerEntries, IsOwnerRow};
 
 use crate::digest::Digest;
 use crate::took::Took;
@@ -28,7 +30,7 @@ pub struct Table {
 }
 
 impl Model for Table {
-    ghost use Rattle.cg_table.specs.Values.{TableValue, table_code, IsTable};
+    ghost use Rattle.cg_table.specs.Values.{TableValue, table_code, IsTable, AreOwnerEntries};
 
     ghost Value = { TableValue };
 
@@ -36,7 +38,7 @@ impl Model for Table {
 
     ghost view = { λ t. record { own = t.own; entries = t.entries } };
 
-    ghost invariant = { λ t. IsTable t.own t.entries };
+    ghost invariant = { λ t. IsTable t.own t.entries × AreOwnerEntries t.entries };
 }
 
 fn digest_of_row(row: &Row<Entry>) -> Digest
@@ -74,6 +76,23 @@ fn are_same_rows(ours: &[Row<Entry>], theirs: &[Row<Entry>]) -> bool
     true
 }
 
+// Reads a row, which tells that it is in range.
+fn show(row: &Row<Entry>)
+    ensures { IsOwnerRow row.now }
+{
+    let _port = row.endpoint().port();
+    let _states = row.value().states();
+}
+
+// Shows that each row is in range. It takes no memory and changes nothing.
+fn show_all(rows: &[Row<Entry>])
+    ensures { AllByRecursion IsOwnerRow rows.now }
+{
+    for row in rows {
+        show(row);
+    }
+}
+
 fn is_same_row(ours: &Row<Entry>, theirs: &Row<Entry>) -> bool
     ensures { IsTrue result ↔ (ours.now ≡ theirs.now) }
 {
@@ -85,10 +104,12 @@ impl Table {
     pub fn new(alloc: Global, own: Endpoint, entry: Entry) -> Result<Table, AllocError>
         ensures { IfOk result (λ t. t ≡ alone own entry) }
     {
+        let row = Row::new(alloc, own, entry)?;
+        show(&row);
         let none = SharedMap::new(alloc);
         Ok(Table {
             own,
-            entries: none.put(alloc, own, entry)?,
+            entries: none.put_row(alloc, row)?,
         })
     }
 
@@ -129,6 +150,7 @@ impl Table {
         ensures value { result.now ≡ table.entries self.now.entries }
         ensures rise { Rises (keys_of result.now) }
         ensures few { length result.now ≤ MEMBER_LIMIT }
+        ensures valid { AreOwnerEntries self.now.entries }
     {
         self.entries.rows()
     }
@@ -188,6 +210,7 @@ impl Table {
         let Some(row) = row else {
             return self.copy(alloc);
         };
+        show(&row);
         Ok(Table {
             own: self.own,
             entries: self.entries.put_row(alloc, row)?,
@@ -225,8 +248,8 @@ impl Table {
     }
 
     /// The table after a delta about an endpoint, and what became of the delta. No other owner's entry changes.
-    /// `TableFull` where a whole delta about an endpoint that is not held finds `MEMBER_LIMIT` held; that is decided
-    /// before any memory is taken. Else at most `OutOfMemory`.
+    /// `TableFull` where a whole delta about an endpoint that is not held finds `MEMBER_LIMIT` held; `OutOfMemory` never comes in its place, and is else the
+    /// only refusal.
     pub fn put_delta(
         &self,
         alloc: Global,
@@ -243,17 +266,34 @@ impl Table {
         Ok((self.with_row(alloc, row)?, took))
     }
 
-    // How many endpoints both tables hold together.
-    fn owners_together(&self, other: &Table) -> usize
-        ensures { result ≡ owners_together_of self.now.entries other.now.entries }
+    // How many of the rows are about endpoints that are not held.
+    fn strangers(&self, rows: &[Row<Entry>]) -> usize
+        ensures value { result ≡ strangers_of self.now.entries rows.now }
+        ensures few { result ≤ length rows.now }
     {
-        let mut count = self.len();
-        for row in other.owners() {
+        let mut count = 0;
+        for row in rows {
             if self.get(row.endpoint()).is_none() {
                 count += 1;
             }
         }
         count
+    }
+
+    // How many endpoints both tables hold together.
+    fn owners_together(&self, other: &Table) -> usize
+        ensures { result ≡ owners_together_of self.now.entries other.now.entries }
+    {
+        self.len() + self.strangers(other.owners())
+    }
+
+    /// Whether with the rows put at most `MEMBER_LIMIT` endpoints are held, as `with_rows` asks. The rows have to rise
+    /// by endpoint.
+    pub fn has_room_for(&self, rows: &[Row<Entry>]) -> bool
+        requires { Rises (keys_of rows.now) }
+        ensures { IsTrue result ↔ (table.len (put_each rows.now self.now.entries) ≤ MEMBER_LIMIT) }
+    {
+        self.strangers(rows) <= MEMBER_LIMIT - self.len()
     }
 
     // The other table's rows that are later than what is held of their owners.
@@ -271,13 +311,15 @@ impl Table {
     }
 
     /// A table with each of the rows put, in one walk over both lists. All entries are shared, the new ones too. The
-    /// rows have to rise by endpoint, and with them at most `MEMBER_LIMIT` endpoints to be held. `AllocError` where the
-    /// list of rows finds no memory.
+    /// rows have to rise by endpoint, and with them at most `MEMBER_LIMIT` endpoints to be held: `rows_rise` and
+    /// `has_room_for` tell. `AllocError` where the list of rows finds no memory.
     pub fn with_rows(&self, alloc: Global, changes: &[Row<Entry>]) -> Result<Table, AllocError>
         requires rise { Rises (keys_of changes.now) }
         requires room { table.len (put_each changes.now self.now.entries) ≤ MEMBER_LIMIT }
-        ensures { IfOk result (λ t. t ≡ record { own = self.now.own; entries = put_each changes.now self.now.entries }) }
+        ensures { IfOk result (λ t.
+            t ≡ record { own = self.now.own; entries = put_each changes.now self.now.entries }) }
     {
+        show_all(changes);
         Ok(Table {
             own: self.own,
             entries: self.entries.with_rows(alloc, changes)?,
@@ -285,11 +327,12 @@ impl Table {
     }
 
     /// Owner by owner the later entry of the two tables, this table's where neither is later; `own` stays. Entries are
-    /// shared, not copied. `TableFull` where both together hold more than `MEMBER_LIMIT` endpoints; that is decided
-    /// before any memory is taken. Else at most `OutOfMemory`.
+    /// shared, not copied. `TableFull` where both together hold more than `MEMBER_LIMIT` endpoints; `OutOfMemory` never comes in its place, and is else the
+    /// only refusal.
     pub fn merge(&self, alloc: Global, other: &Table) -> Result<Table, Fault>
         ensures due { Answers (λ t. t) (merging self.now other.now) result }
-        ensures each { IfOk result (λ t. (owner : ℕ) → table.get t.entries owner ≡ later_of (table.get self.now.entries owner) (table.get other.now.entries owner)) }
+        ensures each { IfOk result (λ t. (owner : ℕ) → table.get t.entries owner
+            ≡ later_of (table.get self.now.entries owner) (table.get other.now.entries owner)) }
     {
         if self.owners_together(other) > MEMBER_LIMIT {
             return Err(Fault::TableFull);

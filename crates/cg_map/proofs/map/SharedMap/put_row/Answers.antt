@@ -1,5 +1,5 @@
-use Rattle.std.proofs.Common.{◌≡◌, ◌++◌, [], ◌∷◌, refl, ap, ◌∙◌}
-use Rattle.cg_map.specs.Rows.{before, after, walked}
+use Rattle.std.proofs.Common.{[], ◌∷◌, refl, ap, ◌∙◌}
+use Rattle.cg_map.specs.Rows.{before, after}
 use Rattle.cg_map.proofs.MapLemmas.{walked_view, walked_valid, put_rows}
 use Rattle.cg_map.proofs.map.SharedMap.put_row.Goals as goal
 
