@@ -1,10 +1,8 @@
 -- Answers, member by member.
-use Rattle.std.proofs.Common.{◌≡◌, ℕ, suc, ◌+◌, ◌<◌, ◌≤◌, Bool, true, false, cond, List, [], ◌∷◌, ◌++◌, map, length, take, get_or, Option, Some, None, refl, sym, ap, subst, ◌∙◌, arith, nat_lt}
+use Rattle.std.proofs.Common.{◌≡◌, ℕ, suc, ◌≤◌, Bool, true, false, cond, List, [], ◌∷◌, map, length, Option, Some, None, refl, sym, ap, subst, arith, nat_lt}
 use Rattle.std.specs.List.{filter_map}
-use Rattle.std.specs.Option.{option_to_list}
 use Rattle.std.proofs.lemmas.Option.{same_Some}
-use Rattle.std.proofs.lemmas.List.{take_more, length-map, map-append}
-use Rattle.std.proofs.lemmas.List.Elements.{filter_map-append}
+use Rattle.std.proofs.lemmas.List.{length-map}
 use Rattle.std.specs.Prelude.{◌&&◌, ◌==◌, find}
 use Rattle.std.specs.Option.{option_map}
 use Rattle.std.specs.FinMap as table
@@ -22,8 +20,8 @@ use Rattle.cg_table.specs.Table.{digest_of, digests_of}
 use Rattle.cg_exchange.specs.Answering.{asked, requests_for, sent, delta_for, deltas_for}
 use Rattle.std.specs.List.{cons_option}
 use Rattle.cg_exchange.specs.Members.{AreListed, endpoints_of_digests, endpoints_of_requests, endpoints_of_deltas}
-use Rattle.cg_types.specs.Rising.{is_past, rise_past, Rises}
-use Rattle.cg_types.proofs.RisingLemmas.{both, first_of, second_of, rise_earlier, rise_sorted}
+use Rattle.cg_types.specs.Rising.{Rises}
+use Rattle.cg_types.proofs.RisingLemmas.{rise_sorted}
 
 module _ {X Y : Type 0} (f : X → Option Y) where
   few_mapped : (key : X → ℕ) (kept : Y → ℕ) (xs : List X) → length (map kept (filter_map f xs)) ≤ length (map key xs)

@@ -16,8 +16,9 @@ use Rattle.cg_entry.specs.Taking.{met, taken_or_gap}
 use Rattle.cg_table.specs.declared.took.Took.TheVariants as took
 use Rattle.cg_table.specs.Values.{TableValue, Entries}
 use Rattle.cg_table.specs.Taking.{Change, change_by, after_change, take_one, needs_room}
+use Rattle.cg_table.specs.Merge.{strangers}
 use Rattle.cg_table.proofs.PlaceLaws.{row_key}
-use Rattle.cg_table.proofs.RoomLemmas.{count_by-cons, strangers, len-put_each}
+use Rattle.cg_table.proofs.RoomLemmas.{count_by-cons, len-put_each}
 use Rattle.cg_exchange.specs.declared.owner_delta.OwnerDelta.{OwnerDelta}
 use Rattle.cg_exchange.specs.declared.outcome.Outcome.{Outcome}
 use Rattle.cg_exchange.specs.Members.{endpoints_of_deltas}

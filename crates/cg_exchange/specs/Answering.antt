@@ -24,7 +24,8 @@ same_cluster c d = bytes_eq c.name d.name && (c.partitioner == d.partitioner)
 abbrev pub asked : Digest → Option EntryValue → Option RequestValue
 asked d None = Some (record { endpoint = d.endpoint; generation = d.generation; version = 0 })
 asked d (Some e) =
-    if nat_lt e.generation d.generation then Some (record { endpoint = d.endpoint; generation = d.generation; version = 0 })
+    if nat_lt e.generation d.generation
+    then Some (record { endpoint = d.endpoint; generation = d.generation; version = 0 })
     else if e.generation == d.generation && nat_lt (newest e) d.newest
     then Some (record { endpoint = d.endpoint; generation = d.generation; version = newest e })
     else None

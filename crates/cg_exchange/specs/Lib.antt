@@ -1,5 +1,6 @@
 pub mod Values
 pub mod MessageCode
+pub mod Kind
 pub mod Members
 pub mod Contents
 pub mod Messages

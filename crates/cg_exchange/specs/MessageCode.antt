@@ -22,4 +22,6 @@ of_its_content (Ack ack) = refl
 of_its_content (Ack2 ack2) = refl
 
 abbrev pub message_code : Coded Message
-message_code = code_by (SynValue ⊎ (AckValue ⊎ Ack2Value)) (coded⊎ syn_code (coded⊎ ack_code ack2_code)) content_of message_of of_its_content
+message_code =
+    code_by (SynValue ⊎ (AckValue ⊎ Ack2Value)) (coded⊎ syn_code (coded⊎ ack_code ack2_code))
+    content_of message_of of_its_content

@@ -6,7 +6,8 @@ use Rattle.cg_entry.specs.Place.{Span, IsSpan}
 pub use Rattle.cg_table.specs.Spelling.{Stand}
 use Rattle.cg_exchange.specs.Places.{Ask, IsAsk, span_for, ask_for, span_asked, place_with}
 
--- A message by places, each a function of the owner: a SYN tells where its sender is, an ACK asks and sends, an ACK2 sends.
+-- A message by places, each a function of the owner: a SYN tells where its sender is, an ACK asks and sends, and an
+-- ACK2 sends.
 pub data PlaceMessage : Type 0 where
   Syn : (places : ℕ → ℕ) → PlaceMessage
   Ack : (asks : ℕ → Option Ask) → (spans : ℕ → Option Span) → PlaceMessage
@@ -15,7 +16,8 @@ pub data PlaceMessage : Type 0 where
 -- what one at the places mine answers to a SYN of the places theirs
 abbrev pub answer_at : (ℕ → List EntryValue) → (ℕ → ℕ) → (ℕ → ℕ) → PlaceMessage
 answer_at histories mine theirs =
-    Ack (λ owner. ask_for (histories owner) (mine owner) (theirs owner)) (λ owner. span_for (histories owner) (mine owner) (theirs owner))
+    Ack (λ owner. ask_for (histories owner) (mine owner) (theirs owner))
+    (λ owner. span_for (histories owner) (mine owner) (theirs owner))
 
 -- where the holder own is after spans
 abbrev pub places_after : ℕ → (ℕ → ℕ) → (ℕ → Option Span) → ℕ → ℕ

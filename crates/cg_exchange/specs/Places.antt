@@ -1,4 +1,5 @@
--- The rules of messages, by places in owners' histories. A place is how many of an owner's entries were seen, and 0 is none.
+-- The rules of messages, by places in owners' histories. A place is how many of an owner's entries were seen, and 0 is
+-- none.
 use Rattle.std.specs.Prelude.{◌≡◌, ℕ, ◌≤◌, ◌⊎◌, ◌==◌, nat_lt, List, length, Option, Some, None, if◌then◌else◌}
 use Rattle.cg_entry.specs.Values.{EntryValue}
 use Rattle.cg_entry.specs.History.{generation_at}
@@ -22,13 +23,18 @@ within_generation history generation place = if generation_at history place == g
 -- what one at the place mine sends one at the place theirs: what that one lacks
 abbrev pub span_for : List EntryValue → ℕ → ℕ → Option Span
 span_for history mine theirs =
-    if nat_lt theirs mine then Some (record { from = within_generation history (generation_at history mine) theirs; to = mine }) else None
+    if nat_lt theirs mine
+    then Some (record { from = within_generation history (generation_at history mine) theirs; to = mine })
+    else None
 
 -- what one at the place mine asks of one at the place theirs: what itself lacks
 abbrev pub ask_for : List EntryValue → ℕ → ℕ → Option Ask
 ask_for history mine theirs =
     if nat_lt mine theirs
-    then Some (record { generation = generation_at history theirs; from = within_generation history (generation_at history theirs) mine })
+    then Some (record {
+      generation = generation_at history theirs;
+      from = within_generation history (generation_at history theirs) mine;
+    })
     else None
 
 -- what one at the place mine sends for an ask

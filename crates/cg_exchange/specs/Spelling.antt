@@ -30,19 +30,24 @@ outcome_about owner outcomes = find (λ o. o.endpoint == owner) outcomes
 
 -- an ask is spelled by its generation and the version at its place
 abbrev pub request_of : ℕ → List EntryValue → Ask → RequestValue
-request_of owner history ask = record { endpoint = owner; generation = ask.generation; version = version_at history ask.from }
+request_of owner history ask =
+    record { endpoint = owner; generation = ask.generation; version = version_at history ask.from }
 
 -- Owner by owner, the digest is that of the entry at the place.
 pub record SpellsDigests (histories : ℕ → List EntryValue) (digests : List Digest) (places : ℕ → ℕ) : Type 0 where
-  pub at : (owner : ℕ) → digest_about owner digests ≡ option_map (λ e. digest_of (owner, e)) (at_place (histories owner) (places owner))
+  pub at : (owner : ℕ) → digest_about owner digests
+      ≡ option_map (λ e. digest_of (owner, e)) (at_place (histories owner) (places owner))
 
 -- Owner by owner, the request spells the ask.
-pub record SpellsAsks (histories : ℕ → List EntryValue) (requests : List RequestValue) (asks : ℕ → Option Ask) : Type 0 where
+pub record SpellsAsks (histories : ℕ → List EntryValue) (requests : List RequestValue)
+    (asks : ℕ → Option Ask) : Type 0 where
   pub at : (owner : ℕ) → request_about owner requests ≡ option_map (request_of owner (histories owner)) (asks owner)
 
 -- Owner by owner, the delta spells the span.
-pub record SpellsSpans (histories : ℕ → List EntryValue) (deltas : List OwnerDelta) (spans : ℕ → Option Span) : Type 0 where
-  pub at : (owner : ℕ) → delta_about owner deltas ≡ option_map (about owner) (option_and_then (delta_of (histories owner)) (spans owner))
+pub record SpellsSpans (histories : ℕ → List EntryValue) (deltas : List OwnerDelta)
+    (spans : ℕ → Option Span) : Type 0 where
+  pub at : (owner : ℕ) → delta_about owner deltas
+      ≡ option_map (about owner) (option_and_then (delta_of (histories owner)) (spans owner))
 
 -- The SYN has one digest an owner, and spells the places.
 pub record SpellsSyn (histories : ℕ → List EntryValue) (places : ℕ → ℕ) (syn : SynValue) : Type 0 where
@@ -50,7 +55,8 @@ pub record SpellsSyn (histories : ℕ → List EntryValue) (places : ℕ → ℕ
   pub digests : SpellsDigests histories syn.digests places
 
 -- The ACK has one request and one delta an owner, and spells the asks and the spans.
-pub record SpellsAck (histories : ℕ → List EntryValue) (asks : ℕ → Option Ask) (spans : ℕ → Option Span) (ack : AckValue) : Type 0 where
+pub record SpellsAck (histories : ℕ → List EntryValue) (asks : ℕ → Option Ask) (spans : ℕ → Option Span)
+    (ack : AckValue) : Type 0 where
   pub requests_rise : Rises (endpoints_of_requests ack.requests)
   pub deltas_rise : Rises (endpoints_of_deltas ack.deltas)
   pub requests : SpellsAsks histories ack.requests asks

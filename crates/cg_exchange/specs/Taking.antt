@@ -50,11 +50,16 @@ delta_granted entries r = option_map (about r.endpoint) (granted r (table.get en
 abbrev pub deltas_granted : Entries → List RequestValue → List OwnerDelta
 deltas_granted entries requests = filter_map (delta_granted entries) requests
 
--- The table, the answer and the outcomes after an ACK: its deltas are taken first, and its requests are answered from the table that they make.
+-- The table, the answer and the outcomes after an ACK: its deltas are taken first, and its requests are answered from
+-- the table that they make.
 abbrev pub taking_ack : TableValue → AckValue → Result (TableValue × Ack2Value × List Outcome) Fault
 taking_ack t ack =
     if nat_lt MEMBER_LIMIT (held_after t ack.deltas) then Err TableFull
-    else Ok (table_after t ack.deltas, record { deltas = deltas_granted (table_after t ack.deltas).entries ack.requests }, outcomes_of t ack.deltas)
+    else Ok (
+      table_after t ack.deltas,
+      record { deltas = deltas_granted (table_after t ack.deltas).entries ack.requests },
+      outcomes_of t ack.deltas,
+    )
 
 -- the table and the outcomes after an ACK2
 abbrev pub taking_ack2 : TableValue → Ack2Value → Result (TableValue × List Outcome) Fault

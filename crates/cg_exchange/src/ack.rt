@@ -58,7 +58,8 @@ impl Eq for Ack {
 impl Ack {
     /// `None` unless each list rises strictly by endpoint and has at most `MEMBER_LIMIT` members.
     pub fn new(requests: Vec<Request>, deltas: Vec<OwnerDelta>) -> Option<Ack>
-        ensures when { is_some result ≡ (listed (endpoints_of_requests requests.items) && listed (endpoints_of_deltas deltas.items)) }
+        ensures when { is_some result
+            ≡ (listed (endpoints_of_requests requests.items) && listed (endpoints_of_deltas deltas.items)) }
         ensures value { IfSome result (λ a. a ≡ record { requests = requests.items; deltas = deltas.items }) }
     {
         if !are_listed(&requests) || !are_listed(&deltas) {

@@ -128,8 +128,8 @@ pub fn syn(alloc: Global, table: &Table, cluster: &Cluster) -> Result<Syn, Alloc
 /// in, and sends what they are behind in; an endpoint that is held and not named is sent whole, so that an empty SYN
 /// is answered with everything. The receiver's own endpoint is answered for like any other.
 ///
-/// `OtherCluster` where the sender's cluster has another name or another partitioner; that is decided before any
-/// memory is taken. Else `OutOfMemory` where there is no memory for the two lists of the answer.
+/// `OtherCluster` where the sender's cluster has another name or another partitioner; `OutOfMemory` never
+/// comes in its place. Else it comes where there is no memory for the two lists of the answer.
 pub fn answer_syn(alloc: Global, table: &Table, cluster: &Cluster, syn: &Syn) -> Result<Ack, Fault>
     ensures { Answers (λ a. a) (answer_to_syn table.now cluster.now syn.now) result }
 {

@@ -9,11 +9,10 @@
 mod ack;
 mod ack2;
 mod answers;
+mod kind;
 pub mod laws;
 mod lent;
 mod message;
-#[cfg(test)]
-mod message_tests;
 mod opening;
 mod outcome;
 mod owned;
@@ -21,14 +20,11 @@ mod owner_delta;
 mod parts;
 mod request;
 mod taking;
-#[cfg(test)]
-mod taking_tests;
-#[cfg(test)]
-mod tests;
 
 pub use ack::Ack;
 pub use ack2::Ack2;
 pub use answers::{answer_syn, syn};
+pub use kind::Kind;
 pub use lent::Lent;
 pub use message::Message;
 pub use opening::Syn;

@@ -1,9 +1,11 @@
 //! Messages of every kind.
 
 ghost use Rattle.std.specs.Prelude.{◌≡◌, ◌↔◌, IsTrue, IfOk};
+ghost use Rattle.cg_exchange.specs.Kind.{kind_of};
 
 use crate::ack::Ack;
 use crate::ack2::Ack2;
+use crate::kind::Kind;
 use crate::opening::Syn;
 use std::alloc::{AllocError, Global};
 
@@ -44,6 +46,17 @@ impl Eq for Message {
 }
 
 impl Message {
+    /// Which of the three messages it is.
+    pub fn kind(&self) -> Kind
+        ensures { result ≡ kind_of self.now }
+    {
+        match self {
+            Message::Syn(_) => Kind::Syn,
+            Message::Ack(_) => Kind::Ack,
+            Message::Ack2(_) => Kind::Ack2,
+        }
+    }
+
     /// The same message, which shares its texts. `AllocError` where there is no memory for its lists.
     pub fn copy(&self, alloc: Global) -> Result<Message, AllocError>
         ensures { IfOk result (λ m. m ≡ self.now) }

@@ -32,7 +32,8 @@ impl Request {
     /// `None` where `version` is neither a version nor 0.
     pub fn new(endpoint: Endpoint, generation: Generation, version: u32) -> Option<Request>
         ensures valid { IsSome result ↔ IsVersionHeld version }
-        ensures value { IfSome result (λ r. r ≡ record { endpoint = endpoint; generation = generation; version = version }) }
+        ensures value { IfSome result (λ r.
+            r ≡ record { endpoint = endpoint; generation = generation; version = version }) }
     {
         if version >= NUMBER_LIMIT {
             return None;

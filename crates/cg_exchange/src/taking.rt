@@ -124,8 +124,8 @@ fn deltas_granted(
 /// An answer is made even where nothing is sent. Entries that no delta changes are shared.
 ///
 /// `TableFull` where the endpoints held with those that whole deltas are about and that are not held are more than
-/// `MEMBER_LIMIT`; that is decided before any memory is taken. Else `OutOfMemory` where there is no memory for the new
-/// table, the answer and the outcomes. `table` is as it was in each case.
+/// `MEMBER_LIMIT`; `OutOfMemory` never comes in its place. Else it comes where there is no memory for the new table,
+/// the answer and the outcomes. `table` is as it was in each case.
 pub fn take_ack(
     alloc: Global,
     table: &Table,
