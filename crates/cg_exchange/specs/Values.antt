@@ -69,4 +69,4 @@ ack2_code =
 abbrev pub outcome_code : Coded Outcome
 outcome_code =
     code_by (ℕ × Took) (coded× coded_ℕ took_code) (λ o. (o.endpoint, o.took))
-      (λ p. record { endpoint = p.0; took = p.1 }) (λ _. refl)
+    (λ p. record { endpoint = p.0; took = p.1 }) (λ _. refl)

@@ -72,11 +72,11 @@ later_entries-put_each m rows rise ahead =
     let after = put_each rows m in
     let ps = later_entries m after in
     let found : (q : ℕ) → find nat_cmp q ps ≡ find nat_cmp q rows = λ q.
-        find-filter (λ (x : Put). is_ahead (get m x.0) x.1) q None (entries after) (rise_sorted (entries after) (entries_sorted after))
-        ∙ ap (option_filter (is_ahead (get m q))) (sym (get-entries after q) ∙ get-put_each q None rows m rise)
-        ∙ put_by (get m q) (find nat_cmp q rows) (ahead q) in
+    find-filter (λ (x : Put). is_ahead (get m x.0) x.1) q None (entries after) (rise_sorted (entries after) (entries_sorted after))
+    ∙ ap (option_filter (is_ahead (get m q))) (sym (get-entries after q) ∙ get-put_each q None rows m rise)
+    ∙ put_by (get m q) (find nat_cmp q rows) (ahead q) in
     let same : from_sorted {R = nat_cmp} ps ≡ from_sorted {R = nat_cmp} rows = same_map nat_cmp_total nat_cmp-IsAntisymmetric (from_sorted {R = nat_cmp} ps) (from_sorted {R = nat_cmp} rows) (λ q.
-        get_rising ps q (later_rise m after) ∙ found q ∙ sym (get_rising rows q rise)) in
+    get_rising ps q (later_rise m after) ∙ found q ∙ sym (get_rising rows q rise)) in
     sym (entries_rising ps (later_rise m after)) ∙ ap (λ (n : Entries). entries n) same ∙ entries_rising rows rise
 
 -- Each row is held.

@@ -1,0 +1,7 @@
+//! Tests of maps and tables, over their public calls.
+#![tactic(auto)]
+
+#[cfg(test)]
+mod maps;
+#[cfg(test)]
+mod tables;

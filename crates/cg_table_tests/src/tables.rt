@@ -1,0 +1,330 @@
+use cg_entry::Delta;
+use cg_map::push_some;
+use cg_samples::{bare_delta, bare_entry, endpoint, entry_at_start, generation};
+use cg_table::{Digest, Table, Took};
+use cg_types::{Endpoint, Fault, Version};
+use std::alloc::Global;
+use std::test::Fail;
+
+// An endpoint at a generation, beaten to a version, alone.
+fn table_of(alloc: Global, last: u16, of: u32, heartbeat: u32) -> Result<Table, Fail> {
+    let entry = bare_entry(alloc, of, heartbeat)?;
+    Ok(Table::new(alloc, endpoint(last), entry)?)
+}
+
+// Endpoint 2 at generation 5, as it starts.
+fn table(alloc: Global) -> Result<Table, Fail> {
+    Ok(Table::new(alloc, endpoint(2), entry_at_start(alloc, 5))?)
+}
+
+// The generation and the newest version that are held of an endpoint.
+type Held = Option<(u32, u32)>;
+
+fn held(table: &Table, last: u16) -> Held {
+    match table.get(endpoint(last)) {
+        Some(entry) => Some((entry.generation().get(), entry.newest().get())),
+        None => None,
+    }
+}
+
+// What is held of endpoints 1 and 2.
+fn held_of_both(table: &Table) -> (Held, Held) {
+    (held(table, 1), held(table, 2))
+}
+
+#[test]
+fn a_new_table_holds_its_own_entry(rt: HostRuntime) -> Result<(), Fail> {
+    let own = endpoint(2);
+    let table = table(rt.alloc())?.copy(rt.alloc())?;
+    let shown = (table.own(), held_of_both(&table));
+    assert_eq!(rt; shown, (own, (None, Some((5, 1)))));
+    Ok(())
+}
+
+// The endpoint and the generation of the only row.
+fn only_row(table: &Table) -> Option<(Endpoint, u32)> {
+    match table.owners() {
+        [row] => Some((row.endpoint(), row.value().generation().get())),
+        _ => None,
+    }
+}
+
+#[test]
+fn the_owners_of_a_new_table(rt: HostRuntime) -> Result<(), Fail> {
+    let own = endpoint(2);
+    let table = table(rt.alloc())?;
+    assert_eq!(rt; only_row(&table), Some((own, 5)));
+    Ok(())
+}
+
+fn only_digest(digests: &[Digest]) -> Option<Digest> {
+    match digests {
+        [one] => Some(*one),
+        _ => None,
+    }
+}
+
+#[test]
+fn the_digests_of_a_new_table(rt: HostRuntime) -> Result<(), Fail> {
+    let wanted = Digest {
+        endpoint: endpoint(2),
+        generation: generation(5),
+        newest: Version::first(),
+    };
+    let digests = table(rt.alloc())?.digests(rt.alloc())?;
+    assert_eq!(rt; only_digest(&digests), Some(wanted));
+    Ok(())
+}
+
+// ---- what becomes of a delta
+
+// The table after a delta about an endpoint, and what became of the delta: the generation, the version that it stands
+// above, and the heartbeat version.
+fn put(
+    alloc: Global,
+    table: &Table,
+    last: u16,
+    delta_of: (u32, u32, u32),
+) -> Result<(Table, Took), Fail> {
+    let delta = bare_delta(alloc, delta_of)?;
+    Ok(table.put_delta(alloc, endpoint(last), &delta)?)
+}
+
+// The table of endpoint 2 with endpoint 1 at generation 9 and this heartbeat.
+fn table_with(alloc: Global, heartbeat: u32) -> Result<Table, Fail> {
+    let (table, took) = put(alloc, &table(alloc)?, 1, (9, 0, heartbeat))?;
+    if took != Took::Taken {
+        return Err(Fail::from("not taken"));
+    }
+    Ok(table)
+}
+
+#[test]
+fn a_delta_changes_its_owner_alone(rt: HostRuntime) -> Result<(), Fail> {
+    let table = table_with(rt.alloc(), 1)?;
+    let (after, took) = put(rt.alloc(), &table, 1, (9, 1, 3))?;
+    let shown = (took, held_of_both(&after), held_of_both(&table));
+    let own = Some((5, 1));
+    assert_eq!(rt;
+        shown,
+        (Took::Taken, (Some((9, 3)), own), (Some((9, 1)), own))
+    );
+    Ok(())
+}
+
+// At the table of endpoint 2 with endpoint 1 at (9, 3).
+fn took_of(alloc: Global, last: u16, delta_of: (u32, u32, u32)) -> Result<Took, Fail> {
+    let (_after, took) = put(alloc, &table_with(alloc, 3)?, last, delta_of)?;
+    Ok(took)
+}
+
+#[test]
+fn what_becomes_of_deltas(rt: HostRuntime) -> Result<(), Fail> {
+    for (last, delta_of, took) in [
+        (1, (9, 0, 3), Took::Old),
+        (1, (9, 4, 5), Took::Gap),
+        (1, (10, 1, 2), Took::Gap),
+        (1, (10, 0, 1), Took::Taken),
+        (3, (9, 1, 2), Took::Gap),
+        (3, (9, 0, 2), Took::Taken),
+        (2, (6, 0, 1), Took::Own),
+    ] {
+        assert_eq!(rt; took_of(rt.alloc(), last, delta_of)?, took);
+    }
+    Ok(())
+}
+
+// A restarted holder lacks what a delta stands above.
+#[test]
+fn gap_after_restart(rt: HostRuntime) -> Result<(), Fail> {
+    let (after, took) = put(rt.alloc(), &table(rt.alloc())?, 1, (9, 2, 5))?;
+    assert_eq!(rt; (took, after.owners().len()), (Took::Gap, 1));
+    Ok(())
+}
+
+#[test]
+fn own_delta(rt: HostRuntime) -> Result<(), Fail> {
+    let before = table(rt.alloc())?;
+    let (after, took) = put(rt.alloc(), &before, 2, (9, 0, 7))?;
+    assert_eq!(rt; (took, after.same_entries(&before)), (Took::Own, true));
+    Ok(())
+}
+
+// ---- as many as a table may hold
+
+// A table with a delta about one more endpoint.
+fn with_other(alloc: Global, table: &Table, number: u16, delta: &Delta) -> Result<Table, Fail> {
+    let (after, _) = table.put_delta(alloc, endpoint(number), delta)?;
+    Ok(after)
+}
+
+// The table of endpoint 2 with 255 others.
+fn crowded(alloc: Global) -> Result<Table, Fail> {
+    let whole = bare_delta(alloc, (9, 0, 1))?;
+    let mut table = table(alloc)?;
+    for number in 1000..1255 {
+        table = with_other(alloc, &table, number, &whole)?;
+    }
+    Ok(table)
+}
+
+// What refuses a delta of generation 9 about endpoint 1.
+fn refusal(
+    alloc: Global,
+    table: &Table,
+    above: u32,
+    heartbeat: u32,
+) -> Result<Option<Fault>, Fail> {
+    let delta = bare_delta(alloc, (9, above, heartbeat))?;
+    Ok(table.put_delta(alloc, endpoint(1), &delta).err())
+}
+
+#[test]
+fn table_full(rt: HostRuntime) -> Result<(), Fail> {
+    let table = crowded(rt.alloc())?;
+    let refusal = refusal(rt.alloc(), &table, 0, 1)?;
+    assert_eq!(rt;
+        (table.owners().len(), refusal),
+        (256, Some(Fault::TableFull))
+    );
+    Ok(())
+}
+
+#[test]
+fn a_full_table_takes_what_needs_no_room(rt: HostRuntime) -> Result<(), Fail> {
+    let (_after, took) = put(rt.alloc(), &crowded(rt.alloc())?, 1, (9, 1, 2))?;
+    assert_eq!(rt; took, Took::Gap);
+    Ok(())
+}
+
+// How many owners a merge of the full table holds.
+fn owners_merged(alloc: Global, other: &Table) -> Result<Result<usize, Fault>, Fail> {
+    match crowded(alloc)?.merge(alloc, other) {
+        Ok(merged) => Ok(Ok(merged.owners().len())),
+        Err(fault) => Ok(Err(fault)),
+    }
+}
+
+#[test]
+fn a_merge_that_is_full(rt: HostRuntime) -> Result<(), Fail> {
+    let other = table_with(rt.alloc(), 1)?;
+    assert_eq!(rt; owners_merged(rt.alloc(), &other)?, Err(Fault::TableFull));
+    Ok(())
+}
+
+#[test]
+fn a_merge_that_needs_no_room(rt: HostRuntime) -> Result<(), Fail> {
+    let alone = table(rt.alloc())?;
+    assert_eq!(rt; owners_merged(rt.alloc(), &alone)?, Ok(256));
+    Ok(())
+}
+
+// ---- merges
+
+// The table of endpoint 1 at generation 9, beaten to version 3, with endpoint 2 at generation 5.
+fn table_of_1(alloc: Global) -> Result<Table, Fail> {
+    let (table, _taken) = put(alloc, &table_of(alloc, 1, 9, 3)?, 2, (5, 0, 1))?;
+    Ok(table)
+}
+
+// The table of endpoint 2 at generation 5, beaten to version 2, with endpoint 1 at generation 9, version 1.
+fn table_of_2(alloc: Global) -> Result<Table, Fail> {
+    let (table, _taken) = put(alloc, &table_of(alloc, 2, 5, 2)?, 1, (9, 0, 1))?;
+    Ok(table)
+}
+
+#[test]
+fn tables_before_a_merge(rt: HostRuntime) -> Result<(), Fail> {
+    let one = table_of_1(rt.alloc())?;
+    assert!(rt; !one.same_entries(&table_of_2(rt.alloc())?));
+    Ok(())
+}
+
+// Each of the two merged with the other.
+fn merged(alloc: Global) -> Result<(Table, Table), Fail> {
+    let one = table_of_1(alloc)?;
+    let two = table_of_2(alloc)?;
+    Ok((one.merge(alloc, &two)?, two.merge(alloc, &one)?))
+}
+
+#[test]
+fn merged_tables_hold_the_later_entries(rt: HostRuntime) -> Result<(), Fail> {
+    let owns = (endpoint(1), endpoint(2));
+    let later = (Some((9, 3)), Some((5, 2)));
+    let (here, there) = merged(rt.alloc())?;
+    assert_eq!(rt; (here.own(), there.own()), owns);
+    assert_eq!(rt;
+        (held_of_both(&here), here.same_entries(&there)),
+        (later, true)
+    );
+    Ok(())
+}
+
+#[test]
+fn the_own_entry_is_replaced(rt: HostRuntime) -> Result<(), Fail> {
+    let table = table_with(rt.alloc(), 3)?;
+    let after = table.with_own(rt.alloc(), bare_entry(rt.alloc(), 5, 4)?)?;
+    let newest = (
+        table.own_entry().newest().get(),
+        after.own_entry().newest().get(),
+    );
+    assert_eq!(rt; (newest, held(&after, 1)), ((1, 4), Some((9, 3))));
+    Ok(())
+}
+
+// The row that a delta about endpoint 1 changes at the table of endpoint 2, and whether there is room for it.
+fn change(alloc: Global, delta_of: (u32, u32, u32)) -> Result<(Option<u32>, Took, bool), Fail> {
+    let table = table_with(alloc, 3)?;
+    let delta = bare_delta(alloc, delta_of)?;
+    let (row, took) = table.delta_change(alloc, endpoint(1), &delta)?;
+    let mut rows = Vec::new(alloc);
+    push_some(&mut rows, row)?;
+    let newest = rows.first().map(|row| row.value().newest().get());
+    Ok((newest, took, table.has_room_for(&rows)))
+}
+
+#[test]
+fn what_deltas_change(rt: HostRuntime) -> Result<(), Fail> {
+    let alloc = rt.alloc();
+    assert_eq!(rt; change(alloc, (9, 0, 3))?, (None, Took::Old, true));
+    assert_eq!(rt; change(alloc, (9, 3, 5))?, (Some(5), Took::Taken, true));
+    Ok(())
+}
+
+// Whether a whole delta about one that is held needs room, and one about a stranger.
+fn needs(alloc: Global) -> Result<(bool, bool), Fail> {
+    let whole = bare_delta(alloc, (9, 0, 1))?;
+    let table = table_with(alloc, 3)?;
+    Ok((
+        table.needs_room(endpoint(1), &whole),
+        table.needs_room(endpoint(3), &whole),
+    ))
+}
+
+#[test]
+fn a_stranger_needs_room(rt: HostRuntime) -> Result<(), Fail> {
+    assert_eq!(rt; needs(rt.alloc())?, (false, true));
+    Ok(())
+}
+
+#[test]
+fn names_of_what_became_of_deltas(rt: HostRuntime) {
+    for (took, name) in [
+        (Took::Taken, "took"),
+        (Took::Old, "old"),
+        (Took::Gap, "gap"),
+        (Took::Own, "own"),
+    ] {
+        assert_eq!(rt; took.name(), name);
+    }
+}
+
+fn takes_what_crosses_threads<T: Send + Sync + Drop>(value: T) {
+    drop(value);
+}
+
+#[test]
+fn a_table_may_cross_threads(rt: HostRuntime) -> Result<(), Fail> {
+    takes_what_crosses_threads(table(rt.alloc())?);
+    Ok(())
+}
