@@ -1,5 +1,5 @@
 use cg_entry::Delta;
-use cg_map::push_some;
+use cg_map::{push_some, rows_rise};
 use cg_samples::{bare_delta, bare_entry, endpoint, entry_at_start, generation};
 use cg_table::{Digest, Table, Took};
 use cg_types::{Endpoint, Fault, Version};
@@ -280,7 +280,8 @@ fn change(alloc: Global, delta_of: (u32, u32, u32)) -> Result<(Option<u32>, Took
     let mut rows = Vec::new(alloc);
     push_some(&mut rows, row)?;
     let newest = rows.first().map(|row| row.value().newest().get());
-    Ok((newest, took, table.has_room_for(&rows)))
+    let fits = rows_rise(&rows) && table.has_room_for(&rows);
+    Ok((newest, took, fits))
 }
 
 #[test]
