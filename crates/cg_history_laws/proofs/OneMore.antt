@@ -1,5 +1,5 @@
 -- What one event more does to a history.
-use Rattle.std.proofs.Common.{◌≡◌, ℕ, Bool, true, false, cond, refl, sym, ap, ◌∙◌, length}
+use Rattle.std.proofs.Common.{◌≡◌, ℕ, Bool, true, false, cond, refl, sym, ap, subst, length}
 use Rattle.std.specs.Prelude.{◌==◌, Result, Ok, Err}
 use Rattle.cg_types.specs.declared.fault.Fault.{Fault}
 use Rattle.cg_types.specs.declared.fault.Fault.TheVariants.{VersionsSpent}
@@ -7,10 +7,13 @@ use Rattle.cg_core.specs.declared.event.Event.{Event}
 use Rattle.cg_core.specs.declared.reply.Reply.{Reply}
 use Rattle.cg_core.specs.Values.{NodeValue}
 use Rattle.cg_core.specs.Step.{Step, node_step}
+use Rattle.cg_places.specs.PlaceWorld.{after_action}
+use Rattle.cg_steps.specs.Step.{action_at, IsStepAt}
+use Rattle.cg_steps.proofs.StepLaws.{steps_are_by_places}
 use Rattle.cg_history.specs.declared.item.Receipt.{Receipt}
 use Rattle.cg_history.specs.Items.{record_of}
 use Rattle.cg_history.specs.History.{HistoryValue, receipt_of, LAST_NUMBER, with_record, with_step, apply}
-use Rattle.cg_history_laws.specs.Laws.{HasOneMore, EachEventMakesOneRecord}
+use Rattle.cg_history_laws.specs.Laws.{HasOneMore, EachEventMakesOneRecord, RecordsAreStepsByPlaces}
 
 same_ok : {A F : Type 0} (x y : A) → (let r : Result A F = Ok x in r) ≡ Ok y → x ≡ y
 same_ok x y e = cc
@@ -33,3 +36,9 @@ one_more_by h caller e after q false (Ok x) step is =
 
 pub each_event_makes_one_record : EachEventMakesOneRecord
 each_event_makes_one_record h caller e after q is = one_more_by h caller e after q (length h.records == LAST_NUMBER) (node_step h.node e) refl is
+
+pub records_are_steps_by_places : RecordsAreStepsByPlaces
+records_are_steps_by_places w node number h caller e after q world placed sent is =
+    let one = each_event_makes_one_record h caller e after q is in
+    let led : ◌≡◌ {A = NodeValue × Reply} (one.node, one.answer) (after.node, q.reply) = λ i. (sym one.led i, sym (ap (λ (r : Receipt). r.reply) one.receipt) i) in
+    subst (IsStepAt w (after_action w (action_at node number e)) node h.node) led (steps_are_by_places w node number h.node e (one.node, one.answer) world placed sent one.step)

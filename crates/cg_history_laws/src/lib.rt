@@ -6,6 +6,7 @@ ghost use Rattle.cg_history_laws.specs.Laws.{
   EachEventMakesOneRecord,
   EachRecordHasItsReceipt,
   PutsOfRecordsLead,
+  RecordsAreStepsByPlaces,
   RecordsReplay,
 };
 
@@ -23,6 +24,12 @@ pub fn puts_of_records_lead()
 /// An event that is done is one step of the node, one record of it at the end, and the receipt of that record.
 pub fn each_event_makes_one_record()
     ensures { EachEventMakesOneRecord }
+{}
+
+/// Where the node's table spells its places in a world, and the message that an event hands over, if it hands one over,
+/// says one that was sent there, the event is one step of that world for that node, with the reply of its receipt.
+pub fn records_are_steps_by_places()
+    ensures { RecordsAreStepsByPlaces }
 {}
 
 /// No two confirmed receipts are of one record.
