@@ -73,7 +73,8 @@ NamesCluster cluster (message.Ack ack) = ⊤
 NamesCluster cluster (message.Ack2 ack2) = ⊤
 
 -- The message says this one of the histories, and names the cluster.
-pub record IsSent (cluster : ClusterValue) (histories : ℕ → List EntryValue) (m : Message) (said : PlaceMessage) : Type 0 where
+pub record IsSent (cluster : ClusterValue) (histories : ℕ → List EntryValue) (m : Message) (said : PlaceMessage)
+    : Type 0 where
   pub says : Says histories m said
   pub names : NamesCluster cluster m
 
@@ -99,8 +100,8 @@ pub record IsStepAt (w v : PlaceWorld) (node : ℕ) (n : NodeValue) (x : NodeVal
   -- nobody started
   pub owners : v.owners ≡ w.owners
 
--- Each step of a node whose table spells its places, and that is handed a message that was sent, if it is handed one, is
--- the step by places, whatever its settings and however many endpoints there are.
+-- Each step of a node whose table spells its places, and that is handed a message that was sent, if it is handed one,
+-- is the step by places, whatever its settings and however many endpoints there are.
 abbrev pub StepsAreByPlaces : Type 0
 StepsAreByPlaces =
     (w : PlaceWorld) (node number : ℕ) (n : NodeValue) (e : Event) (x : NodeValue × Reply)

@@ -42,7 +42,7 @@ use Rattle.cg_world.specs.Taken.{deltas_in, deltas_sent, is_gap, spans_in, count
 use Rattle.cg_world.specs.Headline.{Mark, mark_of, mark_led_to, IsWithin, HasGreatest, with_delta, with_action, took_from, marks_of, Was, IsMarked, Headline}
 use Rattle.cg_world.proofs.MarkLemmas.{mark_at, mark_here, IsDeltaTo, span_delta, mark_rises, AllSpans, marks_at, all_push, marks_push, all_stay, marks_stay}
 use Rattle.cg_world.proofs.ActionLemmas.{own_held, runs_here}
-use Rattle.cg_world.proofs.WorldLaws.{Joined, joined, done_of, actions_one_by_one, tables_are_the_join, equal_digests_give_equal_tables}
+use Rattle.cg_world.proofs.WorldLaws.{Joined, joined, done_by_places, actions_one_by_one, tables_are_the_join, equal_digests_give_equal_tables}
 use Rattle.cg_world.proofs.SingleActions.{replies_are_of_steps}
 use Rattle.cg_world.proofs.TakenLaws.{all_more, outcomes_tell_what_is_taken}
 use Rattle.cg_world.proofs.WholeEntries.{entries_are_whole, places_were_own}
@@ -55,7 +55,7 @@ Marked w node owner marks = (marks ≡ marks_at (w.histories owner) (w.taken nod
 
 -- the histories after more actions
 placed_goes_on : (earlier later : List Action) → Keeps (placed earlier) (placed (earlier ++ later))
-placed_goes_on earlier later = subst (Keeps (placed earlier)) (sym (all_more nobody earlier later)) (actions_from_keeps (placed earlier) (done_of (placed earlier) later))
+placed_goes_on earlier later = subst (Keeps (placed earlier)) (sym (all_more nobody earlier later)) (actions_from_keeps (placed earlier) (done_by_places (placed earlier) later))
 
 -- where the same was taken, or one span more
 marked_still : (w v : PlaceWorld) (node owner : ℕ) (marks : List Mark) → Continues (w.histories owner) (v.histories owner) → v.taken node owner ≡ w.taken node owner → Marked w node owner marks → Marked v node owner marks

@@ -42,7 +42,7 @@ use Rattle.cg_world.specs.Taken.{deltas_in, spans_in, counted, taker, AreCounted
 use Rattle.cg_places.proofs.PutLemmas.{put_at_here, put_at_other}
 use Rattle.cg_world.proofs.SpellingLemmas.{Tied, Bounded, BothSent, both_at}
 use Rattle.cg_world.proofs.ActionLemmas.{runs_here, at_node, ack_fits, ack_moves, ack2_fits, ack2_moves}
-use Rattle.cg_world.proofs.WorldLaws.{done_of, Joined, joined, refusals_agree}
+use Rattle.cg_world.proofs.WorldLaws.{done_by_places, Joined, joined, refusals_agree}
 
 -- ---- one message
 
@@ -142,19 +142,19 @@ module _ (c : WorldValue) (w : PlaceWorld) (t : Tied c w) (b : Bounded w) (node 
 -- ---- one more action
 
 -- more actions are done, or not, after all others
-pub all_more : (w : PlaceWorld) (actions more : List Action) → after_actions w (done_of w (actions ++ more)) ≡ after_actions (after_actions w (done_of w actions)) (done_of (after_actions w (done_of w actions)) more)
+pub all_more : (w : PlaceWorld) (actions more : List Action) → after_actions w (done_by_places w (actions ++ more)) ≡ after_actions (after_actions w (done_by_places w actions)) (done_by_places (after_actions w (done_by_places w actions)) more)
 all_more w [] more = refl
 all_more w (first ∷ actions) more = go (refusal w (plain first)) (λ v. all_more v actions more)
   where
-    go : (due : Option Fault) → ((v : PlaceWorld) → after_actions v (done_of v (actions ++ more)) ≡ after_actions (after_actions v (done_of v actions)) (done_of (after_actions v (done_of v actions)) more))
-        → after_actions w (unless_refused due (plain first) (done_of (after_action w (plain first)) (actions ++ more)) (done_of w (actions ++ more)))
-        ≡ after_actions (after_actions w (unless_refused due (plain first) (done_of (after_action w (plain first)) actions) (done_of w actions)))
-        (done_of (after_actions w (unless_refused due (plain first) (done_of (after_action w (plain first)) actions) (done_of w actions))) more)
+    go : (due : Option Fault) → ((v : PlaceWorld) → after_actions v (done_by_places v (actions ++ more)) ≡ after_actions (after_actions v (done_by_places v actions)) (done_by_places (after_actions v (done_by_places v actions)) more))
+        → after_actions w (unless_refused due (plain first) (done_by_places (after_action w (plain first)) (actions ++ more)) (done_by_places w (actions ++ more)))
+        ≡ after_actions (after_actions w (unless_refused due (plain first) (done_by_places (after_action w (plain first)) actions) (done_by_places w actions)))
+        (done_by_places (after_actions w (unless_refused due (plain first) (done_by_places (after_action w (plain first)) actions) (done_by_places w actions))) more)
     go None rest = rest (after_action w (plain first))
     go (Some fault) rest = rest w
 
 one_more : (w : PlaceWorld) (actions : List Action) (action : Action)
-    → after_actions w (done_of w (actions ++ action ∷ [])) ≡ after_actions (after_actions w (done_of w actions)) (done_of (after_actions w (done_of w actions)) (action ∷ []))
+    → after_actions w (done_by_places w (actions ++ action ∷ [])) ≡ after_actions (after_actions w (done_by_places w actions)) (done_by_places (after_actions w (done_by_places w actions)) (action ∷ []))
 one_more w actions action = all_more w actions (action ∷ [])
 
 -- ---- what an action leaves as it was

@@ -17,7 +17,7 @@ use Rattle.cg_places.proofs.PutLemmas.{put_at-each, at_place_push}
 use Rattle.cg_places.proofs.OwnerLemmas.{last_entry_runs}
 use Rattle.cg_places.proofs.ExchangeLemmas.{sent_last}
 use Rattle.cg_world.proofs.ActionLemmas.{AgreesBy, action_agrees, own_held}
-use Rattle.cg_world.proofs.WorldLaws.{Joined, done_of, done_joined, joined, spelled}
+use Rattle.cg_world.proofs.WorldLaws.{Joined, done_by_places, done_joined, joined, spelled}
 use Rattle.cg_world.proofs.ExchangeLaws.{node_of}
 
 -- ---- what an action adds to histories
@@ -120,9 +120,9 @@ now_own c w j actions owner entry e =
     record { earlier = []; later = actions; in_order = refl; node = own.0; ran = own.1; own = own.2 }
 
 -- one action, and those after it
-next_stood : (c : WorldValue) (w : PlaceWorld) (j : Joined c w) (action : Action) (actions : List Action) → ((d : WorldValue) (v : PlaceWorld) → Joined d v → Stood d v actions (after_actions v (done_of v actions)))
+next_stood : (c : WorldValue) (w : PlaceWorld) (j : Joined c w) (action : Action) (actions : List Action) → ((d : WorldValue) (v : PlaceWorld) → Joined d v → Stood d v actions (after_actions v (done_by_places v actions)))
     → (left : Result WorldValue Fault) → acting c action ≡ left → AgreesBy (refusal w (plain action)) (after_action w (plain action)) left
-    → Stood c w (action ∷ actions) (after_actions w (unless_refused (refusal w (plain action)) (plain action) (done_of (after_action w (plain action)) actions) (done_of w actions)))
+    → Stood c w (action ∷ actions) (after_actions w (unless_refused (refusal w (plain action)) (plain action) (done_by_places (after_action w (plain action)) actions) (done_by_places w actions)))
 next_stood c w j action actions rest (Ok d) is a = rw a.0 (λ owner place entry e. after owner place entry (rest d (after_action w (plain action)) k owner place entry e))
   where
     k : Joined d (after_action w (plain action))
@@ -140,7 +140,7 @@ next_stood c w j action actions rest (Err fault) is a = rw a (λ owner place ent
     after owner place entry (inl old) = inl old
     after owner place entry (inr was) = inr (was_later c c action actions owner entry (ap (or_unchanged c) is) was)
 
-stood_from : (c : WorldValue) (w : PlaceWorld) (actions : List Action) → Joined c w → Stood c w actions (after_actions w (done_of w actions))
+stood_from : (c : WorldValue) (w : PlaceWorld) (actions : List Action) → Joined c w → Stood c w actions (after_actions w (done_by_places w actions))
 stood_from c w [] j = λ owner place entry e. inl e
 stood_from c w (action ∷ actions) j = next_stood c w j action actions (λ d v k. stood_from d v actions k) (acting c action) refl (action_agrees c w j.tied j.bounded action)
 

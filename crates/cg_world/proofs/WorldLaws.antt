@@ -32,8 +32,8 @@ use Rattle.cg_world.proofs.ActionLemmas.{AgreesBy, running, action_agrees}
 -- ---- lists of actions
 
 -- the actions that are done of these
-abbrev pub done_of : PlaceWorld → List Action → List PlaceAction
-done_of w actions = done_from w (map_list plain actions)
+abbrev pub done_by_places : PlaceWorld → List Action → List PlaceAction
+done_by_places w actions = done_from w (map_list plain actions)
 
 -- both are tied, and the places within bounds
 pub record Joined (c : WorldValue) (w : PlaceWorld) : Type 0 where
@@ -51,13 +51,13 @@ done_joined c w action d j a =
     }
 
 -- one action, and those after it
-next_joined : (c : WorldValue) (w : PlaceWorld) (j : Joined c w) (action : Action) (actions : List Action) → ((d : WorldValue) (v : PlaceWorld) → Joined d v → Joined (run_from d actions) (after_actions v (done_of v actions)))
+next_joined : (c : WorldValue) (w : PlaceWorld) (j : Joined c w) (action : Action) (actions : List Action) → ((d : WorldValue) (v : PlaceWorld) → Joined d v → Joined (run_from d actions) (after_actions v (done_by_places v actions)))
     → (left : Result WorldValue Fault) → AgreesBy (refusal w (plain action)) (after_action w (plain action)) left
-    → Joined (run_from (or_unchanged c left) actions) (after_actions w (unless_refused (refusal w (plain action)) (plain action) (done_of (after_action w (plain action)) actions) (done_of w actions)))
+    → Joined (run_from (or_unchanged c left) actions) (after_actions w (unless_refused (refusal w (plain action)) (plain action) (done_by_places (after_action w (plain action)) actions) (done_by_places w actions)))
 next_joined c w j action actions rest (Ok d) a = rw a.0 (rest d (after_action w (plain action)) (done_joined c w action d j a))
 next_joined c w j action actions rest (Err fault) a = rw a (rest c w j)
 
-pub joined_from : (c : WorldValue) (w : PlaceWorld) (actions : List Action) → Joined c w → Joined (run_from c actions) (after_actions w (done_of w actions))
+pub joined_from : (c : WorldValue) (w : PlaceWorld) (actions : List Action) → Joined c w → Joined (run_from c actions) (after_actions w (done_by_places w actions))
 joined_from c w [] j = j
 joined_from c w (action ∷ actions) j = next_joined c w j action actions (λ d v k. joined_from d v actions k) (acting c action) (action_agrees c w j.tied j.bounded action)
 
@@ -217,16 +217,16 @@ pub spelled : (settings : SettingsValue) (actions : List Action) (node : ℕ) (n
 spelled settings actions node n e = (nodes_spell_places settings actions).tables.spelled node n.table.entries (ap (option_map entries_in) e)
 
 pub tables_are_the_join : TablesAreTheJoin
-tables_are_the_join settings actions node n e = tables_are_joined (done_of nobody actions) node n.table.entries (spelled settings actions node n e)
+tables_are_the_join settings actions node n e = tables_are_joined (done_by_places nobody actions) node n.table.entries (spelled settings actions node n e)
 
 pub equal_sets_give_equal_tables : EqualSetsGiveEqualTables
 equal_sets_give_equal_tables settings actions a b one other ra rb same =
-    equal_sources_equal_tables (done_of nobody actions) a b one.table.entries other.table.entries (spelled settings actions a one ra) (spelled settings actions b other rb) same
+    equal_sources_equal_tables (done_by_places nobody actions) a b one.table.entries other.table.entries (spelled settings actions a one ra) (spelled settings actions b other rb) same
 
 pub equal_digests_give_equal_tables : EqualDigestsGiveEqualTables
 equal_digests_give_equal_tables settings actions a b one other ra rb same =
-    equal_digests_equal_tables (done_of nobody actions) a b one.table.entries other.table.entries (spelled settings actions a one ra) (spelled settings actions b other rb) same
+    equal_digests_equal_tables (done_by_places nobody actions) a b one.table.entries other.table.entries (spelled settings actions a one ra) (spelled settings actions b other rb) same
 
 pub merges_of_nodes_are_the_join : MergesOfNodesAreTheJoin
 merges_of_nodes_are_the_join settings actions a b c one two three ra rb rc =
-    merges_are_joined (done_of nobody actions) a b c one.table.entries two.table.entries three.table.entries (spelled settings actions a one ra) (spelled settings actions b two rb) (spelled settings actions c three rc)
+    merges_are_joined (done_by_places nobody actions) a b c one.table.entries two.table.entries three.table.entries (spelled settings actions a one ra) (spelled settings actions b two rb) (spelled settings actions c three rc)

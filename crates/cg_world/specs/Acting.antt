@@ -25,7 +25,7 @@ found_no_memory (Err OutOfMemory) = true
 found_no_memory (Err fault) = false
 
 -- A run of actions gave these answers and led from c to d. Each answer is what its action shows, or why it is refused.
--- Where one found no memory, it is the last, and the world is the one before its action; else each action has an answer.
+-- Where one found no memory, it is the last, and the world is the one before its action; else each action has one.
 abbrev pub Ran : WorldValue → List Action → List (Result Shown Fault) → WorldValue → Type 0
 Ran c [] [] d = d ≡ c
 Ran c [] (answer ∷ answers) d = ⊥

@@ -20,7 +20,7 @@ pub record IsConsistent (settings : SettingsValue) (actions : List Action) (c : 
   pub spelled : SpellsWorld c (placed actions)
   -- each change of what the places say that a node took is what the node's reply told
   pub told : (earlier later : List Action) → earlier ++ later ≡ actions → IsTold settings earlier
-  -- each node's table is the join of its own newest entry and of those to which the deltas led that it took since its start
+  -- each node's table is the join of its own newest entry and of those to which the deltas led that it took
   pub joined : (node : ℕ) (n : NodeValue) → Runs c node n → IsJoined (placed actions) node n.table.entries
   -- each entry in it was its owner's own, whole, after some of the first actions
   pub whole : (node : ℕ) (n : NodeValue) → Runs c node n → (owner : ℕ) (entry : EntryValue)

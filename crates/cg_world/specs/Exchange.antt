@@ -99,8 +99,10 @@ NeverStarts node actions = list_any (starts node) actions ≡ false
 
 -- Nothing that is done between its messages starts one of the two nodes of an exchange.
 pub record StartsNeither (x : Exchange) : Type 0 where
-  pub opener : NeverStarts x.opener x.before_syn × NeverStarts x.opener x.before_ack × NeverStarts x.opener x.before_ack2
-  pub answerer : NeverStarts x.answerer x.before_syn × NeverStarts x.answerer x.before_ack × NeverStarts x.answerer x.before_ack2
+  pub opener : NeverStarts x.opener x.before_syn × NeverStarts x.opener x.before_ack
+      × NeverStarts x.opener x.before_ack2
+  pub answerer : NeverStarts x.answerer x.before_syn × NeverStarts x.answerer x.before_ack
+      × NeverStarts x.answerer x.before_ack2
 
 -- ---- where it ends
 
@@ -164,7 +166,9 @@ handed_last c between to now = act (run_from c between) (Deliver (length c.sent)
 
 -- the world after an exchange; or one of the two nodes does not run
 abbrev pub exchanging : WorldValue → Exchange → Result WorldValue Fault
-exchanging c x = if map.contains_key c.nodes x.opener && map.contains_key c.nodes x.answerer then Ok (exchanged c x) else Err NoSuchNode
+exchanging c x =
+    if map.contains_key c.nodes x.opener && map.contains_key c.nodes x.answerer then Ok (exchanged c x)
+    else Err NoSuchNode
 
 -- Where an exchange leads, of two nodes that run.
 pub record JoinsBoth (c : WorldValue) (x : Exchange) : Type 0 where
@@ -173,4 +177,5 @@ pub record JoinsBoth (c : WorldValue) (x : Exchange) : Type 0 where
   -- both end at or past the merge of what the opener held when it opened and the answerer when it answered
   pub joined : ReachesTheMerge c x opening
   -- with nothing between its messages both end with the merge of what they held, and so with the same entries
-  pub equal : (answering : NodeValue) → Runs c x.answerer answering → x.before_syn ≡ [] → x.before_ack ≡ [] → x.before_ack2 ≡ [] → EndsAtTheMerge c x opening answering
+  pub equal : (answering : NodeValue) → Runs c x.answerer answering
+      → x.before_syn ≡ [] → x.before_ack ≡ [] → x.before_ack2 ≡ [] → EndsAtTheMerge c x opening answering

@@ -1,52 +1,22 @@
 -- The headline: what is true of the nodes of a cluster after any list of starts, local changes, openings, ticks and
 -- deliveries, whatever messages are lost, repeated and reordered. A refused action changes nothing.
-use Rattle.std.specs.Prelude.{ℕ, ◌≡◌, ◌<◌, ◌≤◌, ◌⊎◌, ◌↔◌, ◌==◌, ◌&&◌, ◌++◌, is_ok, List, [], ◌∷◌, All}
-use Rattle.std.specs.Prelude.{Option, Some, None, if◌then◌else◌}
+use Rattle.std.specs.Prelude.{ℕ, ◌≡◌, ◌↔◌, ◌==◌, ◌&&◌, is_ok, List, [], ◌∷◌, All, Some, if◌then◌else◌}
 use Rattle.std.specs.List.{Contains}
 use Rattle.std.specs.FinMap as map
-use Rattle.cg_entry.specs.Values.{EntryValue, DeltaValue}
-use Rattle.cg_entry.specs.Entry.{newest, greatest}
-use Rattle.cg_table.specs.declared.took.Took.TheVariants.{Gap}
+use Rattle.cg_entry.specs.Values.{EntryValue}
 use Rattle.cg_table.specs.Own.{own_entry}
 use Rattle.cg_table.specs.Table.{digests_of}
-use Rattle.cg_exchange.specs.declared.outcome.Outcome.{Outcome}
-use Rattle.cg_exchange.specs.declared.owner_delta.OwnerDelta.{OwnerDelta}
 use Rattle.cg_exchange.specs.Spelling.{delta_about, outcome_about}
 use Rattle.cg_core.specs.Values.{SettingsValue, NodeValue}
 use Rattle.cg_places.specs.TableLaws.{AreEqual}
 use Rattle.cg_world.specs.World.{Action, Start, Local, Deliver, WorldValue, new_world, acting, act, run, reply_to}
 use Rattle.cg_world.specs.WorldLaws.{Runs, WasOwn}
 use Rattle.cg_world.specs.SingleActions.{outcomes_shown}
-use Rattle.cg_world.specs.Taken.{deltas_sent, is_gap}
+use Rattle.cg_world.specs.Taken.{deltas_sent}
+pub use Rattle.cg_world.specs.Mark.{Mark, mark_of, mark_led_to, IsWithin, HasGreatest, with_delta}
 
--- how far an owner has come: its generation, and the newest version in it
-abbrev pub Mark : Type 0
-Mark = ℕ × ℕ
-
-abbrev pub mark_of : EntryValue → Mark
-mark_of e = (e.generation, newest e)
-
--- the mark of the entry that a delta leads to
-abbrev pub mark_led_to : DeltaValue → Mark
-mark_led_to d = (d.generation, greatest d.heartbeat d.states)
-
--- The first mark is the second, or before it.
-abbrev pub IsWithin : Mark → Mark → Type 0
-IsWithin m n = (m.0 < n.0) ⊎ ((m.0 ≡ n.0) × (m.1 ≤ n.1))
-
--- The entry held has the greatest of the marks; where there are none, nothing is held.
-abbrev pub HasGreatest : Option EntryValue → List Mark → Type 0
-HasGreatest None marks = marks ≡ []
-HasGreatest (Some e) marks = Contains marks (mark_of e) × All (λ m. IsWithin m (mark_of e)) marks
-
--- ---- what a node took of an owner since its start
-
--- with the delta about the owner that is handed to it, unless its outcome is a gap
-abbrev pub with_delta : List Mark → Option Outcome → Option OwnerDelta → List Mark
-with_delta marks (Some outcome) (Some d) = if is_gap outcome.took then marks else marks ++ mark_led_to d.delta ∷ []
-with_delta marks outcome d = marks
-
--- with what one action brings: a start that is done forgets all
+-- What a node took of an owner since its start, by the marks of the deltas that were handed to it and were no gap, with
+-- what one action brings; a start that is done forgets all.
 abbrev pub with_action : WorldValue → ℕ → ℕ → List Mark → Action → List Mark
 with_action c node owner marks (Start other generation) =
     if other == node && is_ok (acting c (Start other generation)) then [] else marks
@@ -80,7 +50,8 @@ module _ (settings : SettingsValue) (actions : List Action) where
 
   -- nodes with the same of every owner
   abbrev pub SameMarks : ℕ → NodeValue → ℕ → NodeValue → Type 0
-  SameMarks a one b other = (owner : ℕ) (mark : Mark) → Contains (marks_of a one owner) mark ↔ Contains (marks_of b other owner) mark
+  SameMarks a one b other =
+      (owner : ℕ) (mark : Mark) → Contains (marks_of a one owner) mark ↔ Contains (marks_of b other owner) mark
 
   pub record Headline (c : WorldValue) : Type 0 where
     -- each table is the join of the node's own entry and the deltas that it took: it holds the furthest of each owner

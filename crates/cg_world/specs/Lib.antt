@@ -7,4 +7,5 @@ pub mod SingleActions
 pub mod Taken
 pub mod Exchange
 pub mod WorkedRuns
+pub mod Mark
 pub mod Headline

@@ -133,11 +133,12 @@ impl World {
         self.nodes.act(alloc, action)
     }
 
-    /// The world after a list of actions, and an answer for each: what it shows, or why it is refused, and then the run goes
-    /// on. An action that finds no memory ends the run: its `OutOfMemory` is the last answer, and the world is the one before
-    /// it, after the actions that were done.
+    /// The world after a list of actions, and an answer for each: what it shows, or why it is refused, and then the run
+    /// goes on. An action that finds no memory ends the run: its `OutOfMemory` is the last answer, and the world is the
+    /// one before it, after the actions that were done.
     ///
-    /// `OutOfMemory` comes in place of a world only where the list of answers could not be made, before the first action.
+    /// `OutOfMemory` comes in place of a world only where the list of answers could not be made, before the first
+    /// action.
     pub fn run(
         alloc: Global,
         settings: Settings,

@@ -50,13 +50,14 @@ fn hand_last(
     act(alloc, world, &Action::Deliver { number, to, now })
 }
 
-/// The world after a whole exchange: the opener's opening, the first list of actions, its SYN handed to the answerer, the
-/// second list, the ACK handed to the opener, the third list, and the ACK2 handed to the answerer, each at the moment `now`.
-/// What the lists have that is refused changes nothing. None of them may start one of the two (`Action::starts`).
+/// The world after a whole exchange: the opener's opening, the first list of actions, its SYN handed to the answerer,
+/// the second list, the ACK handed to the opener, the third list, and the ACK2 handed to the answerer, each at the
+/// moment `now`. What the lists have that is refused changes nothing. None of them may start one of the two
+/// (`Action::starts`).
 ///
 /// Both then hold what the opener held when it opened and the answerer when it answered, or later entries; with three
-/// empty lists both hold the same. `NoSuchNode` where one of the two does not run, before anything is done; else at most
-/// `OutOfMemory`.
+/// empty lists both hold the same. `NoSuchNode` where one of the two does not run, before anything is done; else at
+/// most `OutOfMemory`.
 pub fn exchange_reaches_join(
     alloc: Global,
     mut world: World,
@@ -66,8 +67,10 @@ pub fn exchange_reaches_join(
     between: [&[Action]; 3],
 ) -> Result<World, Fault>
     requires { StartsNeither (exchange_among opener answerer now (map (λ list. list.now) between)) }
-    ensures due { Answers (λ w. w) (exchanging world (exchange_among opener answerer now (map (λ list. list.now) between.entry))) result }
-    ensures join { IfOk result (λ w. JoinsBoth world (exchange_among opener answerer now (map (λ list. list.now) between.entry))) }
+    ensures due { Answers (λ w. w)
+        (exchanging world (exchange_among opener answerer now (map (λ list. list.now) between.entry))) result }
+    ensures join { IfOk result (λ w. JoinsBoth world
+        (exchange_among opener answerer now (map (λ list. list.now) between.entry))) }
 {
     let (Some(_), Some(_)) = (world.node(opener), world.node(answerer)) else {
         return Err(Fault::NoSuchNode);
