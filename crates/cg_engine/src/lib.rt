@@ -1,4 +1,15 @@
 //! Exchanges of messages over links.
+//!
+//! A gate does the events of the messages that come, as one node does, or many threads that share one. An exchange is
+//! a few turns: a message is read, its event is done, and what the reply holds is written.
 #![tactic(auto)]
 
+mod exchange;
+mod gate;
+mod node_gate;
+mod turn;
+
 pub use cg_links::Counted;
+pub use exchange::{Broken, Ended, initiate, respond};
+pub use gate::Gate;
+pub use node_gate::NodeGate;

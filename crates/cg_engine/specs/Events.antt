@@ -1,0 +1,64 @@
+-- Messages as events, and what is written for their replies.
+use Rattle.std.specs.Prelude.{ℕ, List, [], Option, Some, None, Result, Ok, Err}
+use Rattle.cg_types.specs.ResultSteps.{then}
+use Rattle.cg_types.specs.declared.fault.Fault.{Fault}
+use Rattle.cg_exchange.specs.declared.message.Message.{Message}
+use Rattle.cg_exchange.specs.declared.message.Message.TheVariants as messages
+use Rattle.cg_frames.specs.declared.layout.TheConstants.{WRITTEN}
+use Rattle.cg_frames.specs.Spelling.{frame}
+use Rattle.cg_core.specs.declared.event.Event.{Event}
+use Rattle.cg_core.specs.declared.event.Event.TheVariants as event
+use Rattle.cg_core.specs.declared.reply.Reply.{Reply}
+use Rattle.cg_core.specs.declared.reply.Reply.TheVariants as reply
+use Rattle.cg_wire.specs.Due.{syn_due, ack_due, ack2_due}
+use Rattle.cg_engine.specs.declared.turn.Kind.{Kind}
+use Rattle.cg_engine.specs.declared.turn.Kind.TheVariants as kind
+
+-- The event of a message of the kind that is due, as it comes at a moment; the fault of another kind.
+abbrev pub event_due : Kind → ℕ → Message → Result Event Fault
+event_due kind.Syn now m = then (syn_due m) event.Syn
+event_due kind.Ack now m = then (ack_due m) (event.Ack now)
+event_due kind.Ack2 now m = then (ack2_due m) (event.Ack2 now)
+
+-- the bytes of the message that a reply holds, in the layout that is written; none where it holds none
+abbrev pub written_for : Reply → List ℕ
+written_for (reply.Done version) = []
+written_for (reply.Round peers syn) = frame WRITTEN (messages.Syn syn)
+written_for (reply.Sent m) = frame WRITTEN m
+written_for (reply.Both outcomes ack2) = frame WRITTEN (messages.Ack2 ack2)
+written_for (reply.Took outcomes) = []
+
+-- ---- each kind of event has its kind of reply
+
+abbrev pub IsDone : Reply → Type 0
+IsDone (reply.Done version) = Unit {0}
+IsDone r = ⊥
+
+abbrev pub IsRound : Reply → Type 0
+IsRound (reply.Round peers syn) = Unit {0}
+IsRound r = ⊥
+
+abbrev pub IsSyn : Reply → Type 0
+IsSyn (reply.Sent (messages.Syn m)) = Unit {0}
+IsSyn r = ⊥
+
+abbrev pub IsAck : Reply → Type 0
+IsAck (reply.Sent (messages.Ack m)) = Unit {0}
+IsAck r = ⊥
+
+abbrev pub IsBoth : Reply → Type 0
+IsBoth (reply.Both outcomes ack2) = Unit {0}
+IsBoth r = ⊥
+
+abbrev pub IsTook : Reply → Type 0
+IsTook (reply.Took outcomes) = Unit {0}
+IsTook r = ⊥
+
+abbrev pub IsReplyTo : Event → Reply → Type 0
+IsReplyTo event.Beat r = IsDone r
+IsReplyTo (event.Set key text) r = IsDone r
+IsReplyTo (event.Tick now words) r = IsRound r
+IsReplyTo event.Opening r = IsSyn r
+IsReplyTo (event.Syn m) r = IsAck r
+IsReplyTo (event.Ack now m) r = IsBoth r
+IsReplyTo (event.Ack2 now m) r = IsTook r

@@ -1,0 +1,4 @@
+pub mod Events
+pub mod Turns
+pub mod Exchanged
+pub mod NodeGate

@@ -1,0 +1,58 @@
+-- What one turn of an exchange comes to: a message is read, and its event is done.
+use Rattle.std.specs.Prelude.{◌≡◌, ℕ, ◌⊎◌, List, Bool, true, false, Option, Some, Result, Ok, Err}
+use Rattle.cg_types.specs.declared.fault.Fault.{Fault}
+use Rattle.cg_exchange.specs.declared.message.Message.{Message}
+use Rattle.cg_core.specs.declared.event.Event.{Event}
+use Rattle.cg_core.specs.declared.reply.Reply.{Reply}
+use Rattle.cg_links.specs.declared.counted.Counted.{Counted}
+use Rattle.cg_wire.specs.Received.{ReceivesMessage, MeetsEnd, FailsToReceive}
+use Rattle.cg_engine.specs.Events.{event_due, IsReplyTo}
+use Rattle.cg_engine.specs.declared.turn.Kind.{Kind}
+
+-- What a gate does, by its ghost members: a state, an event, its reply and the state after it; the refusals of an event
+-- in a state; a state and one that a refused event left; the reply of the last event done.
+module _ {S L : Type 0} (does : S → Event → Reply → S → Type 0) (refuses : S → Event → Fault → Type 0)
+    (stays : S → S → Type 0) (last : S → Option Reply)
+    (kind : Kind) (now : ℕ) (before after : Option (List ℕ)) (old new : Counted L) (s t : S) where
+  -- a message of the kind that is due came, and its event was done
+  pub record DoesEvent : Type 0 where
+    pub message : Message
+    pub event : Event
+    pub reply : Reply
+    pub read : ReceivesMessage before after old new message
+    pub due : event_due kind now message ≡ Ok event
+    pub did : does s event reply t
+    pub answer : IsReplyTo event reply
+    pub shown : last t ≡ Some reply
+
+  -- the input ended where the message would begin
+  pub record FindsEnd : Type 0 where
+    pub end : MeetsEnd before after old new
+    pub same : t ≡ s
+
+  -- no message could be read
+  pub record ReadsNone (f : Fault) : Type 0 where
+    pub failed : FailsToReceive before after old new f
+    pub same : t ≡ s
+
+  -- a message of another kind came
+  pub record ReadsAnother (f : Fault) : Type 0 where
+    pub message : Message
+    pub read : ReceivesMessage before after old new message
+    pub another : event_due kind now message ≡ Err f
+    pub same : t ≡ s
+
+  -- the event was refused
+  pub record RefusesEvent (f : Fault) : Type 0 where
+    pub message : Message
+    pub event : Event
+    pub read : ReceivesMessage before after old new message
+    pub due : event_due kind now message ≡ Ok event
+    pub refused : refuses s event f
+    pub stayed : stays s t
+
+  -- what a turn came to: whether the event was done, or why none was
+  abbrev pub TakesEvent : Result Bool Fault → Type 0
+  TakesEvent (Ok true) = DoesEvent
+  TakesEvent (Ok false) = FindsEnd
+  TakesEvent (Err f) = ReadsNone f ⊎ (ReadsAnother f ⊎ RefusesEvent f)

@@ -1,0 +1,113 @@
+//! Whole exchanges, of which one side begins and the other answers.
+
+ghost use Rattle.std.specs.Prelude.{◌≡◌, [], ◌∷◌, length, ◌<◌, ◌^◌};
+ghost use Rattle.cg_exchange.specs.declared.message.Message.TheVariants as messages;
+ghost use Rattle.cg_frames.specs.declared.layout.TheConstants.{WRITTEN};
+ghost use Rattle.cg_frames.specs.Spelling.{frame};
+ghost use Rattle.cg_links.specs.Counted.{link_of, failed_of, idle_of};
+ghost use Rattle.cg_engine.specs.declared.turn.Kind.TheVariants as message_kind;
+ghost use Rattle.cg_engine.specs.Exchanged.{Exchanges};
+
+use crate::gate::Gate;
+use crate::turn::{Kind, send_last, take_event};
+use cg_exchange::{Lent, Syn};
+use cg_links::Counted;
+use cg_types::Fault;
+use cg_wire::send;
+use std::alloc::Global;
+use std::io::{Read, Write};
+
+/// How an exchange ended.
+#[derive(Clone, Copy, Debug, PartialEq, Eq)]
+pub enum Ended {
+    /// Each message came, and its event was done.
+    Whole,
+    /// The input ended where a message would begin, after so many events.
+    Closed(u32),
+}
+
+/// Why an exchange broke off, and how many of its events were done before.
+#[derive(Clone, Copy, Debug, PartialEq, Eq)]
+pub struct Broken {
+    /// How many events were done.
+    pub done: u32,
+    /// What broke it off.
+    pub fault: Fault,
+}
+
+// Takes turns: reads a message of each of these kinds, does its event, and writes what its reply holds.
+fn take_turns<G: Gate, R: Read, W: Write>(
+    alloc: Global,
+    gate: &mut G,
+    kinds: &[Kind],
+    now: u64,
+    reader: &mut Counted<R>,
+    writer: &mut Counted<W>,
+) -> Result<Ended, Broken>
+    requires { length kinds.now < 2 ^ 32 }
+    ensures { Exchanges G.does G.refuses G.stays kinds.now now []
+        (R.remaining (link_of reader.old)) (R.remaining (link_of reader.new))
+        (W.contents (link_of writer.old)) (W.contents (link_of writer.new))
+        reader.old reader.new writer.old writer.new gate.old gate.new result }
+{
+    let mut done: u32 = 0;
+    for kind in kinds {
+        match take_event(alloc, gate, *kind, now, reader) {
+            Ok(true) => done += 1,
+            Ok(false) => return Ok(Ended::Closed(done)),
+            Err(fault) => return Err(Broken { done, fault }),
+        }
+        if let Err(fault) = send_last(alloc, gate, writer) {
+            return Err(Broken { done, fault });
+        }
+    }
+    Ok(Ended::Whole)
+}
+
+/// Answers an exchange that another side begins: reads a SYN, does its event, writes the ACK, reads an ACK2, and does
+/// its event. `now` is the moment of these events, in milliseconds of the gate's clock.
+///
+/// `Closed` where the input ends where a message would begin. Broken off by `OutOfMemory`, a refusal of the gate
+/// (`VersionsSpent`, `TableFull`, `OtherCluster`), `BadFrame` (at 5, Unexpected, where the message is of another kind),
+/// `Truncated`, `ReadFault` and `WriteFault`. What was written is a front of the messages due, and each is flushed. No
+/// byte behind the last message is read.
+pub fn respond<G: Gate, R: Read, W: Write>(
+    alloc: Global,
+    gate: &mut G,
+    now: u64,
+    reader: &mut Counted<R>,
+    writer: &mut Counted<W>,
+) -> Result<Ended, Broken>
+    requires read { failed_of reader.old ≡ 0 }
+    requires written { failed_of writer.old ≡ 0 }
+    requires taken { idle_of writer.old ≡ 0 }
+    ensures { Exchanges G.does G.refuses G.stays (message_kind.Syn ∷ (message_kind.Ack2 ∷ [])) now []
+        (R.remaining (link_of reader.old)) (R.remaining (link_of reader.new))
+        (W.contents (link_of writer.old)) (W.contents (link_of writer.new))
+        reader.old reader.new writer.old writer.new gate.old gate.new result }
+{
+    take_turns(alloc, gate, &[Kind::Syn, Kind::Ack2], now, reader, writer)
+}
+
+/// Begins an exchange: writes the SYN, reads an ACK, does its event, and writes the ACK2. The rest is as in `respond`.
+pub fn initiate<G: Gate, R: Read, W: Write>(
+    alloc: Global,
+    gate: &mut G,
+    now: u64,
+    syn: &Syn,
+    reader: &mut Counted<R>,
+    writer: &mut Counted<W>,
+) -> Result<Ended, Broken>
+    requires read { failed_of reader.old ≡ 0 }
+    requires written { failed_of writer.old ≡ 0 }
+    requires taken { idle_of writer.old ≡ 0 }
+    ensures { Exchanges G.does G.refuses G.stays (message_kind.Ack ∷ []) now (frame WRITTEN (messages.Syn syn.now))
+        (R.remaining (link_of reader.old)) (R.remaining (link_of reader.new))
+        (W.contents (link_of writer.old)) (W.contents (link_of writer.new))
+        reader.old reader.new writer.old writer.new gate.old gate.new result }
+{
+    if let Err(fault) = send(alloc, writer, Lent::Syn(syn)) {
+        return Err(Broken { done: 0, fault });
+    }
+    take_turns(alloc, gate, &[Kind::Ack], now, reader, writer)
+}

@@ -1,0 +1,98 @@
+//! One turn of an exchange: a message is read, its event is done, and what the reply holds is written.
+
+ghost use Rattle.std.specs.Prelude.{◌≡◌, IfSome};
+ghost use Rattle.cg_links.specs.Counted.{link_of};
+ghost use Rattle.cg_wire.specs.Sent.{Sends};
+ghost use Rattle.cg_engine.specs.Events.{event_due as event_due_of, written_for};
+ghost use Rattle.cg_engine.specs.Turns.{TakesEvent};
+
+use crate::gate::Gate;
+use cg_core::{Event, Reply};
+use cg_exchange::{Lent, Message};
+use cg_links::Counted;
+use cg_types::Fault;
+use cg_wire::{ack_due, ack2_due, receive, send, syn_due};
+use std::alloc::Global;
+use std::io::{Read, Write};
+
+/// The kinds of message.
+#[derive(Clone, Copy)]
+pub(crate) enum Kind {
+    Syn,
+    Ack,
+    Ack2,
+}
+
+// The event of a message of the kind that is due, as it comes at a moment.
+fn event_due(kind: Kind, now: u64, message: Message) -> Result<Event, Fault>
+    ensures { result ≡ event_due_of kind now message }
+{
+    match kind {
+        Kind::Syn => match syn_due(message) {
+            Ok(m) => Ok(Event::Syn { m }),
+            Err(fault) => Err(fault),
+        },
+        Kind::Ack => match ack_due(message) {
+            Ok(m) => Ok(Event::Ack { now, m }),
+            Err(fault) => Err(fault),
+        },
+        Kind::Ack2 => match ack2_due(message) {
+            Ok(m) => Ok(Event::Ack2 { now, m }),
+            Err(fault) => Err(fault),
+        },
+    }
+}
+
+/// Reads the message that is due, and does its event at this moment. False where the input ends before it.
+pub(crate) fn take_event<G: Gate, R: Read>(
+    alloc: Global,
+    gate: &mut G,
+    kind: Kind,
+    now: u64,
+    reader: &mut Counted<R>,
+) -> Result<bool, Fault>
+    ensures { TakesEvent G.does G.refuses G.stays G.last kind now (R.remaining (link_of reader.old))
+        (R.remaining (link_of reader.new)) reader.old reader.new gate.old gate.new result }
+{
+    let message = match receive(alloc, reader) {
+        Ok(Some(message)) => message,
+        Ok(None) => return Ok(false),
+        Err(fault) => return Err(fault),
+    };
+    let event = match event_due(kind, now, message) {
+        Ok(event) => event,
+        Err(fault) => return Err(fault),
+    };
+    match gate.event(alloc, event) {
+        Ok(()) => Ok(true),
+        Err(fault) => Err(fault),
+    }
+}
+
+// Writes the message that a reply holds, if it holds one.
+fn send_reply<W: Write>(alloc: Global, writer: &mut Counted<W>, reply: &Reply) -> Result<(), Fault>
+    ensures { Sends (W.contents (link_of writer.old)) (W.contents (link_of writer.new)) writer.old writer.new
+        (written_for reply.now) result }
+{
+    match reply {
+        Reply::Sent(message) => send(alloc, writer, message.lent()),
+        Reply::Round { syn, .. } => send(alloc, writer, Lent::Syn(syn)),
+        Reply::Both { ack2, .. } => send(alloc, writer, Lent::Ack2(ack2)),
+        Reply::Done(_) | Reply::Took(_) => Ok(()),
+    }
+}
+
+/// Writes the message that the last reply holds, if it holds one.
+pub(crate) fn send_last<G: Gate, W: Write>(
+    alloc: Global,
+    gate: &G,
+    writer: &mut Counted<W>,
+) -> Result<(), Fault>
+    ensures { IfSome (G.last gate.now) (λ r. Sends (W.contents (link_of writer.old)) (W.contents (link_of writer.new))
+        writer.old writer.new (written_for r) result) }
+{
+    match gate.reply() {
+        Some(reply) => send_reply(alloc, writer, reply),
+        None => Ok(()),
+    }
+}
