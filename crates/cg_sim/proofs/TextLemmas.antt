@@ -1,0 +1,32 @@
+-- What some lines print, and then some more; fronts of that.
+use Rattle.std.proofs.Common.{◌≡◌, ℕ, ◌+◌, suc, zero, List, [], ◌∷◌, ◌++◌, length, take, refl, sym, ap, ◌∙◌, append_assoc}
+use Rattle.std.proofs.Math.Seq.{take-append-add}
+use Rattle.cg_sim.specs.declared.play.Play.{Play}
+use Rattle.cg_sim.specs.Script.{after_line, line_text, after_lines, lines_text}
+
+pub after_lines-append : (p : Play) (xs ys : List (List ℕ)) → after_lines p (xs ++ ys) ≡ after_lines (after_lines p xs) ys
+after_lines-append p [] ys = refl
+after_lines-append p (x ∷ xs) ys = after_lines-append (after_line p x) xs ys
+
+pub lines_text-append : (p : Play) (xs ys : List (List ℕ)) → lines_text p (xs ++ ys) ≡ lines_text p xs ++ lines_text (after_lines p xs) ys
+lines_text-append p [] ys = refl
+lines_text-append p (x ∷ xs) ys =
+    ap (λ (t : List ℕ). line_text p x ++ t) (lines_text-append (after_line p x) xs ys)
+    ∙ sym (append_assoc (line_text p x) (lines_text (after_line p x) xs) (lines_text (after_lines (after_line p x) xs) ys))
+
+-- a front of the first part is one of both
+pub take_front : {A : Type 0} → (n : ℕ) (xs ys : List A) → (k : ℕ) × (take n xs ≡ take k (xs ++ ys))
+take_front zero xs ys = (0, refl)
+take_front (suc n) [] ys = (0, refl)
+take_front {A} (suc n) (x ∷ xs) ys = let h = take_front n xs ys in (suc h.0, ap (λ (l : List A). x ∷ l) h.1)
+
+-- all lines of a first part, and then some of a second
+pub lines_text-more : (p : Play) (xs ys : List (List ℕ)) (n : ℕ)
+    → lines_text p (take (length xs + n) (xs ++ ys)) ≡ lines_text p xs ++ lines_text (after_lines p xs) (take n ys)
+lines_text-more p xs ys n = ap (lines_text p) (take-append-add xs ys n) ∙ lines_text-append p xs (take n ys)
+
+-- all of a first part's text, and then a front of a second's
+pub text_front-more : (p : Play) (xs ys : List (List ℕ)) (n : ℕ)
+    → take (length (lines_text p xs) + n) (lines_text p (xs ++ ys)) ≡ lines_text p xs ++ take n (lines_text (after_lines p xs) ys)
+text_front-more p xs ys n =
+    ap (take (length (lines_text p xs) + n)) (lines_text-append p xs ys) ∙ take-append-add (lines_text p xs) (lines_text (after_lines p xs) ys) n

@@ -1,0 +1,102 @@
+//! What actions show, and what is shown of nodes.
+
+ghost use Rattle.std.specs.Prelude.{◌≡◌, ◌++◌, OnOk, IfOk, string_bytes, option_map};
+ghost use Rattle.cg_steps.specs.Step.{message_of};
+ghost use Rattle.cg_printed.specs.Printed.{kind_name as name_of_kind};
+ghost use Rattle.cg_sim.specs.Script.{reply_lines, sent_lines, answer_lines, shown_lines, node_lines};
+
+use cg_core::{Node, Reply};
+use cg_exchange::Message;
+use cg_printed::{
+    add_digests, add_gossipinfo, add_message, add_outcomes, add_replicas, add_ring, add_round,
+    add_started, add_version,
+};
+use cg_script::View;
+use cg_world::{Action, Shown};
+use std::alloc::{AllocError, Global};
+
+// Adds what a node answered, but for the message that it sends.
+fn add_reply(text: &mut String, reply: &Reply) -> Result<(), AllocError>
+    ensures { OnOk result (string_bytes text.new ≡ string_bytes text.old ++ reply_lines reply.now) }
+{
+    match reply {
+        Reply::Done(version) => add_version(text, *version),
+        Reply::Round { peers, .. } => add_round(text, peers.endpoints()),
+        Reply::Sent(_) => Ok(()),
+        Reply::Both { outcomes, .. } => add_outcomes(text, outcomes.as_slice()),
+        Reply::Took(outcomes) => add_outcomes(text, outcomes.as_slice()),
+    }
+}
+
+// The name of a message's kind.
+fn kind_name(message: &Message) -> &'static str
+    ensures { result.now ≡ name_of_kind message.now }
+{
+    match message {
+        Message::Syn(_) => "syn",
+        Message::Ack(_) => "ack",
+        Message::Ack2(_) => "ack2",
+    }
+}
+
+// The name of the kind of the message that a reply sends, if it sends one.
+fn sent_kind(reply: &Reply) -> Option<&'static str>
+    ensures { option_map (λ k. k.now) result ≡ option_map name_of_kind (message_of reply.now) }
+{
+    match reply {
+        Reply::Done(_) | Reply::Took(_) => None,
+        Reply::Round { .. } => Some("syn"),
+        Reply::Sent(message) => Some(kind_name(message)),
+        Reply::Both { .. } => Some("ack2"),
+    }
+}
+
+// Adds the number and the kind of the message that was sent, if one was.
+fn add_sent(text: &mut String, reply: &Reply, sent: Option<u64>) -> Result<(), AllocError>
+    ensures { OnOk result (string_bytes text.new ≡ string_bytes text.old ++ sent_lines sent (message_of reply.now)) }
+{
+    let Some(number) = sent else {
+        return Ok(());
+    };
+    let Some(kind) = sent_kind(reply) else {
+        return Ok(());
+    };
+    add_message(text, number, kind)
+}
+
+fn add_answer(text: &mut String, shown: &Shown) -> Result<(), AllocError>
+    ensures { OnOk result (string_bytes text.new ≡ string_bytes text.old ++ answer_lines shown.now.reply shown.now.sent) }
+{
+    let Some(reply) = &shown.reply else {
+        return Ok(());
+    };
+    add_reply(text, reply)?;
+    add_sent(text, reply, shown.sent)
+}
+
+/// Adds what an action that is done shows.
+pub(crate) fn add_shown(text: &mut String, action: &Action, shown: &Shown) -> Result<(), AllocError>
+    ensures { OnOk result (string_bytes text.new ≡ string_bytes text.old ++ shown_lines action.now shown.now) }
+{
+    match action {
+        Action::Start(node, generation) => add_started(text, *node, *generation),
+        Action::Local(_, _) => add_answer(text, shown),
+        Action::Deliver { .. } => add_answer(text, shown),
+    }
+}
+
+/// What is shown of a node.
+pub(crate) fn node_text(alloc: Global, node: &Node, view: View) -> Result<String, AllocError>
+    ensures { IfOk result (λ text. string_bytes text ≡ node_lines node.now view) }
+{
+    let mut text = String::new(alloc);
+    match view {
+        View::Gossipinfo => add_gossipinfo(&mut text, node.table())?,
+        View::Ring => add_ring(&mut text, node.ring())?,
+        View::Digests => add_digests(&mut text, node.table())?,
+        View::Replicas { token, rf } => {
+            add_replicas(alloc, &mut text, node.ring(), token, rf as usize)?
+        }
+    }
+    Ok(text)
+}

@@ -1,0 +1,144 @@
+//! `sim`: a script from a reader, its text to a writer.
+
+ghost use Rattle.std.specs.Prelude.{◌≡◌, ◌<◌, ◌⊎◌, [], MatchResult, IfSome};
+ghost use Rattle.cg_links.specs.Counted.{link_of, calls_of, failed_of, idle_of};
+ghost use Rattle.cg_types.specs.declared.fault.Fault.TheVariants as fault;
+ghost use Rattle.cg_types.specs.Fault.{fault_text};
+ghost use Rattle.cg_sim.specs.Lines.{last_line};
+ghost use Rattle.cg_sim.specs.Script.{first_play};
+ghost use Rattle.cg_sim.specs.Told.{AreTold, IsUntold, BreaksOff};
+ghost use Rattle.cg_sim.specs.Simulated.{IsPlayed, Fails, WritesLine, Simulates, PlaysAll, SaysOutOfMemory};
+ghost use Rattle.cg_links.specs.declared.transfer.TheConstants.{MOST_READS};
+
+use crate::play::Play;
+use crate::telling::{tell_line, tell_piece, write_text};
+use cg_links::{Counted, MOST_READS};
+use cg_types::Fault;
+use std::alloc::Global;
+use std::io::{Read, Write};
+
+// Does and tells the last line, where it does not end with a line feed.
+fn tell_last<W: Write>(
+    alloc: Global,
+    play: &mut Play,
+    writer: &mut Counted<W>,
+    line: &[u8],
+) -> Result<(), Fault>
+    ensures { MatchResult result
+        (λ _. AreTold play.old play.new (last_line line.now) (W.contents (link_of writer.old)) (W.contents (link_of writer.new)) writer.old writer.new)
+        (λ f. IsUntold (W.contents (link_of writer.old)) (W.contents (link_of writer.new)) writer.old writer.new f
+        ⊎ BreaksOff play.old (last_line line.now) (W.contents (link_of writer.old)) (W.contents (link_of writer.new)) writer.old writer.new f) }
+{
+    if line.is_empty() {
+        return Ok(());
+    }
+    tell_line(alloc, play, writer, line)
+}
+
+// Does and tells each line of a script, of which nothing was read.
+fn tell_pieces<R: Read, W: Write>(
+    alloc: Global,
+    play: &mut Play,
+    front: &mut Vec<u8>,
+    reader: &mut Counted<R>,
+    writer: &mut Counted<W>,
+) -> Result<(), Fault>
+    requires first { play.old ≡ first_play }
+    requires none { front.old.items ≡ [] }
+    ensures { MatchResult result
+        (λ _. IsPlayed (R.remaining (link_of reader.old)) (R.remaining (link_of reader.new)) (W.contents (link_of writer.old)) (W.contents (link_of writer.new)) reader.old reader.new writer.old writer.new)
+        (λ f. Fails (R.remaining (link_of reader.old)) (R.remaining (link_of reader.new)) (W.contents (link_of writer.old)) (W.contents (link_of writer.new)) reader.old reader.new writer.old writer.new f) }
+{
+    let mut piece = [0u8; 4096];
+    for _ in 0..MOST_READS {
+        match reader.read(&mut piece) {
+            Ok(0) => return tell_last(alloc, play, writer, front),
+            Ok(n) => match tell_piece(alloc, play, front, writer, &piece[..n]) {
+                Ok(()) => {}
+                Err(fault) => return Err(fault),
+            },
+            Err(_) => return Err(Fault::ReadFault),
+        }
+    }
+    Err(Fault::ReadFault)
+}
+
+// Does and tells each line of a script.
+fn tell_script<R: Read, W: Write>(
+    alloc: Global,
+    reader: &mut Counted<R>,
+    writer: &mut Counted<W>,
+) -> Result<(), Fault>
+    ensures { MatchResult result
+        (λ _. IsPlayed (R.remaining (link_of reader.old)) (R.remaining (link_of reader.new)) (W.contents (link_of writer.old)) (W.contents (link_of writer.new)) reader.old reader.new writer.old writer.new)
+        (λ f. Fails (R.remaining (link_of reader.old)) (R.remaining (link_of reader.new)) (W.contents (link_of writer.old)) (W.contents (link_of writer.new)) reader.old reader.new writer.old writer.new f) }
+{
+    let Ok(mut play) = Play::new(alloc) else {
+        return Err(Fault::OutOfMemory);
+    };
+    let mut front = Vec::new(alloc);
+    tell_pieces(alloc, &mut play, &mut front, reader, writer)
+}
+
+// Writes a line, whether or not the writer fails.
+fn say<W: Write>(writer: &mut Counted<W>, line: &[u8])
+    ensures { WritesLine (W.contents (link_of writer.old)) (W.contents (link_of writer.new)) writer.old writer.new line.now }
+{
+    let _ = write_text(writer, line);
+}
+
+fn say_out_of_memory<W: Write>(writer: &mut Counted<W>)
+    ensures { WritesLine (W.contents (link_of writer.old)) (W.contents (link_of writer.new)) writer.old writer.new (fault_text fault.OutOfMemory) }
+{
+    say(writer, b"fault 1 OutOfMemory\n")
+}
+
+fn say_read_fault<W: Write>(writer: &mut Counted<W>)
+    ensures { WritesLine (W.contents (link_of writer.old)) (W.contents (link_of writer.new)) writer.old writer.new (fault_text fault.ReadFault) }
+{
+    say(writer, b"fault 14 ReadFault\n")
+}
+
+fn sim_links<R: Read, W: Write>(
+    alloc: Global,
+    reader: &mut Counted<R>,
+    writer: &mut Counted<W>,
+) -> u8
+    ensures { Simulates (R.remaining (link_of reader.old)) (R.remaining (link_of reader.new)) (W.contents (link_of writer.old)) (W.contents (link_of writer.new)) reader.old reader.new writer.old writer.new result }
+{
+    match tell_script(alloc, reader, writer) {
+        Ok(()) => 0,
+        Err(fault) => match fault {
+            Fault::OutOfMemory => {
+                say_out_of_memory(writer);
+                1
+            }
+            Fault::ReadFault => {
+                say_read_fault(writer);
+                1
+            }
+            _ => 1,
+        },
+    }
+}
+
+/// Plays a script over the nodes of a cluster, and answers the exit status.
+///
+/// Each line is done and its text written and flushed before the next one is done; the last line feed may be missing. A
+/// line that can't be read shows its fault, `fault 2 BadText` or `fault 3 TooLong`; a refused one shows `NotRising`,
+/// `TableFull`, `NoSuchMessage`, `NoSuchNode` or `VersionsSpent`; the script goes on. The status is 0 at the script's
+/// end. It is 1 after `fault 1 OutOfMemory`, where memory runs out; after `fault 14 ReadFault`, where a read fails or
+/// 4,294,967,295 reads do not meet the end; and where the writer fails or takes no byte, which leaves a front of the text.
+/// What a script takes of memory is its world (nodes and messages), its longest line, and that line's text.
+pub fn sim<R: Read, W: Write>(alloc: Global, reader: &mut Counted<R>, writer: &mut Counted<W>) -> u8
+    // Which text is due, and how much of it was written.
+    ensures played { Simulates (R.remaining (link_of reader.old)) (R.remaining (link_of reader.new)) (W.contents (link_of writer.old)) (W.contents (link_of writer.new)) reader.old reader.new writer.old writer.new result }
+    // Where no call of a link failed, no write took nothing and the bound on reads was not met, it is what all of the
+    // script prints, unless memory ran out.
+    ensures honest { failed_of reader.new ≡ 0 → calls_of reader.new < MOST_READS → failed_of writer.new ≡ 0 → idle_of writer.new ≡ 0
+        → IfSome (R.remaining (link_of reader.old)) (λ script.
+        PlaysAll (R.remaining (link_of reader.new)) (W.contents (link_of writer.old)) (W.contents (link_of writer.new)) script result
+        ⊎ SaysOutOfMemory (W.contents (link_of writer.old)) (W.contents (link_of writer.new)) script result) }
+{
+    sim_links(alloc, reader, writer)
+}
