@@ -16,19 +16,15 @@ use Rattle.cg_exchange.specs.Answering.{answer_to_syn}
 use Rattle.cg_frames.specs.declared.layout.TheConstants.{WRITTEN, LAYOUTS}
 use Rattle.cg_frames.specs.Choosing.{frame_among}
 use Rattle.cg_frames.specs.Spelling.{frame}
+use Rattle.cg_wire.specs.Due.{syn_due}
 use Rattle.cg_tool.specs.declared.request.Header.{Header}
 use Rattle.cg_tool.specs.Request.{request_in}
-
--- a SYN is due
-abbrev pub syn_of : Message → Result SynValue Fault
-syn_of (messages.Syn m) = Ok m
-syn_of (messages.Ack m) = Err (fault.BadFrame 5 cause.Unexpected)
-syn_of (messages.Ack2 m) = Err (fault.BadFrame 5 cause.Unexpected)
 
 -- the message at the front of the bytes, where nothing stands behind it
 abbrev pub alone_in : List ℕ → Result (Option (Message × ℕ)) Fault → Result SynValue Fault
 alone_in bytes (Ok None) = Err fault.Truncated
-alone_in bytes (Ok (Some m)) = if nat_lt m.1 (length bytes) then Err (fault.BadFrame m.1 cause.Rest) else syn_of m.0
+alone_in bytes (Ok (Some m)) =
+    if nat_lt m.1 (length bytes) then Err (fault.BadFrame m.1 cause.Rest) else syn_due m.0
 alone_in bytes (Err f) = Err f
 
 -- the SYN that the bytes are the frame of

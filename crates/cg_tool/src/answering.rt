@@ -4,7 +4,7 @@ ghost use Rattle.std.specs.Prelude.{◌≡◌, ◌⊎◌, ℕ, ◌<◌, List, So
 ghost use Rattle.cg_types.specs.declared.fault.Fault.TheVariants as fault;
 ghost use Rattle.cg_links.specs.declared.transfer.TheConstants.{MOST_READS};
 ghost use Rattle.cg_links.specs.Counted.{link_of, calls_of, failed_of, idle_of};
-ghost use Rattle.cg_tool.specs.Answer.{syn_of as syn_of_message, syn_in as text_syn_in, answer_to_frame, answer_to, text_of, status_of, Gives};
+ghost use Rattle.cg_tool.specs.Answer.{syn_in as text_syn_in, answer_to_frame, answer_to, text_of, status_of, Gives};
 ghost use Rattle.cg_tool.specs.Answered.{IsDue, Wrote, AnswersAll, SaysOutOfMemory};
 
 use crate::request::{Header, request};
@@ -15,20 +15,9 @@ use cg_frames::{decode, encode};
 use cg_links::{Counted, read_all, write_bytes};
 use cg_table::Table;
 use cg_types::{Cause, Fault};
+use cg_wire::syn_due;
 use std::alloc::{AllocError, Global};
 use std::io::{Read, Write};
-
-fn syn_of(message: Message) -> Result<Syn, Fault>
-    ensures { result ≡ syn_of_message message }
-{
-    match message {
-        Message::Syn(syn) => Ok(syn),
-        Message::Ack(_) | Message::Ack2(_) => Err(Fault::BadFrame {
-            place: 5,
-            cause: Cause::Unexpected,
-        }),
-    }
-}
 
 // The SYN that the bytes are the frame of.
 #[tactic(auto, unfolding(crate::specs::Answer::syn_in))]
@@ -44,7 +33,7 @@ fn syn_in(alloc: Global, bytes: &[u8]) -> Result<Syn, Fault>
                     cause: Cause::Rest,
                 });
             }
-            syn_of(message)
+            syn_due(message)
         }
         Err(fault) => Err(fault),
     }
