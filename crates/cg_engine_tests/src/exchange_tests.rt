@@ -1,0 +1,212 @@
+//! The worked exchange, and how it ends where the other side sends too little, another message, or a fault.
+
+use crate::samples::{ACK, ACK2, SYN, a, b, front, joined, syn};
+use cg_engine::{Broken, Ended, initiate, respond};
+use cg_links::{Counted, CountingLink};
+use cg_types::{Cause, Fault};
+use std::alloc::Global;
+use std::test::Fail;
+
+// What an exchange came to, how many owners the node then holds, how many bytes were left, and what was written.
+type Came = (Result<Ended, Broken>, usize, usize, Vec<u8>);
+
+fn responded(alloc: Global, input: &[u8]) -> Result<Came, Fail> {
+    let mut gate = b(alloc)?;
+    let mut reader = Counted::new(input);
+    let mut writer = Counted::new(Vec::new(alloc));
+    let ended = respond(alloc, &mut gate, 1000, &mut reader, &mut writer);
+    Ok((
+        ended,
+        gate.node().table().owners().len(),
+        reader.into_link().len(),
+        writer.into_link(),
+    ))
+}
+
+fn initiated(alloc: Global, input: &[u8]) -> Result<Came, Fail> {
+    let mut gate = a(alloc)?;
+    let opening = syn(alloc)?;
+    let mut reader = Counted::new(input);
+    let mut writer = Counted::new(Vec::new(alloc));
+    let ended = initiate(alloc, &mut gate, 1000, &opening, &mut reader, &mut writer);
+    Ok((
+        ended,
+        gate.node().table().owners().len(),
+        reader.into_link().len(),
+        writer.into_link(),
+    ))
+}
+
+// Whether B, on this input, ends so, holds so many owners, leaves so many bytes, and writes this.
+fn responds(
+    alloc: Global,
+    input: &[&[u8]],
+    due: (Result<Ended, Broken>, usize, usize),
+    text: &[u8],
+) -> Result<bool, Fail> {
+    let bytes = joined(alloc, input)?;
+    let (ended, owners, left, written) = responded(alloc, bytes.as_slice())?;
+    Ok((ended, owners, left) == due && written.as_slice() == text)
+}
+
+fn initiates(
+    alloc: Global,
+    input: &[&[u8]],
+    due: (Result<Ended, Broken>, usize, usize),
+    text: &[&[u8]],
+) -> Result<bool, Fail> {
+    let bytes = joined(alloc, input)?;
+    let written_due = joined(alloc, text)?;
+    let (ended, owners, left, written) = initiated(alloc, bytes.as_slice())?;
+    Ok((ended, owners, left) == due && written.as_slice() == written_due.as_slice())
+}
+
+fn broken(done: u32, fault: Fault) -> Result<Ended, Broken> {
+    Err(Broken { done, fault })
+}
+
+const UNEXPECTED: Fault = Fault::BadFrame {
+    place: 5,
+    cause: Cause::Unexpected,
+};
+
+#[test]
+fn b_responds(rt: HostRuntime) -> Result<(), Fail> {
+    let alloc = rt.alloc();
+    assert!(rt; responds(alloc, &[SYN, ACK2], (Ok(Ended::Whole), 2, 0), ACK)?);
+    // what stands behind the last message stays unread
+    assert!(rt;
+        responds(
+            alloc,
+            &[SYN, ACK2, SYN, b"\xff"],
+            (Ok(Ended::Whole), 2, 27),
+            ACK
+        )?
+    );
+    Ok(())
+}
+
+#[test]
+fn b_finds_the_end(rt: HostRuntime) -> Result<(), Fail> {
+    let alloc = rt.alloc();
+    assert!(rt; responds(alloc, &[], (Ok(Ended::Closed(0)), 1, 0), b"")?);
+    assert!(rt; responds(alloc, &[SYN], (Ok(Ended::Closed(1)), 1, 0), ACK)?);
+    assert!(rt;
+        responds(
+            alloc,
+            &[front(SYN, 10)],
+            (broken(0, Fault::Truncated), 1, 0),
+            b""
+        )?
+    );
+    assert!(rt;
+        responds(
+            alloc,
+            &[SYN, front(ACK2, 26)],
+            (broken(1, Fault::Truncated), 1, 0),
+            ACK
+        )?
+    );
+    Ok(())
+}
+
+#[test]
+fn b_reads_another_message(rt: HostRuntime) -> Result<(), Fail> {
+    let alloc = rt.alloc();
+    assert!(rt; responds(alloc, &[ACK, ACK2], (broken(0, UNEXPECTED), 1, 27), b"")?);
+    assert!(rt; responds(alloc, &[ACK2], (broken(0, UNEXPECTED), 1, 0), b"")?);
+    assert!(rt;
+        responds(
+            alloc,
+            &[SYN, SYN, ACK2],
+            (broken(1, UNEXPECTED), 1, 27),
+            ACK
+        )?
+    );
+    Ok(())
+}
+
+#[test]
+fn b_reads_a_fault(rt: HostRuntime) -> Result<(), Fail> {
+    let alloc = rt.alloc();
+    let count = Fault::BadFrame {
+        place: 10,
+        cause: Cause::Count,
+    };
+    let bad = b"\x00\x00\x00\x08\x01\x01\x02c1\x01\x01\x01".as_slice();
+    assert!(rt; responds(alloc, &[bad, SYN], (broken(0, count), 1, 26), b"")?);
+    let long = Fault::BadFrame {
+        place: 0,
+        cause: Cause::Length,
+    };
+    assert!(rt;
+        responds(
+            alloc,
+            &[SYN, b"\x7f\xff\xff\xff", ACK2],
+            (broken(1, long), 1, 27),
+            ACK
+        )?
+    );
+    Ok(())
+}
+
+#[test]
+fn b_is_of_another_cluster(rt: HostRuntime) -> Result<(), Fail> {
+    let other = b"\x00\x00\x00\x08\x01\x01\x02c2\x01\x00\x00".as_slice();
+    assert!(rt;
+        responds(
+            rt.alloc(),
+            &[other, ACK2],
+            (broken(0, Fault::OtherCluster), 1, 27),
+            b""
+        )?
+    );
+    Ok(())
+}
+
+#[test]
+fn a_initiates(rt: HostRuntime) -> Result<(), Fail> {
+    let alloc = rt.alloc();
+    assert!(rt; initiates(alloc, &[ACK], (Ok(Ended::Whole), 2, 0), &[SYN, ACK2])?);
+    assert!(rt; initiates(alloc, &[ACK, SYN], (Ok(Ended::Whole), 2, 26), &[SYN, ACK2])?);
+    Ok(())
+}
+
+#[test]
+fn a_finds_no_answer(rt: HostRuntime) -> Result<(), Fail> {
+    let alloc = rt.alloc();
+    assert!(rt; initiates(alloc, &[], (Ok(Ended::Closed(0)), 1, 0), &[SYN])?);
+    assert!(rt;
+        initiates(
+            alloc,
+            &[front(ACK, 42)],
+            (broken(0, Fault::Truncated), 1, 0),
+            &[SYN]
+        )?
+    );
+    assert!(rt; initiates(alloc, &[SYN], (broken(0, UNEXPECTED), 1, 0), &[SYN])?);
+    Ok(())
+}
+
+// The reads, writes and flushes of B's part of the worked exchange, and the most bytes that one read asked for.
+fn calls(alloc: Global) -> Result<(u64, usize, u64, u64), Fail> {
+    let input = joined(alloc, &[SYN, ACK2])?;
+    let mut gate = b(alloc)?;
+    let mut reader = Counted::new(CountingLink::new(input.as_slice()));
+    let mut writer = Counted::new(CountingLink::new(Vec::new(alloc)));
+    let _ended = respond(alloc, &mut gate, 1000, &mut reader, &mut writer);
+    let reader = reader.into_link();
+    let writer = writer.into_link();
+    Ok((
+        reader.reads(),
+        reader.most_asked(),
+        writer.writes(),
+        writer.flushes(),
+    ))
+}
+
+#[test]
+fn a_length_and_then_a_frame(rt: HostRuntime) -> Result<(), Fail> {
+    assert_eq!(rt; calls(rt.alloc())?, (4, 23, 1, 1));
+    Ok(())
+}

@@ -1,0 +1,9 @@
+//! Exchanges over bytes in memory, over links that fail at each call in turn, and over links that move a byte a call.
+#![tactic(auto)]
+
+#[cfg(test)]
+mod exchange_tests;
+#[cfg(test)]
+mod link_tests;
+#[cfg(test)]
+mod samples;

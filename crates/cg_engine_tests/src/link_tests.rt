@@ -1,0 +1,139 @@
+//! The worked exchange over links of which each call fails in turn, and which move a byte a call.
+
+use crate::samples::{ACK, ACK2, SYN, a, b, joined, syn};
+use cg_engine::{Broken, Ended, initiate, respond};
+use cg_links::{Counted, FailingLink, SlowLink};
+use cg_types::Fault;
+use std::alloc::Global;
+use std::test::Fail;
+
+// What an exchange came to, the failures that were counted at both links, and what was written.
+type Came = (Result<Ended, Broken>, u64, u64, Vec<u8>);
+
+// B's part, a byte a call, where the read of a number fails, or the write or flush of a number.
+fn responded(alloc: Global, read: u64, write: u64) -> Result<Came, Fail> {
+    let input = joined(alloc, &[SYN, ACK2])?;
+    let mut gate = b(alloc)?;
+    let mut reader = Counted::new(FailingLink::new(SlowLink::new(input.as_slice()), read));
+    let mut writer = Counted::new(FailingLink::new(SlowLink::new(Vec::new(alloc)), write));
+    let ended = respond(alloc, &mut gate, 1000, &mut reader, &mut writer);
+    let failed = writer.failed();
+    Ok((
+        ended,
+        reader.failed(),
+        failed,
+        writer.into_link().into_link().into_link(),
+    ))
+}
+
+// A's part.
+fn initiated(alloc: Global, read: u64, write: u64) -> Result<Came, Fail> {
+    let mut gate = a(alloc)?;
+    let opening = syn(alloc)?;
+    let mut reader = Counted::new(FailingLink::new(SlowLink::new(ACK), read));
+    let mut writer = Counted::new(FailingLink::new(SlowLink::new(Vec::new(alloc)), write));
+    let ended = initiate(alloc, &mut gate, 1000, &opening, &mut reader, &mut writer);
+    let failed = writer.failed();
+    Ok((
+        ended,
+        reader.failed(),
+        failed,
+        writer.into_link().into_link().into_link(),
+    ))
+}
+
+// Whether an exchange came to this, with these failures, and so many bytes of a text were written.
+fn is(
+    came: &Came,
+    ended: Result<Ended, Broken>,
+    failed: (u64, u64),
+    text: &[u8],
+    count: usize,
+) -> bool {
+    let (is_ended, read, write, written) = came;
+    let is_front = text.starts_with(written.as_slice()) && written.len() == count;
+    *is_ended == ended && (*read, *write) == failed && is_front
+}
+
+fn broken(done: u32, fault: Fault) -> Result<Ended, Broken> {
+    Err(Broken { done, fault })
+}
+
+// The SYN has 26 bytes, the ACK2 27.
+#[test]
+fn each_read_of_b_fails_in_turn(rt: HostRuntime) -> Result<(), Fail> {
+    for turn in 1..54 {
+        let came = responded(rt.alloc(), turn, 0)?;
+        let (done, count) = if turn <= 26 { (0, 0) } else { (1, 43) };
+        assert!(rt;
+            is(&came, broken(done, Fault::ReadFault), (1, 0), ACK, count),
+            "read {turn}"
+        );
+    }
+    let came = responded(rt.alloc(), 54, 0)?;
+    assert!(rt; is(&came, Ok(Ended::Whole), (0, 0), ACK, 43));
+    Ok(())
+}
+
+// The 43 bytes of the ACK, and the flush.
+#[test]
+fn each_write_of_b_fails_in_turn(rt: HostRuntime) -> Result<(), Fail> {
+    for turn in 1..45 {
+        let came = responded(rt.alloc(), 0, turn)?;
+        assert!(rt;
+            is(
+                &came,
+                broken(1, Fault::WriteFault),
+                (0, 1),
+                ACK,
+                (turn as usize) - 1
+            ),
+            "write {turn}"
+        );
+    }
+    let came = responded(rt.alloc(), 0, 45)?;
+    assert!(rt; is(&came, Ok(Ended::Whole), (0, 0), ACK, 43));
+    Ok(())
+}
+
+#[test]
+fn each_read_of_a_fails_in_turn(rt: HostRuntime) -> Result<(), Fail> {
+    for turn in 1..44 {
+        let came = initiated(rt.alloc(), turn, 0)?;
+        assert!(rt;
+            is(&came, broken(0, Fault::ReadFault), (1, 0), SYN, 26),
+            "read {turn}"
+        );
+    }
+    let came = initiated(rt.alloc(), 44, 0)?;
+    let all = joined(rt.alloc(), &[SYN, ACK2])?;
+    assert!(rt; is(&came, Ok(Ended::Whole), (0, 0), all.as_slice(), 53));
+    Ok(())
+}
+
+// The 26 bytes of the SYN and a flush, and the 27 of the ACK2 and a flush.
+#[test]
+fn each_write_of_a_fails_in_turn(rt: HostRuntime) -> Result<(), Fail> {
+    let all = joined(rt.alloc(), &[SYN, ACK2])?;
+    for turn in 1..56 {
+        let came = initiated(rt.alloc(), 0, turn)?;
+        let (done, count) = if turn <= 27 {
+            (0, turn - 1)
+        } else {
+            (1, turn - 2)
+        };
+        assert!(rt;
+            is(
+                &came,
+                broken(done, Fault::WriteFault),
+                (0, 1),
+                all.as_slice(),
+                count as usize
+            ),
+            "write {turn}"
+        );
+    }
+    let came = initiated(rt.alloc(), 0, 56)?;
+    assert!(rt; is(&came, Ok(Ended::Whole), (0, 0), all.as_slice(), 53));
+    Ok(())
+}

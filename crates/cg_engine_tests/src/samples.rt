@@ -1,0 +1,56 @@
+//! Nodes and frames of the worked exchange: A is 10.0.0.1:7000 in generation 9, B is 10.0.0.2:7000 in generation 5, and
+//! the cluster is c1.
+
+use cg_core::{Node, Settings};
+use cg_engine::NodeGate;
+use cg_exchange::Syn;
+use cg_frames::decode;
+use cg_samples::{A, B, cluster, endpoint, generation};
+use cg_silence::Silence;
+use cg_wire::syn_due;
+use std::alloc::Global;
+use std::test::Fail;
+
+// A's SYN, B's ACK, and A's ACK2.
+pub(crate) const SYN: &[u8] =
+    b"\x00\x00\x00\x16\x01\x01\x02c1\x01\x00\x01\x0a\x00\x00\x01\x1b\x58\x00\x00\x00\x09\x00\x00\x00\x01";
+
+pub(crate) const ACK: &[u8] =
+    b"\x00\x00\x00\x27\x01\x02\x00\x01\x0a\x00\x00\x01\x1b\x58\x00\x00\x00\x09\x00\x00\x00\x00\x00\x01\x0a\x00\x00\x02\x1b\x58\x00\x00\x00\x05\x00\x00\x00\x00\x00\x00\x00\x01\x00";
+
+pub(crate) const ACK2: &[u8] =
+    b"\x00\x00\x00\x17\x01\x03\x00\x01\x0a\x00\x00\x01\x1b\x58\x00\x00\x00\x09\x00\x00\x00\x00\x00\x00\x00\x01\x00";
+
+fn node(alloc: Global, own: u16, start: u32) -> Result<NodeGate, Fail> {
+    let seeds = Vec::new(alloc);
+    let settings = Settings::new(cluster(alloc)?, seeds, Silence::default()).ok_or("settings")?;
+    Ok(NodeGate::new(Node::start(alloc, endpoint(own), generation(start), settings)?))
+}
+
+pub(crate) fn a(alloc: Global) -> Result<NodeGate, Fail> {
+    node(alloc, A, 9)
+}
+
+pub(crate) fn b(alloc: Global) -> Result<NodeGate, Fail> {
+    node(alloc, B, 5)
+}
+
+// The SYN that A sends.
+pub(crate) fn syn(alloc: Global) -> Result<Syn, Fail> {
+    let (message, _size) = decode(alloc, SYN)?.ok_or("a whole frame")?;
+    Ok(syn_due(message)?)
+}
+
+// The first bytes, so many of them.
+pub(crate) fn front(bytes: &[u8], count: usize) -> &[u8] {
+    &bytes[..count.min(bytes.len())]
+}
+
+// Bytes, one after the other.
+pub(crate) fn joined(alloc: Global, parts: &[&[u8]]) -> Result<Vec<u8>, Fail> {
+    let mut all = Vec::new(alloc);
+    for part in parts {
+        all.extend_from_slice(part)?;
+    }
+    Ok(all)
+}
