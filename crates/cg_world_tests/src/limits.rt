@@ -1,0 +1,50 @@
+//! The greatest number of nodes, and runs that memory may end.
+
+use crate::scripts::{deliver, held_by, local, settings, start};
+use cg_samples::{A, B, C, endpoint};
+use cg_table::Took;
+use cg_types::{Fault, MEMBER_LIMIT};
+use cg_world::{Action, LocalEvent, Shown, World};
+use std::alloc::Global;
+use std::test::Fail;
+
+// As many endpoints as there may be have started.
+fn crowd(alloc: Global) -> Result<World, Fail> {
+    let mut world = World::new(alloc, settings(alloc)?);
+    for node in 0..MEMBER_LIMIT as u16 {
+        world.act(alloc, &start(node, 9))?;
+    }
+    Ok(world)
+}
+
+#[test]
+fn one_node_more_is_too_many(rt: HostRuntime) -> Result<(), Fail> {
+    let mut world = crowd(rt.alloc())?;
+    let running = world.endpoints(rt.alloc())?.len();
+    let one_more = world.act(rt.alloc(), &start(256, 9)).err();
+    let again = world.act(rt.alloc(), &start(255, 10)).is_ok();
+    assert_eq!(rt;
+        (running, one_more, again),
+        (256, Some(Fault::TableFull), true)
+    );
+    Ok(())
+}
+
+// How many of three nodes run.
+fn running(world: &World) -> usize {
+    [A, B, C]
+        .iter()
+        .filter(|node| world.node(endpoint(**node)).is_some())
+        .count()
+}
+
+// Where memory ends the run, the nodes run that started before; else all do.
+#[test]
+fn a_run_keeps_what_was_done(rt: HostRuntime) -> Result<(), Fail> {
+    let actions = [start(A, 9), start(B, 5), start(C, 4)];
+    let (world, answers) = World::run(rt.alloc(), settings(rt.alloc())?, &actions)?;
+    let done = answers.iter().filter(|answer| answer.is_ok()).count();
+    let whole = answers.len() == 3 || matches!(answers.last(), Some(Err(Fault::OutOfMemory)));
+    assert_eq!(rt; (running(&world), whole), (done, true));
+    Ok(())
+}

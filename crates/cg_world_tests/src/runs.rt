@@ -1,0 +1,260 @@
+//! A worked run of two nodes, in which one restarts and stale messages come.
+
+use crate::scripts::{deliver, held_by, local, run, settings, start, three_nodes};
+use cg_core::Reply;
+use cg_exchange::Message;
+use cg_samples::{A, B, C, endpoint};
+use cg_table::{Table, Took};
+use cg_types::Fault;
+use cg_world::laws::{equal_digests, merge_is_join};
+use cg_world::{Action, LocalEvent, Shown, World};
+use std::alloc::Global;
+use std::test::Fail;
+
+fn number(shown: &Result<Shown, Fault>) -> Option<u64> {
+    match shown {
+        Ok(shown) => shown.sent,
+        Err(_) => None,
+    }
+}
+
+#[test]
+fn messages_are_numbered(rt: HostRuntime) -> Result<(), Fail> {
+    let (_world, shown) = run(rt.alloc())?;
+    let numbers: Vec<Option<u64>> = shown.iter().map(number).collect(rt.alloc())?;
+    let expected = [
+        None,
+        None,
+        None,
+        Some(1),
+        Some(2),
+        Some(3),
+        None,
+        None,
+        Some(4),
+        Some(5),
+        None,
+        Some(6),
+        None,
+        Some(7),
+        None,
+        None,
+        None,
+    ];
+    assert_eq!(rt; numbers.as_slice(), expected.as_slice());
+    Ok(())
+}
+
+fn first_took(reply: &Reply) -> Option<Took> {
+    match reply {
+        Reply::Both { outcomes, .. } | Reply::Took(outcomes) => {
+            Some(outcomes.as_slice().first()?.took)
+        }
+        _ => None,
+    }
+}
+
+// What became of the first delta, if one came.
+fn outcome(shown: &Result<Shown, Fault>) -> Option<Took> {
+    match shown {
+        Ok(shown) => first_took(shown.reply.as_ref()?),
+        Err(_) => None,
+    }
+}
+
+#[test]
+fn stale_deltas_are_told(rt: HostRuntime) -> Result<(), Fail> {
+    let (_world, shown) = run(rt.alloc())?;
+    let outcomes: Vec<Option<Took>> = shown.iter().map(outcome).collect(rt.alloc())?;
+    let expected = [
+        None,
+        None,
+        None,
+        None,
+        None,
+        Some(Took::Taken),
+        Some(Took::Taken),
+        None,
+        None,
+        None,
+        None,
+        Some(Took::Gap),
+        Some(Took::Taken),
+        Some(Took::Taken),
+        Some(Took::Old),
+        None,
+        None,
+    ];
+    assert_eq!(rt; outcomes.as_slice(), expected.as_slice());
+    Ok(())
+}
+
+// What the actions behind the fifteenth are refused for.
+fn last_faults(shown: &[Result<Shown, Fault>]) -> Option<(&Fault, &Fault)> {
+    match shown.get(15..)? {
+        [Err(first), Err(second)] => Some((first, second)),
+        _ => None,
+    }
+}
+
+#[test]
+fn refused_actions_keep_their_place(rt: HostRuntime) -> Result<(), Fail> {
+    let (_world, shown) = run(rt.alloc())?;
+    let done = shown.iter().filter(|shown| shown.is_ok()).count();
+    let faults = Some((&Fault::NotRising, &Fault::NoSuchMessage));
+    assert_eq!(rt; (done, last_faults(&shown)), (15, faults));
+    Ok(())
+}
+
+#[test]
+fn nodes_hold_what_came(rt: HostRuntime) -> Result<(), Fail> {
+    let (world, _shown) = run(rt.alloc())?;
+    let of_a = (held_by(&world, A, A), held_by(&world, B, A));
+    let of_b = (held_by(&world, A, B), held_by(&world, B, B));
+    assert_eq!(rt;
+        (of_a, of_b),
+        ((Some((9, 3)), Some((9, 3))), (Some((5, 1)), Some((6, 1))))
+    );
+    Ok(())
+}
+
+#[test]
+fn all_messages_are_kept(rt: HostRuntime) -> Result<(), Fail> {
+    let (world, _shown) = run(rt.alloc())?;
+    let kept = (world.message(1).is_some(), world.message(7).is_some());
+    let none = (world.message(0).is_some(), world.message(8).is_some());
+    assert_eq!(rt;
+        (kept, none, world.settings().cluster().name()),
+        ((true, true), (false, false), "c1")
+    );
+    Ok(())
+}
+
+// The refusal of an action where A alone has started.
+fn refusal(alloc: Global, action: &Action) -> Result<Option<Fault>, Fail> {
+    let mut world = World::new(alloc, settings(alloc)?);
+    world.act(alloc, &start(A, 9))?;
+    Ok(world.act(alloc, action).err())
+}
+
+#[test]
+fn who_never_started_does_nothing(rt: HostRuntime) -> Result<(), Fail> {
+    let beat = refusal(rt.alloc(), &local(B, LocalEvent::Beat))?;
+    let again = refusal(rt.alloc(), &start(A, 9))?;
+    let unsent = refusal(rt.alloc(), &deliver(1, B, 1000))?;
+    assert_eq!(rt;
+        (beat, again, unsent),
+        (
+            Some(Fault::NoSuchNode),
+            Some(Fault::NotRising),
+            Some(Fault::NoSuchMessage)
+        )
+    );
+    Ok(())
+}
+
+// The newest version that a table holds of an endpoint.
+fn newest(table: &Table, of: u16) -> Option<u32> {
+    Some(table.get(endpoint(of))?.newest().get())
+}
+
+#[test]
+fn three_tables_merged(rt: HostRuntime) -> Result<(), Fail> {
+    let world = three_nodes(rt.alloc())?;
+    let table = merge_is_join(rt.alloc(), &world, endpoint(A), endpoint(B), endpoint(C))?;
+    let held = (newest(&table, A), newest(&table, B), newest(&table, C));
+    assert_eq!(rt;
+        (table.own(), held),
+        (endpoint(A), (Some(3), Some(1), Some(1)))
+    );
+    Ok(())
+}
+
+#[test]
+fn digests_of_two_nodes(rt: HostRuntime) -> Result<(), Fail> {
+    let world = three_nodes(rt.alloc())?;
+    let others = equal_digests(&world, endpoint(A), endpoint(B))?;
+    let same = equal_digests(&world, endpoint(A), endpoint(A))?;
+    let nobody = equal_digests(&world, endpoint(A), endpoint(4)).err();
+    assert_eq!(rt;
+        (others, same, nobody),
+        (false, true, Some(Fault::NoSuchNode))
+    );
+    Ok(())
+}
+
+// What the message of a number sends: the deltas of an ACK2, by their endpoint and the version that each lies above.
+fn sent_above(world: &World, number: u64) -> Option<(usize, Option<u32>)> {
+    let deltas = match world.message(number)? {
+        Message::Syn(_) => return None,
+        Message::Ack(ack) => ack.deltas(),
+        Message::Ack2(ack2) => ack2.deltas(),
+    };
+    let above = match deltas.first() {
+        Some(delta) => Some(delta.delta.above()),
+        None => None,
+    };
+    Some((deltas.len(), above))
+}
+
+#[test]
+fn what_finds_nothing_to_grant_is_empty(rt: HostRuntime) -> Result<(), Fail> {
+    let world = three_nodes(rt.alloc())?;
+    assert_eq!(rt;
+        (sent_above(&world, 6), sent_above(&world, 7)),
+        (Some((0, None)), Some((0, None)))
+    );
+    Ok(())
+}
+
+#[test]
+fn an_answer_brings_what_is_above(rt: HostRuntime) -> Result<(), Fail> {
+    let (world, _shown) = run(rt.alloc())?;
+    assert_eq!(rt; sent_above(&world, 5), Some((1, Some(2))));
+    Ok(())
+}
+
+// B, which holds A at 2, asks for what lies above it in generation 9: message 5.
+fn asking(actions: &mut Vec<Action>) -> Result<(), Fail> {
+    actions.push(start(A, 9))?;
+    actions.push(local(A, LocalEvent::Beat))?;
+    actions.push(start(B, 5))?;
+    actions.push(local(A, LocalEvent::Opening))?;
+    actions.push(deliver(1, B, 1000))?;
+    actions.push(deliver(2, A, 1000))?;
+    actions.push(deliver(3, B, 1000))?;
+    actions.push(local(A, LocalEvent::Beat))?;
+    actions.push(local(A, LocalEvent::Opening))?;
+    actions.push(deliver(4, B, 2000))?;
+    Ok(())
+}
+
+// C is asked before it holds anything of A, and answers by message 6; and by 10 once it holds A at its next start.
+fn asked_elsewhere(actions: &mut Vec<Action>) -> Result<(), Fail> {
+    actions.push(start(C, 4))?;
+    actions.push(deliver(5, C, 3000))?;
+    actions.push(start(A, 10))?;
+    actions.push(local(A, LocalEvent::Opening))?;
+    actions.push(deliver(7, C, 4000))?;
+    actions.push(deliver(8, A, 4000))?;
+    actions.push(deliver(9, C, 4000))?;
+    actions.push(deliver(5, C, 5000))?;
+    Ok(())
+}
+
+#[test]
+fn a_request_of_an_ended_generation_gets_the_next_one_whole(rt: HostRuntime) -> Result<(), Fail> {
+    let mut actions = Vec::new(rt.alloc());
+    asking(&mut actions)?;
+    asked_elsewhere(&mut actions)?;
+    let (world, _shown) = World::run(rt.alloc(), settings(rt.alloc())?, &actions)?;
+    assert_eq!(rt;
+        (
+            sent_above(&world, 6),
+            sent_above(&world, 10),
+            held_by(&world, C, A)
+        ),
+        (Some((0, None)), Some((1, Some(0))), Some((10, 1)))
+    );
+    Ok(())
+}
