@@ -1,27 +1,20 @@
-//! The program `cg`: `answer` over the standard streams.
+//! The program `cg`: `answer` and `sim` over the standard streams.
 #![tactic(auto)]
 
-use cg_links::Counted;
-use cg_tool::answer;
-use std::env::{Env, FillError};
-use std::io;
+use cg_tool::run;
+use std::env;
 use std::process::ExitCode;
 
-// The status after a fault of the command line.
+// The status where the words can't be read.
 const MISUSED: u8 = 2;
 
-// Whether a word stands behind the program's name. It takes no memory.
-fn has_words(rt: &impl Env) -> bool {
-    !matches!(rt.arg(1, &mut []), Err(FillError::NotPresent))
-}
-
-/// Reads standard input to its end, and writes the answer to standard output. It takes no words: any
-/// word ends it with status 2 and no output.
+/// Does what the words ask for. A word that is not UTF-8 is a fault of the command line.
 fn main(rt: HostRuntime) -> ExitCode {
-    if has_words(&rt) {
+    let Ok(words) = env::args(&rt) else {
         return ExitCode::from(MISUSED);
-    }
-    let mut reader = Counted::new(rt.reader());
-    let mut writer = Counted::new(io::writer(&rt));
-    ExitCode::from(answer(rt.alloc(), &mut reader, &mut writer))
+    };
+    let Ok(words) = words.collect::<Vec<String>>(rt.alloc()) else {
+        return ExitCode::from(MISUSED);
+    };
+    run(&rt, rt.alloc(), &words)
 }

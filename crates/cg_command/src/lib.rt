@@ -5,4 +5,5 @@ mod job;
 mod texts;
 
 pub use clap::Error;
+pub use clap::error::ErrorKind;
 pub use job::{Job, job_of};

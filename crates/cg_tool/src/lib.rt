@@ -1,7 +1,12 @@
-//! The program's work, over readers and writers.
+//! The program's work, over readers and writers: `answer` stands here; scripts and the command line, in crates of their
+//! own, are passed on.
 #![tactic(auto)]
 
 mod answering;
 mod request;
+mod running;
 
 pub use answering::answer;
+pub use cg_command::{Job, job_of};
+pub use cg_sim::sim;
+pub use running::run;

@@ -1,0 +1,62 @@
+//! A run of the program: its words, its streams and its status.
+
+use crate::answering::answer;
+use cg_command::{Error, ErrorKind, Job, job_of};
+use cg_links::Counted;
+use cg_sim::sim;
+use std::alloc::{AllocError, Global};
+use std::io;
+use std::io::{Eprint, Input, Print};
+use std::process::ExitCode;
+
+// The status after a fault that ended the work, and after one of the command line.
+const FAILED: u8 = 1;
+
+const MISUSED: u8 = 2;
+
+fn texts(alloc: Global, words: &[String]) -> Result<Vec<&str>, AllocError> {
+    let mut texts = Vec::with_capacity(alloc, words.len())?;
+    for word in words {
+        texts.push(word.as_str())?;
+    }
+    Ok(texts)
+}
+
+// Says that memory was short before the work began, where that can be said.
+fn out_of_memory<R: Print>(rt: &R) -> u8 {
+    let _ = println!(rt; "fault 1 OutOfMemory");
+    FAILED
+}
+
+// Tells what is wrong with the words, or the help or the version that they ask for.
+fn told<R: Print + Eprint>(rt: &R, error: &Error) -> u8 {
+    if error.kind() == ErrorKind::OutOfMemory {
+        return out_of_memory(rt);
+    }
+    let _ = error.print(rt);
+    if error.use_stderr() { MISUSED } else { 0 }
+}
+
+// Does a job over the standard streams.
+fn done<R: Input + Print>(rt: &R, alloc: Global, job: Job) -> u8 {
+    let mut reader = Counted::new(rt.reader());
+    let mut writer = Counted::new(io::writer(rt));
+    match job {
+        Job::Answer => answer(alloc, &mut reader, &mut writer),
+        Job::Sim => sim(alloc, &mut reader, &mut writer),
+    }
+}
+
+/// Does what the words ask for, of which the first is the program's name, over the standard streams, and tells the exit
+/// status. With no further words that is `answer`. Help and the version go to standard output, with status 0; a fault of
+/// the command line goes to standard error, with status 2.
+pub fn run<R: Input + Print + Eprint>(rt: &R, alloc: Global, words: &[String]) -> ExitCode {
+    let Ok(words) = texts(alloc, words) else {
+        return ExitCode::from(out_of_memory(rt));
+    };
+    let status = match job_of(alloc, words.as_slice()) {
+        Ok(job) => done(rt, alloc, job),
+        Err(error) => told(rt, &error),
+    };
+    ExitCode::from(status)
+}
