@@ -51,10 +51,10 @@ pub record IsWindow (s : SilenceValue) (gaps : List ℕ) (capacity total : ℕ) 
 abbrev pub silence_code : Coded SilenceValue
 silence_code =
     code_by (ℕ × (ℕ × (ℕ × ℕ))) (coded× coded_ℕ (coded× coded_ℕ (coded× coded_ℕ coded_ℕ)))
-      (λ s. (s.window, (s.initial_gap, (s.max_gap, s.threshold))))
-      (λ p. record { window = p.0; initial_gap = p.1.0; max_gap = p.1.1.0; threshold = p.1.1.1 }) (λ _. refl)
+    (λ s. (s.window, (s.initial_gap, (s.max_gap, s.threshold))))
+    (λ p. record { window = p.0; initial_gap = p.1.0; max_gap = p.1.1.0; threshold = p.1.1.1 }) (λ _. refl)
 
 abbrev pub shown_code : Coded Shown
 shown_code =
     code_by (List ℕ × Option ℕ) (coded× (coded_list coded_ℕ) (coded_option coded_ℕ)) (λ w. (w.gaps, w.last))
-      (λ p. record { gaps = p.0; last = p.1 }) (λ _. refl)
+    (λ p. record { gaps = p.0; last = p.1 }) (λ _. refl)

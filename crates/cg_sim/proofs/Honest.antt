@@ -59,7 +59,7 @@ due_written input after held holds r0 r1 w0 w1 text status result (inr (inl s)) 
     inr (record {
       count = lines.0;
       text = subst (λ (t : List ℕ). Appends held holds t)
-        (s.text_is ∙ ap (λ (ls : List (List ℕ)). lines_text first_play ls ++ fault_text OutOfMemory) lines.1) all.text_is;
+          (s.text_is ∙ ap (λ (ls : List (List ℕ)). lines_text first_play ls ++ fault_text OutOfMemory) lines.1) all.text_is;
       status = all.result_is ∙ s.status_is;
     })
 due_written input after held holds r0 r1 w0 w1 text status result (inr (inr c)) all rf few =

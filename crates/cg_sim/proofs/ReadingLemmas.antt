@@ -51,15 +51,15 @@ reading_more p q front next piece given before after later held holds written r0
     let told : AreTold p q (ended_lines front piece) holds written w1 w2 = subst (λ (l : List ℕ). AreTold p q (ended_lines front l) holds written w1 w2) same given_told in
     let is : next ≡ open_line front piece = given_is ∙ ap (open_line front) same in
     record {
-  script = h.script ++ piece;
-  read = Consumes-trans before after later h.script piece h.read read;
-  kept = KeepsCounts-trans r0 r1 r2 h.kept kept;
-  counted = inr (counts_more r0 r1 r2 k h.counted calls);
-  unended = is ∙ ap (λ (l : List ℕ). open_line l piece) h.unended ∙ sym (open_line-append [] h.script piece);
-  told = subst (λ (ls : List (List ℕ)). AreTold first_play q ls held written w0 w2)
-      (ap (λ (l : List ℕ). ended_lines [] h.script ++ ended_lines l piece) h.unended ∙ sym (ended_lines-append [] h.script piece))
-      (told_on first_play p q (ended_lines [] h.script) (ended_lines front piece) held holds written w0 w1 w2 h.told told);
-}
+      script = h.script ++ piece;
+      read = Consumes-trans before after later h.script piece h.read read;
+      kept = KeepsCounts-trans r0 r1 r2 h.kept kept;
+      counted = inr (counts_more r0 r1 r2 k h.counted calls);
+      unended = is ∙ ap (λ (l : List ℕ). open_line l piece) h.unended ∙ sym (open_line-append [] h.script piece);
+      told = subst (λ (ls : List (List ℕ)). AreTold first_play q ls held written w0 w2)
+          (ap (λ (l : List ℕ). ended_lines [] h.script ++ ended_lines l piece) h.unended ∙ sym (ended_lines-append [] h.script piece))
+          (told_on first_play p q (ended_lines [] h.script) (ended_lines front piece) held holds written w0 w1 w2 h.told told);
+    }
 
 pub reading_stops : {R W : Type 0} (p : Play) (front piece given : List ℕ) (before after later held holds written : Option (List ℕ))
     (r0 r1 r2 : Counted R) (w0 w1 w2 : Counted W) (k : ℕ) (f : Fault)
@@ -69,7 +69,7 @@ pub reading_stops : {R W : Type 0} (p : Play) (front piece given : List ℕ) (be
 reading_stops p front piece given before after later held holds written r0 r1 r2 w0 w1 w2 k f h read kept given_stops same =
     let stops = subst (λ (l : List ℕ). RunsOut p (ended_lines front l) holds written w1 w2 f ⊎ BreaksOff p (ended_lines front l) holds written w1 w2 f) same given_stops in
     let all : ended_lines [] h.script ++ ended_lines front piece ≡ ended_lines [] (h.script ++ piece) =
-      ap (λ (l : List ℕ). ended_lines [] h.script ++ ended_lines l piece) h.unended ∙ sym (ended_lines-append [] h.script piece) in
+    ap (λ (l : List ℕ). ended_lines [] h.script ++ ended_lines l piece) h.unended ∙ sym (ended_lines-append [] h.script piece) in
     record {
       script = h.script ++ piece;
       read = Consumes-trans before after later h.script piece h.read read;
@@ -110,7 +110,7 @@ reading_last p front before after later held holds written r0 r1 r2 w0 w1 w2 k f
       read = subst (λ (s : List ℕ). Consumes before later s) (append-nil h.script) (Consumes-trans before after later h.script [] h.read read);
       kept = KeepsCounts-trans r0 r1 r2 h.kept kept;
       stops = inl (subst (λ (ls : List (List ℕ)). RunsOut first_play ls held written w0 w2 f) (append-nil (ended_lines [] h.script))
-        (runs_out_on first_play p (ended_lines [] h.script) [] held holds written w0 w1 w2 f h.told (untold p [] holds written w1 w2 f none)));
+          (runs_out_on first_play p (ended_lines [] h.script) [] held holds written w0 w1 w2 f h.told (untold p [] holds written w1 w2 f none)));
     })
 reading_last p front before after later held holds written r0 r1 r2 w0 w1 w2 k f h read end kept (inr breaks) =
     inr (record {
@@ -119,7 +119,7 @@ reading_last p front before after later held holds written r0 r1 r2 w0 w1 w2 k f
       end = end;
       kept = KeepsCounts-trans r0 r1 r2 h.kept kept;
       breaks = subst (λ (l : List ℕ). BreaksOff first_play (ended_lines [] h.script ++ last_line l) held written w0 w2 f) h.unended
-        (breaks_off_on first_play p (ended_lines [] h.script) (last_line front) held holds written w0 w1 w2 f h.told breaks);
+          (breaks_off_on first_play p (ended_lines [] h.script) (last_line front) held holds written w0 w1 w2 f h.told breaks);
     })
 
 pub reading_fails : {R W : Type 0} (p : Play) (front : List ℕ) (before after later held holds : Option (List ℕ))

@@ -50,14 +50,19 @@ pub simulates_broken : {R W : Type 0} (before after held holds : Option (List �
 simulates_broken before after held holds r0 r1 w0 w1 f other another (inl s) =
     elim s.stops [
       | inl short ↦ absurd (other short.fault)
-      | inr breaks ↦ inr (lines_text first_play (ended_lines [] s.script),
-          record { script = s.script; read = s.read; kept = s.kept; text_is = refl },
-          record { count = breaks.count; front = breaks.text; caused = breaks.caused; result_is = refl })
+      | inr breaks ↦ inr (
+        lines_text first_play (ended_lines [] s.script),
+        record { script = s.script; read = s.read; kept = s.kept; text_is = refl },
+        record { count = breaks.count; front = breaks.text; caused = breaks.caused; result_is = refl },
+      )
     ]
 simulates_broken before after held holds r0 r1 w0 w1 f other another (inr (inl l)) =
-    inl (script_text l.script, 0,
+    inl (
+      script_text l.script,
+      0,
       inl (record { script = l.script; read = l.read; end = l.end; kept = l.kept; text_is = refl; status_is = refl }),
-      inr (broken_last l.script held holds w0 w1 f l.breaks))
+      inr (broken_last l.script held holds w0 w1 f l.breaks),
+    )
 simulates_broken before after held holds r0 r1 w0 w1 f other another (inr (inr u)) = absurd (another u.fault)
 
 -- memory ran out, and the line that says so was written, or a front of it
@@ -67,9 +72,12 @@ pub simulates_short : {R W : Type 0} (before after held holds written : Option (
 simulates_short before after held holds written r0 r1 w0 w1 w2 f e (inl s) line =
     elim s.stops [
       | inl short ↦ let text = lines_text first_play (take short.count (ended_lines [] s.script)) in
-          inl (text ++ fault_text OutOfMemory, 1,
+          inl (
+            text ++ fault_text OutOfMemory,
+            1,
             inr (inl (record { script = s.script; read = s.read; kept = s.kept; count = short.count; text_is = refl; status_is = refl })),
-            wrote_line held holds written w0 w1 w2 text (fault_text OutOfMemory) short.text short.kept line)
+            wrote_line held holds written w0 w1 w2 text (fault_text OutOfMemory) short.text short.kept line,
+          )
       | inr breaks ↦ let wrong : OutOfMemory ≡ WriteFault = sym e ∙ breaks.fault in absurd (cc wrong)
     ]
 simulates_short before after held holds written r0 r1 w0 w1 w2 f e (inr (inl l)) line = let wrong : OutOfMemory ≡ WriteFault = sym e ∙ l.breaks.fault in absurd (cc wrong)

@@ -37,7 +37,7 @@ pub telling_all : {L : Type 0} (p q : Play) (first front piece rest : List ℕ) 
     → Telling p q first front piece rest a b u v → cut_at 10 rest ≡ None → AreTold p q (ended_lines first piece) a b u v
 telling_all p q first front piece rest a b u v t cut =
     let all : t.lines ≡ ended_lines first piece =
-      sym (t.ended ∙ ap (λ (ls : List (List ℕ)). t.lines ++ ls) (ended_none front rest cut) ∙ append-nil t.lines) in
+    sym (t.ended ∙ ap (λ (ls : List (List ℕ)). t.lines ++ ls) (ended_none front rest cut) ∙ append-nil t.lines) in
     subst (λ (ls : List (List ℕ)). AreTold p q ls a b u v) all t.told
 
 pub telling_open : {L : Type 0} (p q : Play) (first front piece rest : List ℕ) (a b : Option (List ℕ)) (u v : Counted L)
@@ -50,7 +50,7 @@ pub telling_short : {L : Type 0} (p q : Play) (first front piece rest : List ℕ
 telling_short p q first front piece rest a b u v f t short =
     let none : IsUntold b b v v f = record { fault = short; text = Appends-nil b; kept = record { failed = refl; idle = refl } } in
     subst (λ (ls : List (List ℕ)). RunsOut p ls a b u v f) (sym t.ended)
-      (runs_out_on p q t.lines (ended_lines front rest) a b b u v v f t.told (untold q (ended_lines front rest) b b v v f none))
+    (runs_out_on p q t.lines (ended_lines front rest) a b b u v v f t.told (untold q (ended_lines front rest) b b v v f none))
 
 -- the next line stops
 pub telling_stops : {L : Type 0} (p q : Play) (first front piece rest : List ℕ) (parts : List ℕ × List ℕ) (a b c : Option (List ℕ)) (u v w : Counted L) (f : Fault)
@@ -59,19 +59,19 @@ pub telling_stops : {L : Type 0} (p q : Play) (first front piece rest : List ℕ
     → RunsOut p (ended_lines first piece) a c u w f ⊎ BreaksOff p (ended_lines first piece) a c u w f
 telling_stops p q first front piece rest parts a b c u v w f t cut (inl none) =
     inl (subst (λ (ls : List (List ℕ)). RunsOut p ls a c u w f) (sym t.ended)
-      (runs_out_on p q t.lines (ended_lines front rest) a b c u v w f t.told (untold q (ended_lines front rest) b c v w f none)))
+    (runs_out_on p q t.lines (ended_lines front rest) a b c u v w f t.told (untold q (ended_lines front rest) b c v w f none)))
 telling_stops p q first front piece rest parts a b c u v w f t cut (inr breaks) =
     let all : t.lines ++ ((front ++ parts.0) ∷ ended_lines [] parts.1) ≡ ended_lines first piece =
-      sym (t.ended ∙ ap (λ (ls : List (List ℕ)). t.lines ++ ls) (ended_some front rest parts cut)) in
+    sym (t.ended ∙ ap (λ (ls : List (List ℕ)). t.lines ++ ls) (ended_some front rest parts cut)) in
     inr (subst (λ (ls : List (List ℕ)). BreaksOff p ls a c u w f) all
-      (breaks_off_on p q t.lines ((front ++ parts.0) ∷ ended_lines [] parts.1) a b c u v w f t.told
-        (breaks_off_wider q ((front ++ parts.0) ∷ []) (ended_lines [] parts.1) b c v w f breaks)))
+    (breaks_off_on p q t.lines ((front ++ parts.0) ∷ ended_lines [] parts.1) a b c u v w f t.told
+    (breaks_off_wider q ((front ++ parts.0) ∷ []) (ended_lines [] parts.1) b c v w f breaks)))
 
 -- the rest is kept, or finds no memory
 pub telling_rest : {L T : Type 0} (p q : Play) (first front piece rest : List ℕ) (a b : Option (List ℕ)) (u v : Counted L) (r : Result T Fault)
     → Telling p q first front piece rest a b u v → cut_at 10 rest ≡ None → IfErr r (λ f. f ≡ OutOfMemory)
     → MatchResult r (λ _. AreTold p q (ended_lines first piece) a b u v)
-        (λ f. RunsOut p (ended_lines first piece) a b u v f ⊎ BreaksOff p (ended_lines first piece) a b u v f)
+    (λ f. RunsOut p (ended_lines first piece) a b u v f ⊎ BreaksOff p (ended_lines first piece) a b u v f)
 telling_rest p q first front piece rest a b u v (Ok x) t cut short = telling_all p q first front piece rest a b u v t cut
 telling_rest p q first front piece rest a b u v (Err f) t cut short = inl (telling_short p q first front piece rest a b u v f t short)
 

@@ -14,7 +14,7 @@ returns-in-Ok-eq0 g c =
 pub returns-in-Err-tell_piece : goal.returns-in-Err-tell_piece
 returns-in-Err-tell_piece g c =
     inl (reading_stops _ _ _ (take c.in-Ok.n c.read.new.buf) _ _ _ _ _ _ _ _ _ _ _ _ _ _ c.loop.invariant c.in-Ok.ensures.bytes.0 c.in-Ok.ensures.counts
-      c.in-Err-tell_piece.ensures.told refl)
+    c.in-Err-tell_piece.ensures.told refl)
 
 pub returns-in-Err : goal.returns-in-Err
 returns-in-Err g c = inr (inr (reading_fails _ _ _ _ _ _ _ _ _ _ _ _ _ _ c.loop.invariant c.in-Err.ensures.bytes c.in-Err.ensures.counts refl))

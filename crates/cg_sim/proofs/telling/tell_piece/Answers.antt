@@ -23,7 +23,7 @@ pub loop-part-preserved : goal.loop-part-preserved
 loop-part-preserved g c =
     rw c.clear.ensures.items
     (telling_more _ _ _ _ _ _ _ (c.in-Some.part.now, c.in-Some.behind.now) _ _ _ _ _ _ c.loop-part.invariant
-      (sym (rw c.in-Some.is at c.cut.ensures)) (rw (c.deref.ensures.value, c.in-Ok.ensures.ok) at c.in-Ok-tell_line.ensures))
+    (sym (rw c.in-Some.is at c.cut.ensures)) (rw (c.deref.ensures.value, c.in-Ok.ensures.ok) at c.in-Ok-tell_line.ensures))
 
 pub returns-clause-told : goal.returns-clause-told
 returns-clause-told g c =
