@@ -1,0 +1,70 @@
+//! Words that name a job, words that don't, and words that ask for help.
+
+use cg_command::{Job, job_of};
+use std::alloc::Global;
+use std::test::Fail;
+
+// The job that the words name, if they do.
+fn job(alloc: Global, words: &[&str]) -> Option<Job> {
+    job_of(alloc, words).ok()
+}
+
+// The status and the text of what the words are answered in place of a job.
+fn answer(alloc: Global, words: &[&str]) -> Result<(i32, String), Fail> {
+    match job_of(alloc, words) {
+        Ok(_) => Ok((-1, String::new(alloc))),
+        Err(error) => Ok((error.exit_code(), error.to_string(alloc)?)),
+    }
+}
+
+// Whether the words are a fault of the command line, which ends with status 2.
+fn is_fault(alloc: Global, words: &[&str]) -> Result<bool, Fail> {
+    let (status, text) = answer(alloc, words)?;
+    Ok(status == 2 && text.as_str().starts_with("error: "))
+}
+
+// Whether the words are answered, with status 0, by a text that has this in it.
+fn is_told(alloc: Global, words: &[&str], part: &str) -> Result<bool, Fail> {
+    let (status, text) = answer(alloc, words)?;
+    Ok(status == 0 && text.as_str().contains(part))
+}
+
+#[test]
+fn words_name_jobs(rt: HostRuntime) {
+    let alloc = rt.alloc();
+    assert_eq!(rt; job(alloc, &["cg"]), Some(Job::Answer));
+    assert_eq!(rt; job(alloc, &["cg", "answer"]), Some(Job::Answer));
+    assert_eq!(rt; job(alloc, &["cg", "sim"]), Some(Job::Sim));
+}
+
+#[test]
+fn other_words_are_faults(rt: HostRuntime) -> Result<(), Fail> {
+    let alloc = rt.alloc();
+    assert!(rt; is_fault(alloc, &["cg", "sim", "x"])?);
+    assert!(rt; is_fault(alloc, &["cg", "answer", "x"])?);
+    assert!(rt; is_fault(alloc, &["cg", "nothing"])?);
+    assert!(rt; is_fault(alloc, &["cg", ""])?);
+    assert!(rt; is_fault(alloc, &["cg", "serve", "f"])?);
+    assert!(rt; is_fault(alloc, &["cg", "audit", "f"])?);
+    assert!(rt; is_fault(alloc, &["cg", "--nothing"])?);
+    Ok(())
+}
+
+#[test]
+fn help_and_the_version_are_told(rt: HostRuntime) -> Result<(), Fail> {
+    let alloc = rt.alloc();
+    assert!(rt; is_told(alloc, &["cg", "--version"], "cg 0.1.0")?);
+    assert!(rt; is_told(alloc, &["cg", "--help"], "Play a script")?);
+    assert!(rt; is_told(alloc, &["cg", "--help"], "Exit status")?);
+    assert!(rt; is_told(alloc, &["cg", "sim", "--help"], "deliver N EP NOW")?);
+    assert!(rt;
+        is_told(
+            alloc,
+            &["cg", "answer", "--help"],
+            "ENDPOINT GENERATION CLUSTER"
+        )?
+    );
+    assert!(rt; !is_told(alloc, &["cg", "--help"], "serve")?);
+    assert!(rt; !is_told(alloc, &["cg", "--help"], "audit")?);
+    Ok(())
+}
