@@ -2,19 +2,15 @@
 #![tactic(auto)]
 
 use cg_tool::run;
-use std::env;
 use std::process::ExitCode;
+use std::{env, io};
 
-// The status where the words can't be read.
-const MISUSED: u8 = 2;
+// The words of the command line, of which the first is the program's name.
+fn words(rt: &HostRuntime) -> io::Result<Vec<String>> {
+    Ok(env::args(rt)?.collect(rt.alloc())?)
+}
 
-/// Does what the words ask for. A word that is not UTF-8 is a fault of the command line.
+/// Does what the words ask for.
 fn main(rt: HostRuntime) -> ExitCode {
-    let Ok(words) = env::args(&rt) else {
-        return ExitCode::from(MISUSED);
-    };
-    let Ok(words) = words.collect::<Vec<String>>(rt.alloc()) else {
-        return ExitCode::from(MISUSED);
-    };
-    run(&rt, rt.alloc(), &words)
+    run(&rt, rt.alloc(), words(&rt))
 }

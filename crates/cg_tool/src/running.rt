@@ -47,16 +47,38 @@ fn done<R: Input + Print>(rt: &R, alloc: Global, job: Job) -> u8 {
     }
 }
 
-/// Does what the words ask for, of which the first is the program's name, over the standard streams, and tells the exit
-/// status. With no further words that is `answer`. Help and the version go to standard output, with status 0; a fault of
-/// the command line goes to standard error, with status 2.
-pub fn run<R: Input + Print + Eprint>(rt: &R, alloc: Global, words: &[String]) -> ExitCode {
+// Tells why the words can't be read.
+fn unread<R: Print + Eprint>(rt: &R, error: &io::Error) -> u8 {
+    if error.kind() == io::ErrorKind::OutOfMemory {
+        return out_of_memory(rt);
+    }
+    let _ = eprintln!(rt; "error: a word of the command line is not UTF-8");
+    MISUSED
+}
+
+// Does what the words ask for, and tells the status.
+fn ran<R: Input + Print + Eprint>(rt: &R, alloc: Global, words: &[String]) -> u8 {
     let Ok(words) = texts(alloc, words) else {
-        return ExitCode::from(out_of_memory(rt));
+        return out_of_memory(rt);
     };
-    let status = match job_of(alloc, words.as_slice()) {
+    match job_of(alloc, words.as_slice()) {
         Ok(job) => done(rt, alloc, job),
         Err(error) => told(rt, &error),
+    }
+}
+
+/// Does what the words ask for, of which the first is the program's name, over the standard streams, and tells the exit
+/// status. With no further words that is `answer`. Help and the version go to standard output, with status 0; a fault of
+/// the command line goes to standard error, with status 2, as does a word that is not UTF-8. Want of memory before the work
+/// begins is the line `fault 1 OutOfMemory`, with status 1.
+pub fn run<R: Input + Print + Eprint>(
+    rt: &R,
+    alloc: Global,
+    words: io::Result<Vec<String>>,
+) -> ExitCode {
+    let status = match words {
+        Ok(words) => ran(rt, alloc, words.as_slice()),
+        Err(error) => unread(rt, &error),
     };
     ExitCode::from(status)
 }
