@@ -203,7 +203,7 @@ fn a_last_line_feed_may_be_missing(rt: HostRuntime) {
 fn long_line(alloc: Global, start: &str, length: usize) -> Result<Vec<u8>, Fail> {
     let mut script = Vec::with_capacity(alloc, length)?;
     script.extend_from_slice(start.as_bytes())?;
-    while script.len() < length {
+    for _ in start.len()..length {
         script.push(b'a')?;
     }
     Ok(script)
