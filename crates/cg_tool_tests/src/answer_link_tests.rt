@@ -62,7 +62,7 @@ fn each_write_fails_in_turn(rt: HostRuntime) {
 fn long_input(alloc: Global, count: u16) -> Result<String, Fail> {
     let mut text = format!(in alloc;
         "10.0.0.2:7000 5 c1\n{:08x}010102633101{:04x}",
-        count * 14 + 8,
+        u32::from(count) * 14 + 8,
         count
     )?;
     for i in 0..count {
