@@ -11,7 +11,7 @@ pub const ABOUT: &str =
 pub const STATUSES: &str = "Every command reads standard input and writes standard output. \
 Endpoints are written as 10.0.0.1:7000.\n\
 \n\
-Exit status: 0 when done; 1 after a fault, which is the last line of the output, as `fault 9 OtherCluster`; \
+Exit status: 0 when done; 1 after a fault that ended the work, told by a line as `fault 9 OtherCluster`; \
 2 when the command line can't be read.";
 
 /// `answer` in a line.
@@ -34,7 +34,7 @@ pub const SIM_ABOUT: &str =
 
 /// What `sim` reads and writes.
 pub const SIM_HELP: &str =
-    "Reads a script, a line at a time, and writes what each line shows before it reads on:\n\
+    "Reads a script, a line at a time, and writes what each line shows before it does the next:\n\
 \n  seeds EP ..                    the seeds of all nodes, rising; only as the first line\
 \n  start EP GENERATION            started EP GENERATION\
 \n  beat EP                        version N\
@@ -45,7 +45,7 @@ pub const SIM_HELP: &str =
 \n  gossipinfo EP                  what the node holds of each endpoint\
 \n  digests EP                     endpoint, generation and newest version of each\
 \n  ring EP                        token and endpoint of each position\
-\n  replicas EP RF TEXT            RF endpoints that keep the key TEXT\n\
+\n  replicas EP RF TEXT            at most RF endpoints that keep the key TEXT\n\
 \n\
 A message is lost when it is never delivered, and repeated when it is delivered again. A line that can't be read \
 shows `fault 2 BadText`, a refused one its fault, and the script goes on. Status 0; 1 only where memory, a read or a \

@@ -127,7 +127,7 @@ module _ {S R W : Type 0} (does : S → Event → Reply → S → Type 0) (refus
     pub stayed : stays here t
     pub wrote : AllWritten opening held w0 turns holds w1
 
-  -- What was to be written last, the opening or a reply, was not written whole. All before it was written.
+  -- What was due is cut somewhere: the first part was written, the last was not written whole, or is empty.
   pub record IsUnwritten (count : ℕ) (f : Fault) : Type 0 where
     pub turns : List Turn
     pub counted : length turns ≡ count

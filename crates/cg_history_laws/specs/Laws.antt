@@ -49,7 +49,7 @@ EachEventMakesOneRecord =
     → HasOneMore h caller e after q
 
 -- Where the node's table spells its places in a world, and the message that an event hands over, if it hands one over,
--- says one that was sent there, the event is one step of that world for that node, with the reply that its receipt has.
+-- says one that was sent there, the event is one step of that world for that node; its receipt's reply has the message.
 abbrev pub RecordsAreStepsByPlaces : Type 0
 RecordsAreStepsByPlaces =
     (w : PlaceWorld) (node number : ℕ) (h : HistoryValue) (caller : ℕ) (e : Event) (after : HistoryValue) (q : Receipt)

@@ -27,7 +27,8 @@ pub fn each_event_makes_one_record()
 {}
 
 /// Where the node's table spells its places in a world, and the message that an event hands over, if it hands one over,
-/// says one that was sent there, the event is one step of that world for that node, with the reply of its receipt.
+/// says one that was sent there, the event is one step of that world for that node, and the message in its receipt's
+/// reply says the one sent there.
 pub fn records_are_steps_by_places()
     ensures { RecordsAreStepsByPlaces }
 {}

@@ -128,7 +128,7 @@ fn sim_links<R: Read, W: Write>(
 /// line that can't be read shows its fault, `fault 2 BadText` or `fault 3 TooLong`; a refused one shows `NotRising`,
 /// `TableFull`, `NoSuchMessage`, `NoSuchNode` or `VersionsSpent`; the script goes on. The status is 0 at the script's
 /// end. It is 1 after `fault 1 OutOfMemory`, where memory runs out; after `fault 14 ReadFault`, where a read fails or
-/// 4,294,967,295 reads do not meet the end; and where the writer fails or takes no byte, which leaves a front of the text.
+/// 4,294,967,295 reads were made; and where the writer fails or takes no byte, which leaves a front of the text.
 /// What a script takes of memory is its world (nodes and messages), its longest line, and that line's text.
 pub fn sim<R: Read, W: Write>(alloc: Global, reader: &mut Counted<R>, writer: &mut Counted<W>) -> u8
     // Which text is due, and how much of it was written.

@@ -44,8 +44,8 @@ module _ {L : Type 0} (before after : Option (List ℕ)) (old new : Counted L) w
     pub end : IsAtEnd after
     pub kept : KeepsCounts old new
 
-  -- Memory ran out for a piece of a message behind what was held, and no read failed. A fault that begins with the
-  -- piece itself is never hidden by that.
+  -- Memory ran out for a piece of a message behind what was held, and no read failed. Where nothing was held, the
+  -- piece does not begin with a fault; a fault that needs what was held may be hidden by that.
   pub record LacksMemory (f : Fault) : Type 0 where
     pub fault : f ≡ fault.OutOfMemory
     pub held : List ℕ

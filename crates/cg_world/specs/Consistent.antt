@@ -14,7 +14,7 @@ use Rattle.cg_world.specs.Headline.{Headline}
 pub record IsConsistent (settings : SettingsValue) (actions : List Action) (c : WorldValue) : Type 0 where
   -- the actions lead here
   pub led : c ≡ run settings actions
-  -- the headline, over nodes, replies and messages; what follows says the same by places
+  -- the headline, over nodes, replies and messages; what follows ties it to the places of the actions
   pub headline : Headline settings actions c
   -- the nodes hold and have sent what the places of the actions say
   pub spelled : SpellsWorld c (placed actions)
