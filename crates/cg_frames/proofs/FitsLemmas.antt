@@ -1,12 +1,14 @@
 -- What each member of a list has, member by member, and that messages fit.
-use Rattle.std.proofs.Common.{◌≡◌, ℕ, ◌≤◌, Bool, true, false, cond, List, [], ◌∷◌, length, refl, sym, ap, ◌∙◌, arith}
+use Rattle.std.proofs.Common.{◌≡◌, ℕ, ◌≤◌, Bool, true, false, cond, List, [], ◌∷◌, length, map, refl, sym, ap, ◌∙◌, arith}
 use Rattle.std.specs.Prelude.{nat_lt}
 use Rattle.cg_types.specs.declared.limits.TheConstants.{TEXT_LIMIT, STATE_LIMIT}
 use Rattle.cg_types.proofs.RisingLemmas.{rise_sorted}
 use Rattle.std.specs.List.{AllByRecursion, filter}
-use Rattle.std.specs.FinMap.{entries, entries_sorted}
+use Rattle.std.specs.FinMap.{entries, entries_sorted, from_sorted, entries-from_sorted, same_entries_map}
+use Rattle.std.specs.Ordering.{nat_cmp}
 use Rattle.std.proofs.lemmas.List.{length-map}
-use Rattle.std.proofs.lemmas.Bool.{ltb-true}
+use Rattle.std.proofs.lemmas.Bool.{ltb-true, lt-ltb}
+use Rattle.cg_table.specs.declared.digest.Digest.{Digest}
 use Rattle.cg_entry.specs.Versioned.{Versioned, States}
 use Rattle.cg_entry.specs.State.{pairs}
 use Rattle.cg_entry.specs.declared.state.State.{State}
@@ -15,17 +17,59 @@ use Rattle.cg_entry.proofs.DeltaLemmas.{entries-newer_than}
 use Rattle.cg_exchange.specs.declared.owner_delta.OwnerDelta.{OwnerDelta}
 use Rattle.cg_exchange.specs.declared.message.Message.{Message}
 use Rattle.cg_exchange.specs.declared.message.Message.TheVariants.{Syn, Ack, Ack2}
-use Rattle.cg_exchange.specs.Members.{AreListed, endpoints_of_digests, endpoints_of_requests, endpoints_of_deltas}
+use Rattle.cg_exchange.specs.Values.{RequestValue}
+use Rattle.cg_exchange.specs.Members.{AreListed, endpoints_of_deltas}
 use Rattle.cg_entry.specs.Contents.{IsState}
 use Rattle.cg_exchange.specs.Contents.{IsOwnerDelta}
 use Rattle.cg_exchange.specs.Messages.{IsMessage}
 pub use Rattle.cg_entry.proofs.ContentLemmas.{all_pairs}
 use Rattle.cg_frames.specs.declared.layout.Layout.{Layout}
-use Rattle.cg_frames.specs.Layouts.{IsWritten}
-use Rattle.cg_frames.specs.Fits.{FitsState, FitsDelta, FitsMembers, Fits}
+use Rattle.cg_frames.specs.Layouts.{IsRead, IsWritten}
+use Rattle.cg_frames.specs.Fits.{AreFew, HasShortTexts, AreWithin, Fits}
+use Rattle.cg_frames.proofs.FitsFields.{FitsState, FitsDelta, FitsMembers, FitsFields}
+use Rattle.cg_frames.proofs.SpelledIsReadLemmas.{length_keys}
 use Rattle.cg_frames.proofs.SpelledIsReadDeltas.{states_few}
 
--- ---- states
+-- there are no more states than keys
+pub few_states : (d : OwnerDelta) (ss : List State) → IsOwnerDelta d → pairs ss ≡ entries d.delta.states → length ss ≤ STATE_LIMIT
+few_states d ss is same =
+    let es = entries d.delta.states in
+    let few = states_few IsState (λ e state. state.key) es is.states (rise_sorted es (entries_sorted d.delta.states)) in
+    omega (arith, few, ap length same, length-map {A = State} {B = ℕ × Versioned})
+
+-- ---- a layout that allows what messages hold can spell each of them
+
+texts_short : (layout : Layout) → IsWritten layout → (es : List (ℕ × Versioned)) → AllByRecursion IsState es
+    → AllByRecursion (λ (s : ℕ × Versioned). length s.1.text ≤ layout.text) es
+texts_short layout written [] all = tt
+texts_short layout written (s ∷ es) all = (omega (arith, all.0.text.fits, written.text), texts_short layout written es all.1)
+
+deltas_short : (layout : Layout) → IsWritten layout → (ds : List OwnerDelta) → AllByRecursion IsOwnerDelta ds → AllByRecursion (HasShortTexts layout) ds
+deltas_short layout written [] all = tt
+deltas_short layout written (d ∷ ds) all = (texts_short layout written (entries d.delta.states) all.0.states, deltas_short layout written ds all.1)
+
+few_members : {X : Type 0} (key : X → ℕ) (layout : Layout) → IsWritten layout → (xs : List X) → AreListed (map key xs) → AreFew layout xs
+few_members key layout written xs are = omega (arith, are.few, length_keys key xs, written.members)
+
+deltas_within : (layout : Layout) → IsWritten layout → (ds : List OwnerDelta) → AreListed (endpoints_of_deltas ds) → AllByRecursion IsOwnerDelta ds → AreWithin layout ds
+deltas_within layout written ds are all = record {
+  few = few_members (λ (d : OwnerDelta). d.endpoint) layout written ds are;
+  short = deltas_short layout written ds all;
+}
+
+pub message_fits : (layout : Layout) → IsWritten layout → (m : Message) → IsMessage m → Fits layout m
+message_fits layout written (Syn m) is =
+    record { is = is; within = few_members (λ (d : Digest). d.endpoint) layout written m.digests is.listed }
+message_fits layout written (Ack m) is = record {
+  is = is;
+  within = (
+    few_members (λ (r : RequestValue). r.endpoint) layout written m.requests is.asked,
+    deltas_within layout written m.deltas is.listed is.deltas,
+  );
+}
+message_fits layout written (Ack2 m) is = record { is = is; within = deltas_within layout written m.deltas is.listed is.deltas }
+
+-- ---- what fits, fits field by field
 
 filtered : {X : Type 0} (p : X → Bool) (xs : List X) → length (filter p xs) ≤ length xs
 filtered p [] = omega arith
@@ -43,57 +87,126 @@ kept p x xs e = elim (p x) as (λ b. cond b (x ∷ filter p xs) (filter p xs) �
   | false ↦ λ e. absurd (omega (arith, filtered p xs, ap length e))
 ] e
 
-newer_fit : (layout : Layout) (above : ℕ) (es : List (ℕ × Versioned)) → TEXT_LIMIT ≤ layout.text → filter (λ s. nat_lt above s.1.version) es ≡ es → AllByRecursion IsState es → AllByRecursion (FitsState layout above) es
-newer_fit layout above [] enough e all = tt
-newer_fit layout above (s ∷ es) enough e all =
-    let k = kept (λ (s : ℕ × Versioned). nat_lt above s.1.version) s es e in
-    (record { key = all.0.key; version = all.0.version; newer = ltb-true above s.1.version k.0; is_plain = all.0.text.is_plain; short = omega (arith, all.0.text.fits) }, newer_fit layout above es enough k.1 all.1)
-
 -- the states of a delta, each of which is above what the delta stands above
-pub states_fit : (layout : Layout) (above : ℕ) (m : States) → TEXT_LIMIT ≤ layout.text → newer_than above m ≡ m → AllByRecursion IsState (entries m) → AllByRecursion (FitsState layout above) (entries m)
-states_fit layout above m enough newer all = newer_fit layout above (entries m) enough (sym (entries-newer_than above m) ∙ ap entries newer) all
+states_fields : (layout : Layout) (above : ℕ) (es : List (ℕ × Versioned)) → filter (λ s. nat_lt above s.1.version) es ≡ es → AllByRecursion IsState es
+    → AllByRecursion (λ (s : ℕ × Versioned). length s.1.text ≤ layout.text) es → AllByRecursion (FitsState layout above) es
+states_fields layout above [] e all short = tt
+states_fields layout above (s ∷ es) e all short =
+    let k = kept (λ (s : ℕ × Versioned). nat_lt above s.1.version) s es e in
+    (record { key = all.0.key; version = all.0.version; newer = ltb-true above s.1.version k.0; is_plain = all.0.text.is_plain; short = short.0 }, states_fields layout above es k.1 all.1 short.1)
 
--- there are no more states than keys
-pub few_states : (d : OwnerDelta) (ss : List State) → IsOwnerDelta d → pairs ss ≡ entries d.delta.states → length ss ≤ STATE_LIMIT
-few_states d ss is same =
-    let es = entries d.delta.states in
-    let few = states_few IsState (λ e state. state.key) es is.states (rise_sorted es (entries_sorted d.delta.states)) in
-    omega (arith, few, ap length same, length-map {A = State} {B = ℕ × Versioned})
+delta_fields : (layout : Layout) (d : OwnerDelta) → IsOwnerDelta d → HasShortTexts layout d → FitsDelta layout d
+delta_fields layout d is short =
+    let above = d.delta.above in
+    let m = d.delta.states in
+    let newer : filter (λ s. nat_lt above s.1.version) (entries m) ≡ entries m = sym (entries-newer_than above m) ∙ ap entries is.carries.newer in
+    record {
+      endpoint = is.endpoint;
+      generation = is.generation;
+      above = is.above;
+      heartbeat = is.heartbeat;
+      states = states_fields layout above (entries m) newer is.states short;
+      something = is.carries.something;
+    }
 
--- ---- what is true of every message makes it fit
+deltas_fields : (layout : Layout) (ds : List OwnerDelta) → AllByRecursion IsOwnerDelta ds → AllByRecursion (HasShortTexts layout) ds → AllByRecursion (FitsDelta layout) ds
+deltas_fields layout [] all short = tt
+deltas_fields layout (d ∷ ds) all short = (delta_fields layout d all.0 short.0, deltas_fields layout ds all.1 short.1)
 
-delta_fits : (layout : Layout) → IsWritten layout → (d : OwnerDelta) → IsOwnerDelta d → FitsDelta layout d
-delta_fits layout written d is = record {
-  endpoint = is.endpoint;
-  generation = is.generation;
-  above = is.above;
-  heartbeat = is.heartbeat;
-  states = states_fit layout d.delta.above d.delta.states written.text is.carries.newer is.states;
-  something = is.carries.something;
+members_fields : {X : Type 0} (key : X → ℕ) (layout : Layout) (xs : List X) → AreListed (map key xs) → AreFew layout xs → FitsMembers layout (map key xs)
+members_fields key layout xs are few = record { rise = are.rise; few = omega (arith, few, length_keys key xs) }
+
+pub fields_of : (layout : Layout) (m : Message) → Fits layout m → FitsFields layout m
+fields_of layout (Syn m) fits = record {
+  name = fits.is.cluster.is_named;
+  partitioner = fits.is.cluster.is_byte;
+  listed = members_fields (λ (d : Digest). d.endpoint) layout m.digests fits.is.listed fits.within;
+  digests = fits.is.digests;
+}
+fields_of layout (Ack m) fits = record {
+  asked = members_fields (λ (r : RequestValue). r.endpoint) layout m.requests fits.is.asked fits.within.0;
+  requests = fits.is.requests;
+  listed = members_fields (λ (d : OwnerDelta). d.endpoint) layout m.deltas fits.is.listed fits.within.1.few;
+  deltas = deltas_fields layout m.deltas fits.is.deltas fits.within.1.short;
+}
+fields_of layout (Ack2 m) fits = record {
+  listed = members_fields (λ (d : OwnerDelta). d.endpoint) layout m.deltas fits.is.listed fits.within.few;
+  deltas = deltas_fields layout m.deltas fits.is.deltas fits.within.short;
 }
 
-deltas_fit : (layout : Layout) → IsWritten layout → (ds : List OwnerDelta) → AllByRecursion IsOwnerDelta ds → AllByRecursion (FitsDelta layout) ds
-deltas_fit layout written [] all = tt
-deltas_fit layout written (d ∷ ds) all = (delta_fits layout written d all.0, deltas_fit layout written ds all.1)
+-- ---- what fits field by field, fits: messages hold what a layout allows that is read
 
-members_fit : (layout : Layout) → IsWritten layout → (endpoints : List ℕ) → AreListed endpoints → FitsMembers layout endpoints
-members_fit layout written endpoints are = record { rise = are.rise; few = omega (arith, are.few, written.members) }
+all_kept : (layout : Layout) (above : ℕ) (es : List (ℕ × Versioned)) → AllByRecursion (FitsState layout above) es → filter (λ s. nat_lt above s.1.version) es ≡ es
+all_kept layout above [] all = refl
+all_kept layout above (s ∷ es) all =
+    let newer = λ (t : ℕ × Versioned). nat_lt above t.1.version in
+    ap (λ b. cond b (s ∷ filter newer es) (filter newer es)) (lt-ltb above s.1.version all.0.newer) ∙ ap (λ (ys : List (ℕ × Versioned)). s ∷ ys) (all_kept layout above es all.1)
 
--- a layout that allows what messages hold can spell each of them
-pub message_fits : (layout : Layout) → IsWritten layout → (m : Message) → IsMessage m → Fits layout m
-message_fits layout written (Syn m) is = record {
-  name = is.cluster.is_named;
-  partitioner = is.cluster.is_byte;
-  listed = members_fit layout written (endpoints_of_digests m.digests) is.listed;
-  digests = is.digests;
+newer_all : (layout : Layout) (above : ℕ) (m : States) → AllByRecursion (FitsState layout above) (entries m) → newer_than above m ≡ m
+newer_all layout above m all =
+    ap (λ (es : List (ℕ × Versioned)). from_sorted {R = nat_cmp} es) (all_kept layout above (entries m) all)
+    ∙ same_entries_map (from_sorted {R = nat_cmp} (entries m)) m (entries-from_sorted nat_cmp (entries m) (entries_sorted m))
+
+states_are : (layout : Layout) → IsRead layout → (above : ℕ) (es : List (ℕ × Versioned)) → AllByRecursion (FitsState layout above) es → AllByRecursion IsState es
+states_are layout read above [] all = tt
+states_are layout read above (s ∷ es) all =
+    let fits : length s.1.text ≤ TEXT_LIMIT = omega (arith, all.0.short, read.text) in
+    (record { key = all.0.key; version = all.0.version; text = record { is_plain = all.0.is_plain; fits = fits } }, states_are layout read above es all.1)
+
+texts_are_short : (layout : Layout) (above : ℕ) (es : List (ℕ × Versioned)) → AllByRecursion (FitsState layout above) es → AllByRecursion (λ (s : ℕ × Versioned). length s.1.text ≤ layout.text) es
+texts_are_short layout above [] all = tt
+texts_are_short layout above (s ∷ es) all = (all.0.short, texts_are_short layout above es all.1)
+
+delta_is : (layout : Layout) → IsRead layout → (d : OwnerDelta) → FitsDelta layout d → IsOwnerDelta d
+delta_is layout read d fits = record {
+  endpoint = fits.endpoint;
+  generation = fits.generation;
+  above = fits.above;
+  heartbeat = fits.heartbeat;
+  states = states_are layout read d.delta.above (entries d.delta.states) fits.states;
+  carries = record { newer = newer_all layout d.delta.above d.delta.states fits.states; something = fits.something };
 }
-message_fits layout written (Ack m) is = record {
-  asked = members_fit layout written (endpoints_of_requests m.requests) is.asked;
-  requests = is.requests;
-  listed = members_fit layout written (endpoints_of_deltas m.deltas) is.listed;
-  deltas = deltas_fit layout written m.deltas is.deltas;
+
+deltas_are : (layout : Layout) → IsRead layout → (ds : List OwnerDelta) → AllByRecursion (FitsDelta layout) ds → AllByRecursion IsOwnerDelta ds
+deltas_are layout read [] all = tt
+deltas_are layout read (d ∷ ds) all = (delta_is layout read d all.0, deltas_are layout read ds all.1)
+
+deltas_have_short : (layout : Layout) (ds : List OwnerDelta) → AllByRecursion (FitsDelta layout) ds → AllByRecursion (HasShortTexts layout) ds
+deltas_have_short layout [] all = tt
+deltas_have_short layout (d ∷ ds) all = (texts_are_short layout d.delta.above (entries d.delta.states) all.0.states, deltas_have_short layout ds all.1)
+
+members_are : (layout : Layout) → IsRead layout → (endpoints : List ℕ) → FitsMembers layout endpoints → AreListed endpoints
+members_are layout read endpoints fits = record { rise = fits.rise; few = omega (arith, fits.few, read.members) }
+
+members_few : {X : Type 0} (key : X → ℕ) (layout : Layout) (xs : List X) → FitsMembers layout (map key xs) → AreFew layout xs
+members_few key layout xs fits = omega (arith, fits.few, length_keys key xs)
+
+deltas_are_within : (layout : Layout) (ds : List OwnerDelta) → FitsMembers layout (endpoints_of_deltas ds) → AllByRecursion (FitsDelta layout) ds → AreWithin layout ds
+deltas_are_within layout ds listed all =
+    record { few = members_few (λ (d : OwnerDelta). d.endpoint) layout ds listed; short = deltas_have_short layout ds all }
+
+pub fits_of : (layout : Layout) → IsRead layout → (m : Message) → FitsFields layout m → Fits layout m
+fits_of layout read (Syn m) fits = record {
+  is = record {
+    cluster = record { is_named = fits.name; is_byte = fits.partitioner };
+    listed = members_are layout read (map (λ (d : Digest). d.endpoint) m.digests) fits.listed;
+    digests = fits.digests;
+  };
+  within = members_few (λ (d : Digest). d.endpoint) layout m.digests fits.listed;
 }
-message_fits layout written (Ack2 m) is = record {
-  listed = members_fit layout written (endpoints_of_deltas m.deltas) is.listed;
-  deltas = deltas_fit layout written m.deltas is.deltas;
+fits_of layout read (Ack m) fits = record {
+  is = record {
+    asked = members_are layout read (map (λ (r : RequestValue). r.endpoint) m.requests) fits.asked;
+    requests = fits.requests;
+    listed = members_are layout read (endpoints_of_deltas m.deltas) fits.listed;
+    deltas = deltas_are layout read m.deltas fits.deltas;
+  };
+  within = (
+    members_few (λ (r : RequestValue). r.endpoint) layout m.requests fits.asked,
+    deltas_are_within layout m.deltas fits.listed fits.deltas,
+  );
+}
+fits_of layout read (Ack2 m) fits = record {
+  is = record { listed = members_are layout read (endpoints_of_deltas m.deltas) fits.listed; deltas = deltas_are layout read m.deltas fits.deltas };
+  within = deltas_are_within layout m.deltas fits.listed fits.deltas;
 }

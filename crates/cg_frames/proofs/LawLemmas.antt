@@ -30,10 +30,12 @@ use Rattle.cg_types.specs.ResultSteps.{◌>>=◌}
 use Rattle.cg_frames.specs.Fields.{Field}
 use Rattle.cg_frames.specs.Reading.{ended, told, layout_at, kind_from, kind_at, of_kind, syn_at, inside_at, frame_at, ack_at, ack2_at}
 use Rattle.cg_frames.specs.Spelling.{two_bytes, four_bytes, digest, request, text, state, delta, members, cluster, kind, body, message, inside, frame}
-use Rattle.cg_frames.specs.Fits.{FitsState, FitsDelta, FitsMembers, FitsSyn, Fits}
-use Rattle.cg_frames.specs.Lengths.{state_most, delta_most, deltas_most, digests_most, syn_most, ack_most}
+use Rattle.cg_frames.specs.Fits.{Fits}
+use Rattle.cg_frames.proofs.FitsFields.{FitsState, FitsDelta, FitsMembers, FitsSyn, FitsFields}
+use Rattle.cg_frames.proofs.FitsLemmas.{fields_of}
+use Rattle.cg_frames.specs.Lengths.{state_most, delta_most, deltas_most, digests_most, syn_most, ack_most, greatest_length}
 use Rattle.cg_frames.specs.Layouts.{IsLayout}
-use Rattle.cg_frames.specs.Choosing.{named, frame_among, IsOneOf, AreLayouts}
+use Rattle.cg_frames.specs.Choosing.{named, frame_among, IsOneOf, AreLayouts, AreRead}
 use Rattle.cg_frames.specs.Laws.{GivesEachSpelled, NoSpellingBeginsAnother, EachIsShort}
 use Rattle.cg_frames.proofs.ChoosingLemmas.{named_all, due_of_frame}
 use Rattle.cg_frames.proofs.SpelledIsReadLemmas.{byte_again, length_keys, syn_again}
@@ -102,13 +104,16 @@ requests_short : (layout : Layout) (rs : List RequestValue) → FitsMembers layo
 requests_short layout rs listed =
     omega (arith, listed.few, length_keys (λ (r : RequestValue). r.endpoint) rs, length-append (two_bytes (length rs)) (flat_map request rs), length-two_bytes (length rs), length-requests rs)
 
-pub inside_short : (layout : Layout) → EachIsShort layout
-inside_short layout (Syn m) fits = omega (arith, syn_short layout m fits)
-inside_short layout (Ack m) fits =
+fields_short : (layout : Layout) (m : Message) → FitsFields layout m → length (inside layout m) ≤ greatest_length layout
+fields_short layout (Syn m) fits = omega (arith, syn_short layout m fits)
+fields_short layout (Ack m) fits =
     longer (length (body (Ack m))) (syn_most layout) (ack_most layout) (length (inside layout (Ack m))) (omega arith) (both_short (length (members request m.requests)) (length (members delta m.deltas)) (length (body (Ack m))) (digests_most layout) (deltas_most layout)
     (length-append (members request m.requests) (members delta m.deltas)) (requests_short layout m.requests fits.asked) (deltas_short layout m.deltas fits.listed fits.deltas))
-inside_short layout (Ack2 m) fits =
+fields_short layout (Ack2 m) fits =
     longer (length (body (Ack2 m))) (syn_most layout) (ack_most layout) (length (inside layout (Ack2 m))) (omega arith) (behind_short (length (body (Ack2 m))) (digests_most layout) (deltas_most layout) (deltas_short layout m.deltas fits.listed fits.deltas))
+
+pub inside_short : (layout : Layout) → EachIsShort layout
+inside_short layout m fits = fields_short layout m (fields_of layout m fits)
 
 -- ---- what is spelled so is read
 
@@ -121,7 +126,7 @@ kind_of (Syn m) = kinds.Syn
 kind_of (Ack m) = kinds.Ack
 kind_of (Ack2 m) = kinds.Ack2
 
-body_again : (layout : Layout) (m : Message) → layout.text < 2 ^ 16 → layout.members < 2 ^ 16 → Fits layout m → of_kind layout (kind_of m) (body m) ≡ Ok m
+body_again : (layout : Layout) (m : Message) → layout.text < 2 ^ 16 → layout.members < 2 ^ 16 → FitsFields layout m → of_kind layout (kind_of m) (body m) ≡ Ok m
 body_again layout (Syn m) text wide fits = ended_again Syn (syn_at layout) m (body (Syn m)) (syn_again layout m [] wide fits)
 body_again layout (Ack m) text wide fits = ended_again Ack (ack_at layout) m (body (Ack m)) (ack_again layout m [] text wide fits)
 body_again layout (Ack2 m) text wide fits = ended_again Ack2 (ack2_at layout) m (body (Ack2 m)) (ack2_again layout m [] text wide fits)
@@ -147,7 +152,7 @@ unfolding inside_at
 inside_again layout m text wide fits =
     ap (λ (r : Field ℕ). r >>= λ byte. kind_at byte.1 >>= λ kind. of_kind layout kind.0 kind.1) (layout_again layout (message m))
     ∙ ap (λ (r : Field Kind). r >>= λ kind. of_kind layout kind.0 kind.1) (kind_again m (body m))
-    ∙ body_again layout m text wide fits
+    ∙ body_again layout m text wide (fields_of layout m fits)
 
 frame_is_read : (layout : Layout) → IsLayout layout → (m : Message) (rest : List ℕ) → Fits layout m → frame_at layout (frame layout m ++ rest) ≡ Ok (Some (m, length (frame layout m)))
 frame_is_read layout is m rest fits =
@@ -221,3 +226,6 @@ first_is_layout = record { members = omega arith; text = omega arith; length = o
 
 pub layouts_are : AreLayouts LAYOUTS
 layouts_are = record { some = omega arith; found = (refl, tt); each = (first_is_layout, tt) }
+
+pub layouts_are_read : AreRead LAYOUTS
+layouts_are_read = record { some = omega arith; each = (record { members = omega arith; text = omega arith; length = omega arith; marks = refl }, tt) }

@@ -1,5 +1,6 @@
 pub mod ListLemmas
 pub mod LengthLemmas
+pub mod FitsFields
 pub mod ReadIsSpelledParts
 pub mod SpelledIsReadLemmas
 pub mod SpelledIsReadMembers

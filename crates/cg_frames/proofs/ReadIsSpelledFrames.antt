@@ -21,13 +21,15 @@ use Rattle.cg_types.specs.ResultSteps.{◌>>=◌}
 use Rattle.cg_frames.specs.Fields.{Field, number_at}
 use Rattle.cg_frames.specs.Lists.{digest_at, request_at, delta_at, listed_requests_at, listed_deltas_at}
 use Rattle.cg_frames.specs.Reading.{syn_at, ack_at, ack2_at, ended, told, layout_at, kind_from, kind_at, of_kind, inside_at, frame_at}
-use Rattle.cg_frames.specs.Choosing.{due, frame_among, IsOneOf}
+use Rattle.cg_frames.specs.Choosing.{due, frame_among, IsOneOf, AreRead}
 use Rattle.cg_frames.specs.Spelling.{four_bytes, digest, request, delta, cluster, members, kind, body, inside, frame}
 use Rattle.cg_exchange.specs.Contents.{IsDigest, IsRequest}
-use Rattle.cg_frames.specs.Fits.{Fits, FitsDelta, FitsSyn, FitsAck, FitsAck2}
+use Rattle.cg_frames.specs.Layouts.{IsRead}
+use Rattle.cg_frames.proofs.FitsFields.{FitsFields, FitsDelta, FitsSyn, FitsAck, FitsAck2}
+use Rattle.cg_frames.proofs.FitsLemmas.{fits_of}
 use Rattle.cg_frames.specs.Laws.{AreBytes, IsSpelledIn, TakesOnlySpelled}
 use Rattle.cg_frames.proofs.ReadIsSpelledParts.{bind_ok, ok_is, goes_on_by, digest_past, request_past, delta_past, syn_parts}
-use Rattle.cg_frames.proofs.ChoosingLemmas.{due_is_one, byte_of_frame}
+use Rattle.cg_frames.proofs.ChoosingLemmas.{due_is_one, due_all, byte_of_frame}
 use Rattle.cg_frames.proofs.FrameLemmas.{frame_parts}
 use Rattle.cg_frames.proofs.ReadIsSpelledLemmas.{Stands, then, front_bytes, later_bytes, byte_found, digest_found, name_found, MembersFound, members_found, listed_found}
 use Rattle.cg_frames.proofs.ReadIsSpelledMembers.{request_found, delta_found}
@@ -94,12 +96,12 @@ told_well tag (Err f) m e = absurd cc
 
 pub record InsideFound (layout : Layout) (bytes : List ℕ) (m : Message) : Type 0 where
   pub spelled : bytes ≡ inside layout m
-  pub fits : Fits layout m
+  pub fits : FitsFields layout m
 
 pub record KindFound (layout : Layout) (number : ℕ) (behind : List ℕ) (m : Message) : Type 0 where
   pub is : number ≡ kind m
   pub whole : behind ≡ body m
-  pub fits : Fits layout m
+  pub fits : FitsFields layout m
 
 -- ---- what stands before a body
 
@@ -146,7 +148,7 @@ no_bytes [] e = refl
 no_bytes (b ∷ rest) e = absurd (omega arith)
 
 -- a body that was read to its end, by how its kind is read
-body_found : {A : Type 0} (tag : A → Message) (layout : Layout) (at : List ℕ → Field A) → ((bytes : List ℕ) (x : A) (rest : List ℕ) → AreBytes bytes → at bytes ≡ Ok (x, rest) → Stands (body (tag x)) bytes rest × Fits layout (tag x))
+body_found : {A : Type 0} (tag : A → Message) (layout : Layout) (at : List ℕ → Field A) → ((bytes : List ℕ) (x : A) (rest : List ℕ) → AreBytes bytes → at bytes ≡ Ok (x, rest) → Stands (body (tag x)) bytes rest × FitsFields layout (tag x))
     → (number : ℕ) (behind : List ℕ) (m : Message) → ((x : A) → number ≡ kind (tag x)) → AreBytes behind → told tag (ended (at behind)) ≡ Ok m → KindFound layout number behind m
 body_found tag layout at found number behind m is small h =
     let t = told_well tag (ended (at behind)) m h in
@@ -179,9 +181,9 @@ inside_found layout bytes m small h =
 inside_stands : (size : ℕ) (bytes front : List ℕ) → size ≤ length bytes → AreBytes bytes → take size bytes ≡ front → length front ≡ size
 inside_stands size bytes front le small e = omega (arith, length-take size bytes, ap length e)
 
-pub frame_found : (layout : Layout) (bytes : List ℕ) (m : Message) (n : ℕ) → AreBytes bytes → frame_at layout bytes ≡ Ok (Some (m, n)) → IsSpelledIn layout bytes m n
+pub frame_found : (layout : Layout) → IsRead layout → (bytes : List ℕ) (m : Message) (n : ℕ) → AreBytes bytes → frame_at layout bytes ≡ Ok (Some (m, n)) → IsSpelledIn layout bytes m n
 unfolding four_bytes
-frame_found layout bytes m n small h =
+frame_found layout read bytes m n small h =
     let p = frame_parts layout bytes m n h in
     let front = take 4 bytes in
     let behind = drop 4 bytes in
@@ -198,18 +200,18 @@ frame_found layout bytes m n small h =
     ∙ ap (λ (ys : List ℕ). front ++ ys) (sym (take-append-drop size behind))
     ∙ (λ i. unsized i ++ (f.spelled i ++ drop size behind))
     ∙ sym (append_assoc (four_bytes (length (inside layout m))) (inside layout m) (drop size behind)) in
-    record { within = p.within; spelled = ap (take n) whole ∙ take_at (frame layout m) (drop size behind) n long; fits = f.fits }
+    record { within = p.within; spelled = ap (take n) whole ∙ take_at (frame layout m) (drop size behind) n long; fits = fits_of layout read m f.fits }
 
 -- What is read in the layout that is due is spelled so in a layout of the list: it is that one.
-pub found_among : (layouts : List Layout) → 0 < length layouts → (bytes : List ℕ) (m : Message) (n : ℕ) → AreBytes bytes → frame_among layouts bytes ≡ Ok (Some (m, n)) → (layout : Layout) × IsOneOf layouts layout × IsSpelledIn layout bytes m n
-found_among layouts some bytes m n small h =
+pub found_among : (layouts : List Layout) → AreRead layouts → (bytes : List ℕ) (m : Message) (n : ℕ) → AreBytes bytes → frame_among layouts bytes ≡ Ok (Some (m, n)) → (layout : Layout) × IsOneOf layouts layout × IsSpelledIn layout bytes m n
+found_among layouts are bytes m n small h =
     let layout = due layouts bytes in
-    let f = frame_found layout bytes m n small h in
+    let f = frame_found layout (due_all IsRead layouts bytes are.some are.each) bytes m n small h in
     let whole : bytes ≡ frame layout m ++ drop n bytes = sym (take-append-drop n bytes) ∙ ap (λ (ys : List ℕ). ys ++ drop n bytes) f.spelled in
     let at : slice_get bytes 4 ≡ Some layout.byte = ap (λ (ys : List ℕ). slice_get ys 4) whole ∙ byte_of_frame layout m (drop n bytes) in
-    (layout, due_is_one layouts bytes some at, f)
+    (layout, due_is_one layouts bytes are.some at, f)
 
-pub all_found : (layouts : List Layout) → 0 < length layouts → (bytes : List ℕ) (result : Result (Option (Message × ℕ)) Fault) → AreBytes bytes → Answers (λ (x : Option (Message × ℕ)). x) (frame_among layouts bytes) result → TakesOnlySpelled layouts bytes result
-all_found layouts some bytes (Ok (Some f)) small answers = found_among layouts some bytes f.0 f.1 small answers
-all_found layouts some bytes (Ok None) small answers = tt
-all_found layouts some bytes (Err fault) small answers = tt
+pub all_found : (layouts : List Layout) → AreRead layouts → (bytes : List ℕ) (result : Result (Option (Message × ℕ)) Fault) → AreBytes bytes → Answers (λ (x : Option (Message × ℕ)). x) (frame_among layouts bytes) result → TakesOnlySpelled layouts bytes result
+all_found layouts are bytes (Ok (Some f)) small answers = found_among layouts are bytes f.0 f.1 small answers
+all_found layouts are bytes (Ok None) small answers = tt
+all_found layouts are bytes (Err fault) small answers = tt

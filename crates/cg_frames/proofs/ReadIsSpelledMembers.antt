@@ -24,7 +24,7 @@ use Rattle.cg_frames.specs.Fields.{number_at, plain_at, key_at, state_count_at, 
 use Rattle.cg_frames.specs.Lists.{request_at, state_at, carries, delta_at}
 use Rattle.cg_frames.specs.Spelling.{two_bytes, four_bytes, endpoint, request, text, state, delta}
 use Rattle.cg_exchange.specs.Contents.{IsRequest}
-use Rattle.cg_frames.specs.Fits.{FitsState, FitsDelta}
+use Rattle.cg_frames.proofs.FitsFields.{FitsState, FitsDelta}
 use Rattle.cg_frames.specs.Laws.{AreBytes}
 use Rattle.cg_frames.proofs.FitsLemmas.{all_pairs}
 use Rattle.cg_frames.proofs.LengthLemmas.{spelled_pairs}

@@ -20,7 +20,7 @@ use Rattle.cg_types.specs.ResultSteps.{◌>>=◌}
 use Rattle.cg_frames.specs.Fields.{Field, state_count_at}
 use Rattle.cg_frames.specs.Lists.{state_at, states_at, carries, delta_from, delta_at}
 use Rattle.cg_frames.specs.Spelling.{four_bytes, endpoint, state, delta}
-use Rattle.cg_frames.specs.Fits.{FitsState, FitsDelta}
+use Rattle.cg_frames.proofs.FitsFields.{FitsState, FitsDelta}
 use Rattle.cg_frames.proofs.SpelledIsReadLemmas.{byte_again, ranged_again, endpoint_again, rising_again}
 use Rattle.cg_frames.proofs.LengthLemmas.{spelled_pairs}
 use Rattle.cg_frames.proofs.SpelledIsReadMembers.{held_again, state_again}

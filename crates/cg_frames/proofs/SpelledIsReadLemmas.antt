@@ -23,7 +23,7 @@ use Rattle.cg_frames.specs.Fields.{Field, bytes_at, number_at, endpoint_from, en
 use Rattle.cg_frames.specs.Lists.{digest_at, rising_at}
 use Rattle.cg_frames.specs.Reading.{syn_at}
 use Rattle.cg_exchange.specs.Contents.{IsDigest}
-use Rattle.cg_frames.specs.Fits.{FitsSyn}
+use Rattle.cg_frames.proofs.FitsFields.{FitsSyn}
 use Rattle.cg_frames.proofs.ReadIsSpelledParts.{syn_made, after_count, after_partitioner, after_name}
 use Rattle.cg_frames.specs.Spelling.{two_bytes, four_bytes, endpoint, digest, members, body}
 

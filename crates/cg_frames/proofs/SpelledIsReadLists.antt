@@ -9,7 +9,7 @@ use Rattle.cg_frames.specs.Lists.{request_at, delta_at, listed_deltas_at}
 use Rattle.cg_frames.specs.Reading.{ack_at, ack2_at}
 use Rattle.cg_frames.specs.Spelling.{members, request, delta}
 use Rattle.cg_exchange.specs.Contents.{IsRequest}
-use Rattle.cg_frames.specs.Fits.{FitsDelta, FitsAck, FitsAck2}
+use Rattle.cg_frames.proofs.FitsFields.{FitsDelta, FitsAck, FitsAck2}
 use Rattle.cg_frames.proofs.SpelledIsReadLemmas.{counted_again, length_keys}
 use Rattle.cg_frames.proofs.SpelledIsReadMembers.{request_again}
 use Rattle.cg_frames.proofs.SpelledIsReadDeltas.{delta_again}

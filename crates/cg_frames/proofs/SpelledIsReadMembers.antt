@@ -15,7 +15,7 @@ use Rattle.cg_frames.specs.Fields.{Field, held_at, key_from, key_at, version_abo
 use Rattle.cg_frames.specs.Lists.{request_at, state_at}
 use Rattle.cg_frames.specs.Spelling.{two_bytes, four_bytes, endpoint, request, text, state}
 use Rattle.cg_exchange.specs.Contents.{IsRequest}
-use Rattle.cg_frames.specs.Fits.{FitsState}
+use Rattle.cg_frames.proofs.FitsFields.{FitsState}
 use Rattle.cg_types.specs.declared.fault.Cause.TheVariants as causes
 use Rattle.cg_frames.proofs.SpelledIsReadLemmas.{bytes_again, byte_again, two_again, four_again, ranged_again, endpoint_again}
 

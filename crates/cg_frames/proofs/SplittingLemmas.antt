@@ -7,7 +7,7 @@ use Rattle.cg_types.specs.declared.fault.Fault.{Fault}
 use Rattle.cg_exchange.specs.declared.message.Message.{Message}
 use Rattle.cg_frames.specs.declared.layout.Layout.{Layout}
 use Rattle.cg_frames.specs.Reading.{size_of}
-use Rattle.cg_frames.specs.Choosing.{due, frame_among}
+use Rattle.cg_frames.specs.Choosing.{due, frame_among, AreRead}
 use Rattle.cg_frames.specs.Spelling.{frame}
 use Rattle.cg_frames.specs.Feeding.{cut_by, frames_in, spelling, IsSpellable, Splits}
 use Rattle.cg_frames.specs.Laws.{AreBytes}
@@ -16,10 +16,10 @@ use Rattle.cg_frames.proofs.ReadIsSpelledLemmas.{later_bytes}
 use Rattle.cg_frames.proofs.ReadIsSpelledFrames.{found_among}
 use Rattle.cg_frames.proofs.FeedingLemmas.{frames_by}
 
-module _ (layouts : List Layout) (some : 0 < length layouts) where
+module _ (layouts : List Layout) (are : AreRead layouts) where
   front_found : (xs : List ℕ) (p : Message × ℕ) → AreBytes xs → frame_among layouts xs ≡ Ok (Some p) → (layout : Layout) × (xs ≡ frame layout p.0 ++ drop p.1 xs) × IsSpellable layouts (layout, p.0)
   front_found xs p bytes read =
-      let f = found_among layouts some xs p.0 p.1 bytes read in
+      let f = found_among layouts are xs p.0 p.1 bytes read in
       (f.0, sym (take-append-drop p.1 xs) ∙ ap (λ (l : List ℕ). l ++ drop p.1 xs) f.2.spelled, (f.1, f.2.fits))
 
   splits_by : (xs : List ℕ) (r : Result (Option (Message × ℕ)) Fault) → AreBytes xs → frame_among layouts xs ≡ r

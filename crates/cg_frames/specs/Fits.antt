@@ -1,60 +1,33 @@
 -- Messages that a layout can spell: the premise of what is said of spelling and reading.
-use Rattle.std.specs.Prelude.{ℕ, ◌≡◌, ◌<◌, ◌≤◌, ◌^◌, true, List, length}
+use Rattle.std.specs.Prelude.{◌≤◌, List, length}
 use Rattle.std.specs.List.{AllByRecursion}
 use Rattle.std.specs.FinMap as map
-use Rattle.cg_types.specs.Numbers.{IsEndpoint, IsGeneration, IsVersion, IsVersionHeld, IsKey}
-use Rattle.cg_types.specs.Rising.{Rises}
-use Rattle.cg_types.specs.Text.{plain, IsClusterName}
-use Rattle.cg_entry.specs.Versioned.{Versioned}
-use Rattle.cg_entry.specs.Entry.{greatest}
 use Rattle.cg_exchange.specs.declared.owner_delta.OwnerDelta.{OwnerDelta}
 use Rattle.cg_exchange.specs.declared.message.Message.{Message}
 use Rattle.cg_exchange.specs.declared.message.Message.TheVariants.{Syn, Ack, Ack2}
-use Rattle.cg_exchange.specs.Values.{SynValue, AckValue, Ack2Value}
-use Rattle.cg_exchange.specs.Members.{endpoints_of_digests, endpoints_of_requests, endpoints_of_deltas}
-use Rattle.cg_exchange.specs.Contents.{IsDigest, IsRequest}
+use Rattle.cg_exchange.specs.Messages.{IsMessage}
 use Rattle.cg_frames.specs.declared.layout.Layout.{Layout}
 
--- a state of a delta above a version
-pub record FitsState (layout : Layout) (above : ℕ) (s : ℕ × Versioned) : Type 0 where
-  pub key : IsKey s.0
-  pub version : IsVersion s.1.version
-  pub newer : above < s.1.version
-  pub is_plain : plain s.1.text ≡ true
-  pub short : length s.1.text ≤ layout.text
+-- A list has no more members than the layout allows.
+abbrev pub AreFew : {X : Type 0} → Layout → List X → Type 0
+AreFew layout members = length members ≤ layout.members
 
--- The keys of a finite map rise; with their range there are no more states than keys.
-pub record FitsDelta (layout : Layout) (d : OwnerDelta) : Type 0 where
-  pub endpoint : IsEndpoint d.endpoint
-  pub generation : IsGeneration d.delta.generation
-  pub above : IsVersionHeld d.delta.above
-  pub heartbeat : IsVersion d.delta.heartbeat
-  pub states : AllByRecursion (FitsState layout d.delta.above) (map.entries d.delta.states)
-  pub something : d.delta.above < greatest d.delta.heartbeat d.delta.states
+-- No text of a delta is longer than the layout allows.
+abbrev pub HasShortTexts : Layout → OwnerDelta → Type 0
+HasShortTexts layout d = AllByRecursion (λ s. length s.1.text ≤ layout.text) (map.entries d.delta.states)
 
--- members of a list
-pub record FitsMembers (layout : Layout) (endpoints : List ℕ) : Type 0 where
-  pub rise : Rises endpoints
-  pub few : length endpoints ≤ layout.members
+-- few deltas with short texts
+pub record AreWithin (layout : Layout) (deltas : List OwnerDelta) : Type 0 where
+  pub few : AreFew layout deltas
+  pub short : AllByRecursion (HasShortTexts layout) deltas
 
-pub record FitsSyn (layout : Layout) (m : SynValue) : Type 0 where
-  pub name : IsClusterName m.cluster.name
-  pub partitioner : m.cluster.partitioner < 2 ^ 8
-  pub listed : FitsMembers layout (endpoints_of_digests m.digests)
-  pub digests : AllByRecursion IsDigest m.digests
+-- Lists and texts of the message are within the limits of the layout.
+abbrev pub WithinLayout : Layout → Message → Type 0
+WithinLayout layout (Syn m) = AreFew layout m.digests
+WithinLayout layout (Ack m) = AreFew layout m.requests × AreWithin layout m.deltas
+WithinLayout layout (Ack2 m) = AreWithin layout m.deltas
 
-pub record FitsAck (layout : Layout) (m : AckValue) : Type 0 where
-  pub asked : FitsMembers layout (endpoints_of_requests m.requests)
-  pub requests : AllByRecursion IsRequest m.requests
-  pub listed : FitsMembers layout (endpoints_of_deltas m.deltas)
-  pub deltas : AllByRecursion (FitsDelta layout) m.deltas
-
-pub record FitsAck2 (layout : Layout) (m : Ack2Value) : Type 0 where
-  pub listed : FitsMembers layout (endpoints_of_deltas m.deltas)
-  pub deltas : AllByRecursion (FitsDelta layout) m.deltas
-
--- The layout can spell the message.
-abbrev pub Fits : Layout → Message → Type 0
-Fits layout (Syn m) = FitsSyn layout m
-Fits layout (Ack m) = FitsAck layout m
-Fits layout (Ack2 m) = FitsAck2 layout m
+-- The layout can spell the message: what every message holds, within the limits of the layout.
+pub record Fits (layout : Layout) (m : Message) : Type 0 where
+  pub is : IsMessage m
+  pub within : WithinLayout layout m

@@ -65,7 +65,12 @@ delta_from bytes endpoint generation above heartbeat count states rest =
     then Ok (
       record {
         endpoint = endpoint;
-        delta = record { generation = generation; above = above; heartbeat = heartbeat; states = map.from_sorted (pairs states) };
+        delta = record {
+          generation = generation;
+          above = above;
+          heartbeat = heartbeat;
+          states = map.from_sorted (pairs states);
+        };
       },
       rest,
     )

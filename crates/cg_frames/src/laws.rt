@@ -82,7 +82,7 @@ pub fn one_at_a_time()
 
 /// All bytes are the spellings of the messages that they are cut into, and then the rest or the fault.
 pub fn all_is_spelled()
-    ensures { (layouts : List Layout) → 0 < length layouts → AllIsSpelled layouts }
+    ensures { (layouts : List Layout) → AreRead layouts → AllIsSpelled layouts }
 {}
 
 /// No other messages and no other rest stand in the bytes.

@@ -4,7 +4,7 @@ use Rattle.cg_frames.specs.Feeding.{lack_of}
 use Rattle.cg_frames.proofs.FeedingLemmas.{frames_partial, at_most_one}
 use Rattle.cg_frames.proofs.FaultLemmas.{bad_standing}
 use Rattle.cg_frames.proofs.SplittingLemmas.{frames_split}
-use Rattle.cg_frames.proofs.LawLemmas.{layouts_are}
+use Rattle.cg_frames.proofs.LawLemmas.{layouts_are_read}
 use Rattle.cg_frames.specs.declared.layout.TheConstants.{LAYOUTS}
 use Rattle.cg_frames.proofs.feed.Feed.push.Goals as goal
 
@@ -19,7 +19,7 @@ returns-clause-spelled c =
     subst (λ f. standing_of c.self.inside.held.items f ≡ c.args.self.now) none c.self.view_is in
     let all = c.self.inside.held.items ++ c.args.piece.now in
     let cut : Cut = record { messages = c.in_ok-fed.fed.messages.items; rest = standing_of c.take.new.held.items c.in_ok-fed.fed.fault } in
-    let split : Splits LAYOUTS all cut = subst (λ (k : Cut). Splits LAYOUTS all k) (c.in_ok-fed.ensures.ok) (frames_split LAYOUTS layouts_are.some all c.in_ok-fed.ensures.bytes) in
+    let split : Splits LAYOUTS all cut = subst (λ (k : Cut). Splits LAYOUTS all k) (c.in_ok-fed.ensures.ok) (frames_split LAYOUTS layouts_are_read all c.in_ok-fed.ensures.bytes) in
     subst (λ s. SplitsFrom LAYOUTS s c.args.piece.now cut) whole split
 
 pub returns-clause-one : goal.returns-clause-one
