@@ -1,6 +1,6 @@
 //! A finite map from endpoints to entries.
 
-ghost use Rattle.std.specs.Prelude.{◌≡◌, ◌≤◌, ◌↔◌, ℕ, true, false, IsTrue, IfOk, is_some, length, option_copied};
+ghost use Rattle.std.specs.Prelude.{◌≡◌, ◌≤◌, ◌↔◌, ℕ, true, false, IsTrue, IfOk, IfErr, is_some, length, option_copied};
 ghost use Rattle.cg_types.specs.Answer.{Answers};
 ghost use Rattle.cg_table.specs.Merge.{is_ahead as is_ahead_of, later_of, later_entries as later_entries_of, strangers as strangers_of, owners_together as owners_together_of, merging};
 ghost use Rattle.cg_table.specs.Taking.{change_of, with_row as with_row_of, needs_room as needs_room_for, putting_delta};
@@ -227,15 +227,17 @@ impl Table {
     }
 
     /// What a delta about an endpoint changes: the row that it leads to, if it is taken, and what becomes of it. None
-    /// changes the own entry. The table itself stays as it is: `with_rows` puts such rows. `AllocError` where the new
-    /// entry or its row finds no memory.
+    /// changes the own entry. The table itself stays as it is: `with_rows` puts such rows. `AllocError` only where the
+    /// delta is taken, and the new entry or its row finds no memory.
     pub fn delta_change(
         &self,
         alloc: Global,
         endpoint: Endpoint,
         delta: &Delta,
     ) -> Result<(Option<Row<Entry>>, Took), AllocError>
-        ensures { IfOk result (λ x. x ≡ change_of self.now endpoint delta.now) }
+        ensures value { IfOk result (λ x. x ≡ change_of self.now endpoint delta.now) }
+        // Memory is short only where the delta is taken.
+        ensures refused { IfErr result (λ _. is_some (change_of self.now endpoint delta.now).0 ≡ true) }
     {
         if endpoint == self.own {
             return Ok((None, Took::Own));
@@ -248,8 +250,8 @@ impl Table {
     }
 
     /// The table after a delta about an endpoint, and what became of the delta. No other owner's entry changes.
-    /// `TableFull` where a whole delta about an endpoint that is not held finds `MEMBER_LIMIT` held; `OutOfMemory` never comes in its place, and is else the
-    /// only refusal.
+    /// `TableFull` where a whole delta about an endpoint that is not held finds `MEMBER_LIMIT` held; `OutOfMemory` never
+    /// comes in its place, and is else the only refusal.
     pub fn put_delta(
         &self,
         alloc: Global,
@@ -327,8 +329,8 @@ impl Table {
     }
 
     /// Owner by owner the later entry of the two tables, this table's where neither is later; `own` stays. Entries are
-    /// shared, not copied. `TableFull` where both together hold more than `MEMBER_LIMIT` endpoints; `OutOfMemory` never comes in its place, and is else the
-    /// only refusal.
+    /// shared, not copied. `TableFull` where both together hold more than `MEMBER_LIMIT` endpoints; `OutOfMemory`
+    /// never comes in its place, and is else the only refusal.
     pub fn merge(&self, alloc: Global, other: &Table) -> Result<Table, Fault>
         ensures due { Answers (λ t. t) (merging self.now other.now) result }
         ensures each { IfOk result (λ t. (owner : ℕ) → table.get t.entries owner

@@ -12,7 +12,7 @@ loop-sent-preserved c =
     let ds = c.args.deltas.now in
     let at = c.loop-sent.sent-index in
     let d : OwnerDelta = c.sent-item.result in
-    let made = c.in_ok-row.ensures in (
+    let made = c.in_ok-row.ensures.value in (
       c.in_ok-push_some.ensures.ok ∙ (λ i. c.loop-sent.invariant.0 i ++ option_to_list ((made i).0))
           ∙ sym (filter_map_more (row_changed t) ds at d c.loop-sent-test.true c.sent-item.is),
       c.in_ok-push.ensures.items ∙ (λ i. c.loop-sent.invariant.1 i ++ record { endpoint = d.endpoint; took = (made i).1 } ∷ [])

@@ -9,7 +9,7 @@ use Rattle.cg_table.proofs.table.Table.put_delta.Goals as goal
 
 pub with_row-requires : goal.with_row-requires
 with_row-requires c =
-    let row = ap (λ (x : Change). x.0) c.in_ok-row.ensures in
+    let row = ap (λ (x : Change). x.0) c.in_ok-row.ensures.value in
     let few : table.len c.args.self.now.entries ≤ MEMBER_LIMIT = omega (arith, c.len-held.ensures.value, c.len-held.ensures.few) in
     let room : is_full_for c.args.self.now.entries c.args.endpoint c.args.delta.now ≡ false =
     elim c.else-needs_room.branch [
