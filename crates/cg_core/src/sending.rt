@@ -9,7 +9,8 @@ use crate::reply::Reply;
 use cg_exchange::{Lent, Message};
 
 impl Reply {
-    /// The message that it sends, lent; `None` where it sends none, as after a change of the own entry and after an ACK2.
+    /// The message that it sends, lent; `None` where it sends none, as after a change of the own entry and after an
+    /// ACK2.
     pub fn message(&self) -> Option<Lent<'_>>
         ensures { option_map lent_message result ≡ message_of self.now }
     {

@@ -2,8 +2,7 @@
 use Rattle.std.specs.List.{AllByRecursion}
 use Rattle.cg_types.specs.Numbers.{IsEndpoint, IsGeneration, IsVersion, IsVersionHeld}
 use Rattle.cg_types.specs.Text.{IsCluster}
-use Rattle.cg_entry.specs.Contents.{AreStates}
-use Rattle.cg_entry.specs.Entry.{IsDelta}
+use Rattle.cg_entry.specs.Contents.{IsDeltaOfEntry}
 use Rattle.cg_table.specs.declared.digest.Digest.{Digest}
 use Rattle.cg_exchange.specs.declared.owner_delta.OwnerDelta.{OwnerDelta}
 use Rattle.cg_exchange.specs.Values.{RequestValue, SynValue, AckValue, Ack2Value}
@@ -19,14 +18,9 @@ pub record IsRequest (r : RequestValue) : Type 0 where
   pub generation : IsGeneration r.generation
   pub version : IsVersionHeld r.version
 
--- Each state of the delta is newer than what the delta stands above, and something is.
 pub record IsOwnerDelta (d : OwnerDelta) : Type 0 where
   pub endpoint : IsEndpoint d.endpoint
-  pub generation : IsGeneration d.delta.generation
-  pub above : IsVersionHeld d.delta.above
-  pub heartbeat : IsVersion d.delta.heartbeat
-  pub states : AreStates d.delta.states
-  pub carries : IsDelta d.delta.above d.delta.heartbeat d.delta.states
+  pub delta : IsDeltaOfEntry d.delta
 
 pub record IsSyn (m : SynValue) : Type 0 where
   pub cluster : IsCluster m.cluster

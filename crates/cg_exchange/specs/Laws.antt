@@ -38,8 +38,9 @@ pub record IsMoved (histories : ℕ → List EntryValue) (t : TableValue) (mine 
     (after : TableValue) (outcomes : List Outcome) : Type 0 where
   pub own : after.own ≡ t.own
   pub places : SpellsPlaces histories after.entries (places_after t.own mine spans)
-  pub outcomes_about : (owner : ℕ) → outcome_about owner outcomes
-      ≡ option_map (λ span. record { endpoint = owner; took = took_for (owner == t.own) (mine owner) span }) (spans owner)
+  pub outcomes_about : (owner : ℕ)
+      → let took = took_for (owner == t.own) (mine owner) in
+      outcome_about owner outcomes ≡ option_map (λ span. record { endpoint = owner; took = took span }) (spans owner)
 
 -- The SYN of a table says where the table is.
 abbrev pub SynSaysPlaces : Type 0
@@ -64,7 +65,8 @@ SynIsAnswered =
 
 -- What an ACK leaves, and what is sent for its asks at the places after it.
 pub record AckMoves (histories : ℕ → List EntryValue) (t : TableValue) (mine : ℕ → ℕ)
-    (asks : ℕ → Option Ask) (spans : ℕ → Option Span) (after : TableValue) (ack2 : Ack2Value) (outcomes : List Outcome) : Type 0 where
+    (asks : ℕ → Option Ask) (spans : ℕ → Option Span) (after : TableValue) (ack2 : Ack2Value) (outcomes : List Outcome)
+    : Type 0 where
   pub moved : IsMoved histories t mine spans after outcomes
   pub says : Says histories (kinds.Ack2 ack2) (Ack2 (grants_at histories (places_after t.own mine spans) asks))
 

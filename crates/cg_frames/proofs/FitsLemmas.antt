@@ -34,7 +34,7 @@ use Rattle.cg_frames.proofs.SpelledIsReadDeltas.{states_few}
 pub few_states : (d : OwnerDelta) (ss : List State) → IsOwnerDelta d → pairs ss ≡ entries d.delta.states → length ss ≤ STATE_LIMIT
 few_states d ss is same =
     let es = entries d.delta.states in
-    let few = states_few IsState (λ e state. state.key) es is.states (rise_sorted es (entries_sorted d.delta.states)) in
+    let few = states_few IsState (λ e state. state.key) es is.delta.states (rise_sorted es (entries_sorted d.delta.states)) in
     omega (arith, few, ap length same, length-map {A = State} {B = ℕ × Versioned})
 
 -- ---- a layout that allows what messages hold can spell each of them
@@ -46,7 +46,7 @@ texts_short layout written (s ∷ es) all = (omega (arith, all.0.text.fits, writ
 
 deltas_short : (layout : Layout) → IsWritten layout → (ds : List OwnerDelta) → AllByRecursion IsOwnerDelta ds → AllByRecursion (HasShortTexts layout) ds
 deltas_short layout written [] all = tt
-deltas_short layout written (d ∷ ds) all = (texts_short layout written (entries d.delta.states) all.0.states, deltas_short layout written ds all.1)
+deltas_short layout written (d ∷ ds) all = (texts_short layout written (entries d.delta.states) all.0.delta.states, deltas_short layout written ds all.1)
 
 few_members : {X : Type 0} (key : X → ℕ) (layout : Layout) → IsWritten layout → (xs : List X) → AreListed (map key xs) → AreFew layout xs
 few_members key layout written xs are = omega (arith, are.few, length_keys key xs, written.members)
@@ -99,14 +99,14 @@ delta_fields : (layout : Layout) (d : OwnerDelta) → IsOwnerDelta d → HasShor
 delta_fields layout d is short =
     let above = d.delta.above in
     let m = d.delta.states in
-    let newer : filter (λ s. nat_lt above s.1.version) (entries m) ≡ entries m = sym (entries-newer_than above m) ∙ ap entries is.carries.newer in
+    let newer : filter (λ s. nat_lt above s.1.version) (entries m) ≡ entries m = sym (entries-newer_than above m) ∙ ap entries is.delta.carries.newer in
     record {
       endpoint = is.endpoint;
-      generation = is.generation;
-      above = is.above;
-      heartbeat = is.heartbeat;
-      states = states_fields layout above (entries m) newer is.states short;
-      something = is.carries.something;
+      generation = is.delta.generation;
+      above = is.delta.above;
+      heartbeat = is.delta.heartbeat;
+      states = states_fields layout above (entries m) newer is.delta.states short;
+      something = is.delta.carries.something;
     }
 
 deltas_fields : (layout : Layout) (ds : List OwnerDelta) → AllByRecursion IsOwnerDelta ds → AllByRecursion (HasShortTexts layout) ds → AllByRecursion (FitsDelta layout) ds
@@ -160,11 +160,13 @@ texts_are_short layout above (s ∷ es) all = (all.0.short, texts_are_short layo
 delta_is : (layout : Layout) → IsRead layout → (d : OwnerDelta) → FitsDelta layout d → IsOwnerDelta d
 delta_is layout read d fits = record {
   endpoint = fits.endpoint;
-  generation = fits.generation;
-  above = fits.above;
-  heartbeat = fits.heartbeat;
-  states = states_are layout read d.delta.above (entries d.delta.states) fits.states;
-  carries = record { newer = newer_all layout d.delta.above d.delta.states fits.states; something = fits.something };
+  delta = record {
+    generation = fits.generation;
+    above = fits.above;
+    heartbeat = fits.heartbeat;
+    states = states_are layout read d.delta.above (entries d.delta.states) fits.states;
+    carries = record { newer = newer_all layout d.delta.above d.delta.states fits.states; something = fits.something };
+  };
 }
 
 deltas_are : (layout : Layout) → IsRead layout → (ds : List OwnerDelta) → AllByRecursion (FitsDelta layout) ds → AllByRecursion IsOwnerDelta ds
