@@ -85,8 +85,8 @@ fn a_write_that_takes_nothing_is_counted(rt: HostRuntime) {
     assert_eq!(rt; writer.idle(), 1);
 }
 
-// Whether nothing waits for a flush: at first, after a write of no byte, of two bytes, and after a flush, where the call
-// of a number fails.
+// Whether nothing waits for a flush: at first, after a write of no byte, after one of two bytes, and after a flush,
+// where the call of a number fails.
 fn flushed(alloc: Global, turn: u64) -> [bool; 4] {
     let mut writer = Counted::new(FailingLink::new(Vec::new(alloc), turn));
     let at_first = writer.is_flushed();
