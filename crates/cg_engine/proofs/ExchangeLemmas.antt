@@ -1,23 +1,26 @@
 -- How an exchange ends, by how its last turn ended.
-use Rattle.std.proofs.Common.{◌≡◌, ℕ, ◌+◌, ◌<◌, ◌⊎◌, List, [], ◌∷◌, ◌++◌, length, Option, Some, Result, Ok, Err, refl, sym, ap, ◌∙◌, subst, inl, inr, append-nil, append_assoc}
+use Rattle.std.proofs.Common.{◌≡◌, ℕ, ◌+◌, ◌<◌, ◌⊎◌, List, [], length, Option, Some, Result, Ok, Err, refl, sym, ap, subst, inl, inr, arith}
 use Rattle.std.specs.Prelude.{slice_get}
-use Rattle.std.specs.Io.KnownBytes.{Appends}
-use Rattle.std.proofs.KnownBytes.{Appends-nil, Appends-trans}
+use Rattle.std.proofs.KnownBytes.{Appends-trans}
 use Rattle.cg_types.specs.declared.fault.Fault.{Fault}
 use Rattle.cg_core.specs.declared.event.Event.{Event}
 use Rattle.cg_core.specs.declared.reply.Reply.{Reply}
 use Rattle.cg_links.specs.declared.counted.Counted.{Counted}
-use Rattle.cg_links.specs.Counted.{KeepsCounts}
 use Rattle.cg_links.proofs.Counts.{KeepsCounts-trans}
 use Rattle.cg_wire.specs.Sent.{SendsAll, FailsToSend}
-use Rattle.cg_engine.specs.declared.turn.Kind.{Kind}
+use Rattle.cg_exchange.specs.declared.kind.Kind.{Kind}
 use Rattle.cg_engine.specs.declared.exchange.Ended.{Ended}
 use Rattle.cg_engine.specs.declared.exchange.Ended.TheVariants as ended
 use Rattle.cg_engine.specs.declared.exchange.Broken.{Broken}
 use Rattle.cg_engine.specs.Events.{written_for}
 use Rattle.cg_engine.specs.Turns.{DoesEvent, FindsEnd, ReadsNone, ReadsAnother, RefusesEvent}
-use Rattle.cg_engine.specs.Exchanged.{Turn, written_of, Turned, AllWritten, IsWhole, IsClosed, IsUnread, IsUnexpected, IsRefused, IsUnwritten, BreaksOff, Exchanges}
-use Rattle.cg_engine.proofs.TurnLemmas.{no_turns, turns_kept, turns_ended, turn_added, turn_of, written_more, length_snoc}
+use Rattle.cg_engine.specs.Exchanged.{Turn, written_of, Turned, AllWritten, IsClosed, BreaksOff, Exchanges}
+use Rattle.cg_engine.proofs.TurnLemmas.{turns_kept, turns_ended, turn_added, turn_of, flushed_both}
+
+-- Where nothing is due, nothing fails.
+nothing_fails : {L : Type 0} (held holds : Option (List ℕ)) (old new : Counted L) (f : Fault) → FailsToSend held holds old new [] f → ⊥
+nothing_fails held holds old new f (inl x) = omega (arith, x.some)
+nothing_fails held holds old new f (inr x) = omega (arith, x.some)
 
 module _ {S R W : Type 0} (does : S → Event → Reply → S → Type 0) (refuses : S → Event → Fault → Type 0) (stays : S → S → Type 0) (last : S → Option Reply)
     (kinds : List Kind) (now : ℕ) (opening : List ℕ) (before held : Option (List ℕ)) (r0 : Counted R) (w0 : Counted W) (s : S) where
@@ -78,6 +81,7 @@ module _ {S R W : Type 0} (does : S → Event → Reply → S → Type 0) (refus
       read = refused.read;
       due = refused.due;
       refused = refused.refused;
+      known = refused.known;
       stayed = refused.stayed;
       wrote = wrote;
     })))
@@ -86,49 +90,35 @@ module _ {S R W : Type 0} (does : S → Event → Reply → S → Type 0) (refus
     pub reply_broken : (d : DoesEvent does refuses stays last kind now there after reader r1 here t) (final : Option (List ℕ)) (w1 : Counted W) (f : Fault)
         → FailsToSend holds final writer w1 (written_for d.reply) f
         → BreaksOff does refuses stays kinds now opening before after held final r0 r1 w0 w1 s t (count + 1) f
-    reply_broken d final w1 f failed = inr (inr (inr (record {
-      turns = turns ++ (turn_of d ∷ []);
-      counted = length_snoc turns (turn_of d) ∙ ap (λ n. n + 1) counted;
+    reply_broken d final w1 f failed = inr (inr (inr (inl (record {
+      turns = turns;
+      last = turn_of d;
+      counted = ap (λ n. n + 1) counted;
       done = turn_added does kinds now before r0 s refuses stays last kind turns there after reader r1 here t done (subst (λ (n : ℕ). slice_get kinds n ≡ Some kind) (sym counted) next) d;
-      first = opening ++ written_of turns;
-      last = written_for d.reply;
-      all = written_more opening turns (turn_of d);
       there = holds;
       writer = writer;
-      written = wrote.written;
-      kept = wrote.kept;
+      wrote = wrote;
       failed = failed;
-    })))
+    }))))
 
   -- the opening was not written whole
   pub opening_broken : (holds : Option (List ℕ)) (w1 : Counted W) (f : Fault) → FailsToSend held holds w0 w1 opening f
       → BreaksOff does refuses stays kinds now opening before before held holds r0 r0 w0 w1 s s 0 f
-  opening_broken holds w1 f failed = inr (inr (inr (record {
-    turns = [];
-    counted = refl;
-    done = no_turns does kinds now before r0 s;
-    first = [];
-    last = opening;
-    all = append-nil opening;
-    there = held;
-    writer = w0;
-    written = Appends-nil held;
-    kept = record { failed = refl; idle = refl };
-    failed = failed;
-  })))
+  opening_broken holds w1 f failed = inr (inr (inr (inr (record { none = refl; unread = refl; reader = refl; same = refl; failed = failed }))))
 
   -- The opening was written, and then turns were taken.
   module _ (middle : Option (List ℕ)) (w : Counted W) (opened : SendsAll held middle w0 w opening) (after holds : Option (List ℕ)) (r1 : Counted R) (w1 : Counted W) (t : S) where
-    also_opened : (turns : List Turn) → AllWritten [] middle w turns holds w1 → AllWritten opening held w0 turns holds w1
-    also_opened turns wrote = record {
-      written = Appends-trans held middle holds opening (written_of turns) opened.written wrote.written;
-      kept = KeepsCounts-trans w0 w w1 opened.kept wrote.kept;
+    also_opened : (turns : List Turn) (there : Option (List ℕ)) (writer : Counted W) → AllWritten [] middle w turns there writer → AllWritten opening held w0 turns there writer
+    also_opened turns there writer wrote = record {
+      written = Appends-trans held middle there opening (written_of turns) opened.written wrote.written;
+      flushed = flushed_both w0 w writer opening (written_of turns) opened.flushed wrote.flushed;
+      kept = KeepsCounts-trans w0 w writer opened.kept wrote.kept;
     }
 
     pub after_opening : (result : Result Ended Broken) → Exchanges does refuses stays kinds now [] before after middle holds r0 r1 w w1 s t result
         → Exchanges does refuses stays kinds now opening before after held holds r0 r1 w0 w1 s t result
-    after_opening (Ok ended.Whole) x = record { turns = x.turns; all = x.all; done = x.done; wrote = also_opened x.turns x.wrote }
-    after_opening (Ok (ended.Closed count)) x = record { turns = x.turns; counted = x.counted; fewer = x.fewer; done = x.done; end = x.end; wrote = also_opened x.turns x.wrote }
+    after_opening (Ok ended.Whole) x = record { turns = x.turns; all = x.all; done = x.done; wrote = also_opened x.turns holds w1 x.wrote }
+    after_opening (Ok (ended.Closed count)) x = record { turns = x.turns; counted = x.counted; fewer = x.fewer; done = x.done; end = x.end; wrote = also_opened x.turns holds w1 x.wrote }
     after_opening (Err b) (inl x) = inl (record {
       turns = x.turns;
       counted = x.counted;
@@ -137,7 +127,7 @@ module _ {S R W : Type 0} (does : S → Event → Reply → S → Type 0) (refus
       reader = x.reader;
       done = x.done;
       failed = x.failed;
-      wrote = also_opened x.turns x.wrote;
+      wrote = also_opened x.turns holds w1 x.wrote;
     })
     after_opening (Err b) (inr (inl x)) = inr (inl (record {
       turns = x.turns;
@@ -150,7 +140,7 @@ module _ {S R W : Type 0} (does : S → Event → Reply → S → Type 0) (refus
       message = x.message;
       read = x.read;
       another = x.another;
-      wrote = also_opened x.turns x.wrote;
+      wrote = also_opened x.turns holds w1 x.wrote;
     }))
     after_opening (Err b) (inr (inr (inl x))) = inr (inr (inl (record {
       turns = x.turns;
@@ -166,19 +156,18 @@ module _ {S R W : Type 0} (does : S → Event → Reply → S → Type 0) (refus
       read = x.read;
       due = x.due;
       refused = x.refused;
+      known = x.known;
       stayed = x.stayed;
-      wrote = also_opened x.turns x.wrote;
+      wrote = also_opened x.turns holds w1 x.wrote;
     })))
-    after_opening (Err b) (inr (inr (inr x))) = inr (inr (inr (record {
+    after_opening (Err b) (inr (inr (inr (inl x)))) = inr (inr (inr (inl (record {
       turns = x.turns;
+      last = x.last;
       counted = x.counted;
       done = x.done;
-      first = opening ++ x.first;
-      last = x.last;
-      all = ap (λ l. opening ++ l) x.all ∙ sym (append_assoc opening x.first x.last);
       there = x.there;
       writer = x.writer;
-      written = Appends-trans held middle x.there opening x.first opened.written x.written;
-      kept = KeepsCounts-trans w0 w x.writer opened.kept x.kept;
+      wrote = also_opened x.turns x.there x.writer x.wrote;
       failed = x.failed;
-    })))
+    }))))
+    after_opening (Err b) (inr (inr (inr (inr x)))) = absurd (nothing_fails middle holds w w1 b.fault x.failed)

@@ -1,20 +1,26 @@
--- A step answers each kind of event by its kind of reply.
-use Rattle.std.proofs.Common.{◌≡◌, Result, Ok, Err, ap, subst}
+-- A step answers each kind of event by its kind of reply, and is refused by few faults.
+use Rattle.std.proofs.Common.{◌≡◌, ◌+◌, Bool, true, false, Result, Ok, Err, refl, ap, subst}
+use Rattle.std.specs.Prelude.{nat_lt, if◌then◌else◌}
 use Rattle.cg_types.specs.ResultSteps.{then}
+use Rattle.cg_types.specs.Answer.{IsRefusal}
 use Rattle.cg_types.specs.declared.fault.Fault.{Fault}
+use Rattle.cg_types.specs.declared.fault.Fault.TheVariants as fault
+use Rattle.cg_types.specs.declared.limits.TheConstants.{NUMBER_LIMIT, MEMBER_LIMIT}
+use Rattle.cg_entry.specs.Entry.{newest}
+use Rattle.cg_table.specs.Own.{own_entry}
 use Rattle.cg_exchange.specs.declared.message.Message.TheVariants as message
-use Rattle.cg_exchange.specs.Answering.{answer_to_syn}
-use Rattle.cg_exchange.specs.Taking.{taking_ack, taking_ack2}
+use Rattle.cg_exchange.specs.Answering.{same_cluster, answer_to_syn}
+use Rattle.cg_exchange.specs.Taking.{held_after, taking_ack, taking_ack2}
 use Rattle.cg_core.specs.declared.event.Event.{Event}
 use Rattle.cg_core.specs.declared.event.Event.TheVariants as event
 use Rattle.cg_core.specs.declared.reply.Reply.{Reply}
 use Rattle.cg_core.specs.declared.reply.Reply.TheVariants as reply
 use Rattle.cg_core.specs.Values.{NodeValue}
 use Rattle.cg_core.specs.Step.{node_step, next_of, beating, setting, opening, round_of, after_taking}
-use Rattle.cg_engine.specs.Events.{IsReplyTo, IsDone, IsRound, IsSyn, IsAck, IsBoth, IsTook}
+use Rattle.cg_engine.specs.Events.{IsGateFault, IsReplyTo, IsDone, IsRound, IsSyn, IsAck, IsBoth, IsTook}
 
 kind_kept : {A : Type 0} (P : Reply → Type 0) (due : Result A Fault) (node : A → NodeValue) (said : A → Reply) (m : NodeValue) (r : Reply) → ((a : A) → P (said a))
-    → then {B = NodeValue × Reply} due (λ a. (node a, said a)) ≡ Ok (m, r) → P r
+    → (then) {B = NodeValue × Reply} due (λ a. (node a, said a)) ≡ Ok (m, r) → P r
 kind_kept P (Ok a) node said m r each is =
     let both : ◌≡◌ {A = NodeValue × Reply} (node a, said a) (m, r) = cc in
     subst P (ap (λ (p : NodeValue × Reply). p.1) both) (each a)
@@ -34,3 +40,42 @@ reply_kind n (event.Ack now ack) m r is =
     kind_kept IsBoth (taking_ack n.table ack) (λ x. after_taking n now x.0 x.2) (λ x. reply.Both x.2 x.1) m r (λ x. tt) is
 reply_kind n (event.Ack2 now ack2) m r is =
     kind_kept IsTook (taking_ack2 n.table ack2) (λ x. after_taking n now x.0 x.1) (λ x. reply.Took x.1) m r (λ x. tt) is
+
+-- ---- a step is refused by few faults
+
+chosen : {A : Type 0} (b : Bool) (x : A) (g f : Fault) → IsGateFault g → (if b then Ok x else Err g) ≡ Err f → IsGateFault f
+chosen true x g f known is = absurd cc
+chosen false x g f known is =
+    let same : g ≡ f = cc in
+    subst IsGateFault same known
+
+refused : {A : Type 0} (b : Bool) (x : A) (g f : Fault) → IsGateFault g → (if b then Err g else Ok x) ≡ Err f → IsGateFault f
+refused true x g f known is =
+    let same : g ≡ f = cc in
+    subst IsGateFault same known
+refused false x g f known is = absurd cc
+
+fault_kept : {A : Type 0} (due : Result A Fault) (go : A → NodeValue × Reply) (f : Fault) → ((g : Fault) → due ≡ Err g → IsGateFault g) → (then) due go ≡ Err f → IsGateFault f
+fault_kept (Ok a) go f each is = absurd cc
+fault_kept (Err g) go f each is =
+    let same : g ≡ f = cc in
+    subst IsGateFault same (each g refl)
+
+next_fault : (n : NodeValue) (f : Fault) → next_of n ≡ Err f → IsGateFault f
+next_fault n f is = chosen (nat_lt (newest (own_entry n.table) + 1) NUMBER_LIMIT) (newest (own_entry n.table) + 1) fault.VersionsSpent f tt is
+
+pub step_fault : (n : NodeValue) (e : Event) (f : Fault) → node_step n e ≡ Err f → IsGateFault f
+step_fault n event.Beat f is = fault_kept (next_of n) _ f (next_fault n) is
+step_fault n (event.Set key text) f is = fault_kept (next_of n) _ f (next_fault n) is
+step_fault n (event.Tick now words) f is = fault_kept (next_of n) _ f (next_fault n) is
+step_fault n event.Opening f is = absurd cc
+step_fault n (event.Syn syn) f is =
+    fault_kept (answer_to_syn n.table n.settings.cluster syn) _ f (λ g. chosen (same_cluster n.settings.cluster syn.cluster) _ fault.OtherCluster g tt) is
+step_fault n (event.Ack now ack) f is =
+    fault_kept (taking_ack n.table ack) _ f (λ g. refused (nat_lt MEMBER_LIMIT (held_after n.table ack.deltas)) _ fault.TableFull g tt) is
+step_fault n (event.Ack2 now ack2) f is =
+    fault_kept (taking_ack2 n.table ack2) _ f (λ g. refused (nat_lt MEMBER_LIMIT (held_after n.table ack2.deltas)) _ fault.TableFull g tt) is
+
+pub refusal_is_known : (n : NodeValue) (e : Event) (f : Fault) → IsRefusal f (node_step n e) → IsGateFault f
+refusal_is_known n e fault.OutOfMemory refused = tt
+refusal_is_known n e f refused = step_fault n e f refused

@@ -1,5 +1,5 @@
 -- One turn more.
-use Rattle.std.proofs.Common.{◌≡◌, ℕ, ◌+◌, ◌<◌, List, [], ◌∷◌, ◌++◌, length, get_or, arith, length-append, Option, Some, None, Ok, refl, sym, ap, ◌∙◌, subst, append-nil, append_assoc}
+use Rattle.std.proofs.Common.{◌≡◌, ℕ, ◌+◌, ◌<◌, List, [], ◌∷◌, ◌++◌, length, get_or, arith, length-append, Option, Some, refl, sym, ap, ◌∙◌, subst, inl, inr, append-nil, append_assoc}
 use Rattle.std.specs.Prelude.{slice_get}
 use Rattle.std.proofs.lemmas.Option.{slice_get-get_or}
 use Rattle.std.specs.List.{flat_map}
@@ -9,11 +9,10 @@ use Rattle.cg_types.specs.declared.fault.Fault.{Fault}
 use Rattle.cg_core.specs.declared.event.Event.{Event}
 use Rattle.cg_core.specs.declared.reply.Reply.{Reply}
 use Rattle.cg_links.specs.declared.counted.Counted.{Counted}
-use Rattle.cg_links.specs.Counted.{KeepsCounts}
 use Rattle.cg_links.proofs.Counts.{KeepsCounts-trans}
 use Rattle.cg_wire.specs.Received.{MeetsEnd}
-use Rattle.cg_wire.specs.Sent.{SendsAll}
-use Rattle.cg_engine.specs.declared.turn.Kind.{Kind}
+use Rattle.cg_wire.specs.Sent.{LeavesFlushed, SendsAll}
+use Rattle.cg_exchange.specs.declared.kind.Kind.{Kind}
 use Rattle.cg_engine.specs.Events.{written_for}
 use Rattle.cg_engine.specs.Turns.{DoesEvent}
 use Rattle.cg_engine.specs.Exchanged.{Turn, IsTurn, AreTurns, read_of, written_of, Runs, Turned, AllWritten}
@@ -85,6 +84,17 @@ module _ {S R : Type 0} (does : S → Event → Reply → S → Type 0) (kinds :
     sound = KeepsCounts-trans r0 reader r1 done.sound d.read.kept;
   }
 
+-- Where the second of two writes was flushed, or had nothing to write, all was.
+pub flushed_both : {L : Type 0} (a b c : Counted L) (first second : List ℕ) → LeavesFlushed first a b → LeavesFlushed second b c → LeavesFlushed (first ++ second) a c
+flushed_both a b c first [] one two (inl some) = two (inr (one (inl (subst (λ (l : List ℕ). 0 < length l) (append-nil first) some))))
+flushed_both a b c first (x ∷ xs) one two (inl some) = two (inl (omega arith))
+flushed_both a b c first second one two (inr sound) = two (inr (one (inr sound)))
+
+-- Nothing to write leaves it so.
+pub flushed_still : {L : Type 0} (w : Counted L) → LeavesFlushed [] w w
+flushed_still w (inl some) = absurd (omega (arith, some))
+flushed_still w (inr sound) = sound
+
 -- what is written with one turn more
 pub written_more : (opening : List ℕ) (turns : List Turn) (t : Turn) → opening ++ written_of (turns ++ (t ∷ [])) ≡ (opening ++ written_of turns) ++ written_for t.reply
 written_more opening turns t =
@@ -96,9 +106,11 @@ module _ {W : Type 0} (opening : List ℕ) (held : Option (List ℕ)) (w0 : Coun
       → SendsAll there holds writer w1 (written_for t.reply) → AllWritten opening held w0 (turns ++ (t ∷ [])) holds w1
   reply_added turns t there holds writer w1 wrote sent = record {
     written = subst (Appends held holds) (sym (written_more opening turns t)) (Appends-trans held there holds (opening ++ written_of turns) (written_for t.reply) wrote.written sent.written);
+    flushed = subst (λ (l : List ℕ). LeavesFlushed l w0 w1) (sym (written_more opening turns t))
+        (flushed_both w0 writer w1 (opening ++ written_of turns) (written_for t.reply) wrote.flushed sent.flushed);
     kept = KeepsCounts-trans w0 writer w1 wrote.kept sent.kept;
   }
 
 -- nothing was written, where nothing is written first
 pub nothing_written : {W : Type 0} (held : Option (List ℕ)) (w : Counted W) → AllWritten [] held w [] held w
-nothing_written held w = record { written = Appends-nil held; kept = record { failed = refl; idle = refl } }
+nothing_written held w = record { written = Appends-nil held; flushed = flushed_still w; kept = record { failed = refl; idle = refl } }

@@ -1,7 +1,8 @@
 -- Messages as events, and what is written for their replies.
-use Rattle.std.specs.Prelude.{ℕ, List, [], Option, Some, None, Result, Ok, Err}
+use Rattle.std.specs.Prelude.{ℕ, List, [], Result}
 use Rattle.cg_types.specs.ResultSteps.{then}
 use Rattle.cg_types.specs.declared.fault.Fault.{Fault}
+use Rattle.cg_types.specs.declared.fault.Fault.TheVariants as fault
 use Rattle.cg_exchange.specs.declared.message.Message.{Message}
 use Rattle.cg_exchange.specs.declared.message.Message.TheVariants as messages
 use Rattle.cg_frames.specs.declared.layout.TheConstants.{WRITTEN}
@@ -11,8 +12,8 @@ use Rattle.cg_core.specs.declared.event.Event.TheVariants as event
 use Rattle.cg_core.specs.declared.reply.Reply.{Reply}
 use Rattle.cg_core.specs.declared.reply.Reply.TheVariants as reply
 use Rattle.cg_wire.specs.Due.{syn_due, ack_due, ack2_due}
-use Rattle.cg_engine.specs.declared.turn.Kind.{Kind}
-use Rattle.cg_engine.specs.declared.turn.Kind.TheVariants as kind
+use Rattle.cg_exchange.specs.declared.kind.Kind.{Kind}
+use Rattle.cg_exchange.specs.declared.kind.Kind.TheVariants as kind
 
 -- The event of a message of the kind that is due, as it comes at a moment; the fault of another kind.
 abbrev pub event_due : Kind → ℕ → Message → Result Event Fault
@@ -27,6 +28,14 @@ written_for (reply.Round peers syn) = frame WRITTEN (messages.Syn syn)
 written_for (reply.Sent m) = frame WRITTEN m
 written_for (reply.Both outcomes ack2) = frame WRITTEN (messages.Ack2 ack2)
 written_for (reply.Took outcomes) = []
+
+-- the faults that an event may be refused by
+abbrev pub IsGateFault : Fault → Type 0
+IsGateFault fault.OutOfMemory = Unit {0}
+IsGateFault fault.VersionsSpent = Unit {0}
+IsGateFault fault.TableFull = Unit {0}
+IsGateFault fault.OtherCluster = Unit {0}
+IsGateFault f = ⊥
 
 -- ---- each kind of event has its kind of reply
 

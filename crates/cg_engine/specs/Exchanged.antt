@@ -1,5 +1,5 @@
 -- What a whole exchange reads, does and writes.
-use Rattle.std.specs.Prelude.{◌≡◌, ℕ, ◌<◌, ◌⊎◌, List, [], ◌∷◌, ◌++◌, length, take, slice_get, Option, Some, Result, Ok, Err}
+use Rattle.std.specs.Prelude.{◌≡◌, ℕ, ◌+◌, ◌<◌, ◌⊎◌, List, [], ◌∷◌, ◌++◌, length, slice_get, Option, Some, Result, Ok, Err}
 use Rattle.std.specs.List.{flat_map}
 use Rattle.std.specs.Io.KnownBytes.{Appends, Consumes, IsAtEnd}
 use Rattle.cg_types.specs.declared.fault.Fault.{Fault}
@@ -7,11 +7,11 @@ use Rattle.cg_exchange.specs.declared.message.Message.{Message}
 use Rattle.cg_core.specs.declared.event.Event.{Event}
 use Rattle.cg_core.specs.declared.reply.Reply.{Reply}
 use Rattle.cg_links.specs.declared.counted.Counted.{Counted}
-use Rattle.cg_links.specs.Counted.{KeepsCounts, CountsFailed, CountsIdle}
-use Rattle.cg_wire.specs.Received.{IsSpelledBy, ReceivesMessage, MeetsEnd, FailsToReceive}
-use Rattle.cg_wire.specs.Sent.{FailsToSend}
-use Rattle.cg_engine.specs.Events.{event_due, written_for, IsReplyTo}
-use Rattle.cg_engine.specs.declared.turn.Kind.{Kind}
+use Rattle.cg_links.specs.Counted.{KeepsCounts}
+use Rattle.cg_wire.specs.Received.{IsSpelledBy, ReceivesMessage, FailsToReceive}
+use Rattle.cg_wire.specs.Sent.{LeavesFlushed, FailsToSend}
+use Rattle.cg_engine.specs.Events.{event_due, written_for, IsGateFault, IsReplyTo}
+use Rattle.cg_exchange.specs.declared.kind.Kind.{Kind}
 use Rattle.cg_engine.specs.declared.exchange.Ended.{Ended}
 use Rattle.cg_engine.specs.declared.exchange.Ended.TheVariants as ended
 use Rattle.cg_engine.specs.declared.exchange.Broken.{Broken}
@@ -57,17 +57,18 @@ pub record Turned {S R : Type 0} (does : S → Event → Reply → S → Type 0)
   pub read : Consumes before there (read_of turns)
   pub sound : KeepsCounts r0 reader
 
--- All that was to be written so far was written, and nothing else.
+-- All that was to be written so far was written and flushed, and nothing else.
 pub record AllWritten {W : Type 0} (opening : List ℕ) (held : Option (List ℕ)) (w0 : Counted W) (turns : List Turn)
     (holds : Option (List ℕ)) (w1 : Counted W) : Type 0 where
   pub written : Appends held holds (opening ++ written_of turns)
+  pub flushed : LeavesFlushed (opening ++ written_of turns) w0 w1
   pub kept : KeepsCounts w0 w1
 
 -- By what a gate does, refuses and leaves; which kinds are due, at which moment, and what is written first; what is
 -- left of the reader, what the writer holds, their counts, and the state of the gate, before and after.
 module _ {S R W : Type 0} (does : S → Event → Reply → S → Type 0) (refuses : S → Event → Fault → Type 0)
-    (stays : S → S → Type 0) (kinds : List Kind) (now : ℕ) (opening : List ℕ) (before after held holds : Option (List ℕ))
-    (r0 r1 : Counted R) (w0 w1 : Counted W) (s t : S) where
+    (stays : S → S → Type 0) (kinds : List Kind) (now : ℕ) (opening : List ℕ)
+    (before after held holds : Option (List ℕ)) (r0 r1 : Counted R) (w0 w1 : Counted W) (s t : S) where
   -- all events were done
   pub record IsWhole : Type 0 where
     pub turns : List Turn
@@ -124,26 +125,33 @@ module _ {S R W : Type 0} (does : S → Event → Reply → S → Type 0) (refus
     pub read : ReceivesMessage there after reader r1 message
     pub due : event_due kind now message ≡ Ok event
     pub refused : refuses here event f
+    pub known : IsGateFault f
     pub stayed : stays here t
     pub wrote : AllWritten opening held w0 turns holds w1
 
-  -- What was due is cut somewhere: the first part was written, the last was not written whole, or is empty.
-  pub record IsUnwritten (count : ℕ) (f : Fault) : Type 0 where
+  -- the last event was done, its message was not written whole, and all before it was
+  pub record IsUnanswered (count : ℕ) (f : Fault) : Type 0 where
     pub turns : List Turn
-    pub counted : length turns ≡ count
-    pub done : Turned does kinds now before r0 s turns after r1 t
-    pub first : List ℕ
-    pub last : List ℕ
-    pub all : opening ++ written_of turns ≡ first ++ last
+    pub last : Turn
+    pub counted : length turns + 1 ≡ count
+    pub done : Turned does kinds now before r0 s (turns ++ (last ∷ [])) after r1 t
     pub there : Option (List ℕ)
     pub writer : Counted W
-    pub written : Appends held there first
-    pub kept : KeepsCounts w0 writer
-    pub failed : FailsToSend there holds writer w1 last f
+    pub wrote : AllWritten opening held w0 turns there writer
+    pub failed : FailsToSend there holds writer w1 (written_for last.reply) f
+
+  -- what is written first was not written whole; nothing was read, and the gate is as it was
+  pub record IsUnopened (count : ℕ) (f : Fault) : Type 0 where
+    pub none : count ≡ 0
+    pub unread : after ≡ before
+    pub reader : r1 ≡ r0
+    pub same : t ≡ s
+    pub failed : FailsToSend held holds w0 w1 opening f
 
   -- why an exchange broke off, after so many events
   abbrev pub BreaksOff : ℕ → Fault → Type 0
-  BreaksOff count f = IsUnread count f ⊎ (IsUnexpected count f ⊎ (IsRefused count f ⊎ IsUnwritten count f))
+  BreaksOff count f = IsUnread count f ⊎ (IsUnexpected count f ⊎ (IsRefused count f
+      ⊎ (IsUnanswered count f ⊎ IsUnopened count f)))
 
   -- what an exchange came to
   abbrev pub Exchanges : Result Ended Broken → Type 0

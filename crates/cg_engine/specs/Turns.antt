@@ -6,8 +6,8 @@ use Rattle.cg_core.specs.declared.event.Event.{Event}
 use Rattle.cg_core.specs.declared.reply.Reply.{Reply}
 use Rattle.cg_links.specs.declared.counted.Counted.{Counted}
 use Rattle.cg_wire.specs.Received.{ReceivesMessage, MeetsEnd, FailsToReceive}
-use Rattle.cg_engine.specs.Events.{event_due, IsReplyTo}
-use Rattle.cg_engine.specs.declared.turn.Kind.{Kind}
+use Rattle.cg_engine.specs.Events.{event_due, IsGateFault, IsReplyTo}
+use Rattle.cg_exchange.specs.declared.kind.Kind.{Kind}
 
 -- What a gate does, by its ghost members: a state, an event, its reply and the state after it; the refusals of an event
 -- in a state; a state and one that a refused event left; the reply of the last event done.
@@ -49,6 +49,7 @@ module _ {S L : Type 0} (does : S → Event → Reply → S → Type 0) (refuses
     pub read : ReceivesMessage before after old new message
     pub due : event_due kind now message ≡ Ok event
     pub refused : refuses s event f
+    pub known : IsGateFault f
     pub stayed : stays s t
 
   -- what a turn came to: whether the event was done, or why none was

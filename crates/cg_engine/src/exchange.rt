@@ -5,12 +5,12 @@ ghost use Rattle.cg_exchange.specs.declared.message.Message.TheVariants as messa
 ghost use Rattle.cg_frames.specs.declared.layout.TheConstants.{WRITTEN};
 ghost use Rattle.cg_frames.specs.Spelling.{frame};
 ghost use Rattle.cg_links.specs.Counted.{link_of, failed_of, idle_of};
-ghost use Rattle.cg_engine.specs.declared.turn.Kind.TheVariants as message_kind;
+ghost use Rattle.cg_exchange.specs.declared.kind.Kind.TheVariants as message_kind;
 ghost use Rattle.cg_engine.specs.Exchanged.{Exchanges};
 
 use crate::gate::Gate;
-use crate::turn::{Kind, send_last, take_event};
-use cg_exchange::{Lent, Syn};
+use crate::turn::{send_last, take_event};
+use cg_exchange::{Kind, Lent, Syn};
 use cg_links::Counted;
 use cg_types::Fault;
 use cg_wire::send;

@@ -4,7 +4,7 @@ ghost use Rattle.std.specs.Prelude.{◌≡◌, Option, Some, IfErr, OnErr, OnOk,
 ghost use Rattle.cg_types.specs.declared.fault.Fault.{Fault as FaultValue};
 ghost use Rattle.cg_core.specs.declared.event.Event.{Event as EventValue};
 ghost use Rattle.cg_core.specs.declared.reply.Reply.{Reply as ReplyValue};
-ghost use Rattle.cg_engine.specs.Events.{IsReplyTo};
+ghost use Rattle.cg_engine.specs.Events.{IsGateFault, IsReplyTo};
 
 use cg_core::{Event, Reply};
 use cg_types::Fault;
@@ -25,12 +25,14 @@ pub trait Gate {
     // the reply of the last event done
     ghost last: { Self → Option ReplyValue };
 
-    /// Does an event, whose kind of reply is then the last one.
+    /// Does an event, whose kind of reply is then the last one. Refused by `OutOfMemory`, `VersionsSpent`, `TableFull`
+    /// and `OtherCluster` alone, so that no refusal can be taken for a fault of a link or a frame.
     fn event(&mut self, alloc: Global, event: Event) -> Result<(), Fault>
         ensures ok { OnOk result ((reply : ReplyValue) × (last self.new ≡ Some reply)
             × does self.old event reply self.new × IsReplyTo event reply) }
         ensures err { OnErr result (stays self.old self.new) }
-        ensures fault { IfErr result (refuses self.old event) };
+        ensures fault { IfErr result (refuses self.old event) }
+        ensures known { IfErr result IsGateFault };
 
     /// The reply of the last event done.
     fn reply(&self) -> Option<&Reply>

@@ -8,20 +8,12 @@ ghost use Rattle.cg_engine.specs.Turns.{TakesEvent};
 
 use crate::gate::Gate;
 use cg_core::{Event, Reply};
-use cg_exchange::{Lent, Message};
+use cg_exchange::{Kind, Lent, Message};
 use cg_links::Counted;
 use cg_types::Fault;
 use cg_wire::{ack_due, ack2_due, receive, send, syn_due};
 use std::alloc::Global;
 use std::io::{Read, Write};
-
-/// The kinds of message.
-#[derive(Clone, Copy)]
-pub(crate) enum Kind {
-    Syn,
-    Ack,
-    Ack2,
-}
 
 // The event of a message of the kind that is due, as it comes at a moment.
 fn event_due(kind: Kind, now: u64, message: Message) -> Result<Event, Fault>

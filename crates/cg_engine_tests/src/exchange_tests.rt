@@ -2,7 +2,7 @@
 
 use crate::samples::{ACK, ACK2, SYN, a, b, front, joined, syn};
 use cg_engine::{Broken, Ended, initiate, respond};
-use cg_links::{Counted, CountingLink};
+use cg_links::{Counted, CountingLink, FailingLink};
 use cg_types::{Cause, Fault};
 use std::alloc::Global;
 use std::test::Fail;
@@ -150,6 +150,25 @@ fn b_reads_a_fault(rt: HostRuntime) -> Result<(), Fail> {
     Ok(())
 }
 
+fn wrong(place: usize, cause: Cause) -> Result<Ended, Broken> {
+    broken(0, Fault::BadFrame { place, cause })
+}
+
+// A frame with a fault is no message, so its fault comes before that of another kind.
+#[test]
+fn b_reads_faults_of_each_kind(rt: HostRuntime) -> Result<(), Fail> {
+    let alloc = rt.alloc();
+    let short = b"\x00\x00\x00\x08\x01\x01\x02c1\x01\x00\x01".as_slice();
+    assert!(rt; responds(alloc, &[short, SYN], (wrong(12, Cause::Short), 1, 26), b"")?);
+    let port =
+        b"\x00\x00\x00\x17\x01\x03\x00\x01\x0a\x00\x00\x01\x00\x00\x00\x00\x00\x09\x00\x00\x00\x00\x00\x00\x00\x01\x00".as_slice();
+    assert!(rt; responds(alloc, &[port, SYN], (wrong(8, Cause::Endpoint), 1, 26), b"")?);
+    let empty =
+        b"\x00\x00\x00\x17\x01\x03\x00\x01\x0a\x00\x00\x01\x1b\x58\x00\x00\x00\x09\x00\x00\x00\x01\x00\x00\x00\x01\x00".as_slice();
+    assert!(rt; responds(alloc, &[empty, SYN], (wrong(8, Cause::Empty), 1, 26), b"")?);
+    Ok(())
+}
+
 #[test]
 fn b_is_of_another_cluster(rt: HostRuntime) -> Result<(), Fail> {
     let other = b"\x00\x00\x00\x08\x01\x01\x02c2\x01\x00\x00".as_slice();
@@ -185,6 +204,25 @@ fn a_finds_no_answer(rt: HostRuntime) -> Result<(), Fail> {
         )?
     );
     assert!(rt; initiates(alloc, &[SYN], (broken(0, UNEXPECTED), 1, 0), &[SYN])?);
+    Ok(())
+}
+
+// Whether B's writer is flushed after its part of the worked exchange, and after a part of which the flush failed.
+fn is_flushed(alloc: Global, turn: u64) -> Result<bool, Fail> {
+    let mut gate = b(alloc)?;
+    let mut reader = Counted::new(SYN);
+    let mut writer = Counted::new(FailingLink::new(Vec::new(alloc), turn));
+    let _ended = respond(alloc, &mut gate, 1000, &mut reader, &mut writer);
+    Ok(writer.is_flushed())
+}
+
+#[test]
+fn what_was_written_is_flushed(rt: HostRuntime) -> Result<(), Fail> {
+    let alloc = rt.alloc();
+    assert_eq!(rt;
+        (is_flushed(alloc, 0)?, is_flushed(alloc, 2)?),
+        (true, false)
+    );
     Ok(())
 }
 

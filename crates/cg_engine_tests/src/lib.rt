@@ -4,6 +4,8 @@
 #[cfg(test)]
 mod exchange_tests;
 #[cfg(test)]
+mod full_tests;
+#[cfg(test)]
 mod link_tests;
 #[cfg(test)]
 mod samples;

@@ -21,10 +21,15 @@ pub(crate) const ACK: &[u8] =
 pub(crate) const ACK2: &[u8] =
     b"\x00\x00\x00\x17\x01\x03\x00\x01\x0a\x00\x00\x01\x1b\x58\x00\x00\x00\x09\x00\x00\x00\x00\x00\x00\x00\x01\x00";
 
-fn node(alloc: Global, own: u16, start: u32) -> Result<NodeGate, Fail> {
+// The node of an endpoint that has just started at a generation.
+pub(crate) fn started(alloc: Global, own: u16, start: u32) -> Result<Node, Fail> {
     let seeds = Vec::new(alloc);
     let settings = Settings::new(cluster(alloc)?, seeds, Silence::default()).ok_or("settings")?;
-    Ok(NodeGate::new(Node::start(alloc, endpoint(own), generation(start), settings)?))
+    Ok(Node::start(alloc, endpoint(own), generation(start), settings)?)
+}
+
+fn node(alloc: Global, own: u16, start: u32) -> Result<NodeGate, Fail> {
+    Ok(NodeGate::new(started(alloc, own, start)?))
 }
 
 pub(crate) fn a(alloc: Global) -> Result<NodeGate, Fail> {

@@ -1,5 +1,5 @@
 -- What a clause reads of a counted link.
-use Rattle.std.specs.Prelude.{◌≡◌, ℕ, ◌<◌, ◌⊎◌, List, length, MatchResult, Result}
+use Rattle.std.specs.Prelude.{◌≡◌, ℕ, ◌<◌, ◌⊎◌, List, length, Bool, true, false, MatchResult, Result}
 use Rattle.cg_links.specs.Counts.{more_by, one_more}
 use Rattle.cg_links.specs.declared.counted.Counted.{Counted}
 
@@ -19,11 +19,20 @@ failed_of c = c.failed
 abbrev pub idle_of : {L : Type 0} → Counted L → ℕ
 idle_of c = c.idle
 
--- no call was counted
+-- whether no write took a byte since the last flush that did not fail
+abbrev pub flushed_of : {L : Type 0} → Counted L → Bool
+flushed_of c = c.flushed
+
+-- nothing that was written waits for a flush
+abbrev pub IsFlushed : {L : Type 0} → Counted L → Type 0
+IsFlushed c = flushed_of c ≡ true
+
+-- no call was counted, and nothing was written
 pub record IsNew {L : Type 0} (c : Counted L) : Type 0 where
   pub calls : calls_of c ≡ 0
   pub failed : failed_of c ≡ 0
   pub idle : idle_of c ≡ 0
+  pub flushed : IsFlushed c
 
 -- so many calls were made
 pub record CountsCalls {L : Type 0} (old new : Counted L) (k : ℕ) : Type 0 where
@@ -57,3 +66,13 @@ CountsWrite old new r buf = MatchResult r
 -- what a flush counts
 abbrev pub CountsFlush : {L T E : Type 0} → Counted L → Counted L → Result T E → Type 0
 CountsFlush old new r = MatchResult r (λ _. KeepsCounts old new) (λ _. CountsFailed old new)
+
+-- Bytes that a write took wait for a flush; one that took none changes nothing of that.
+abbrev pub AwaitsFlush : {L E : Type 0} → Counted L → Counted L → Result ℕ E → Type 0
+AwaitsFlush old new r = MatchResult r
+    (λ n. (n ≡ 0 → flushed_of new ≡ flushed_of old) × (0 < n → flushed_of new ≡ false))
+    (λ _. flushed_of new ≡ flushed_of old)
+
+-- A flush that does not fail leaves nothing that waits for one.
+abbrev pub Flushes : {L T E : Type 0} → Counted L → Counted L → Result T E → Type 0
+Flushes old new r = MatchResult r (λ _. IsFlushed new) (λ _. flushed_of new ≡ flushed_of old)

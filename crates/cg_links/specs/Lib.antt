@@ -1,3 +1,4 @@
 pub mod Counts
 pub mod Counted
 pub mod Trials
+pub mod Laws

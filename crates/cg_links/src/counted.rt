@@ -9,13 +9,15 @@ use std::io;
 use std::io::{Read, Write};
 
 /// A reader or a writer with three counts: of its calls, of those that failed, and of its writes that took
-/// none of the bytes that they were given. Each count stays at its greatest value, 2^64 - 1.
+/// none of the bytes that they were given. Each count stays at its greatest value, 2^64 - 1. Beside them stands whether
+/// what its writes took was flushed.
 #[derive(Drop)]
 pub struct Counted<L> {
     link: L,
     calls: u64,
     failed: u64,
     idle: u64,
+    flushed: bool,
 }
 
 /// One more, up to the greatest value.
@@ -26,7 +28,7 @@ pub(crate) fn count(counter: &mut u64)
 }
 
 impl<L> Counted<L> {
-    ghost use Rattle.cg_links.specs.Counted.{link_of, IsNew, calls_of, failed_of, idle_of};
+    ghost use Rattle.cg_links.specs.Counted.{link_of, IsNew, calls_of, failed_of, idle_of, flushed_of};
 
     /// The link, with no call counted.
     pub fn new(link: L) -> Counted<L>
@@ -38,6 +40,7 @@ impl<L> Counted<L> {
             calls: 0,
             failed: 0,
             idle: 0,
+            flushed: true,
         }
     }
 
@@ -62,6 +65,13 @@ impl<L> Counted<L> {
         self.idle
     }
 
+    /// Whether no write took a byte since the last flush that did not fail, or since the link was lent.
+    pub fn is_flushed(&self) -> bool
+        ensures { result ≡ flushed_of self.now }
+    {
+        self.flushed
+    }
+
     /// The link.
     pub fn into_link(self) -> L
         ensures { result ≡ link_of self }
@@ -71,7 +81,7 @@ impl<L> Counted<L> {
 }
 
 impl<R: Read> Read for Counted<R> {
-    ghost use Rattle.cg_links.specs.Counted.{link_of, calls_of, CountsRead};
+    ghost use Rattle.cg_links.specs.Counted.{link_of, calls_of, flushed_of, CountsRead};
 
     ghost remaining = { λ c. R.remaining (link_of c) };
 
@@ -80,6 +90,7 @@ impl<R: Read> Read for Counted<R> {
         ensures bytes { ReadConsumes (R.remaining (link_of self.old)) (R.remaining (link_of self.new)) result buf.new }
         ensures calls { calls_of self.new ≡ one_more (calls_of self.old) }
         ensures counts { CountsRead self.old self.new result }
+        ensures flushed { flushed_of self.new ≡ flushed_of self.old }
     {
         let result = self.link.read(buf);
         count(&mut self.calls);
@@ -91,7 +102,7 @@ impl<R: Read> Read for Counted<R> {
 }
 
 impl<W: Write> Write for Counted<W> {
-    ghost use Rattle.cg_links.specs.Counted.{link_of, calls_of, CountsWrite, CountsFlush};
+    ghost use Rattle.cg_links.specs.Counted.{link_of, calls_of, CountsWrite, CountsFlush, AwaitsFlush, Flushes};
 
     ghost contents = { λ c. W.contents (link_of c) };
 
@@ -100,6 +111,7 @@ impl<W: Write> Write for Counted<W> {
         ensures bytes { WriteAppends (W.contents (link_of self.old)) (W.contents (link_of self.new)) result buf.now }
         ensures calls { calls_of self.new ≡ one_more (calls_of self.old) }
         ensures counts { CountsWrite self.old self.new result buf.now }
+        ensures flushed { AwaitsFlush self.old self.new result }
     {
         let result = self.link.write(buf);
         count(&mut self.calls);
@@ -109,7 +121,7 @@ impl<W: Write> Write for Counted<W> {
                     count(&mut self.idle);
                 }
             }
-            Ok(_) => {}
+            Ok(_) => self.flushed = false,
             Err(_) => count(&mut self.failed),
         }
         result
@@ -119,11 +131,13 @@ impl<W: Write> Write for Counted<W> {
         ensures bytes { Keeps (W.contents (link_of self.old)) (W.contents (link_of self.new)) }
         ensures calls { calls_of self.new ≡ one_more (calls_of self.old) }
         ensures counts { CountsFlush self.old self.new result }
+        ensures flushed { Flushes self.old self.new result }
     {
         let result = self.link.flush();
         count(&mut self.calls);
-        if result.is_err() {
-            count(&mut self.failed);
+        match &result {
+            Ok(()) => self.flushed = true,
+            Err(_) => count(&mut self.failed),
         }
         result
     }

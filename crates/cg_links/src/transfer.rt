@@ -15,7 +15,8 @@ use std::io::{Read, Write};
 pub fn write_bytes<W: Write>(writer: &mut Counted<W>, bytes: &[u8]) -> Result<(), Fault>
     ensures ok { OnOk result (Appends (W.contents (link_of writer.old)) (W.contents (link_of writer.new)) bytes.now) }
     ensures kept { OnOk result (KeepsCounts writer.old writer.new) }
-    ensures front { OnErr result ((n : ℕ) × Appends (W.contents (link_of writer.old)) (W.contents (link_of writer.new)) (take n bytes.now)) }
+    ensures front { OnErr result ((n : ℕ)
+        × Appends (W.contents (link_of writer.old)) (W.contents (link_of writer.new)) (take n bytes.now)) }
     ensures fault { IfErr result (λ f. f ≡ fault.WriteFault) }
     ensures caused { OnErr result (CountsFailed writer.old writer.new ⊎ CountsIdle writer.old writer.new) }
 {
@@ -36,13 +37,15 @@ pub const MOST_READS: u32 = u32::MAX;
 /// Reads all that the link has left. OutOfMemory where the bytes find no room; ReadFault where a read
 /// failed, or where the end was not met by `MOST_READS` reads.
 pub fn read_all<R: Read>(alloc: Global, reader: &mut Counted<R>) -> Result<Vec<u8>, Fault>
-    ensures ok { IfOk result (λ v. Consumes (R.remaining (link_of reader.old)) (R.remaining (link_of reader.new)) v.items) }
+    ensures ok { IfOk result (λ v.
+        Consumes (R.remaining (link_of reader.old)) (R.remaining (link_of reader.new)) v.items) }
     ensures end { OnOk result (IsAtEnd (R.remaining (link_of reader.new))) }
     ensures kept { OnOk result (KeepsCounts reader.old reader.new) }
     ensures fault { IfErr result (λ f. (f ≡ fault.OutOfMemory) ⊎ (f ≡ fault.ReadFault)) }
     // A failed read is no want of memory.
     ensures memory { (result ≡ Err fault.OutOfMemory) → KeepsCounts reader.old reader.new }
-    ensures caused { (result ≡ Err fault.ReadFault) → CountsFailed reader.old reader.new ⊎ CountsCalls reader.old reader.new MOST_READS }
+    ensures caused { (result ≡ Err fault.ReadFault)
+        → CountsFailed reader.old reader.new ⊎ CountsCalls reader.old reader.new MOST_READS }
 {
     let mut bytes = Vec::new(alloc);
     let mut chunk = [0u8; 4096];

@@ -70,7 +70,8 @@ impl<R: Read> Read for FailingLink<R> {
 
     fn read(&mut self, buf: &mut [u8]) -> io::Result<usize>
         ensures bound { ReadsAtMost result buf.new }
-        ensures bytes { ReadConsumes (R.remaining (link_of_failing self.old)) (R.remaining (link_of_failing self.new)) result buf.new }
+        ensures bytes { ReadConsumes (R.remaining (link_of_failing self.old))
+            (R.remaining (link_of_failing self.new)) result buf.new }
         ensures calls { calls_of_failing self.new ≡ one_more (calls_of_failing self.old) }
         ensures turn { turn_of self.new ≡ turn_of self.old }
         ensures fails { calls_of_failing self.new ≡ turn_of self.old → IsErr result }
@@ -89,7 +90,8 @@ impl<W: Write> Write for FailingLink<W> {
 
     fn write(&mut self, buf: &[u8]) -> io::Result<usize>
         ensures bound { WritesAtMost result buf.now }
-        ensures bytes { WriteAppends (W.contents (link_of_failing self.old)) (W.contents (link_of_failing self.new)) result buf.now }
+        ensures bytes { WriteAppends (W.contents (link_of_failing self.old))
+            (W.contents (link_of_failing self.new)) result buf.now }
         ensures calls { calls_of_failing self.new ≡ one_more (calls_of_failing self.old) }
         ensures turn { turn_of self.new ≡ turn_of self.old }
         ensures fails { calls_of_failing self.new ≡ turn_of self.old → IsErr result }
@@ -144,7 +146,8 @@ impl<R: Read> Read for SlowLink<R> {
 
     fn read(&mut self, buf: &mut [u8]) -> io::Result<usize>
         ensures bound { ReadsAtMost result buf.new }
-        ensures bytes { ReadConsumes (R.remaining (link_of_slow self.old)) (R.remaining (link_of_slow self.new)) result buf.new }
+        ensures bytes { ReadConsumes (R.remaining (link_of_slow self.old))
+            (R.remaining (link_of_slow self.new)) result buf.new }
         ensures one { IfOk result (λ n. n ≤ 1) }
     {
         let room = buf.len().min(1);
@@ -159,7 +162,8 @@ impl<W: Write> Write for SlowLink<W> {
 
     fn write(&mut self, buf: &[u8]) -> io::Result<usize>
         ensures bound { WritesAtMost result buf.now }
-        ensures bytes { WriteAppends (W.contents (link_of_slow self.old)) (W.contents (link_of_slow self.new)) result buf.now }
+        ensures bytes { WriteAppends (W.contents (link_of_slow self.old))
+            (W.contents (link_of_slow self.new)) result buf.now }
         ensures one { IfOk result (λ n. n ≤ 1) }
     {
         let front = buf.len().min(1);
@@ -247,7 +251,8 @@ impl<R: Read> Read for CountingLink<R> {
 
     fn read(&mut self, buf: &mut [u8]) -> io::Result<usize>
         ensures bound { ReadsAtMost result buf.new }
-        ensures bytes { ReadConsumes (R.remaining (link_of_counting self.old)) (R.remaining (link_of_counting self.new)) result buf.new }
+        ensures bytes { ReadConsumes (R.remaining (link_of_counting self.old))
+            (R.remaining (link_of_counting self.new)) result buf.new }
         ensures reads { reads_of self.new ≡ one_more (reads_of self.old) }
         ensures asked { most_asked_of self.new ≡ max (most_asked_of self.old) (length buf.old) }
     {
@@ -264,7 +269,8 @@ impl<W: Write> Write for CountingLink<W> {
 
     fn write(&mut self, buf: &[u8]) -> io::Result<usize>
         ensures bound { WritesAtMost result buf.now }
-        ensures bytes { WriteAppends (W.contents (link_of_counting self.old)) (W.contents (link_of_counting self.new)) result buf.now }
+        ensures bytes { WriteAppends (W.contents (link_of_counting self.old))
+            (W.contents (link_of_counting self.new)) result buf.now }
         ensures writes { writes_of self.new ≡ one_more (writes_of self.old) }
         ensures flushes { flushes_of self.new ≡ flushes_of self.old }
     {

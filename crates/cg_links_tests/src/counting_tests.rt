@@ -85,6 +85,26 @@ fn a_write_that_takes_nothing_is_counted(rt: HostRuntime) {
     assert_eq!(rt; writer.idle(), 1);
 }
 
+// Whether nothing waits for a flush: at first, after a write of no byte, after one of two bytes, and after a flush,
+// where the call of a number fails.
+fn flushed(alloc: Global, turn: u64) -> [bool; 4] {
+    let mut writer = Counted::new(FailingLink::new(Vec::new(alloc), turn));
+    let at_first = writer.is_flushed();
+    let _nothing = writer.write(b"");
+    let after_nothing = writer.is_flushed();
+    let _some = writer.write(b"ab");
+    let after_some = writer.is_flushed();
+    let _flush = writer.flush();
+    [at_first, after_nothing, after_some, writer.is_flushed()]
+}
+
+#[test]
+fn written_bytes_wait_for_a_flush(rt: HostRuntime) {
+    assert_eq!(rt; flushed(rt.alloc(), 0), [true, true, false, true]);
+    assert_eq!(rt; flushed(rt.alloc(), 2), [true, true, true, true]);
+    assert_eq!(rt; flushed(rt.alloc(), 3), [true, true, false, false]);
+}
+
 #[test]
 fn the_most_that_was_asked(rt: HostRuntime) {
     let mut reader = CountingLink::new(b"some bytes".as_slice());

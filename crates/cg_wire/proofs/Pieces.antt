@@ -1,10 +1,11 @@
 -- Pieces of one message.
-use Rattle.std.proofs.Common.{◌≡◌, ℕ, ◌+◌, ◌<◌, ◌≤◌, List, [], ◌∷◌, ◌++◌, length, take, drop, Option, None, Some, Result, Ok, Err, refl, sym, ap, ◌∙◌, subst, inl, inr, arith, append-nil, length-drop}
+use Rattle.std.proofs.Common.{◌≡◌, ℕ, ◌+◌, ◌<◌, ◌≤◌, List, [], ◌∷◌, ◌++◌, length, take, drop, Option, None, Some, Result, Ok, Err, refl, sym, ap, ◌∙◌, subst, inl, inr, arith, append-nil, length-append, length-drop}
 use Rattle.std.specs.Prelude.{◌⊎◌, IsOk, IsErr, IfSome, map}
 use Rattle.std.specs.Option.{option_to_list}
 use Rattle.std.specs.Io.KnownBytes.{Consumes}
 use Rattle.std.proofs.KnownBytes.{Consumes-trans}
 use Rattle.std.proofs.lemmas.Bool.{cases_lt}
+use Rattle.std.proofs.lemmas.List.{length-take-le}
 use Rattle.std.specs.List.{flat_map, AllByRecursion}
 use Rattle.cg_types.specs.declared.fault.Fault.{Fault}
 use Rattle.cg_types.specs.declared.fault.Fault.TheVariants as fault
@@ -13,15 +14,15 @@ use Rattle.cg_frames.specs.declared.layout.Layout.{Layout}
 use Rattle.cg_frames.specs.declared.layout.TheConstants.{LAYOUT_1, LAYOUTS}
 use Rattle.cg_frames.specs.Choosing.{due, frame_among}
 use Rattle.cg_frames.specs.Reading.{size_of, frame_at, with_size}
-use Rattle.cg_frames.specs.Feeding.{Standing, SplitsFrom, HasAtMostOne, IsSpellable, fault_of, spelling}
+use Rattle.cg_frames.specs.Feeding.{Standing, SplitsFrom, HasAtMostOne, IsSpellable, fault_of, lack_of, spelling, wanted}
 use Rattle.cg_frames.proofs.ChoosingLemmas.{due_all}
 use Rattle.cg_frames.proofs.FrontLemmas.{over_is, whole_is}
-use Rattle.cg_wire.specs.declared.receiving.TheConstants.{MOST_TURNS}
+use Rattle.cg_wire.specs.declared.receiving.TheConstants.{MOST_TURNS, PIECE_LIMIT}
 use Rattle.cg_frames.specs.Faults.{IsBadFrame}
 use Rattle.cg_links.specs.declared.counted.Counted.{Counted}
 use Rattle.cg_links.specs.Counted.{KeepsCounts}
 use Rattle.cg_links.proofs.Counts.{KeepsCounts-trans}
-use Rattle.cg_wire.specs.Received.{IsSpelledBy, NeedsMore, held_of, FailsToReceive}
+use Rattle.cg_wire.specs.Received.{IsSpelledBy, NeedsMore, IsNextPiece, held_of, FailsToReceive}
 
 -- ---- what a piece gives
 
@@ -116,21 +117,36 @@ due_is_short bytes = due_all (λ l. l.length ≤ LAYOUT_1.length) LAYOUTS bytes 
 pub partial_is_short : (bytes : List ℕ) → NeedsMore bytes → length bytes < MOST_TURNS
 partial_is_short bytes partial = omega (arith, partial_in (due LAYOUTS bytes) bytes partial, due_is_short bytes)
 
+-- what a read gave is the next piece
+pub next_piece : (s : Standing) (n : ℕ) (came rest : List ℕ) → s ≡ Ok (held_of s) → NeedsMore (held_of s) → 0 < n → n ≤ length came → length came ≤ wanted s → length came ≤ PIECE_LIMIT
+    → IsNextPiece (held_of s) (take n (came ++ rest))
+next_piece s n came rest sound partial some within fits few =
+    let long : length (take n (came ++ rest)) ≡ n = length-take-le n (came ++ rest) (omega (arith, within, length-append came rest)) in
+    let lacks : wanted s ≡ lack_of (held_of s) = ap wanted sound in
+    record {
+      partial = partial;
+      some = omega (arith, long, some);
+      fits = omega (arith, long, within, fits, lacks);
+      few = omega (arith, long, within, few);
+    }
+
 -- A piece was not taken, for want of memory or for a fault that it completes.
 pub piece_refused : {L : Type 0} (a b c : Option (List ℕ)) (x y z : Counted L) (held piece : List ℕ) (f : Fault) → Consumes a b held → Consumes b c piece → KeepsCounts x y → KeepsCounts y z
-    → NeedsMore held → ((f ≡ fault.OutOfMemory) × (held ≡ [] → IsErr (frame_among LAYOUTS piece) → ⊥)) ⊎ (IsBadFrame f × (frame_among LAYOUTS (held ++ piece) ≡ Err f))
+    → IsNextPiece held piece → ((f ≡ fault.OutOfMemory) × (held ≡ [] → IsErr (frame_among LAYOUTS piece) → ⊥)) ⊎ (IsBadFrame f × (frame_among LAYOUTS (held ++ piece) ≡ Err f))
     → FailsToReceive a c x z f
-piece_refused a b c x y z held piece f first second kept more partial (inl memory) = inl (record {
+piece_refused a b c x y z held piece f first second kept more next (inl memory) = inl (record {
   fault = memory.0;
   held = held;
   piece = piece;
+  next = next;
   read = Consumes-trans a b c held piece first second;
-  partial = partial;
   unhidden = memory.1;
   kept = KeepsCounts-trans x y z kept more;
 })
-piece_refused a b c x y z held piece f first second kept more partial (inr bad) = inr (inr (inr (record {
-  bytes = held ++ piece;
+piece_refused a b c x y z held piece f first second kept more next (inr bad) = inr (inr (inr (record {
+  held = held;
+  piece = piece;
+  next = next;
   read = Consumes-trans a b c held piece first second;
   bad = bad.0;
   found = bad.1;

@@ -1,3 +1,4 @@
 pub mod Due
 pub mod Received
 pub mod Sent
+pub mod Laws

@@ -1,5 +1,5 @@
 -- What is read of one message.
-use Rattle.std.specs.Prelude.{◌≡◌, ℕ, ◌<◌, ◌⊎◌, List, [], ◌++◌, length, Option, None, Result, Ok, Err, IsErr, MatchResult, MatchOption}
+use Rattle.std.specs.Prelude.{◌≡◌, ℕ, ◌<◌, ◌≤◌, ◌⊎◌, List, [], ◌++◌, length, Option, None, Result, Ok, Err, IsErr, MatchResult, MatchOption}
 use Rattle.std.specs.Io.KnownBytes.{Consumes, IsAtEnd}
 use Rattle.cg_types.specs.declared.fault.Fault.{Fault}
 use Rattle.cg_types.specs.declared.fault.Fault.TheVariants as fault
@@ -8,10 +8,11 @@ use Rattle.cg_frames.specs.declared.layout.Layout.{Layout}
 use Rattle.cg_frames.specs.declared.layout.TheConstants.{LAYOUTS}
 use Rattle.cg_frames.specs.Choosing.{frame_among}
 use Rattle.cg_frames.specs.Faults.{IsBadFrame}
-use Rattle.cg_frames.specs.Feeding.{Standing, IsSpellable}
+use Rattle.cg_frames.specs.Feeding.{Standing, IsSpellable, lack_of}
 use Rattle.cg_frames.specs.Spelling.{frame}
 use Rattle.cg_links.specs.declared.counted.Counted.{Counted}
 use Rattle.cg_links.specs.Counted.{KeepsCounts, CountsFailed}
+use Rattle.cg_wire.specs.declared.receiving.TheConstants.{PIECE_LIMIT}
 
 -- The message is spelled by these bytes, in one of the layouts that frames are read in.
 pub record IsSpelledBy (bytes : List ℕ) (m : Message) : Type 0 where
@@ -27,6 +28,14 @@ held_of (Err f) = []
 -- More is needed: no whole message and no fault stands at the front.
 abbrev pub NeedsMore : List ℕ → Type 0
 NeedsMore bytes = frame_among LAYOUTS bytes ≡ Ok None
+
+-- A piece came behind what was held of a message. It has no more bytes than the present length or the present frame
+-- lacks, and no more than one read asks for.
+pub record IsNextPiece (held piece : List ℕ) : Type 0 where
+  pub partial : NeedsMore held
+  pub some : 0 < length piece
+  pub fits : length piece ≤ lack_of held
+  pub few : length piece ≤ PIECE_LIMIT
 
 -- ---- how reading a message ends, by what is left of the reader before and after, and its counts
 
@@ -44,14 +53,14 @@ module _ {L : Type 0} (before after : Option (List ℕ)) (old new : Counted L) w
     pub end : IsAtEnd after
     pub kept : KeepsCounts old new
 
-  -- Memory ran out for a piece of a message behind what was held, and no read failed. Where nothing was held, the
-  -- piece does not begin with a fault; a fault that needs what was held may be hidden by that.
+  -- Memory ran out for the next piece of a message, and no read failed. Where nothing was held, the piece does not
+  -- begin with a fault; a fault that needs what was held may be hidden by that.
   pub record LacksMemory (f : Fault) : Type 0 where
     pub fault : f ≡ fault.OutOfMemory
     pub held : List ℕ
     pub piece : List ℕ
+    pub next : IsNextPiece held piece
     pub read : Consumes before after (held ++ piece)
-    pub partial : NeedsMore held
     pub unhidden : held ≡ [] → IsErr (frame_among LAYOUTS piece) → ⊥
     pub kept : KeepsCounts old new
 
@@ -73,12 +82,14 @@ module _ {L : Type 0} (before after : Option (List ℕ)) (old new : Counted L) w
     pub end : IsAtEnd after
     pub kept : KeepsCounts old new
 
-  -- the bytes begin with a fault
+  -- the bytes begin with a fault, which the next piece of a message completed
   pub record BeginsBadly (f : Fault) : Type 0 where
-    pub bytes : List ℕ
-    pub read : Consumes before after bytes
+    pub held : List ℕ
+    pub piece : List ℕ
+    pub next : IsNextPiece held piece
+    pub read : Consumes before after (held ++ piece)
     pub bad : IsBadFrame f
-    pub found : frame_among LAYOUTS bytes ≡ Err f
+    pub found : frame_among LAYOUTS (held ++ piece) ≡ Err f
     pub kept : KeepsCounts old new
 
   -- why no message was read

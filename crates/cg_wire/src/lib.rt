@@ -2,6 +2,7 @@
 #![tactic(auto)]
 
 mod due;
+pub mod laws;
 mod receiving;
 mod sending;
 

@@ -1,12 +1,12 @@
 //! One message from a link.
 
-ghost use Rattle.std.specs.Prelude.{◌≡◌, ◌⊎◌, ◌≤◌, [], ◌++◌, length, Ok, Err, None, IsOk, IsErr, IfOk, IfErr, IfNone, IfSome};
+ghost use Rattle.std.specs.Prelude.{◌≡◌, ◌⊎◌, ◌+◌, ◌≤◌, [], ◌++◌, length, Ok, Err, None, IsOk, IsErr, IfOk, IfErr, IfNone, IfSome};
 ghost use Rattle.cg_types.specs.declared.fault.Fault.TheVariants as faults;
 ghost use Rattle.cg_frames.specs.declared.layout.TheConstants.{LAYOUTS};
 ghost use Rattle.cg_frames.specs.Choosing.{frame_among};
 ghost use Rattle.cg_frames.specs.Faults.{IsBadFrame};
 ghost use Rattle.cg_frames.specs.Feeding.{wanted};
-ghost use Rattle.cg_links.specs.Counted.{link_of};
+ghost use Rattle.cg_links.specs.Counted.{calls_of, link_of};
 ghost use Rattle.cg_wire.specs.Received.{IsSpelledBy, NeedsMore, Receives, held_of};
 
 use cg_exchange::Message;
@@ -51,8 +51,9 @@ fn take_piece(feed: &mut Feed, piece: &[u8]) -> Result<Option<Message>, Fault>
 /// begin with that fault, `Truncated` where the input ends inside the message, `ReadFault` where a read failed, and
 /// `OutOfMemory`.
 pub fn receive<R: Read>(alloc: Global, reader: &mut Counted<R>) -> Result<Option<Message>, Fault>
-    ensures { Receives (R.remaining (link_of reader.old)) (R.remaining (link_of reader.new))
+    ensures came { Receives (R.remaining (link_of reader.old)) (R.remaining (link_of reader.new))
         reader.old reader.new result }
+    ensures turns { calls_of reader.new ≤ calls_of reader.old + MOST_TURNS }
 {
     let mut feed = Feed::new(alloc);
     let mut chunk = [0u8; PIECE_LIMIT];

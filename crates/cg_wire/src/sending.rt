@@ -1,6 +1,6 @@
 //! One message to a link.
 
-ghost use Rattle.std.specs.Prelude.{◌≡◌};
+ghost use Rattle.std.specs.Prelude.{◌≡◌, ◌<◌, length};
 ghost use Rattle.cg_exchange.specs.Lent.{lent_message};
 ghost use Rattle.cg_frames.specs.declared.layout.TheConstants.{WRITTEN};
 ghost use Rattle.cg_frames.specs.Spelling.{frame};
@@ -16,6 +16,7 @@ use std::io::Write;
 
 // Writes all of the bytes, and flushes the writer.
 fn send_bytes<W: Write>(writer: &mut Counted<W>, bytes: &[u8]) -> Result<(), Fault>
+    requires { 0 < length bytes.now }
     ensures { Sends (W.contents (link_of writer.old)) (W.contents (link_of writer.new)) writer.old writer.new
         bytes.now result }
 {
@@ -31,7 +32,7 @@ fn send_bytes<W: Write>(writer: &mut Counted<W>, bytes: &[u8]) -> Result<(), Fau
 /// Writes the frame of a message, and flushes the writer.
 ///
 /// `WriteFault` where the writer failed or took none of what was left: then a front of the frame was written.
-/// `OutOfMemory` where the frame finds no room, and then nothing was written.
+/// `OutOfMemory` where the frame finds no room, and then the writer was not called.
 pub fn send<W: Write>(
     alloc: Global,
     writer: &mut Counted<W>,

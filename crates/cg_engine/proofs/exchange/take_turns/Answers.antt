@@ -1,4 +1,4 @@
-use Rattle.std.proofs.Common.{◌≡◌, ℕ, ◌+◌, [], ◌∷◌, ◌++◌, length, ap, sym, ◌∙◌}
+use Rattle.std.proofs.Common.{ℕ, ◌+◌, [], ◌∷◌, ◌++◌, length, ap, sym, ◌∙◌}
 use Rattle.cg_engine.proofs.TurnLemmas.{turn_of, turn_added, reply_added, length_snoc, next_at, fewer_at}
 use Rattle.cg_engine.proofs.ExchangeLemmas.{exchange_broken, reply_broken}
 use Rattle.cg_engine.proofs.exchange.take_turns.Goals as goal

@@ -1,7 +1,7 @@
--- What was read is held, at least one byte for each turn, and no read failed.
-use Rattle.std.proofs.Common.{◌≡◌, ◌≤◌, length, Ok}
+-- What was read is held, at least one byte for each turn, each turn made one read, and none failed.
+use Rattle.std.proofs.Common.{◌≡◌, ◌+◌, ◌≤◌, length, Ok}
 use Rattle.std.specs.Io.KnownBytes.{Consumes}
-use Rattle.cg_links.specs.Counted.{KeepsCounts}
+use Rattle.cg_links.specs.Counted.{calls_of, KeepsCounts}
 use Rattle.cg_wire.specs.Received.{NeedsMore, held_of}
 use Rattle.cg_wire.proofs.receiving.receive.Given as goal
 
@@ -12,4 +12,5 @@ invariant-loop g l = record {
   partial : NeedsMore (held_of l.feed);
   many : l.counter ≤ length (held_of l.feed);
   kept : KeepsCounts l.initial.reader l.reader;
+  calls : calls_of l.reader ≤ calls_of l.initial.reader + l.counter;
 }

@@ -1,0 +1,177 @@
+//! Two nodes that hold 256 endpoints between them, each with 16 states of 1,024 bytes, exchange all that they hold.
+
+use crate::samples::started;
+use cg_core::{Event, Node};
+use cg_engine::{Broken, Ended, NodeGate, initiate, respond};
+use cg_exchange::{Ack2, OwnerDelta, Syn, syn};
+use cg_links::{Counted, CountingLink};
+use cg_samples::{delta, endpoint, key, state};
+use cg_types::{StateText, TEXT_LIMIT};
+use std::alloc::Global;
+use std::test::Fail;
+
+// The text of a key of an endpoint: one letter, as often as a text may have it.
+fn text(alloc: Global, number: u16, at: u8) -> Result<String, Fail> {
+    let letter = char::from(b'a' + (number % 13) as u8 + at % 13);
+    let mut text = String::new(alloc);
+    for _ in 0..TEXT_LIMIT {
+        text.push(letter)?;
+    }
+    Ok(text)
+}
+
+// All that is held of an endpoint, as a message brings it.
+fn whole(alloc: Global, number: u16) -> Result<OwnerDelta, Fail> {
+    let mut states = Vec::new(alloc);
+    for at in 1..17u8 {
+        let text = text(alloc, number, at)?;
+        states.push(state(alloc, at, u32::from(at) + 1, &text)?)?;
+    }
+    Ok(OwnerDelta {
+        endpoint: endpoint(number),
+        delta: delta((5, 0, 20), states)?,
+    })
+}
+
+// The message that brings what is held of the endpoints of these numbers.
+fn crowd(alloc: Global, from: u16, to: u16) -> Result<Ack2, Fail> {
+    let mut deltas = Vec::new(alloc);
+    for number in from..to {
+        deltas.push(whole(alloc, number)?)?;
+    }
+    Ok(Ack2::new(deltas).ok_or("an ACK2")?)
+}
+
+// The node of an endpoint that has set its 16 states.
+fn settled(alloc: Global, own: u16) -> Result<Node, Fail> {
+    let mut node = started(alloc, own, 5)?;
+    for at in 1..17u8 {
+        let text = StateText::new(alloc, &text(alloc, own, at)?)?;
+        let event = Event::Set { key: key(at), text };
+        let _reply = node.step(alloc, &event)?;
+    }
+    Ok(node)
+}
+
+// The node of the first of these endpoints, which holds all of them.
+fn holding(alloc: Global, from: u16, to: u16) -> Result<Node, Fail> {
+    let mut node = settled(alloc, from)?;
+    let event = Event::Ack2 {
+        now: 1000,
+        m: crowd(alloc, from.saturating_add(1), to)?,
+    };
+    let _reply = node.step(alloc, &event)?;
+    Ok(node)
+}
+
+// How a part of an exchange ended, how many bytes were left, the most that one read asked for, the node then, and what
+// was written.
+#[derive(Drop)]
+struct Part {
+    ended: Result<Ended, Broken>,
+    left: usize,
+    asked: usize,
+    node: Node,
+    written: Vec<u8>,
+}
+
+fn answering(alloc: Global, node: Node, input: &[u8]) -> Part {
+    let mut gate = NodeGate::new(node);
+    let mut reader = Counted::new(CountingLink::new(input));
+    let mut writer = Counted::new(Vec::new(alloc));
+    let ended = respond(alloc, &mut gate, 2000, &mut reader, &mut writer);
+    let link = reader.into_link();
+    let asked = link.most_asked();
+    Part {
+        ended,
+        left: link.into_link().len(),
+        asked,
+        node: gate.into_node(),
+        written: writer.into_link(),
+    }
+}
+
+fn opening(alloc: Global, node: Node, first: &Syn, input: &[u8]) -> Part {
+    let mut gate = NodeGate::new(node);
+    let mut reader = Counted::new(CountingLink::new(input));
+    let mut writer = Counted::new(Vec::new(alloc));
+    let ended = initiate(alloc, &mut gate, 2000, first, &mut reader, &mut writer);
+    let link = reader.into_link();
+    let asked = link.most_asked();
+    Part {
+        ended,
+        left: link.into_link().len(),
+        asked,
+        node: gate.into_node(),
+        written: writer.into_link(),
+    }
+}
+
+// How both sides ended, what each left of its input, the most that their reads asked for, how long the ACK is, and
+// whether both hold the same, of so many endpoints.
+type Met = (
+    [Result<Ended, Broken>; 2],
+    [usize; 2],
+    [usize; 2],
+    usize,
+    (bool, usize),
+);
+
+// The first side holds so many endpoints, and the other side the rest. Each is run over what the other wrote, and two
+// bytes behind it: B first over the SYN alone, for its ACK.
+fn met(alloc: Global, split: u16) -> Result<Met, Fail> {
+    let a = holding(alloc, 1, split.saturating_add(1))?;
+    let b = holding(alloc, split.saturating_add(1), 257)?;
+    let first = syn(alloc, a.table(), a.settings().cluster())?;
+    let asking = opening(alloc, a.copy()?, &first, b"");
+    let mut ack = answering(alloc, b.copy()?, asking.written.as_slice()).written;
+    let length = ack.len();
+    ack.extend_from_slice(b"\xff\xff")?;
+    let mut one = opening(alloc, a, &first, ack.as_slice());
+    one.written.extend_from_slice(b"\xff\xff")?;
+    let other = answering(alloc, b, one.written.as_slice());
+    let same = one.node.table().same_entries(other.node.table());
+    let held = other.node.table().owners().len();
+    Ok((
+        [one.ended, other.ended],
+        [one.left, other.left],
+        [one.asked, other.asked],
+        length,
+        (same, held),
+    ))
+}
+
+const WHOLE: [Result<Ended, Broken>; 2] = [Ok(Ended::Whole), Ok(Ended::Whole)];
+
+// A delta has 19 bytes and 16 states of 1,031; an ACK 10 beside its members, and a request 14.
+#[test]
+fn a_newcomer_takes_a_full_table(rt: HostRuntime) -> Result<(), Fail> {
+    let met = met(rt.alloc(), 1)?;
+    assert_eq!(rt;
+        met,
+        (
+            WHOLE,
+            [2, 2],
+            [4096, 4096],
+            10 + 14 + 255 * 16515,
+            (true, 256)
+        )
+    );
+    Ok(())
+}
+
+#[test]
+fn two_halves_make_a_full_table(rt: HostRuntime) -> Result<(), Fail> {
+    let met = met(rt.alloc(), 128)?;
+    assert_eq!(rt;
+        met,
+        (
+            WHOLE,
+            [2, 2],
+            [4096, 4096],
+            10 + 128 * 14 + 128 * 16515,
+            (true, 256)
+        )
+    );
+    Ok(())
+}
