@@ -59,7 +59,3 @@ text_of (Err f) = fault_text f
 abbrev pub status_of : Result (List ℕ) Fault → ℕ
 status_of (Ok bytes) = 0
 status_of (Err f) = 1
-
--- What a call gave is what is due, unless memory ran out before.
-abbrev pub Gives : {X Y : Type 0} → (X → Y) → Result X Fault → Result Y Fault → Type 0
-Gives view r due = MatchResult r (λ x. due ≡ Ok (view x)) (λ f. (f ≡ fault.OutOfMemory) ⊎ (due ≡ Err f))
