@@ -1,5 +1,5 @@
 -- Where no link failed, all of the script was played, or memory ran out.
-use Rattle.std.proofs.Common.{◌≡◌, ℕ, ◌<◌, ◌⊎◌, inl, inr, List, [], ◌++◌, take, Option, Some, None, IfSome, sym, ap, ◌∙◌, subst, append-nil, append_assoc, arith}
+use Rattle.std.proofs.Common.{◌≡◌, ℕ, ◌<◌, ◌⊎◌, inl, inr, List, [], ◌++◌, take, Option, Some, None, IfSome, sym, ap, ◌∙◌, subst, append_assoc}
 use Rattle.std.specs.Io.KnownBytes.{Appends, Consumes, IsAtEnd}
 use Rattle.cg_types.specs.declared.fault.Fault.TheVariants.{OutOfMemory}
 use Rattle.cg_types.specs.Fault.{fault_text}

@@ -2,7 +2,7 @@
 use Rattle.std.proofs.Common.{◌≡◌, ℕ, true, List, [], ◌∷◌, ◌++◌, Result, Ok, Err, refl, sym, ◌∙◌, subst}
 use Rattle.cg_types.specs.declared.fault.Fault.{Fault}
 use Rattle.cg_world.specs.declared.action.Action.{Action}
-use Rattle.cg_world.specs.World.{WorldValue, new_world, run_from, run}
+use Rattle.cg_world.specs.World.{WorldValue, run_from, run}
 use Rattle.cg_world.specs.Headline.{Headline}
 use Rattle.cg_world.proofs.HeadlineLaws.{headline}
 use Rattle.cg_script.specs.declared.line.Line.{Line}

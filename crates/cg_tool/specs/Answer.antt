@@ -1,5 +1,5 @@
 -- What `answer` writes for what it reads.
-use Rattle.std.specs.Prelude.{◌≡◌, ℕ, ◌⊎◌, nat_lt, if◌then◌else◌, List, [], ◌∷◌, ◌++◌, length, Option, Some, None, Result, Ok, Err, MatchResult}
+use Rattle.std.specs.Prelude.{ℕ, nat_lt, if◌then◌else◌, List, [], ◌∷◌, ◌++◌, length, Option, Some, None, Result, Ok, Err}
 use Rattle.hex.specs.Hex.{encode_lower}
 use Rattle.cg_types.specs.declared.fault.Cause.TheVariants as cause
 use Rattle.cg_types.specs.declared.fault.Fault.{Fault}

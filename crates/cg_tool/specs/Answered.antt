@@ -5,7 +5,7 @@ use Rattle.cg_types.specs.declared.fault.Fault.TheVariants as fault
 use Rattle.cg_types.specs.Fault.{fault_text}
 use Rattle.cg_links.specs.declared.counted.Counted.{Counted}
 use Rattle.cg_links.specs.declared.transfer.TheConstants.{MOST_READS}
-use Rattle.cg_links.specs.Counted.{KeepsCounts, CountsCalls, CountsFailed, CountsIdle}
+use Rattle.cg_links.specs.Counted.{KeepsCounts, CountsCalls, CountsFailed}
 use Rattle.cg_tool.specs.Answer.{answer_to, text_of, status_of}
 
 -- the reader was read to its end, and the text answers all that was read
