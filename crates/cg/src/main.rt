@@ -12,5 +12,5 @@ fn words(rt: &HostRuntime) -> io::Result<Vec<String>> {
 
 /// Does what the words ask for.
 fn main(rt: HostRuntime) -> ExitCode {
-    run(&rt, rt.alloc(), words(&rt))
+    ExitCode::from(run(&rt, rt.alloc(), words(&rt)))
 }

@@ -1,5 +1,5 @@
 -- What a command line asks for.
-use Rattle.std.specs.Prelude.{ℕ, Bool, true, List, map, codes, Option, Some, None, if◌then◌else◌, bytes_eq}
+use Rattle.std.specs.Prelude.{Bool, true, List, map, codes, Option, Some, None, if◌then◌else◌, bytes_eq}
 use Rattle.std.specs.Borrow.{Bor}
 use Rattle.clap.specs.Words.{App, Kinds, Row, Text, fault_of, new_app, subcommand_of, takes, with_subcommand}
 use Rattle.cg_command.specs.declared.job.Job.{Job}

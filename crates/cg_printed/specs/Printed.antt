@@ -7,13 +7,12 @@ use Rattle.cg_types.specs.Key.{key_name}
 use Rattle.cg_entry.specs.Versioned.{Versioned}
 use Rattle.cg_entry.specs.Values.{EntryValue}
 use Rattle.cg_entry.specs.Entry.{newest}
-use Rattle.cg_table.specs.declared.took.Took.{Took}
-use Rattle.cg_table.specs.declared.took.Took.TheVariants.{Taken, Old, Gap, Own}
+use Rattle.cg_table.specs.Took.{took_name}
 use Rattle.cg_table.specs.Values.{Entries}
 use Rattle.cg_tokens.specs.Tokens.{token_text}
 use Rattle.cg_tokens.specs.Ring.{Positions, replicas}
-use Rattle.cg_exchange.specs.declared.message.Message.{Message}
-use Rattle.cg_exchange.specs.declared.message.Message.TheVariants.{Syn, Ack, Ack2}
+use Rattle.cg_exchange.specs.declared.kind.Kind.{Kind}
+use Rattle.cg_exchange.specs.Kind.{kind_name}
 use Rattle.cg_exchange.specs.declared.outcome.Outcome.{Outcome}
 
 -- ---- what was done
@@ -27,15 +26,9 @@ started_line node generation =
 unfoldable pub version_line : ℕ → List ℕ
 version_line version = codes "version " ++ (decimal version ++ codes "\n")
 
--- the name of a message's kind
-abbrev pub kind_name : Message → List ℕ
-kind_name (Syn m) = codes "syn"
-kind_name (Ack m) = codes "ack"
-kind_name (Ack2 m) = codes "ack2"
-
 -- the number of a message that was sent, and the name of its kind
-unfoldable pub message_line : ℕ → List ℕ → List ℕ
-message_line number kind = codes "message " ++ (decimal number ++ (codes " " ++ (kind ++ codes "\n")))
+unfoldable pub message_line : ℕ → Kind → List ℕ
+message_line number kind = codes "message " ++ (decimal number ++ (codes " " ++ (kind_name kind ++ codes "\n")))
 
 -- an endpoint behind a space
 unfoldable pub peer_word : ℕ → List ℕ
@@ -44,13 +37,6 @@ peer_word peer = codes " " ++ endpoint_text peer
 -- whom a round is for
 unfoldable pub round_line : List ℕ → List ℕ
 round_line peers = codes "round" ++ (flat_map peer_word peers ++ codes "\n")
-
--- what became of a delta, as a word
-abbrev pub took_name : Took → List ℕ
-took_name Taken = codes "took"
-took_name Old = codes "old"
-took_name Gap = codes "gap"
-took_name Own = codes "own"
 
 -- what became of the delta about an endpoint
 unfoldable pub outcome_line : Outcome → List ℕ

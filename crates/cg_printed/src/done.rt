@@ -1,11 +1,10 @@
 //! What nodes did.
 
 ghost use Rattle.std.specs.Prelude.{◌≡◌, ◌++◌, OnOk, string_bytes};
-ghost use Rattle.cg_printed.specs.Printed.{started_line, version_line, message_line, round_line, outcome_line, outcome_lines, took_name as name_of_took, peer_word};
+ghost use Rattle.cg_printed.specs.Printed.{started_line, version_line, message_line, round_line, outcome_line, outcome_lines, peer_word};
 ghost use Rattle.std.specs.List.{flat_map};
 
-use cg_exchange::Outcome;
-use cg_table::Took;
+use cg_exchange::{Kind, Outcome};
 use cg_types::{Endpoint, Generation, Version};
 use std::alloc::AllocError;
 use std::fmt::Write;
@@ -32,12 +31,13 @@ pub fn add_version(text: &mut String, version: Version) -> Result<(), AllocError
     writeln!(text, "version {version}")
 }
 
-/// Adds `message 1 syn`: a message of a number was sent, of a kind of this name.
+/// Adds `message 1 syn`: a message of a number and a kind was sent.
 #[tactic(auto, unfolding(crate::specs::Printed::message_line))]
-pub fn add_message(text: &mut String, number: u64, kind: &str) -> Result<(), AllocError>
-    ensures { OnOk result (string_bytes text.new ≡ string_bytes text.old ++ message_line number kind.now) }
+pub fn add_message(text: &mut String, number: u64, kind: Kind) -> Result<(), AllocError>
+    ensures { OnOk result (string_bytes text.new ≡ string_bytes text.old ++ message_line number kind) }
 {
-    writeln!(text, "message {number} {kind}")
+    let name = kind.name();
+    writeln!(text, "message {number} {name}")
 }
 
 // Adds an endpoint behind a space.
@@ -67,24 +67,12 @@ pub fn add_round(text: &mut String, peers: &[Endpoint]) -> Result<(), AllocError
     text.push('\n')
 }
 
-// What became of a delta, as a word.
-fn took_name(took: Took) -> &'static str
-    ensures { result.now ≡ name_of_took took }
-{
-    match took {
-        Took::Taken => "took",
-        Took::Old => "old",
-        Took::Gap => "gap",
-        Took::Own => "own",
-    }
-}
-
 // Adds what became of the delta about an endpoint.
 #[tactic(auto, unfolding(crate::specs::Printed::outcome_line))]
 fn add_outcome(text: &mut String, outcome: Outcome) -> Result<(), AllocError>
     ensures { OnOk result (string_bytes text.new ≡ string_bytes text.old ++ outcome_line outcome) }
 {
-    let word = took_name(outcome.took);
+    let word = outcome.took.name();
     let endpoint = outcome.endpoint;
     writeln!(text, "{word} {endpoint}")
 }

@@ -16,7 +16,8 @@ use std::fmt::Write;
 // Adds a key's name, its version and its text.
 #[tactic(auto, unfolding(crate::specs::Printed::state_line))]
 fn add_state(text: &mut String, state: &State) -> Result<(), AllocError>
-    ensures { OnOk result (string_bytes text.new ≡ string_bytes text.old ++ state_line (state.now.key, record { text = state.now.text; version = state.now.version })) }
+    ensures { OnOk result (string_bytes text.new ≡ string_bytes text.old
+        ++ state_line (state.now.key, record { text = state.now.text; version = state.now.version })) }
 {
     let name = state.key.name();
     let version = state.version.get();
@@ -49,7 +50,8 @@ fn add_heartbeat(text: &mut String, heartbeat: Version) -> Result<(), AllocError
 
 // Adds the states of an entry.
 fn add_states(text: &mut String, entry: &Entry) -> Result<(), AllocError>
-    ensures { OnOk result (string_bytes text.new ≡ string_bytes text.old ++ flat_map state_line (map.entries entry.now.states)) }
+    ensures { OnOk result (string_bytes text.new
+        ≡ string_bytes text.old ++ flat_map state_line (map.entries entry.now.states)) }
 {
     for state in entry.states() {
         add_state(text, state)?;

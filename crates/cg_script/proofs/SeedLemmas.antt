@@ -1,12 +1,11 @@
 -- Endpoints, word by word.
-use Rattle.std.proofs.Common.{◌≡◌, ℕ, ◌+◌, ◌-◌, ◌<◌, ◌≤◌, suc, zero, Bool, true, false, cond, List, [], ◌∷◌, ◌++◌, length, Option, Some, None, option_map, refl, sym, ap, ◌∙◌, append_assoc, append-nil, arith}
-use Rattle.cg_types.specs.Rising.{Rises, rise_past}
+use Rattle.std.proofs.Common.{◌≡◌, ℕ, ◌+◌, ◌-◌, ◌<◌, ◌≤◌, suc, zero, true, false, cond, List, [], ◌∷◌, ◌++◌, length, Option, Some, None, option_map, refl, sym, ap, ◌∙◌, append_assoc, arith}
+use Rattle.cg_types.specs.Rising.{rise_past}
 use Rattle.cg_types.specs.Words.{cut_at}
 use Rattle.cg_types.specs.OptionSteps.{◌>>=◌}
 use Rattle.cg_types.specs.EndpointText.{endpoint_in}
 use Rattle.cg_core.specs.declared.limits.TheConstants.{SEED_LIMIT}
 use Rattle.cg_core.specs.Values.{IsSettings}
-use Rattle.cg_script.specs.declared.line.Line.{Line}
 use Rattle.cg_script.specs.declared.line.Line.TheVariants.{Seeds}
 use Rattle.cg_script.specs.Words.{endpoints_by, endpoints_in, seeds_in}
 use Rattle.cg_script.specs.Script.{settings_with, seeds_line}

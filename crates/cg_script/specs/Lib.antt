@@ -1,3 +1,4 @@
 pub mod Gives
 pub mod Words
 pub mod Script
+pub mod Limits

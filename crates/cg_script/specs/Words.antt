@@ -1,5 +1,5 @@
 -- The words of a script's line, which are parted by single spaces.
-use Rattle.std.specs.Prelude.{ℕ, suc, zero, List, [], ◌∷◌, Option, Some, None, bytes_eq, codes, if◌then◌else◌, Result, Ok, Err}
+use Rattle.std.specs.Prelude.{ℕ, suc, zero, List, [], ◌∷◌, Option, Some, None, bytes_eq, codes, if◌then◌else◌, Result, Err}
 use Rattle.std.specs.Str.{is_utf8}
 use Rattle.cg_types.specs.declared.fault.Fault.{Fault}
 use Rattle.cg_types.specs.declared.fault.Fault.TheVariants.{BadText}

@@ -5,12 +5,13 @@
 //! messages 0 to 2^64 - 1. A text is the rest of the line behind one space, may be empty, and is UTF-8.
 #![tactic(auto)]
 
+pub mod laws;
 mod line;
 mod reading;
 mod seeds;
 mod settings;
 mod word;
 
-pub use line::{Line, View};
+pub use line::{GREATEST, Line, View};
 pub use reading::read_line;
 pub use settings::settings_with;

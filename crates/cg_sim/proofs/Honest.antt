@@ -1,34 +1,23 @@
 -- Where no link failed, all of the script was played, or memory ran out.
-use Rattle.std.proofs.Common.{◌≡◌, ℕ, ◌<◌, ◌⊎◌, inl, inr, List, [], ◌++◌, take, Option, Some, None, IfSome, sym, ap, ◌∙◌, subst, append-nil, append_assoc, arith}
+use Rattle.std.proofs.Common.{◌≡◌, ℕ, ◌<◌, ◌⊎◌, inl, inr, List, [], ◌++◌, take, Option, Some, None, IfSome, sym, ap, ◌∙◌, subst, append_assoc}
 use Rattle.std.specs.Io.KnownBytes.{Appends, Consumes, IsAtEnd}
 use Rattle.cg_types.specs.declared.fault.Fault.TheVariants.{OutOfMemory}
 use Rattle.cg_types.specs.Fault.{fault_text}
 use Rattle.cg_links.specs.declared.counted.Counted.{Counted}
 use Rattle.cg_links.specs.declared.transfer.TheConstants.{MOST_READS}
-use Rattle.cg_links.specs.Counted.{calls_of, failed_of, idle_of, CountsCalls, CountsFailed, CountsIdle}
+use Rattle.cg_links.specs.Counted.{calls_of, failed_of, idle_of}
 use Rattle.cg_sim.specs.Lines.{ended_lines, open_line, last_line, lines_of}
 use Rattle.cg_sim.specs.Script.{first_play, lines_text, script_text}
-use Rattle.cg_sim.specs.Simulated.{IsDue, WroteAll, Wrote, Simulates, PlaysAll, SaysOutOfMemory}
+use Rattle.cg_printed.specs.Written.{WroteAll}
+use Rattle.cg_printed.proofs.LinkLemmas.{all_read, never_unread, never_broken, all_written}
+use Rattle.cg_sim.specs.Simulated.{IsDue, Simulates, PlaysAll, SaysOutOfMemory}
 use Rattle.cg_sim.proofs.LineLemmas.{ended_lines-append}
 use Rattle.cg_sim.proofs.TextLemmas.{take_front}
-
--- all that was there was read
-all_read : (input bytes : List ℕ) (after : Option (List ℕ)) → Consumes (Some input) after bytes → IsAtEnd after → bytes ≡ input
-all_read input bytes None read end = absurd read
-all_read input bytes (Some rest) read end = sym (read ∙ ap (λ (l : List ℕ). bytes ++ l) end ∙ append-nil bytes)
 
 -- what was read is a front of what was there
 front_read : (input bytes : List ℕ) (after : Option (List ℕ)) → Consumes (Some input) after bytes → (rest : List ℕ) × (input ≡ bytes ++ rest)
 front_read input bytes None read = absurd read
 front_read input bytes (Some rest) read = (rest, read)
-
--- so many calls were made, and so they are all counted
-never_met : {R : Type 0} (r0 r1 : Counted R) → calls_of r1 < MOST_READS → CountsCalls r0 r1 MOST_READS → ⊥
-never_met r0 r1 few made = omega (arith, few, made.calls)
-
-not_caused : {W : Type 0} (w0 w1 : Counted W) → failed_of w1 ≡ 0 → idle_of w1 ≡ 0 → CountsFailed w0 w1 ⊎ CountsIdle w0 w1 → ⊥
-not_caused w0 w1 f i (inl failed) = omega (arith, failed.failed)
-not_caused w0 w1 f i (inr idle) = omega (arith, idle.idle)
 
 -- the first lines that a line feed ends are among the first lines of the whole script
 first_lines : (input front rest : List ℕ) (n : ℕ) → input ≡ front ++ rest → (k : ℕ) × (take n (ended_lines [] front) ≡ take k (lines_of input))
@@ -63,20 +52,12 @@ due_written input after held holds r0 r1 w0 w1 text status result (inr (inl s)) 
       status = all.result_is ∙ s.status_is;
     })
 due_written input after held holds r0 r1 w0 w1 text status result (inr (inr c)) all rf few =
-    elim c.caused [
-      | inl failed ↦ absurd (omega (arith, failed.failed))
-      | inr made ↦ absurd (never_met r0 r1 few made)
-    ]
-
-all_written : {W : Type 0} (held holds : Option (List ℕ)) (w0 w1 : Counted W) (text : List ℕ) (status result : ℕ) → Wrote held holds w0 w1 text status result
-    → failed_of w1 ≡ 0 → idle_of w1 ≡ 0 → WroteAll held holds w0 w1 text status result
-all_written held holds w0 w1 text status result (inl all) wf wi = all
-all_written held holds w0 w1 text status result (inr front) wf wi = absurd (not_caused w0 w1 wf wi front.caused)
+    absurd (never_unread r0 r1 rf few c.caused)
 
 pub honest : {R W : Type 0} (before after held holds : Option (List ℕ)) (r0 r1 : Counted R) (w0 w1 : Counted W) (result : ℕ)
     → Simulates before after held holds r0 r1 w0 w1 result → failed_of r1 ≡ 0 → calls_of r1 < MOST_READS → failed_of w1 ≡ 0 → idle_of w1 ≡ 0
     → IfSome before (λ script. PlaysAll after held holds script result ⊎ SaysOutOfMemory held holds script result)
 honest None after held holds r0 r1 w0 w1 result s rf few wf wi = tt
-honest (Some input) after held holds r0 r1 w0 w1 result (inr h) rf few wf wi = absurd (not_caused w0 w1 wf wi h.2.caused)
+honest (Some input) after held holds r0 r1 w0 w1 result (inr h) rf few wf wi = absurd (never_broken w0 w1 wf wi h.2.caused)
 honest (Some input) after held holds r0 r1 w0 w1 result (inl h) rf few wf wi =
     due_written input after held holds r0 r1 w0 w1 h.0 h.1 result h.2 (all_written held holds w0 w1 h.0 h.1 result h.3 wf wi) rf few

@@ -5,4 +5,4 @@ pub mod TellingLemmas
 pub mod ReadingLemmas
 pub mod SimulatingLemmas
 pub mod Honest
-pub mod LineTexts
+pub mod RunLemmas

@@ -2,3 +2,4 @@ pub mod Lines
 pub mod Script
 pub mod Told
 pub mod Simulated
+pub mod Runs

@@ -6,6 +6,7 @@ use Rattle.cg_types.specs.declared.fault.Fault.TheVariants.{BadText, NoSuchNode}
 use Rattle.cg_types.specs.Fault.{fault_text}
 use Rattle.cg_tokens.specs.Ring.{ring}
 use Rattle.cg_exchange.specs.declared.message.Message.{Message}
+use Rattle.cg_exchange.specs.Kind.{kind_of}
 use Rattle.cg_core.specs.declared.reply.Reply.{Reply}
 use Rattle.cg_core.specs.declared.reply.Reply.TheVariants.{Done, Round, Sent, Both, Took}
 use Rattle.cg_core.specs.Values.{NodeValue}
@@ -15,7 +16,7 @@ use Rattle.cg_steps.specs.Step.{message_of}
 use Rattle.cg_world.specs.declared.action.Action.TheVariants.{Start, Local, Deliver}
 use Rattle.cg_world.specs.Acting.{showing}
 use Rattle.cg_world.specs.declared.world.Shown.{Shown}
-use Rattle.cg_printed.specs.Printed.{started_line, version_line, kind_name, message_line, round_line, outcome_lines, gossipinfo, digest_lines, ring_lines, replica_lines}
+use Rattle.cg_printed.specs.Printed.{started_line, version_line, message_line, round_line, outcome_lines, gossipinfo, digest_lines, ring_lines, replica_lines}
 use Rattle.cg_script.specs.declared.line.Line.{Line}
 use Rattle.cg_script.specs.declared.line.Line.TheVariants.{Seeds, Act, Show}
 use Rattle.cg_script.specs.declared.line.View.{View}
@@ -38,7 +39,7 @@ reply_lines (Took outcomes) = outcome_lines outcomes
 abbrev pub sent_lines : Option ℕ → Option Message → List ℕ
 sent_lines None m = []
 sent_lines (Some number) None = []
-sent_lines (Some number) (Some m) = message_line number (kind_name m)
+sent_lines (Some number) (Some m) = message_line number (kind_of m)
 
 abbrev pub answer_lines : Option Reply → Option ℕ → List ℕ
 answer_lines None number = []

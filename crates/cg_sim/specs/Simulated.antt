@@ -7,6 +7,7 @@ use Rattle.cg_types.specs.Fault.{fault_text}
 use Rattle.cg_links.specs.declared.counted.Counted.{Counted}
 use Rattle.cg_links.specs.Counted.{KeepsCounts, CountsCalls, CountsFailed, CountsIdle}
 use Rattle.cg_links.specs.declared.transfer.TheConstants.{MOST_READS}
+use Rattle.cg_printed.specs.Written.{WroteFront, Wrote}
 use Rattle.cg_sim.specs.Lines.{ended_lines, lines_of}
 use Rattle.cg_sim.specs.Script.{first_play, lines_text, script_text}
 use Rattle.cg_sim.specs.Told.{RunsOut, BreaksOff}
@@ -14,7 +15,8 @@ use Rattle.cg_sim.specs.Told.{RunsOut, BreaksOff}
 -- ---- reading and telling, to the end or to a fault
 
 -- All of the script was read, and what it prints was written.
-pub record IsPlayed {R W : Type 0} (before after held holds : Option (List ℕ)) (r0 r1 : Counted R) (w0 w1 : Counted W) : Type 0 where
+pub record IsPlayed {R W : Type 0} (before after held holds : Option (List ℕ))
+    (r0 r1 : Counted R) (w0 w1 : Counted W) : Type 0 where
   pub script : List ℕ
   pub read : Consumes before after script
   pub end : IsAtEnd after
@@ -23,14 +25,17 @@ pub record IsPlayed {R W : Type 0} (before after held holds : Option (List ℕ))
   pub same : KeepsCounts w0 w1
 
 -- Memory ran out or the writer failed in a line that a line feed ends.
-pub record Stops {R W : Type 0} (before after held holds : Option (List ℕ)) (r0 r1 : Counted R) (w0 w1 : Counted W) (f : Fault) : Type 0 where
+pub record Stops {R W : Type 0} (before after held holds : Option (List ℕ))
+    (r0 r1 : Counted R) (w0 w1 : Counted W) (f : Fault) : Type 0 where
   pub script : List ℕ
   pub read : Consumes before after script
   pub kept : KeepsCounts r0 r1
-  pub stops : RunsOut first_play (ended_lines [] script) held holds w0 w1 f ⊎ BreaksOff first_play (ended_lines [] script) held holds w0 w1 f
+  pub stops : RunsOut first_play (ended_lines [] script) held holds w0 w1 f
+      ⊎ BreaksOff first_play (ended_lines [] script) held holds w0 w1 f
 
 -- The writer failed in the last line.
-pub record BreaksLast {R W : Type 0} (before after held holds : Option (List ℕ)) (r0 r1 : Counted R) (w0 w1 : Counted W) (f : Fault) : Type 0 where
+pub record BreaksLast {R W : Type 0} (before after held holds : Option (List ℕ))
+    (r0 r1 : Counted R) (w0 w1 : Counted W) (f : Fault) : Type 0 where
   pub script : List ℕ
   pub read : Consumes before after script
   pub end : IsAtEnd after
@@ -38,7 +43,8 @@ pub record BreaksLast {R W : Type 0} (before after held holds : Option (List ℕ
   pub breaks : BreaksOff first_play (lines_of script) held holds w0 w1 f
 
 -- A read failed, or as many were made as may be: what the lines print that were read whole was written.
-pub record IsUnread {R W : Type 0} (before after held holds : Option (List ℕ)) (r0 r1 : Counted R) (w0 w1 : Counted W) (f : Fault) : Type 0 where
+pub record IsUnread {R W : Type 0} (before after held holds : Option (List ℕ))
+    (r0 r1 : Counted R) (w0 w1 : Counted W) (f : Fault) : Type 0 where
   pub script : List ℕ
   pub read : Consumes before after script
   pub fault : f ≡ ReadFault
@@ -46,7 +52,9 @@ pub record IsUnread {R W : Type 0} (before after held holds : Option (List ℕ))
   pub text : Appends held holds (lines_text first_play (ended_lines [] script))
   pub same : KeepsCounts w0 w1
 
-abbrev pub Fails : {R W : Type 0} → Option (List ℕ) → Option (List ℕ) → Option (List ℕ) → Option (List ℕ) → Counted R → Counted R → Counted W → Counted W → Fault → Type 0
+abbrev pub Fails : {R W : Type 0}
+    → Option (List ℕ) → Option (List ℕ) → Option (List ℕ) → Option (List ℕ)
+    → Counted R → Counted R → Counted W → Counted W → Fault → Type 0
 Fails before after held holds r0 r1 w0 w1 f =
     Stops before after held holds r0 r1 w0 w1 f
     ⊎ (BreaksLast before after held holds r0 r1 w0 w1 f ⊎ IsUnread before after held holds r0 r1 w0 w1 f)
@@ -60,7 +68,8 @@ WritesLine before after old new line =
 -- ---- the text and the status that are due
 
 -- the reader was read to its end, and the text is what the script prints
-pub record IsWhole {L : Type 0} (before after : Option (List ℕ)) (old new : Counted L) (text : List ℕ) (status : ℕ) : Type 0 where
+pub record IsWhole {L : Type 0} (before after : Option (List ℕ)) (old new : Counted L)
+    (text : List ℕ) (status : ℕ) : Type 0 where
   pub script : List ℕ
   pub read : Consumes before after script
   pub end : IsAtEnd after
@@ -69,7 +78,8 @@ pub record IsWhole {L : Type 0} (before after : Option (List ℕ)) (old new : Co
   pub status_is : status ≡ 0
 
 -- memory ran out: the text is what some of the first lines print, and the fault
-pub record IsShort {L : Type 0} (before after : Option (List ℕ)) (old new : Counted L) (text : List ℕ) (status : ℕ) : Type 0 where
+pub record IsShort {L : Type 0} (before after : Option (List ℕ)) (old new : Counted L)
+    (text : List ℕ) (status : ℕ) : Type 0 where
   pub script : List ℕ
   pub read : Consumes before after script
   pub kept : KeepsCounts old new
@@ -78,7 +88,8 @@ pub record IsShort {L : Type 0} (before after : Option (List ℕ)) (old new : Co
   pub status_is : status ≡ 1
 
 -- a read failed, or as many were made as may be: the text is what the lines print that were read whole, and the fault
-pub record IsCut {L : Type 0} (before after : Option (List ℕ)) (old new : Counted L) (text : List ℕ) (status : ℕ) : Type 0 where
+pub record IsCut {L : Type 0} (before after : Option (List ℕ)) (old new : Counted L)
+    (text : List ℕ) (status : ℕ) : Type 0 where
   pub script : List ℕ
   pub read : Consumes before after script
   pub caused : CountsFailed old new ⊎ CountsCalls old new MOST_READS
@@ -99,25 +110,10 @@ pub record IsBegun {L : Type 0} (before after : Option (List ℕ)) (old new : Co
 
 -- ---- what is written of it
 
--- all of the text was written
-pub record WroteAll {L : Type 0} (before after : Option (List ℕ)) (old new : Counted L) (text : List ℕ) (status result : ℕ) : Type 0 where
-  pub text_is : Appends before after text
-  pub kept : KeepsCounts old new
-  pub result_is : result ≡ status
-
--- a front of the text was written, and then the writer failed or took nothing
-pub record WroteFront {L : Type 0} (before after : Option (List ℕ)) (old new : Counted L) (text : List ℕ) (result : ℕ) : Type 0 where
-  pub count : ℕ
-  pub front : Appends before after (take count text)
-  pub caused : CountsFailed old new ⊎ CountsIdle old new
-  pub result_is : result ≡ 1
-
-abbrev pub Wrote : {L : Type 0} → Option (List ℕ) → Option (List ℕ) → Counted L → Counted L → List ℕ → ℕ → ℕ → Type 0
-Wrote before after old new text status result =
-    WroteAll before after old new text status result ⊎ WroteFront before after old new text result
-
 -- The text that is due was written, or a front of it before the writer failed.
-abbrev pub Simulates : {R W : Type 0} → Option (List ℕ) → Option (List ℕ) → Option (List ℕ) → Option (List ℕ) → Counted R → Counted R → Counted W → Counted W → ℕ → Type 0
+abbrev pub Simulates : {R W : Type 0}
+    → Option (List ℕ) → Option (List ℕ) → Option (List ℕ) → Option (List ℕ)
+    → Counted R → Counted R → Counted W → Counted W → ℕ → Type 0
 Simulates before after held holds r0 r1 w0 w1 result =
     ((text : List ℕ) × (status : ℕ) × IsDue before after r0 r1 text status × Wrote held holds w0 w1 text status result)
     ⊎ ((text : List ℕ) × IsBegun before after r0 r1 text × WroteFront held holds w0 w1 text result)

@@ -9,7 +9,8 @@ use Rattle.cg_sim.specs.declared.play.Play.{Play}
 use Rattle.cg_sim.specs.Script.{after_lines, lines_text}
 
 -- the lines were done, and their texts written
-pub record AreTold {L : Type 0} (p q : Play) (lines : List (List ℕ)) (before after : Option (List ℕ)) (old new : Counted L) : Type 0 where
+pub record AreTold {L : Type 0} (p q : Play) (lines : List (List ℕ))
+    (before after : Option (List ℕ)) (old new : Counted L) : Type 0 where
   pub play : q ≡ after_lines p lines
   pub text : Appends before after (lines_text p lines)
   pub kept : KeepsCounts old new
@@ -21,14 +22,16 @@ pub record IsUntold {L : Type 0} (before after : Option (List ℕ)) (old new : C
   pub kept : KeepsCounts old new
 
 -- memory ran out: the texts of the first lines were written, whole
-pub record RunsOut {L : Type 0} (p : Play) (lines : List (List ℕ)) (before after : Option (List ℕ)) (old new : Counted L) (f : Fault) : Type 0 where
+pub record RunsOut {L : Type 0} (p : Play) (lines : List (List ℕ))
+    (before after : Option (List ℕ)) (old new : Counted L) (f : Fault) : Type 0 where
   pub fault : f ≡ OutOfMemory
   pub count : ℕ
   pub text : Appends before after (lines_text p (take count lines))
   pub kept : KeepsCounts old new
 
 -- the writer failed or took nothing: a front of the texts was written
-pub record BreaksOff {L : Type 0} (p : Play) (lines : List (List ℕ)) (before after : Option (List ℕ)) (old new : Counted L) (f : Fault) : Type 0 where
+pub record BreaksOff {L : Type 0} (p : Play) (lines : List (List ℕ))
+    (before after : Option (List ℕ)) (old new : Counted L) (f : Fault) : Type 0 where
   pub fault : f ≡ WriteFault
   pub count : ℕ
   pub text : Appends before after (take count (lines_text p lines))

@@ -2,11 +2,11 @@
 
 ghost use Rattle.std.specs.Prelude.{◌≡◌, ◌++◌, OnOk, IfOk, string_bytes, option_map};
 ghost use Rattle.cg_steps.specs.Step.{message_of};
-ghost use Rattle.cg_printed.specs.Printed.{kind_name as name_of_kind};
+ghost use Rattle.cg_exchange.specs.Kind.{kind_of};
 ghost use Rattle.cg_sim.specs.Script.{reply_lines, sent_lines, answer_lines, shown_lines, node_lines};
 
 use cg_core::{Node, Reply};
-use cg_exchange::Message;
+use cg_exchange::Kind;
 use cg_printed::{
     add_digests, add_gossipinfo, add_message, add_outcomes, add_replicas, add_ring, add_round,
     add_started, add_version,
@@ -28,26 +28,15 @@ fn add_reply(text: &mut String, reply: &Reply) -> Result<(), AllocError>
     }
 }
 
-// The name of a message's kind.
-fn kind_name(message: &Message) -> &'static str
-    ensures { result.now ≡ name_of_kind message.now }
-{
-    match message {
-        Message::Syn(_) => "syn",
-        Message::Ack(_) => "ack",
-        Message::Ack2(_) => "ack2",
-    }
-}
-
-// The name of the kind of the message that a reply sends, if it sends one.
-fn sent_kind(reply: &Reply) -> Option<&'static str>
-    ensures { option_map (λ k. k.now) result ≡ option_map name_of_kind (message_of reply.now) }
+// The kind of the message that a reply sends, if it sends one.
+fn sent_kind(reply: &Reply) -> Option<Kind>
+    ensures { result ≡ option_map kind_of (message_of reply.now) }
 {
     match reply {
         Reply::Done(_) | Reply::Took(_) => None,
-        Reply::Round { .. } => Some("syn"),
-        Reply::Sent(message) => Some(kind_name(message)),
-        Reply::Both { .. } => Some("ack2"),
+        Reply::Round { .. } => Some(Kind::Syn),
+        Reply::Sent(message) => Some(message.kind()),
+        Reply::Both { .. } => Some(Kind::Ack2),
     }
 }
 
@@ -65,7 +54,8 @@ fn add_sent(text: &mut String, reply: &Reply, sent: Option<u64>) -> Result<(), A
 }
 
 fn add_answer(text: &mut String, shown: &Shown) -> Result<(), AllocError>
-    ensures { OnOk result (string_bytes text.new ≡ string_bytes text.old ++ answer_lines shown.now.reply shown.now.sent) }
+    ensures { OnOk result (string_bytes text.new
+        ≡ string_bytes text.old ++ answer_lines shown.now.reply shown.now.sent) }
 {
     let Some(reply) = &shown.reply else {
         return Ok(());

@@ -25,9 +25,11 @@ fn tell_last<W: Write>(
     line: &[u8],
 ) -> Result<(), Fault>
     ensures { MatchResult result
-        (λ _. AreTold play.old play.new (last_line line.now) (W.contents (link_of writer.old)) (W.contents (link_of writer.new)) writer.old writer.new)
+        (λ _. AreTold play.old play.new (last_line line.now)
+        (W.contents (link_of writer.old)) (W.contents (link_of writer.new)) writer.old writer.new)
         (λ f. IsUntold (W.contents (link_of writer.old)) (W.contents (link_of writer.new)) writer.old writer.new f
-        ⊎ BreaksOff play.old (last_line line.now) (W.contents (link_of writer.old)) (W.contents (link_of writer.new)) writer.old writer.new f) }
+        ⊎ BreaksOff play.old (last_line line.now)
+        (W.contents (link_of writer.old)) (W.contents (link_of writer.new)) writer.old writer.new f) }
 {
     if line.is_empty() {
         return Ok(());
@@ -46,8 +48,14 @@ fn tell_pieces<R: Read, W: Write>(
     requires first { play.old ≡ first_play }
     requires none { front.old.items ≡ [] }
     ensures { MatchResult result
-        (λ _. IsPlayed (R.remaining (link_of reader.old)) (R.remaining (link_of reader.new)) (W.contents (link_of writer.old)) (W.contents (link_of writer.new)) reader.old reader.new writer.old writer.new)
-        (λ f. Fails (R.remaining (link_of reader.old)) (R.remaining (link_of reader.new)) (W.contents (link_of writer.old)) (W.contents (link_of writer.new)) reader.old reader.new writer.old writer.new f) }
+        (λ _. IsPlayed
+        (R.remaining (link_of reader.old)) (R.remaining (link_of reader.new))
+        (W.contents (link_of writer.old)) (W.contents (link_of writer.new))
+        reader.old reader.new writer.old writer.new)
+        (λ f. Fails
+        (R.remaining (link_of reader.old)) (R.remaining (link_of reader.new))
+        (W.contents (link_of writer.old)) (W.contents (link_of writer.new))
+        reader.old reader.new writer.old writer.new f) }
 {
     let mut piece = [0u8; 4096];
     for _ in 0..MOST_READS {
@@ -70,8 +78,14 @@ fn tell_script<R: Read, W: Write>(
     writer: &mut Counted<W>,
 ) -> Result<(), Fault>
     ensures { MatchResult result
-        (λ _. IsPlayed (R.remaining (link_of reader.old)) (R.remaining (link_of reader.new)) (W.contents (link_of writer.old)) (W.contents (link_of writer.new)) reader.old reader.new writer.old writer.new)
-        (λ f. Fails (R.remaining (link_of reader.old)) (R.remaining (link_of reader.new)) (W.contents (link_of writer.old)) (W.contents (link_of writer.new)) reader.old reader.new writer.old writer.new f) }
+        (λ _. IsPlayed
+        (R.remaining (link_of reader.old)) (R.remaining (link_of reader.new))
+        (W.contents (link_of writer.old)) (W.contents (link_of writer.new))
+        reader.old reader.new writer.old writer.new)
+        (λ f. Fails
+        (R.remaining (link_of reader.old)) (R.remaining (link_of reader.new))
+        (W.contents (link_of writer.old)) (W.contents (link_of writer.new))
+        reader.old reader.new writer.old writer.new f) }
 {
     let Ok(mut play) = Play::new(alloc) else {
         return Err(Fault::OutOfMemory);
@@ -82,19 +96,24 @@ fn tell_script<R: Read, W: Write>(
 
 // Writes a line, whether or not the writer fails.
 fn say<W: Write>(writer: &mut Counted<W>, line: &[u8])
-    ensures { WritesLine (W.contents (link_of writer.old)) (W.contents (link_of writer.new)) writer.old writer.new line.now }
+    ensures { WritesLine
+        (W.contents (link_of writer.old)) (W.contents (link_of writer.new)) writer.old writer.new line.now }
 {
     let _ = write_text(writer, line);
 }
 
 fn say_out_of_memory<W: Write>(writer: &mut Counted<W>)
-    ensures { WritesLine (W.contents (link_of writer.old)) (W.contents (link_of writer.new)) writer.old writer.new (fault_text fault.OutOfMemory) }
+    ensures { WritesLine
+        (W.contents (link_of writer.old)) (W.contents (link_of writer.new))
+        writer.old writer.new (fault_text fault.OutOfMemory) }
 {
     say(writer, b"fault 1 OutOfMemory\n")
 }
 
 fn say_read_fault<W: Write>(writer: &mut Counted<W>)
-    ensures { WritesLine (W.contents (link_of writer.old)) (W.contents (link_of writer.new)) writer.old writer.new (fault_text fault.ReadFault) }
+    ensures { WritesLine
+        (W.contents (link_of writer.old)) (W.contents (link_of writer.new))
+        writer.old writer.new (fault_text fault.ReadFault) }
 {
     say(writer, b"fault 14 ReadFault\n")
 }
@@ -104,7 +123,10 @@ fn sim_links<R: Read, W: Write>(
     reader: &mut Counted<R>,
     writer: &mut Counted<W>,
 ) -> u8
-    ensures { Simulates (R.remaining (link_of reader.old)) (R.remaining (link_of reader.new)) (W.contents (link_of writer.old)) (W.contents (link_of writer.new)) reader.old reader.new writer.old writer.new result }
+    ensures { Simulates
+        (R.remaining (link_of reader.old)) (R.remaining (link_of reader.new))
+        (W.contents (link_of writer.old)) (W.contents (link_of writer.new))
+        reader.old reader.new writer.old writer.new result }
 {
     match tell_script(alloc, reader, writer) {
         Ok(()) => 0,
@@ -132,12 +154,17 @@ fn sim_links<R: Read, W: Write>(
 /// What a script takes of memory is its world (nodes and messages), its longest line, and that line's text.
 pub fn sim<R: Read, W: Write>(alloc: Global, reader: &mut Counted<R>, writer: &mut Counted<W>) -> u8
     // Which text is due, and how much of it was written.
-    ensures played { Simulates (R.remaining (link_of reader.old)) (R.remaining (link_of reader.new)) (W.contents (link_of writer.old)) (W.contents (link_of writer.new)) reader.old reader.new writer.old writer.new result }
+    ensures played { Simulates
+        (R.remaining (link_of reader.old)) (R.remaining (link_of reader.new))
+        (W.contents (link_of writer.old)) (W.contents (link_of writer.new))
+        reader.old reader.new writer.old writer.new result }
     // Where no call of a link failed, no write took nothing and the bound on reads was not met, it is what all of the
     // script prints, unless memory ran out.
-    ensures honest { failed_of reader.new ≡ 0 → calls_of reader.new < MOST_READS → failed_of writer.new ≡ 0 → idle_of writer.new ≡ 0
+    ensures honest { failed_of reader.new ≡ 0 → calls_of reader.new < MOST_READS
+        → failed_of writer.new ≡ 0 → idle_of writer.new ≡ 0
         → IfSome (R.remaining (link_of reader.old)) (λ script.
-        PlaysAll (R.remaining (link_of reader.new)) (W.contents (link_of writer.old)) (W.contents (link_of writer.new)) script result
+        PlaysAll (R.remaining (link_of reader.new))
+        (W.contents (link_of writer.old)) (W.contents (link_of writer.new)) script result
         ⊎ SaysOutOfMemory (W.contents (link_of writer.old)) (W.contents (link_of writer.new)) script result) }
 {
     sim_links(alloc, reader, writer)

@@ -17,7 +17,8 @@ use std::io::Write;
 pub(crate) fn write_text<W: Write>(writer: &mut Counted<W>, text: &[u8]) -> Result<(), Fault>
     ensures ok { OnOk result (Appends (W.contents (link_of writer.old)) (W.contents (link_of writer.new)) text.now) }
     ensures kept { OnOk result (KeepsCounts writer.old writer.new) }
-    ensures front { OnErr result ((n : ℕ) × Appends (W.contents (link_of writer.old)) (W.contents (link_of writer.new)) (take n text.now)) }
+    ensures front { OnErr result ((n : ℕ) × Appends
+        (W.contents (link_of writer.old)) (W.contents (link_of writer.new)) (take n text.now)) }
     ensures fault { IfErr result (λ f. f ≡ fault.WriteFault) }
     ensures caused { OnErr result (CountsFailed writer.old writer.new ⊎ CountsIdle writer.old writer.new) }
 {
@@ -39,9 +40,11 @@ pub(crate) fn tell_line<W: Write>(
     line: &[u8],
 ) -> Result<(), Fault>
     ensures { MatchResult result
-        (λ _. AreTold play.old play.new (line.now ∷ []) (W.contents (link_of writer.old)) (W.contents (link_of writer.new)) writer.old writer.new)
+        (λ _. AreTold play.old play.new (line.now ∷ [])
+        (W.contents (link_of writer.old)) (W.contents (link_of writer.new)) writer.old writer.new)
         (λ f. IsUntold (W.contents (link_of writer.old)) (W.contents (link_of writer.new)) writer.old writer.new f
-        ⊎ BreaksOff play.old (line.now ∷ []) (W.contents (link_of writer.old)) (W.contents (link_of writer.new)) writer.old writer.new f) }
+        ⊎ BreaksOff play.old (line.now ∷ [])
+        (W.contents (link_of writer.old)) (W.contents (link_of writer.new)) writer.old writer.new f) }
 {
     match play.line(alloc, line) {
         Ok(text) => write_text(writer, text.as_bytes()),
@@ -70,9 +73,12 @@ pub(crate) fn tell_piece<W: Write>(
     piece: &[u8],
 ) -> Result<(), Fault>
     ensures told { MatchResult result
-        (λ _. AreTold play.old play.new (ended_lines front.old.items piece.now) (W.contents (link_of writer.old)) (W.contents (link_of writer.new)) writer.old writer.new)
-        (λ f. RunsOut play.old (ended_lines front.old.items piece.now) (W.contents (link_of writer.old)) (W.contents (link_of writer.new)) writer.old writer.new f
-        ⊎ BreaksOff play.old (ended_lines front.old.items piece.now) (W.contents (link_of writer.old)) (W.contents (link_of writer.new)) writer.old writer.new f) }
+        (λ _. AreTold play.old play.new (ended_lines front.old.items piece.now)
+        (W.contents (link_of writer.old)) (W.contents (link_of writer.new)) writer.old writer.new)
+        (λ f. RunsOut play.old (ended_lines front.old.items piece.now)
+        (W.contents (link_of writer.old)) (W.contents (link_of writer.new)) writer.old writer.new f
+        ⊎ BreaksOff play.old (ended_lines front.old.items piece.now)
+        (W.contents (link_of writer.old)) (W.contents (link_of writer.new)) writer.old writer.new f) }
     ensures unended { OnOk result (front.new.items ≡ open_line front.old.items piece.now) }
 {
     let mut rest = piece;

@@ -84,6 +84,33 @@ fn a_failed_write_leaves_a_front(rt: HostRuntime) {
     assert_eq!(rt; written.as_slice(), TEXT);
 }
 
+// How many reads were made, of a byte each, where the writer's call of this number fails.
+fn reads_before(alloc: Global, turn: u64) -> u64 {
+    let mut reader = Counted::new(SlowLink::new(SCRIPT));
+    let mut writer = Counted::new(FailingLink::new(Vec::new(alloc), turn));
+    let _ = sim(alloc, &mut reader, &mut writer);
+    reader.calls()
+}
+
+#[test]
+fn each_line_is_answered_before_the_next_is_read(rt: HostRuntime) {
+    // A write and a flush for each line; one more read meets the end, since the last line has no line feed.
+    for (turn, reads) in [
+        (1, 22),
+        (2, 22),
+        (3, 41),
+        (4, 41),
+        (5, 50),
+        (6, 50),
+        (7, 77),
+        (8, 77),
+        (9, 102),
+        (10, 102),
+    ] {
+        assert_eq!(rt; reads_before(rt.alloc(), turn), reads, "{turn}");
+    }
+}
+
 #[test]
 fn each_line_is_written_before_the_next(rt: HostRuntime) -> Result<(), Fail> {
     let (written, _) = unwritten(rt.alloc(), 3);

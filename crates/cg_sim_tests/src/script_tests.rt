@@ -158,6 +158,106 @@ message 5 syn
 }
 
 #[test]
+fn each_word_of_a_tick_chooses_its_own_peer(rt: HostRuntime) {
+    // One gap of 2,000 is kept of the third node: after 36,842 it is alive, and after 36,843 silent. The fourth runs
+    // nowhere, and is a seed alone.
+    let script = b"seeds 10.0.0.2:7000 10.0.0.4:7000
+start 10.0.0.1:7000 9
+start 10.0.0.2:7000 5
+start 10.0.0.3:7000 4
+open 10.0.0.1:7000
+deliver 1 10.0.0.3:7000 0
+deliver 2 10.0.0.1:7000 0
+deliver 1 10.0.0.2:7000 0
+deliver 4 10.0.0.1:7000 40000
+tick 10.0.0.1:7000 36842 6 2 5 9
+tick 10.0.0.1:7000 36843 6 2 5 9
+tick 10.0.0.1:7000 36843 6 3 5 9
+tick 10.0.0.1:7000 36842 1 2 4 8
+tick 10.0.0.1:7000 36842 1 2 4 9
+";
+    let text = b"started 10.0.0.1:7000 9
+started 10.0.0.2:7000 5
+started 10.0.0.3:7000 4
+message 1 syn
+message 2 ack
+took 10.0.0.3:7000
+message 3 ack2
+message 4 ack
+took 10.0.0.2:7000
+message 5 ack2
+round 10.0.0.2:7000
+message 6 syn
+round 10.0.0.2:7000 10.0.0.3:7000
+message 7 syn
+round 10.0.0.2:7000
+message 8 syn
+round 10.0.0.3:7000 10.0.0.2:7000
+message 9 syn
+round 10.0.0.3:7000 10.0.0.4:7000
+message 10 syn
+";
+    assert!(rt; prints(rt.alloc(), script, text));
+}
+
+#[test]
+fn replicas_walk_round_the_ring(rt: HostRuntime) {
+    // The keys hash to 0cc1.., 2be2.. (of d41d.., which is less than 0) and 6ffe.. by RFC 1321.
+    let script = b"start 10.0.0.1:7000 9
+start 10.0.0.2:7000 5
+start 10.0.0.3:7000 4
+set 10.0.0.1:7000 2 10000000000000000000000000000000,40000000000000000000000000000000
+set 10.0.0.1:7000 1 NORMAL
+set 10.0.0.2:7000 2 20000000000000000000000000000000
+set 10.0.0.2:7000 1 NORMAL
+set 10.0.0.3:7000 2 30000000000000000000000000000000
+set 10.0.0.3:7000 1 NORMAL
+open 10.0.0.1:7000
+deliver 1 10.0.0.2:7000 0
+deliver 2 10.0.0.1:7000 0
+deliver 1 10.0.0.3:7000 0
+deliver 4 10.0.0.1:7000 0
+ring 10.0.0.1:7000
+replicas 10.0.0.1:7000 2 a
+replicas 10.0.0.1:7000 2 
+replicas 10.0.0.1:7000 3 abc
+replicas 10.0.0.1:7000 4 abc
+";
+    let text = b"started 10.0.0.1:7000 9
+started 10.0.0.2:7000 5
+started 10.0.0.3:7000 4
+version 2
+version 3
+version 2
+version 3
+version 2
+version 3
+message 1 syn
+message 2 ack
+took 10.0.0.2:7000
+message 3 ack2
+message 4 ack
+took 10.0.0.3:7000
+message 5 ack2
+10000000000000000000000000000000 10.0.0.1:7000
+20000000000000000000000000000000 10.0.0.2:7000
+30000000000000000000000000000000 10.0.0.3:7000
+40000000000000000000000000000000 10.0.0.1:7000
+10.0.0.1:7000
+10.0.0.2:7000
+10.0.0.3:7000
+10.0.0.1:7000
+10.0.0.1:7000
+10.0.0.2:7000
+10.0.0.3:7000
+10.0.0.1:7000
+10.0.0.2:7000
+10.0.0.3:7000
+";
+    assert!(rt; prints(rt.alloc(), script, text));
+}
+
+#[test]
 fn an_own_delta_changes_nothing(rt: HostRuntime) {
     let script = b"start 10.0.0.1:7000 9
 start 10.0.0.2:7000 5

@@ -1,3 +1,2 @@
 pub mod ClusterLemmas
-pub mod Lines
 pub mod Honest

@@ -1,5 +1,5 @@
 -- What `answer` writes for what it reads.
-use Rattle.std.specs.Prelude.{◌≡◌, ℕ, ◌⊎◌, nat_lt, if◌then◌else◌, List, [], ◌∷◌, ◌++◌, length, Option, Some, None, Result, Ok, Err, MatchResult}
+use Rattle.std.specs.Prelude.{ℕ, nat_lt, if◌then◌else◌, List, [], ◌∷◌, ◌++◌, length, Option, Some, None, Result, Ok, Err}
 use Rattle.hex.specs.Hex.{encode_lower}
 use Rattle.cg_types.specs.declared.fault.Cause.TheVariants as cause
 use Rattle.cg_types.specs.declared.fault.Fault.{Fault}
@@ -59,7 +59,3 @@ text_of (Err f) = fault_text f
 abbrev pub status_of : Result (List ℕ) Fault → ℕ
 status_of (Ok bytes) = 0
 status_of (Err f) = 1
-
--- What a call gave is what is due, unless memory ran out before.
-abbrev pub Gives : {X Y : Type 0} → (X → Y) → Result X Fault → Result Y Fault → Type 0
-Gives view r due = MatchResult r (λ x. due ≡ Ok (view x)) (λ f. (f ≡ fault.OutOfMemory) ⊎ (due ≡ Err f))

@@ -1,15 +1,16 @@
 -- What `answer` writes, and when.
-use Rattle.std.specs.Prelude.{◌≡◌, ℕ, ◌⊎◌, List, take, Option}
+use Rattle.std.specs.Prelude.{◌≡◌, ℕ, ◌⊎◌, List, Option}
 use Rattle.std.specs.Io.KnownBytes.{Appends, Consumes, IsAtEnd}
 use Rattle.cg_types.specs.declared.fault.Fault.TheVariants as fault
 use Rattle.cg_types.specs.Fault.{fault_text}
 use Rattle.cg_links.specs.declared.counted.Counted.{Counted}
 use Rattle.cg_links.specs.declared.transfer.TheConstants.{MOST_READS}
-use Rattle.cg_links.specs.Counted.{KeepsCounts, CountsCalls, CountsFailed, CountsIdle}
+use Rattle.cg_links.specs.Counted.{KeepsCounts, CountsCalls, CountsFailed}
 use Rattle.cg_tool.specs.Answer.{answer_to, text_of, status_of}
 
 -- the reader was read to its end, and the text answers all that was read
-pub record AnswersInput {L : Type 0} (before after : Option (List ℕ)) (old new : Counted L) (text : List ℕ) (status : ℕ) : Type 0 where
+pub record AnswersInput {L : Type 0} (before after : Option (List ℕ)) (old new : Counted L)
+    (text : List ℕ) (status : ℕ) : Type 0 where
   pub input : List ℕ
   pub read : Consumes before after input
   pub end : IsAtEnd after
@@ -32,24 +33,8 @@ pub record ReadFaultDue {L : Type 0} (old new : Counted L) (text : List ℕ) (st
 -- the text and the status that are due
 abbrev pub IsDue : {L : Type 0} → Option (List ℕ) → Option (List ℕ) → Counted L → Counted L → List ℕ → ℕ → Type 0
 IsDue before after old new text status =
-    AnswersInput before after old new text status ⊎ (OutOfMemoryDue old new text status ⊎ ReadFaultDue old new text status)
-
--- all of the text was written
-pub record WroteAll {L : Type 0} (before after : Option (List ℕ)) (old new : Counted L) (text : List ℕ) (status result : ℕ) : Type 0 where
-  pub text_is : Appends before after text
-  pub kept : KeepsCounts old new
-  pub result_is : result ≡ status
-
--- a front of the text was written, and then the writer failed or took nothing
-pub record WroteFront {L : Type 0} (before after : Option (List ℕ)) (old new : Counted L) (text : List ℕ) (result : ℕ) : Type 0 where
-  pub count : ℕ
-  pub front : Appends before after (take count text)
-  pub caused : CountsFailed old new ⊎ CountsIdle old new
-  pub result_is : result ≡ 1
-
--- what was written of the text
-abbrev pub Wrote : {L : Type 0} → Option (List ℕ) → Option (List ℕ) → Counted L → Counted L → List ℕ → ℕ → ℕ → Type 0
-Wrote before after old new text status result = WroteAll before after old new text status result ⊎ WroteFront before after old new text result
+    AnswersInput before after old new text status
+    ⊎ (OutOfMemoryDue old new text status ⊎ ReadFaultDue old new text status)
 
 -- all of the input was read, and its answer was written
 pub record AnswersAll (after held holds : Option (List ℕ)) (input : List ℕ) (result : ℕ) : Type 0 where

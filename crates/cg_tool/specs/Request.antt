@@ -45,4 +45,5 @@ request_in input = do
 
 -- It is read where it can be, and else refused as BadText; memory may run out before that.
 abbrev pub Finds : {X Y : Type 0} → (X → Y) → Result X Fault → Option Y → Type 0
-Finds view r due = MatchResult r (λ x. due ≡ Some (view x)) (λ f. (f ≡ fault.OutOfMemory) ⊎ ((f ≡ fault.BadText) × (due ≡ None)))
+Finds view r due =
+    MatchResult r (λ x. due ≡ Some (view x)) (λ f. (f ≡ fault.OutOfMemory) ⊎ ((f ≡ fault.BadText) × (due ≡ None)))

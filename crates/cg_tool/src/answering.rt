@@ -2,10 +2,12 @@
 
 ghost use Rattle.std.specs.Prelude.{◌≡◌, ◌⊎◌, ℕ, ◌<◌, List, Some, None, Ok, IfOk, IfSome, length, string_bytes};
 ghost use Rattle.cg_types.specs.declared.fault.Fault.TheVariants as fault;
+ghost use Rattle.cg_script.specs.Gives.{Gives};
 ghost use Rattle.cg_links.specs.declared.transfer.TheConstants.{MOST_READS};
 ghost use Rattle.cg_links.specs.Counted.{link_of, calls_of, failed_of, idle_of};
-ghost use Rattle.cg_tool.specs.Answer.{syn_in as text_syn_in, answer_to_frame, answer_to, text_of, status_of, Gives};
-ghost use Rattle.cg_tool.specs.Answered.{IsDue, Wrote, AnswersAll, SaysOutOfMemory};
+ghost use Rattle.cg_tool.specs.Answer.{syn_in as text_syn_in, answer_to_frame, answer_to, text_of, status_of};
+ghost use Rattle.cg_printed.specs.Written.{Wrote};
+ghost use Rattle.cg_tool.specs.Answered.{IsDue, AnswersAll, SaysOutOfMemory};
 
 use crate::request::{Header, request};
 use bytes::Bytes;
@@ -61,7 +63,8 @@ fn answer_bytes(alloc: Global, input: &[u8]) -> Result<Bytes, Fault>
 
 // The text that answers the input, and the status.
 fn text_due(alloc: Global, input: &[u8]) -> Result<(String, u8), AllocError>
-    ensures { IfOk result (λ p. (string_bytes p.0 ≡ text_of (answer_to input.now)) × (p.1 ≡ status_of (answer_to input.now))) }
+    ensures { IfOk result (λ p. (string_bytes p.0 ≡ text_of (answer_to input.now))
+        × (p.1 ≡ status_of (answer_to input.now))) }
 {
     match answer_bytes(alloc, input) {
         Ok(bytes) => {
@@ -76,7 +79,9 @@ fn text_due(alloc: Global, input: &[u8]) -> Result<(String, u8), AllocError>
 
 // Writes a text, and answers the status, which is 1 where the writer failed.
 fn written<W: Write>(writer: &mut Counted<W>, text: &[u8], status: u8) -> u8
-    ensures { Wrote (W.contents (link_of writer.old)) (W.contents (link_of writer.new)) writer.old writer.new text.now status result }
+    ensures { Wrote
+        (W.contents (link_of writer.old)) (W.contents (link_of writer.new))
+        writer.old writer.new text.now status result }
 {
     match write_bytes(writer, text) {
         Ok(()) => status,
@@ -91,7 +96,9 @@ fn answer_links<R: Read, W: Write>(
 ) -> u8
     ensures { (text : List ℕ) × (status : ℕ)
         × IsDue (R.remaining (link_of reader.old)) (R.remaining (link_of reader.new)) reader.old reader.new text status
-        × Wrote (W.contents (link_of writer.old)) (W.contents (link_of writer.new)) writer.old writer.new text status result }
+        × Wrote
+        (W.contents (link_of writer.old)) (W.contents (link_of writer.new))
+        writer.old writer.new text status result }
 {
     match read_all(alloc, reader) {
         Ok(input) => match text_due(alloc, &input) {
@@ -122,12 +129,16 @@ pub fn answer<R: Read, W: Write>(
     // Which text is due, and how much of it was written.
     ensures answered { (text : List ℕ) × (status : ℕ)
         × IsDue (R.remaining (link_of reader.old)) (R.remaining (link_of reader.new)) reader.old reader.new text status
-        × Wrote (W.contents (link_of writer.old)) (W.contents (link_of writer.new)) writer.old writer.new text status result }
+        × Wrote
+        (W.contents (link_of writer.old)) (W.contents (link_of writer.new))
+        writer.old writer.new text status result }
     // Where no call of a link failed, no write took nothing and the bound on reads was not met, it is the
     // answer to all of the input, unless memory ran out.
-    ensures honest { failed_of reader.new ≡ 0 → calls_of reader.new < MOST_READS → failed_of writer.new ≡ 0 → idle_of writer.new ≡ 0
+    ensures honest { failed_of reader.new ≡ 0 → calls_of reader.new < MOST_READS
+        → failed_of writer.new ≡ 0 → idle_of writer.new ≡ 0
         → IfSome (R.remaining (link_of reader.old)) (λ input.
-        AnswersAll (R.remaining (link_of reader.new)) (W.contents (link_of writer.old)) (W.contents (link_of writer.new)) input result
+        AnswersAll (R.remaining (link_of reader.new))
+        (W.contents (link_of writer.old)) (W.contents (link_of writer.new)) input result
         ⊎ SaysOutOfMemory (W.contents (link_of writer.old)) (W.contents (link_of writer.new)) result) }
 {
     answer_links(alloc, reader, writer)

@@ -7,7 +7,6 @@ use cg_sim::sim;
 use std::alloc::{AllocError, Global};
 use std::io;
 use std::io::{Eprint, Input, Print};
-use std::process::ExitCode;
 
 // The status after a fault that ended the work, and after one of the command line.
 const FAILED: u8 = 1;
@@ -67,18 +66,13 @@ fn ran<R: Input + Print + Eprint>(rt: &R, alloc: Global, words: &[String]) -> u8
     }
 }
 
-/// Does what the words ask for, of which the first is the program's name, over the standard streams, and tells the exit
-/// status. With no further words that is `answer`. Help and the version go to standard output, with status 0; a fault of
-/// the command line goes to standard error, with status 2, as does a word that is not UTF-8. Want of memory before the work
-/// begins is the line `fault 1 OutOfMemory`, with status 1.
-pub fn run<R: Input + Print + Eprint>(
-    rt: &R,
-    alloc: Global,
-    words: io::Result<Vec<String>>,
-) -> ExitCode {
-    let status = match words {
+/// Does what the words ask for, of which the first is the program's name, over the standard streams, and answers the
+/// exit status. With no further words that is `answer`. Help and the version go to standard output, with status 0; a
+/// fault of the command line goes to standard error, with status 2, as does a word that is not UTF-8. Want of memory
+/// before the work begins is the line `fault 1 OutOfMemory`, with status 1.
+pub fn run<R: Input + Print + Eprint>(rt: &R, alloc: Global, words: io::Result<Vec<String>>) -> u8 {
+    match words {
         Ok(words) => ran(rt, alloc, words.as_slice()),
         Err(error) => unread(rt, &error),
-    };
-    ExitCode::from(status)
+    }
 }

@@ -1,4 +1,4 @@
-use Rattle.std.proofs.Common.{◌≡◌, ◌∙◌, ap, ap₂}
+use Rattle.std.proofs.Common.{◌∙◌, ap, ap₂}
 use Rattle.clap.specs.Words.{App, with_subcommand}
 use Rattle.cg_command.specs.Job.{program}
 use Rattle.cg_command.proofs.job.command.Goals as goal

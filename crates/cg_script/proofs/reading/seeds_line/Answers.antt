@@ -1,4 +1,4 @@
-use Rattle.std.proofs.Common.{◌≡◌, ◌∙◌, Bool, true, false, Some, ap, sym, refl, inr}
+use Rattle.std.proofs.Common.{◌≡◌, ◌∙◌, true, false, Some, ap, sym, refl, inr}
 use Rattle.cg_core.specs.Values.{SettingsValue}
 use Rattle.cg_script.specs.declared.line.Line.TheVariants.{Seeds}
 use Rattle.cg_script.specs.Script.{or_unreadable}

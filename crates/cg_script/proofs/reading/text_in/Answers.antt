@@ -1,5 +1,4 @@
-use Rattle.std.proofs.Common.{◌≡◌, Option, Some, None, List, ℕ, Bool, true, false, cond, refl, sym, ap, ◌∙◌}
-use Rattle.std.specs.Str.{is_utf8}
+use Rattle.std.proofs.Common.{Some, sym, ap}
 use Rattle.std.proofs.lemmas.Str.{is_utf8-from_IsUtf8}
 use Rattle.cg_script.specs.Words.{text_in}
 use Rattle.cg_script.proofs.TextLemmas.{no_text}

@@ -1,6 +1,4 @@
-use Rattle.std.proofs.Common.{◌≡◌, ◌∙◌, ◌+◌, ◌++◌, [], ◌∷◌, List, ℕ, sym, ap, Some}
-use Rattle.cg_core.specs.declared.limits.TheConstants.{SEED_LIMIT}
-use Rattle.cg_script.specs.Words.{endpoints_in}
+use Rattle.std.proofs.Common.{◌∙◌, ◌+◌, List, ℕ, sym, ap, Some}
 use Rattle.cg_script.proofs.SeedLemmas.{behind, left, begins, last_bad, last_good, next_bad, next_good, too_many}
 use Rattle.cg_script.proofs.seeds.endpoints_in.Goals as goal
 

@@ -1,0 +1,8 @@
+//! Laws of the limits, each the contract of an empty function.
+
+ghost use Rattle.cg_script.specs.Limits.{LimitValues};
+
+/// The greatest number in a line is 2^64 - 1.
+pub fn limits_have_their_values()
+    ensures { LimitValues }
+{}
