@@ -89,6 +89,17 @@ pub consistent_ran : (settings : SettingsValue) (actions : List Action) (answers
     → IsConsistent settings (done_of actions answers) c
 consistent_ran settings actions answers c ran = consistent_after settings (done_of actions answers) c (ran_leads (new_world settings) c actions answers ran)
 
+-- where actions lead from a world that is reached
+reached_from : (c : WorldValue) (actions : List Action) → IsReached c → IsReached (run_from c actions)
+reached_from c [] reached = reached
+reached_from c (action ∷ actions) reached = reached_from (act c action) actions (reached_worlds.go_on c action reached)
+
+-- and whatever list leads to that world
+pub consistent_world_ran : (settings : SettingsValue) (actions : List Action) (answers : List (Result Shown Fault)) (c : WorldValue) → Ran (new_world settings) actions answers c
+    → IsConsistentWorld c
+consistent_world_ran settings actions answers c ran =
+    consistent_reached c (subst IsReached (sym (ran_leads (new_world settings) c actions answers ran)) (reached_from (new_world settings) (done_of actions answers) (reached_worlds.begin settings)))
+
 -- ---- a run that goes on
 
 -- what the rest of the actions answer, all of them answer, behind the answers so far
