@@ -15,12 +15,12 @@ use Rattle.cg_exchange.specs.Members.{endpoints_of_deltas}
 use Rattle.cg_exchange.specs.Changes.{endpoints_of_outcomes}
 use Rattle.cg_exchange.specs.Places.{took_for}
 use Rattle.cg_exchange.specs.PlaceMessages.{PlaceMessage, Syn, Ack, Ack2}
-use Rattle.cg_exchange.specs.Spelling.{SpellsSpans, outcome_about}
+use Rattle.cg_exchange.specs.Spelling.{SpellsSpans, delta_about, outcome_about}
 use Rattle.cg_core.specs.declared.reply.Reply.{Reply}
 use Rattle.cg_core.specs.Values.{SettingsValue}
 use Rattle.cg_places.specs.PlaceWorld.{PlaceWorld, unless_gap}
 use Rattle.cg_world.specs.World.{Action, Start, Local, Deliver, WorldValue, reply_to, acting, run, placed}
-use Rattle.cg_world.specs.SingleActions.{outcomes_in}
+use Rattle.cg_world.specs.SingleActions.{outcomes_in, outcomes_shown}
 
 -- the deltas that a message has
 abbrev pub deltas_in : Message → List OwnerDelta
@@ -31,6 +31,13 @@ deltas_in (kinds.Ack2 ack2) = ack2.deltas
 -- the deltas that were sent under a number
 abbrev pub deltas_sent : WorldValue → ℕ → List OwnerDelta
 deltas_sent c number = option_map_or deltas_in (at_place c.sent number) []
+
+-- the delta about an owner among them, and what the node that they are handed to tells of it
+abbrev pub delta_sent : WorldValue → ℕ → ℕ → Option OwnerDelta
+delta_sent c number owner = delta_about owner (deltas_sent c number)
+
+abbrev pub outcome_told : WorldValue → ℕ → ℕ → ℕ → ℕ → Option Outcome
+outcome_told c number node now owner = outcome_about owner (outcomes_shown (reply_to c (Deliver number node now)))
 
 -- whether a delta was left out
 abbrev pub is_gap : Took → Bool
