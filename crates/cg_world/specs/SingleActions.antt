@@ -9,6 +9,7 @@ use Rattle.cg_exchange.specs.Taking.{outcomes_of}
 use Rattle.cg_core.specs.declared.reply.Reply.{Reply}
 use Rattle.cg_core.specs.declared.reply.Reply.TheVariants as reply
 use Rattle.cg_core.specs.Values.{SettingsValue, NodeValue}
+pub use Rattle.cg_core.specs.Arrivals.{outcomes_in}
 use Rattle.cg_core.specs.Windows.{arrivals}
 use Rattle.cg_core.specs.Step.{next_of, beating, opening, round_of}
 use Rattle.cg_world.specs.World.{Action, Start, Local, Deliver, LocalEvent, Beat, Set, Tick, WorldValue, reply_to, acting, act, run}
@@ -29,14 +30,6 @@ abbrev pub OneNodeChanges : Type 0
 OneNodeChanges = (c : WorldValue) (action : Action) (other : ℕ) → other ≢ node_of action → map.get (act c action).nodes other ≡ map.get c.nodes other
 
 -- ---- replies
-
--- what became of the deltas that a reply is about
-abbrev pub outcomes_in : Reply → List Outcome
-outcomes_in (reply.Done version) = []
-outcomes_in (reply.Round peers syn) = []
-outcomes_in (reply.Sent m) = []
-outcomes_in (reply.Both outcomes ack2) = outcomes
-outcomes_in (reply.Took outcomes) = outcomes
 
 pub record AreReplies (c : WorldValue) : Type 0 where
   -- a start has none

@@ -14,10 +14,11 @@ use Rattle.cg_exchange.specs.declared.owner_delta.OwnerDelta.{OwnerDelta}
 use Rattle.cg_exchange.specs.Members.{endpoints_of_deltas}
 use Rattle.cg_exchange.specs.Changes.{endpoints_of_outcomes}
 use Rattle.cg_exchange.specs.Places.{took_for}
-use Rattle.cg_exchange.specs.PlaceMessages.{PlaceMessage, Syn, Ack, Ack2}
+use Rattle.cg_exchange.specs.PlaceMessages.{PlaceMessage}
 use Rattle.cg_exchange.specs.Spelling.{SpellsSpans, delta_about, outcome_about}
 use Rattle.cg_core.specs.declared.reply.Reply.{Reply}
 use Rattle.cg_core.specs.Values.{SettingsValue}
+pub use Rattle.cg_steps.specs.Step.{spans_in}
 use Rattle.cg_places.specs.PlaceWorld.{PlaceWorld, unless_gap}
 use Rattle.cg_world.specs.World.{Action, Start, Local, Deliver, WorldValue, reply_to, acting, run, placed}
 use Rattle.cg_world.specs.SingleActions.{outcomes_in, outcomes_shown}
@@ -45,12 +46,6 @@ is_gap took.Gap = true
 is_gap took.Taken = false
 is_gap took.Old = false
 is_gap took.Own = false
-
--- the spans that it has by places
-abbrev pub spans_in : PlaceMessage → ℕ → Option Span
-spans_in (Syn places) owner = None
-spans_in (Ack asks spans) owner = spans owner
-spans_in (Ack2 spans) owner = spans owner
 
 -- what was taken of an owner, with one more span where its outcome is Taken, Old or Own
 abbrev pub counted : List Span → Option Outcome → Option Span → List Span
