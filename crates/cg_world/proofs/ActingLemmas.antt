@@ -13,9 +13,8 @@ use Rattle.cg_world.specs.Acting.{shown_by, showing, found_no_memory, Ran, done_
 use Rattle.cg_world.specs.World.{Action, WorldValue, acting, act, or_unchanged, new_world, run_from, run}
 use Rattle.cg_world.specs.WorldLaws.{IsReached}
 use Rattle.cg_world.specs.Consistent.{IsConsistent, IsConsistentWorld}
-use Rattle.cg_world.proofs.WholeEntries.{entries_are_whole}
 use Rattle.cg_world.proofs.HeadlineLaws.{headline}
-use Rattle.cg_world.proofs.WorldLaws.{reached_worlds, nodes_spell_places, tables_are_the_join, equal_sets_give_equal_tables, equal_digests_give_equal_tables}
+use Rattle.cg_world.proofs.WorldLaws.{reached_worlds, nodes_spell_places, tables_are_the_join, equal_sets_give_equal_tables}
 use Rattle.cg_world.proofs.TakenLaws.{outcomes_tell_what_is_taken}
 
 module _ (c d : WorldValue) (action : Action) where
@@ -76,9 +75,7 @@ consistent_after settings actions c is = subst (IsConsistent settings actions) (
   spelled = nodes_spell_places settings actions;
   told = λ earlier later whole. outcomes_tell_what_is_taken settings earlier;
   joined = tables_are_the_join settings actions;
-  whole = entries_are_whole settings actions;
   equal_sets = equal_sets_give_equal_tables settings actions;
-  equal_digests = equal_digests_give_equal_tables settings actions;
 })
 
 pub consistent_reached : (c : WorldValue) → IsReached c → IsConsistentWorld c
