@@ -1,13 +1,15 @@
 -- A run worked by hand.
-use Rattle.std.specs.Prelude.{ℕ, ◌≡◌, true, List, [], ◌∷◌, length, Some, is_some}
+use Rattle.std.specs.Prelude.{ℕ, ◌≡◌, true, List, [], ◌∷◌, length, Some, is_some, Ok, Err}
 use Rattle.std.specs.FinMap as map
-use Rattle.cg_types.specs.declared.fault.Fault.TheVariants.{NotRising, NoSuchMessage, NoSuchNode}
+use Rattle.cg_types.specs.declared.fault.Fault.TheVariants.{OutOfMemory, NotRising, NoSuchMessage, NoSuchNode}
 use Rattle.cg_entry.specs.Entry.{started}
 use Rattle.cg_core.specs.Values.{SettingsValue, NodeValue}
 use Rattle.cg_places.specs.PlaceWorld.{world_after}
 use Rattle.cg_places.specs.Refusals.{fault_of}
 use Rattle.cg_places.specs.WorkedPlaces.{first_exchange}
-use Rattle.cg_world.specs.World.{Action, Start, Local, Opening, Deliver, run, acting, placed}
+use Rattle.cg_world.specs.declared.world.Shown.{Shown}
+use Rattle.cg_world.specs.Acting.{Ran}
+use Rattle.cg_world.specs.World.{Action, Start, Local, Opening, Deliver, WorldValue, new_world, run, acting, placed}
 use Rattle.cg_world.specs.WorldLaws.{Runs}
 
 -- the first exchange, on nodes that run
@@ -27,6 +29,10 @@ pub record WorkedRun (settings : SettingsValue) : Type 0 where
   pub not_rising : fault_of (acting (run settings worked_exchange) (Start 2 5)) ≡ Some NotRising
   pub no_message : fault_of (acting (run settings worked_exchange) (Deliver 99 7 400)) ≡ Some NoSuchMessage
   pub no_node : fault_of (acting (run settings worked_exchange) (Deliver 1 7 400)) ≡ Some NoSuchNode
+  -- a run whose third action finds no memory keeps the world after two
+  pub short : (first second third : Action) (one two : Shown) (c : WorldValue)
+      → Ran (new_world settings) (first ∷ second ∷ third ∷ []) (Ok one ∷ Ok two ∷ Err OutOfMemory ∷ []) c
+      → c ≡ run settings (first ∷ second ∷ [])
 
 abbrev pub WorkedRuns : Type 0
 WorkedRuns = (settings : SettingsValue) → WorkedRun settings
