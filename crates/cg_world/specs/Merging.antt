@@ -30,7 +30,8 @@ pub record FitTogether (one two three : TableValue) : Type 0 where
 -- the merged tables of three nodes
 abbrev pub merging_nodes : WorldValue → ℕ → ℕ → ℕ → Result TableValue Fault
 merging_nodes c x y z =
-    of_node (map.get c.nodes x) (λ one. of_node (map.get c.nodes y) (λ two. of_node (map.get c.nodes z) (λ three. Ok (merged_three one.table two.table three.table))))
+    of_node (map.get c.nodes x) (λ one. of_node (map.get c.nodes y) (λ two. of_node (map.get c.nodes z)
+    (λ three. Ok (merged_three one.table two.table three.table))))
 
 -- The table is the join of what three nodes of a world hold, whatever list of actions leads to the world.
 pub record IsJoinIn (c : WorldValue) (x y z : ℕ) (t : TableValue) : Type 0 where
@@ -39,7 +40,8 @@ pub record IsJoinIn (c : WorldValue) (x y z : ℕ) (t : TableValue) : Type 0 whe
 
 -- ---- tables compared
 
--- What it tells of two tables: whether their digests are equal, which is whether their entries are; and then so are their rings.
+-- What it tells of two tables: whether their digests are equal, which is whether their entries are; and then so are
+-- their rings.
 pub record TellsEqual (same : Bool) (one other : Entries) : Type 0 where
   pub digests : IsTrue same ↔ (digests_of one ≡ digests_of other)
   pub entries : IsTrue same ↔ (one ≡ other)

@@ -53,7 +53,8 @@ counted spans (Some outcome) (Some span) = unless_gap outcome.took spans span
 counted spans (Some outcome) None = spans
 counted spans None span = spans
 
--- The outcomes of a delivery to a node are those of its spans at the places of w, and tell what the node took, as v has it.
+-- The outcomes of a delivery to a node are those of its spans at the places of w, and tell what the node took, as v
+-- has it.
 pub record AreCounted (c : WorldValue) (w v : PlaceWorld) (number node : ℕ) (outcomes : List Outcome) : Type 0 where
   -- the message, and what it says by places: its deltas spell these spans, owner by owner
   pub message : Message
@@ -65,9 +66,13 @@ pub record AreCounted (c : WorldValue) (w v : PlaceWorld) (number node : ℕ) (o
   pub in_order : endpoints_of_outcomes outcomes ≡ endpoints_of_deltas (deltas_in message)
   pub rise : Rises (endpoints_of_outcomes outcomes)
   -- about each owner the outcome of the span about it
-  pub each : (owner : ℕ) → outcome_about owner outcomes ≡ option_map (λ span. record { endpoint = owner; took = took_for (owner == node) (w.places node owner) span }) (spans_in said owner)
+  pub each : (owner : ℕ)
+      → outcome_about owner outcomes
+      ≡ option_map (λ span. record { endpoint = owner; took = took_for (owner == node) (w.places node owner) span })
+      (spans_in said owner)
   -- what the node took since its start is now one span more about each owner whose outcome is no gap
-  pub taken : (owner : ℕ) → v.taken node owner ≡ counted (w.taken node owner) (outcome_about owner outcomes) (spans_in said owner)
+  pub taken : (owner : ℕ)
+      → v.taken node owner ≡ counted (w.taken node owner) (outcome_about owner outcomes) (spans_in said owner)
 
 -- the node whose taken spans an action may change
 abbrev pub taker : Action → Option ℕ
@@ -78,14 +83,19 @@ taker (Deliver number to now) = Some to
 -- What one more action changes of what the nodes took.
 pub record IsTold (settings : SettingsValue) (actions : List Action) : Type 0 where
   -- a delivery that is done adds what the outcomes in the node's reply tell
-  pub deliveries : (number to now : ℕ) (answer : Reply) → reply_to (run settings actions) (Deliver number to now) ≡ Some answer
-      → AreCounted (run settings actions) (placed actions) (placed (actions ++ Deliver number to now ∷ [])) number to (outcomes_in answer)
+  pub deliveries : (number to now : ℕ) (answer : Reply)
+      → reply_to (run settings actions) (Deliver number to now) ≡ Some answer
+      → AreCounted (run settings actions) (placed actions) (placed (actions ++ Deliver number to now ∷ [])) number to
+      (outcomes_in answer)
   -- a start that is done forgets all that its node took
-  pub starts : (node generation owner : ℕ) → IsOk (acting (run settings actions) (Start node generation)) → (placed (actions ++ Start node generation ∷ [])).taken node owner ≡ []
+  pub starts : (node generation owner : ℕ) → IsOk (acting (run settings actions) (Start node generation))
+      → (placed (actions ++ Start node generation ∷ [])).taken node owner ≡ []
   -- what the other nodes took stays, as does what any took where a node does something by itself
-  pub others : (action : Action) (node owner : ℕ) → taker action ≢ Some node → (placed (actions ++ action ∷ [])).taken node owner ≡ (placed actions).taken node owner
+  pub others : (action : Action) (node owner : ℕ) → taker action ≢ Some node
+      → (placed (actions ++ action ∷ [])).taken node owner ≡ (placed actions).taken node owner
   -- a refused action changes nothing
-  pub refused : (action : Action) (fault : Fault) → acting (run settings actions) action ≡ Err fault → placed (actions ++ action ∷ []) ≡ placed actions
+  pub refused : (action : Action) (fault : Fault) → acting (run settings actions) action ≡ Err fault
+      → placed (actions ++ action ∷ []) ≡ placed actions
 
 -- What a node took since its start is what the outcomes in its replies tell.
 abbrev pub OutcomesTellWhatIsTaken : Type 0

@@ -24,7 +24,8 @@ pub record WorkedRun (settings : SettingsValue) : Type 0 where
   pub opener_runs : is_some (map.get (run settings worked_exchange).nodes 1) ≡ true
   pub answerer_runs : is_some (map.get (run settings worked_exchange).nodes 2) ≡ true
   pub opener : (n : NodeValue) → Runs (run settings worked_exchange) 1 n → map.get n.table.entries 2 ≡ Some (started 5)
-  pub answerer : (n : NodeValue) → Runs (run settings worked_exchange) 2 n → map.get n.table.entries 1 ≡ Some (started 9)
+  pub answerer : (n : NodeValue) → Runs (run settings worked_exchange) 2 n
+      → map.get n.table.entries 1 ≡ Some (started 9)
   -- a start that does not rise, a message that was never sent, and a node that does not run
   pub not_rising : fault_of (acting (run settings worked_exchange) (Start 2 5)) ≡ Some NotRising
   pub no_message : fault_of (acting (run settings worked_exchange) (Deliver 99 7 400)) ≡ Some NoSuchMessage

@@ -119,10 +119,10 @@ impl World {
     /// Does an action, and tells what it shows. A refused action changes nothing.
     ///
     /// `NotRising` for a start in a generation that is not greater than that of the endpoint's last start, and
-    /// `TableFull` where it would be one endpoint more than `MEMBER_LIMIT`. `NoSuchMessage`, and then `NoSuchNode`, for a
-    /// delivery of what was not sent, or to whom no node runs; `NoSuchNode` for a local event of none. `VersionsSpent` for a
-    /// beat, a set or a tick where the node's versions are spent; a delivery has no other refusal
-    /// (`laws::deliveries_find_room`). Else at most `OutOfMemory`.
+    /// `TableFull` where it would be one endpoint more than `MEMBER_LIMIT`. `NoSuchMessage`, and then `NoSuchNode`,
+    /// for a delivery of what was not sent, or to whom no node runs; `NoSuchNode` for a local event of none.
+    /// `VersionsSpent` for a beat, a set or a tick where the node's versions are spent; a delivery has no other
+    /// refusal (`laws::deliveries_find_room`). Else at most `OutOfMemory`.
     pub fn act(&mut self, alloc: Global, action: &Action) -> Result<Shown, Fault>
         ensures shown { Answers (λ s. s) (showing self.old action.now) result }
         ensures done { OnOk result (self.new ≡ after_act self.old action.now) }
