@@ -8,7 +8,7 @@ use Rattle.cg_core.specs.declared.reply.Reply.{Reply}
 use Rattle.cg_core.specs.Values.{NodeValue}
 use Rattle.cg_core.specs.Step.{Step, node_step}
 use Rattle.cg_places.specs.PlaceWorld.{after_action}
-use Rattle.cg_steps.specs.Step.{action_at, IsStepAt}
+use Rattle.cg_steps.specs.Step.{action_at, span_handed, IsStepAt}
 use Rattle.cg_steps.proofs.StepLaws.{steps_are_by_places}
 use Rattle.cg_history.specs.declared.item.Receipt.{Receipt}
 use Rattle.cg_history.specs.Items.{record_of}
@@ -41,4 +41,4 @@ pub records_are_steps_by_places : RecordsAreStepsByPlaces
 records_are_steps_by_places w node number h caller e after q world placed sent is =
     let one = each_event_makes_one_record h caller e after q is in
     let led : ◌≡◌ {A = NodeValue × Reply} (one.node, one.answer) (after.node, q.reply) = λ i. (sym one.led i, sym (ap (λ (r : Receipt). r.reply) one.receipt) i) in
-    subst (IsStepAt w (after_action w (action_at node number e)) node h.node) led (steps_are_by_places w node number h.node e (one.node, one.answer) world placed sent one.step)
+    subst (IsStepAt w (after_action w (action_at node number e)) (span_handed w (action_at node number e)) node h.node) led (steps_are_by_places w node number h.node e (one.node, one.answer) world placed sent one.step)

@@ -8,7 +8,7 @@ use Rattle.cg_core.specs.Step.{node_step, replay}
 use Rattle.cg_core.specs.Laws.{IsSmall}
 use Rattle.cg_places.specs.PlaceWorld.{PlaceWorld, after_action}
 use Rattle.cg_places.specs.Laws.{IsWorld}
-use Rattle.cg_steps.specs.Step.{message_in, action_at, IsPlaced, IsSentBefore, IsStepAt}
+use Rattle.cg_steps.specs.Step.{message_in, action_at, span_handed, IsPlaced, IsSentBefore, IsStepAt}
 use Rattle.cg_history.specs.declared.item.Item.{Item}
 use Rattle.cg_history.specs.declared.item.Receipt.{Receipt}
 use Rattle.cg_history.specs.Confirming.{AreConfirmed}
@@ -49,12 +49,14 @@ EachEventMakesOneRecord =
     → HasOneMore h caller e after q
 
 -- Where the node's table spells its places in a world, and the message that an event hands over, if it hands one over,
--- says one that was sent there, the event is one step of that world for that node; its receipt's reply has the message.
+-- says one that was sent there, the event is one step of that world for that node; its receipt's reply has the message
+-- and the outcomes.
 abbrev pub RecordsAreStepsByPlaces : Type 0
 RecordsAreStepsByPlaces =
     (w : PlaceWorld) (node number : ℕ) (h : HistoryValue) (caller : ℕ) (e : Event) (after : HistoryValue) (q : Receipt)
     → IsWorld w → IsPlaced w node h.node → IsSentBefore w number (message_in e) → apply h caller e ≡ Ok (after, q)
-    → IsStepAt w (after_action w (action_at node number e)) node h.node (after.node, q.reply)
+    → IsStepAt w (after_action w (action_at node number e)) (span_handed w (action_at node number e)) node h.node
+    (after.node, q.reply)
 
 -- No two confirmed receipts are of one record.
 abbrev pub ConfirmedStandOnce : Type 0

@@ -27,8 +27,8 @@ pub fn each_event_makes_one_record()
 {}
 
 /// Where the node's table spells its places in a world, and the message that an event hands over, if it hands one over,
-/// says one that was sent there, the event is one step of that world for that node, and the message in its receipt's
-/// reply says the one sent there.
+/// says one that was sent there, the event is one step of that world for that node, and its receipt's reply says the
+/// message sent there and what becomes of the spans.
 pub fn records_are_steps_by_places()
     ensures { RecordsAreStepsByPlaces }
 {}

@@ -12,7 +12,8 @@ pub record PlaceExchange : Type 0 where
 
 -- an exchange with nothing between its messages
 abbrev pub undisturbed : ℕ → ℕ → PlaceExchange
-undisturbed opener answerer = record { opener = opener; answerer = answerer; before_syn = []; before_ack = []; before_ack2 = [] }
+undisturbed opener answerer =
+    record { opener = opener; answerer = answerer; before_syn = []; before_ack = []; before_ack2 = [] }
 
 -- the opener has sent its SYN
 abbrev pub after_opening : PlaceWorld → PlaceExchange → PlaceWorld
@@ -59,4 +60,5 @@ NoStartsOf node (action ∷ actions) = IsNoStartOf node action × NoStartsOf nod
 -- Neither node is started anew before the exchange is over.
 pub record NoStartsOfEither (x : PlaceExchange) : Type 0 where
   pub opener : NoStartsOf x.opener x.before_syn × NoStartsOf x.opener x.before_ack × NoStartsOf x.opener x.before_ack2
-  pub answerer : NoStartsOf x.answerer x.before_syn × NoStartsOf x.answerer x.before_ack × NoStartsOf x.answerer x.before_ack2
+  pub answerer : NoStartsOf x.answerer x.before_syn × NoStartsOf x.answerer x.before_ack
+      × NoStartsOf x.answerer x.before_ack2

@@ -21,7 +21,8 @@ furthest (place ∷ places) = max place (furthest places)
 abbrev pub targets : List Span → List ℕ
 targets spans = map (λ span. span.to) spans
 
--- What a node has of an owner: the newest place of its own entry, if it is the owner, and the targets of what it took about it since its start.
+-- What a node has of an owner: the newest place of its own entry, if it is the owner, and the targets of what it took
+-- about it since its start.
 abbrev pub sources : PlaceWorld → ℕ → ℕ → List ℕ
 sources w node owner =
     if owner == node then length (w.histories node) ∷ targets (w.taken node owner)

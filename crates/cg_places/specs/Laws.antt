@@ -20,7 +20,8 @@ pub record IsWorld (w : PlaceWorld) : Type 0 where
   -- a node's place of its own entry is the newest
   pub own : (node : ℕ) → w.places node node ≡ length (w.histories node)
   -- each message is one of these histories
-  pub messages : (number : ℕ) (message : PlaceMessage) → at_place w.sent number ≡ Some message → IsPlaceMessage w.histories message
+  pub messages : (number : ℕ) (message : PlaceMessage) → at_place w.sent number ≡ Some message
+      → IsPlaceMessage w.histories message
   -- the owners are the nodes that run, each once
   pub owners : (owner : ℕ) → Contains w.owners owner ↔ (runs w owner ≡ true)
   pub once : IsDistinct nat_eq w.owners
@@ -30,11 +31,16 @@ ActionsMakeWorlds = (actions : List PlaceAction) → IsWorld (world_after action
 
 -- A node's places are the join of its own newest place and of the targets of what it took since its start.
 abbrev pub PlacesAreJoins : Type 0
-PlacesAreJoins = (actions : List PlaceAction) (node owner : ℕ) → (world_after actions).places node owner ≡ furthest (sources (world_after actions) node owner)
+PlacesAreJoins =
+    (actions : List PlaceAction) (node owner : ℕ)
+    → (world_after actions).places node owner ≡ furthest (sources (world_after actions) node owner)
 
 -- Nodes with the same sources have the same places, whatever the order and number of deliveries.
 abbrev pub EqualSourcesEqualPlaces : Type 0
-EqualSourcesEqualPlaces = (actions : List PlaceAction) (a b owner : ℕ) → SamePlaces (sources (world_after actions) a owner) (sources (world_after actions) b owner) → (world_after actions).places a owner ≡ (world_after actions).places b owner
+EqualSourcesEqualPlaces =
+    (actions : List PlaceAction) (a b owner : ℕ)
+    → SamePlaces (sources (world_after actions) a owner) (sources (world_after actions) b owner)
+    → (world_after actions).places a owner ≡ (world_after actions).places b owner
 
 -- The later history has the entries of the earlier one at their places, and maybe more.
 pub record Continues (earlier later : List EntryValue) : Type 0 where
@@ -43,7 +49,9 @@ pub record Continues (earlier later : List EntryValue) : Type 0 where
 
 -- Whatever is done, each entry of a history stays at its place.
 abbrev pub HistoriesContinue : Type 0
-HistoriesContinue = (actions more : List PlaceAction) (owner : ℕ) → Continues ((world_after actions).histories owner) ((world_after (actions ++ more)).histories owner)
+HistoriesContinue =
+    (actions more : List PlaceAction) (owner : ℕ)
+    → Continues ((world_after actions).histories owner) ((world_after (actions ++ more)).histories owner)
 
 -- ---- the join
 
@@ -78,20 +86,30 @@ pub record ReachesTheJoin (w : PlaceWorld) (x : PlaceExchange) : Type 0 where
 
 -- An exchange takes both of its nodes to the join, whatever is done between its messages but a start of the two.
 abbrev pub ExchangesReachTheJoin : Type 0
-ExchangesReachTheJoin = (actions : List PlaceAction) (x : PlaceExchange) → BothRun (world_after actions) x → NoStartsOfEither x → ReachesTheJoin (world_after actions) x
+ExchangesReachTheJoin =
+    (actions : List PlaceAction) (x : PlaceExchange) → BothRun (world_after actions) x → NoStartsOfEither x
+    → ReachesTheJoin (world_after actions) x
 
 -- Both nodes end at the join of what they held.
 pub record EndsAtTheJoin (w : PlaceWorld) (opener answerer : ℕ) : Type 0 where
-  pub opened : (owner : ℕ) → (exchanged w (undisturbed opener answerer)).places opener owner ≡ join (w.places answerer) (w.places opener) owner
-  pub answered : (owner : ℕ) → (exchanged w (undisturbed opener answerer)).places answerer owner ≡ join (w.places answerer) (w.places opener) owner
+  pub opened : (owner : ℕ)
+      → (exchanged w (undisturbed opener answerer)).places opener owner
+      ≡ join (w.places answerer) (w.places opener) owner
+  pub answered : (owner : ℕ)
+      → (exchanged w (undisturbed opener answerer)).places answerer owner
+      ≡ join (w.places answerer) (w.places opener) owner
 
 -- With nothing between its messages, an exchange leaves both nodes with the same places.
 abbrev pub UndisturbedExchangesEqual : Type 0
-UndisturbedExchangesEqual = (actions : List PlaceAction) (opener answerer : ℕ) → BothRun (world_after actions) (undisturbed opener answerer) → EndsAtTheJoin (world_after actions) opener answerer
+UndisturbedExchangesEqual =
+    (actions : List PlaceAction) (opener answerer : ℕ) → BothRun (world_after actions) (undisturbed opener answerer)
+    → EndsAtTheJoin (world_after actions) opener answerer
 
 -- An exchange is the list of its actions.
 abbrev pub PlaceExchangesAreLists : Type 0
-PlaceExchangesAreLists = (actions : List PlaceAction) (x : PlaceExchange) → world_after (actions ++ actions_of (world_after actions) x) ≡ exchanged (world_after actions) x
+PlaceExchangesAreLists =
+    (actions : List PlaceAction) (x : PlaceExchange)
+    → world_after (actions ++ actions_of (world_after actions) x) ≡ exchanged (world_after actions) x
 
 -- What is done of an exchange: it starts neither node, and none of its actions is refused.
 pub record IsDone (w : PlaceWorld) (x : PlaceExchange) : Type 0 where
@@ -100,14 +118,17 @@ pub record IsDone (w : PlaceWorld) (x : PlaceExchange) : Type 0 where
 
 -- An exchange is done, where the refused actions are left out.
 abbrev pub ExchangesAreDone : Type 0
-ExchangesAreDone = (actions : List PlaceAction) (x : PlaceExchange) → BothRun (world_after actions) x → NoStartsOfEither x → IsDone (world_after actions) x
+ExchangesAreDone =
+    (actions : List PlaceAction) (x : PlaceExchange) → BothRun (world_after actions) x → NoStartsOfEither x
+    → IsDone (world_after actions) x
 
 -- ---- limits
 
 -- Owners are few, and versions below their limit.
 pub record IsWithinLimits (w : PlaceWorld) : Type 0 where
   pub owners : length w.owners ≤ MEMBER_LIMIT
-  pub versions : (owner place : ℕ) (entry : EntryValue) → at_place (w.histories owner) place ≡ Some entry → newest entry < NUMBER_LIMIT
+  pub versions : (owner place : ℕ) (entry : EntryValue) → at_place (w.histories owner) place ≡ Some entry
+      → newest entry < NUMBER_LIMIT
 
 -- Where none of the actions was refused, the limits hold.
 abbrev pub DoneActionsKeepLimits : Type 0

@@ -73,7 +73,14 @@ with_entry w node entry = record {
 
 -- one more message was sent
 unfoldable pub with_message : PlaceWorld → PlaceMessage → PlaceWorld
-with_message w message = record { histories = w.histories; places = w.places; sent = w.sent ++ message ∷ []; taken = w.taken; owners = w.owners }
+with_message w message =
+    record {
+      histories = w.histories;
+      places = w.places;
+      sent = w.sent ++ message ∷ [];
+      taken = w.taken;
+      owners = w.owners;
+    }
 
 -- what was handed over, with one more span, but for a gap
 abbrev pub unless_gap : Took → List Span → Span → List Span
@@ -92,7 +99,8 @@ with_spans w node spans = record {
   histories = w.histories;
   places = put_at w.places node (λ owner. places_after node (w.places node) spans owner);
   sent = w.sent;
-  taken = put_at w.taken node (λ owner. taken_with (owner == node) (w.places node owner) (w.taken node owner) (spans owner));
+  taken = put_at w.taken node (λ owner. taken_with (owner == node) (w.places node owner) (w.taken node owner)
+      (spans owner));
   owners = w.owners;
 }
 
@@ -130,7 +138,8 @@ abbrev pub delivered : PlaceWorld → ℕ → Option PlaceMessage → PlaceWorld
 delivered w node None = w
 delivered w node (Some message) = if runs w node then received w node message else w
 
--- The world after an action. A start whose generation does not rise, an action of a node that does not run, and the delivery of a message that was never sent change nothing.
+-- The world after an action. A start whose generation does not rise, an action of a node that does not run, and the
+-- delivery of a message that was never sent change nothing.
 unfoldable pub after_action : PlaceWorld → PlaceAction → PlaceWorld
 after_action w (Start node generation) = if may_start w node generation then with_start w node generation else w
 after_action w (Beat node) = changed w node beaten (last_entry (w.histories node))

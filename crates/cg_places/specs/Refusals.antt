@@ -1,4 +1,5 @@
--- Why an action is refused where memory is ample, and what is done of a list. `act` itself knows no limit: what is refused is left out of the list.
+-- Why an action is refused where memory is ample, and what is done of a list. `act` itself knows no limit: what is
+-- refused is left out of the list.
 use Rattle.std.specs.Prelude.{◌≡◌, ⊤, ℕ, List, [], ◌∷◌, ◌++◌, length, Option, Some, None, Result, Ok, Err, nat_lt, if◌then◌else◌}
 use Rattle.cg_types.specs.declared.fault.Fault.{Fault}
 use Rattle.cg_types.specs.declared.fault.Fault.TheVariants.{TableFull, NotRising, NoSuchMessage, NoSuchNode}
@@ -51,7 +52,8 @@ unless_refused (Some fault) action rest others = others
 -- the actions of a list that are done, each after those before it
 abbrev pub done_from : PlaceWorld → List PlaceAction → List PlaceAction
 done_from w [] = []
-done_from w (action ∷ actions) = unless_refused (refusal w action) action (done_from (after_action w action) actions) (done_from w actions)
+done_from w (action ∷ actions) =
+    unless_refused (refusal w action) action (done_from (after_action w action) actions) (done_from w actions)
 
 -- None of the actions is refused, each after those before it.
 abbrev pub AreDone : PlaceWorld → List PlaceAction → Type 0
@@ -61,13 +63,34 @@ AreDone w (action ∷ actions) = (refusal w action ≡ None) × AreDone (after_a
 -- ---- of an exchange
 
 abbrev pub done_before_syn : PlaceWorld → PlaceExchange → PlaceExchange
-done_before_syn w x = record { opener = x.opener; answerer = x.answerer; before_syn = done_from (after_opening w x) x.before_syn; before_ack = x.before_ack; before_ack2 = x.before_ack2 }
+done_before_syn w x =
+    record {
+      opener = x.opener;
+      answerer = x.answerer;
+      before_syn = done_from (after_opening w x) x.before_syn;
+      before_ack = x.before_ack;
+      before_ack2 = x.before_ack2;
+    }
 
 abbrev pub done_before_ack : PlaceWorld → PlaceExchange → PlaceExchange
-done_before_ack w x = record { opener = x.opener; answerer = x.answerer; before_syn = x.before_syn; before_ack = done_from (after_syn w x) x.before_ack; before_ack2 = x.before_ack2 }
+done_before_ack w x =
+    record {
+      opener = x.opener;
+      answerer = x.answerer;
+      before_syn = x.before_syn;
+      before_ack = done_from (after_syn w x) x.before_ack;
+      before_ack2 = x.before_ack2;
+    }
 
 abbrev pub done_before_ack2 : PlaceWorld → PlaceExchange → PlaceExchange
-done_before_ack2 w x = record { opener = x.opener; answerer = x.answerer; before_syn = x.before_syn; before_ack = x.before_ack; before_ack2 = done_from (after_ack w x) x.before_ack2 }
+done_before_ack2 w x =
+    record {
+      opener = x.opener;
+      answerer = x.answerer;
+      before_syn = x.before_syn;
+      before_ack = x.before_ack;
+      before_ack2 = done_from (after_ack w x) x.before_ack2;
+    }
 
 -- the exchange as it is done: refused actions are left out
 abbrev pub done_exchange : PlaceWorld → PlaceExchange → PlaceExchange
@@ -76,5 +99,6 @@ done_exchange w x = done_before_ack2 w (done_before_ack w (done_before_syn w x))
 -- the actions of an exchange, in their order
 abbrev pub actions_of : PlaceWorld → PlaceExchange → List PlaceAction
 actions_of w x =
-    Opening x.opener ∷ (x.before_syn ++ (Deliver (length (after_opening w x).sent) x.answerer ∷ (x.before_ack ++ (Deliver (length (after_syn w x).sent) x.opener
+    Opening x.opener ∷ (x.before_syn ++ (Deliver (length (after_opening w x).sent) x.answerer
+    ∷ (x.before_ack ++ (Deliver (length (after_syn w x).sent) x.opener
     ∷ (x.before_ack2 ++ (Deliver (length (after_ack w x).sent) x.answerer ∷ []))))))

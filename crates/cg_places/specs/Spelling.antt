@@ -29,14 +29,20 @@ pub record SpellsNodes (tables : ℕ → Option Entries) (w : PlaceWorld) : Type
 
 -- What was spelled by the earlier histories is spelled by the later ones.
 pub record StaySpelled (earlier later : ℕ → List EntryValue) : Type 0 where
-  pub tables : (entries : Entries) (places : ℕ → ℕ) → SpellsPlaces earlier entries places → SpellsPlaces later entries places
-  pub digests : (digests : List Digest) (places : ℕ → ℕ) → Stand earlier places → SpellsDigests earlier digests places → SpellsDigests later digests places
-  pub asks : (requests : List RequestValue) (asks : ℕ → Option Ask) → AreAsks earlier asks → SpellsAsks earlier requests asks → SpellsAsks later requests asks
-  pub spans : (deltas : List OwnerDelta) (spans : ℕ → Option Span) → AreSpans earlier spans → SpellsSpans earlier deltas spans → SpellsSpans later deltas spans
+  pub tables : (entries : Entries) (places : ℕ → ℕ) → SpellsPlaces earlier entries places
+      → SpellsPlaces later entries places
+  pub digests : (digests : List Digest) (places : ℕ → ℕ) → Stand earlier places
+      → SpellsDigests earlier digests places → SpellsDigests later digests places
+  pub asks : (requests : List RequestValue) (asks : ℕ → Option Ask) → AreAsks earlier asks
+      → SpellsAsks earlier requests asks → SpellsAsks later requests asks
+  pub spans : (deltas : List OwnerDelta) (spans : ℕ → Option Span) → AreSpans earlier spans
+      → SpellsSpans earlier deltas spans → SpellsSpans later deltas spans
 
 -- Where histories go on, tables and messages go on to spell what they spelled.
 abbrev pub SpellingStays : Type 0
-SpellingStays = (earlier later : ℕ → List EntryValue) → ((owner : ℕ) → Continues (earlier owner) (later owner)) → StaySpelled earlier later
+SpellingStays =
+    (earlier later : ℕ → List EntryValue) → ((owner : ℕ) → Continues (earlier owner) (later owner))
+    → StaySpelled earlier later
 
 -- ---- each change of a world
 
@@ -48,19 +54,25 @@ pub record IsReplaced (earlier later : ℕ → Option Entries) (node : ℕ) (ent
 -- What spells the world after each change of it.
 pub record Follow (tables : ℕ → Option Entries) (w : PlaceWorld) : Type 0 where
   -- after a start the started entry alone
-  pub start : (node generation : ℕ) (later : ℕ → Option Entries) → IsReplaced tables later node (alone node (started generation)).entries → SpellsNodes later (with_start w node generation)
+  pub start : (node generation : ℕ) (later : ℕ → Option Entries)
+      → IsReplaced tables later node (alone node (started generation)).entries
+      → SpellsNodes later (with_start w node generation)
   -- after a change of the own entry the table with that entry
-  pub entry : (node : ℕ) (entries : Entries) (entry : EntryValue) (later : ℕ → Option Entries) → tables node ≡ Some entries → IsReplaced tables later node (table.insert entries node entry)
+  pub entry : (node : ℕ) (entries : Entries) (entry : EntryValue) (later : ℕ → Option Entries)
+      → tables node ≡ Some entries → IsReplaced tables later node (table.insert entries node entry)
       → SpellsNodes later (with_entry w node entry)
   -- after a message the same tables
   pub message : (message : PlaceMessage) → SpellsNodes tables (with_message w message)
   -- after spans what spells the places that they lead to
-  pub spans : (node : ℕ) (spans : ℕ → Option Span) (entries : Entries) (later : ℕ → Option Entries) → runs w node ≡ true → SpellsPlaces w.histories entries (places_after node (w.places node) spans)
+  pub spans : (node : ℕ) (spans : ℕ → Option Span) (entries : Entries) (later : ℕ → Option Entries)
+      → runs w node ≡ true → SpellsPlaces w.histories entries (places_after node (w.places node) spans)
       → IsReplaced tables later node entries → SpellsNodes later (with_spans w node spans)
 
 -- Tables that spell a world follow its changes.
 abbrev pub TablesFollow : Type 0
-TablesFollow = (actions : List PlaceAction) (tables : ℕ → Option Entries) → SpellsNodes tables (world_after actions) → Follow tables (world_after actions)
+TablesFollow =
+    (actions : List PlaceAction) (tables : ℕ → Option Entries) → SpellsNodes tables (world_after actions)
+    → Follow tables (world_after actions)
 
 -- ---- what one node's action changes
 

@@ -24,12 +24,15 @@ pub record IsJoined (w : PlaceWorld) (node : ℕ) (entries : Entries) : Type 0 w
   -- the join of its own newest entry and of the entries to which the deltas led that it took since its start
   pub joined : (owner : ℕ) → table.get entries owner ≡ at_place (w.histories owner) (furthest (sources w node owner))
   -- each entry is its owner's whole entry at one past place
-  pub whole : (owner : ℕ) (entry : EntryValue) → table.get entries owner ≡ Some entry → (place : ℕ) × (place ≤ length (w.histories owner)) × (at_place (w.histories owner) place ≡ Some entry)
+  pub whole : (owner : ℕ) (entry : EntryValue) → table.get entries owner ≡ Some entry
+      → (place : ℕ) × (place ≤ length (w.histories owner)) × (at_place (w.histories owner) place ≡ Some entry)
   -- it has no more entries than owners have started
   pub small : table.len entries ≤ length w.owners
 
 abbrev pub TablesAreJoined : Type 0
-TablesAreJoined = (actions : List PlaceAction) (node : ℕ) (entries : Entries) → SpellsNode (world_after actions) node entries → IsJoined (world_after actions) node entries
+TablesAreJoined =
+    (actions : List PlaceAction) (node : ℕ) (entries : Entries) → SpellsNode (world_after actions) node entries
+    → IsJoined (world_after actions) node entries
 
 -- Two tables are equal, and so are their rings.
 pub record AreEqual (one other : Entries) : Type 0 where
@@ -39,13 +42,16 @@ pub record AreEqual (one other : Entries) : Type 0 where
 -- Equal sources, equal tables, whatever the order and number of deliveries.
 abbrev pub EqualSourcesEqualTables : Type 0
 EqualSourcesEqualTables =
-    (actions : List PlaceAction) (a b : ℕ) (one other : Entries) → SpellsNode (world_after actions) a one → SpellsNode (world_after actions) b other
-    → ((owner : ℕ) → SamePlaces (sources (world_after actions) a owner) (sources (world_after actions) b owner)) → AreEqual one other
+    (actions : List PlaceAction) (a b : ℕ) (one other : Entries) → SpellsNode (world_after actions) a one
+    → SpellsNode (world_after actions) b other
+    → ((owner : ℕ) → SamePlaces (sources (world_after actions) a owner) (sources (world_after actions) b owner))
+    → AreEqual one other
 
 -- Equal digests, equal tables.
 abbrev pub EqualDigestsEqualTables : Type 0
 EqualDigestsEqualTables =
-    (actions : List PlaceAction) (a b : ℕ) (one other : Entries) → SpellsNode (world_after actions) a one → SpellsNode (world_after actions) b other
+    (actions : List PlaceAction) (a b : ℕ) (one other : Entries) → SpellsNode (world_after actions) a one
+    → SpellsNode (world_after actions) b other
     → digests_of one ≡ digests_of other → AreEqual one other
 
 -- What the merged tables of three nodes are.
@@ -56,16 +62,20 @@ pub record IsMergedOf (w : PlaceWorld) (a b c : ℕ) (entries : Entries) : Type 
 
 abbrev pub MergesAreJoined : Type 0
 MergesAreJoined =
-    (actions : List PlaceAction) (a b c : ℕ) (one two three : Entries) → SpellsNode (world_after actions) a one → SpellsNode (world_after actions) b two → SpellsNode (world_after actions) c three
+    (actions : List PlaceAction) (a b c : ℕ) (one two three : Entries) → SpellsNode (world_after actions) a one
+    → SpellsNode (world_after actions) b two → SpellsNode (world_after actions) c three
     → IsMergedOf (world_after actions) a b c (merged (merged one two) three)
 
 -- No table that is made of tables and messages of a world holds more than owners have started.
 pub record FindRoom (w : PlaceWorld) : Type 0 where
   -- a table with what the deltas of a message bring
-  pub deliveries : (t : TableValue) (deltas : List OwnerDelta) (places : ℕ → ℕ) (spans : ℕ → Option Span) → SpellsPlaces w.histories t.entries places
-      → Rises (endpoints_of_deltas deltas) → SpellsSpans w.histories deltas spans → AreSpans w.histories spans → held_after t deltas ≤ length w.owners
+  pub deliveries : (t : TableValue) (deltas : List OwnerDelta) (places : ℕ → ℕ) (spans : ℕ → Option Span)
+      → SpellsPlaces w.histories t.entries places
+      → Rises (endpoints_of_deltas deltas) → SpellsSpans w.histories deltas spans → AreSpans w.histories spans
+      → held_after t deltas ≤ length w.owners
   -- two tables together
-  pub merges : (one other : Entries) (mine theirs : ℕ → ℕ) → SpellsPlaces w.histories one mine → SpellsPlaces w.histories other theirs → owners_together one other ≤ length w.owners
+  pub merges : (one other : Entries) (mine theirs : ℕ → ℕ) → SpellsPlaces w.histories one mine
+      → SpellsPlaces w.histories other theirs → owners_together one other ≤ length w.owners
 
 abbrev pub TablesFindRoom : Type 0
 TablesFindRoom = (actions : List PlaceAction) → FindRoom (world_after actions)

@@ -1,9 +1,9 @@
 //! The nodes of a cluster by the places that they hold of each owner's history: what lists of actions lead to, and what
 //! holds then.
 //!
-//! A place says how many of an owner's entries were seen, so a join is a maximum, and every rule of taking is arithmetic.
-//! The laws of nodes that run rest on these: each step of a node leaves a table and sends a message that spell what the
-//! places say. Each function is a law: its contract says it, and its body is empty.
+//! A place says how many of an owner's entries were seen, so a join is a maximum, and every rule of taking is
+//! arithmetic. The laws of nodes that run rest on these: each step of a node leaves a table and sends a message that
+//! spell what the places say. Each function is a law: its contract says it, and its body is empty.
 #![tactic(auto)]
 
 ghost use Rattle.cg_places.specs.Laws.{

@@ -1,6 +1,7 @@
 -- Each step of a node is the step by places.
 use Rattle.std.proofs.Common.{◌≡◌, ℕ, List, [], ◌∷◌, ◌++◌, length, refl, sym, ◌∙◌, ap, subst, arith, true, false, Bool, Option, Some, None, Result, Ok, Err}
-use Rattle.std.specs.Prelude.{cond, nat_lt, unwrap_or}
+use Rattle.std.specs.Prelude.{◌==◌, cond, nat_lt, unwrap_or}
+use Rattle.std.specs.Option.{option_map, option_and_then}
 use Rattle.std.specs.FinMap as map
 use Rattle.std.proofs.lemmas.Bool.Decides.{nat_tests}
 use Rattle.cg_types.specs.declared.fault.Fault.{Fault}
@@ -19,8 +20,9 @@ use Rattle.cg_exchange.specs.declared.outcome.Outcome.{Outcome}
 use Rattle.cg_exchange.specs.Values.{SynValue, AckValue, Ack2Value}
 use Rattle.cg_exchange.specs.Answering.{same_cluster, answer_to_syn}
 use Rattle.cg_exchange.specs.Taking.{taking_ack, taking_ack2}
-use Rattle.cg_exchange.specs.Places.{Ask}
+use Rattle.cg_exchange.specs.Places.{Ask, took_for}
 use Rattle.cg_exchange.specs.PlaceMessages.{PlaceMessage, Syn, Ack, Ack2, answer_at, places_after, grants_at}
+use Rattle.cg_exchange.specs.Spelling.{outcome_about}
 use Rattle.cg_exchange.specs.Laws.{Says, IsMoved, AckMoves, IsAnswered}
 use Rattle.cg_exchange.proofs.MessageLaws.{syn_says_places, syn_is_answered, ack_is_taken, ack2_is_taken}
 use Rattle.cg_core.specs.declared.event.Event.{Event}
@@ -28,13 +30,18 @@ use Rattle.cg_core.specs.declared.event.Event.TheVariants as event
 use Rattle.cg_core.specs.declared.reply.Reply.{Reply}
 use Rattle.cg_core.specs.declared.reply.Reply.TheVariants as reply
 use Rattle.cg_core.specs.Values.{NodeValue}
+use Rattle.cg_core.specs.Arrivals.{outcomes_in}
 use Rattle.cg_core.specs.Step.{Step, then, with_table, next_of, beating, setting, opening, round_of, after_taking, arrival_of, node_step}
-use Rattle.cg_places.specs.PlaceWorld.{PlaceWorld, runs, with_entry, with_message, with_spans, last_entry, changed, opened, received, delivered, after_action}
+use Rattle.cg_places.specs.PlaceWorld.{PlaceWorld, Deliver, runs, with_entry, with_message, with_spans, last_entry, changed, opened, received, delivered, after_action}
 use Rattle.cg_places.specs.Laws.{IsWorld}
 use Rattle.cg_places.specs.Spelling.{SpellsNode, IsChangedAt}
 use Rattle.cg_places.proofs.PutLemmas.{put_at_here}
 use Rattle.cg_places.proofs.FollowLemmas.{running_here, entry_changes, message_changes, spans_change}
-use Rattle.cg_steps.specs.Step.{message_in, message_of, action_at, IsPlaced, SaysSent, IsSentBefore, IsSent, SendsOne, Sends, IsStepAt, StepsAreByPlaces}
+use Rattle.cg_steps.specs.Step.{message_in, message_of, action_at, IsPlaced, SaysSent, IsSentBefore, IsSent, SendsOne, Sends, spans_in, span_handed, IsStepAt, StepsAreByPlaces}
+
+-- what hands nothing over
+abbrev no_spans : ℕ → Option Span
+no_spans owner = None
 
 -- where nothing stands at the end, there is nothing
 none_at_end : (h : List EntryValue) → at_place h (length h) ≡ None → length h ≡ 0
@@ -63,49 +70,50 @@ module _ (w : PlaceWorld) (is : IsWorld w) (node : ℕ) (n : NodeValue) (p : IsP
   entry_at : (y : EntryValue) → IsChangedAt w (with_entry w node y) node (with_own y n.table).entries
   entry_at y = subst (λ k. IsChangedAt w (with_entry w node y) node (map.insert n.table.entries k y)) (sym p.own) (entry_changes w node y n.table.entries p.spells)
 
-  entry_step : (y : EntryValue) (answer : Reply) → message_of answer ≡ None → IsStepAt w (with_entry w node y) node n (with_table (with_own y n.table) n, answer)
+  entry_step : (y : EntryValue) (answer : Reply) → message_of answer ≡ None → outcomes_in answer ≡ [] → IsStepAt w (with_entry w node y) no_spans node n (with_table (with_own y n.table) n, answer)
   unfolding with_entry
-  entry_step y answer silent = record { settings = refl; own = refl; changed = entry_at y; sends = rw silent refl; owners = refl }
+  entry_step y answer silent quiet = record { settings = refl; own = refl; changed = entry_at y; sends = rw silent refl; told = λ owner. ap (outcome_about owner) quiet; owners = refl }
 
-  beat_step : (x : NodeValue × Reply) → node_step n event.Beat ≡ Ok x → IsStepAt w (changed w node beaten (last_entry (w.histories node))) node n x
-  beat_step x e = rw own_held (done_then (next_of n) (λ v. (beating n, reply.Done v)) x (IsStepAt w (with_entry w node (beaten (own_entry n.table))) node n)
-      (λ v due. entry_step (beaten (own_entry n.table)) (reply.Done v) refl) e)
+  beat_step : (x : NodeValue × Reply) → node_step n event.Beat ≡ Ok x → IsStepAt w (changed w node beaten (last_entry (w.histories node))) no_spans node n x
+  beat_step x e = rw own_held (done_then (next_of n) (λ v. (beating n, reply.Done v)) x (IsStepAt w (with_entry w node (beaten (own_entry n.table))) no_spans node n)
+      (λ v due. entry_step (beaten (own_entry n.table)) (reply.Done v) refl refl) e)
 
-  set_step : (key : ℕ) (text : List ℕ) (x : NodeValue × Reply) → node_step n (event.Set key text) ≡ Ok x → IsStepAt w (changed w node (with_state key text) (last_entry (w.histories node))) node n x
-  set_step key text x e = rw own_held (done_then (next_of n) (λ v. (setting key text n, reply.Done v)) x (IsStepAt w (with_entry w node (with_state key text (own_entry n.table))) node n)
-      (λ v due. entry_step (with_state key text (own_entry n.table)) (reply.Done v) refl) e)
+  set_step : (key : ℕ) (text : List ℕ) (x : NodeValue × Reply) → node_step n (event.Set key text) ≡ Ok x → IsStepAt w (changed w node (with_state key text) (last_entry (w.histories node))) no_spans node n x
+  set_step key text x e = rw own_held (done_then (next_of n) (λ v. (setting key text n, reply.Done v)) x (IsStepAt w (with_entry w node (with_state key text (own_entry n.table))) no_spans node n)
+      (λ v due. entry_step (with_state key text (own_entry n.table)) (reply.Done v) refl refl) e)
 
   -- ---- messages
 
   -- a step that sends a message and changes nothing
-  message_step : (m : Message) (said : PlaceMessage) → IsSent n.settings.cluster w.histories m said → IsStepAt w (with_message w said) node n (n, reply.Sent m)
+  message_step : (m : Message) (said : PlaceMessage) → IsSent n.settings.cluster w.histories m said → IsStepAt w (with_message w said) no_spans node n (n, reply.Sent m)
   unfolding with_message
   message_step m said s = record {
     settings = refl;
     own = refl;
     changed = message_changes w node said n.table.entries p.runs_here p.spells;
     sends = record { said = said; added = refl; is_sent = s };
+    told = λ owner. refl;
     owners = refl;
   }
 
   syn_sent : IsSent n.settings.cluster w.histories (message.Syn (opening n)) (Syn (w.places node))
   syn_sent = record { says = syn_says_places w.histories n.table n.settings.cluster (w.places node) p.spells; names = refl }
 
-  opening_step : (x : NodeValue × Reply) → node_step n event.Opening ≡ Ok x → IsStepAt w (opened w node) node n x
+  opening_step : (x : NodeValue × Reply) → node_step n event.Opening ≡ Ok x → IsStepAt w (opened w node) no_spans node n x
   opening_step x e =
       let same : (n, reply.Sent (message.Syn (opening n))) ≡ x = cc in
-      rw p.runs_here (subst (IsStepAt w (with_message w (Syn (w.places node))) node n) same (message_step (message.Syn (opening n)) (Syn (w.places node)) syn_sent))
+      rw p.runs_here (subst (IsStepAt w (with_message w (Syn (w.places node))) no_spans node n) same (message_step (message.Syn (opening n)) (Syn (w.places node)) syn_sent))
 
-  syn_step : (number : ℕ) (syn : SynValue) (theirs : ℕ → ℕ) → Says w.histories (message.Syn syn) (Syn theirs) → (x : NodeValue × Reply) → node_step n (event.Syn syn) ≡ Ok x → IsStepAt w (received w node (Syn theirs)) node n x
+  syn_step : (number : ℕ) (syn : SynValue) (theirs : ℕ → ℕ) → Says w.histories (message.Syn syn) (Syn theirs) → (x : NodeValue × Reply) → node_step n (event.Syn syn) ≡ Ok x → IsStepAt w (received w node (Syn theirs)) no_spans node n x
   syn_step number syn theirs says x e = go (same_cluster n.settings.cluster syn.cluster) refl
     where
-      go : (b : Bool) → same_cluster n.settings.cluster syn.cluster ≡ b → IsStepAt w (received w node (Syn theirs)) node n x
+      go : (b : Bool) → same_cluster n.settings.cluster syn.cluster ≡ b → IsStepAt w (received w node (Syn theirs)) no_spans node n x
       go true same =
           let a : IsAnswered w.histories n.table n.settings.cluster syn (w.places node) theirs =
           syn_is_answered w.histories is.histories n.table n.settings.cluster syn (w.places node) theirs p.spells says same in
           let due : then {A = AckValue} (Ok a.ack) (λ ack. (n, reply.Sent (message.Ack ack))) ≡ Ok x = subst (λ (due : Result AckValue Fault). then due (λ ack. (n, reply.Sent (message.Ack ack))) ≡ Ok x) a.answer e in
           let gives : (n, reply.Sent (message.Ack a.ack)) ≡ x = cc in
-          subst (IsStepAt w (received w node (Syn theirs)) node n) gives (message_step (message.Ack a.ack) (answer_at w.histories (w.places node) theirs) (record { says = a.says; names = tt }))
+          subst (IsStepAt w (received w node (Syn theirs)) no_spans node n) gives (message_step (message.Ack a.ack) (answer_at w.histories (w.places node) theirs) (record { says = a.says; names = tt }))
       go false same = absurd (let none = rw same at e in cc)
 
   -- ---- deltas
@@ -115,12 +123,16 @@ module _ (w : PlaceWorld) (is : IsWorld w) (node : ℕ) (n : NodeValue) (p : IsP
     spans_at = spans_change w node spans after.entries p.runs_here
         (subst (λ k. SpellsPlaces w.histories after.entries (places_after k (w.places node) spans)) p.own moved.places)
 
-    took_step : IsStepAt w (with_spans w node spans) node n (after_taking n now after outcomes, reply.Took outcomes)
+    told_here : (owner : ℕ) → outcome_about owner outcomes ≡ option_map (λ span. record { endpoint = owner; took = took_for (owner == node) (w.places node owner) span }) (spans owner)
+    told_here owner =
+        subst (λ (k : ℕ). outcome_about owner outcomes ≡ option_map (λ span. record { endpoint = owner; took = took_for (owner == k) (w.places node owner) span }) (spans owner)) p.own (moved.outcomes_about owner)
+
+    took_step : IsStepAt w (with_spans w node spans) spans node n (after_taking n now after outcomes, reply.Took outcomes)
     unfolding with_spans
-    took_step = record { settings = refl; own = moved.own; changed = spans_at; sends = refl; owners = refl }
+    took_step = record { settings = refl; own = moved.own; changed = spans_at; sends = refl; told = told_here; owners = refl }
 
     both_step : (asks : ℕ → Option Ask) (ack2 : Ack2Value) → Says w.histories (message.Ack2 ack2) (Ack2 (grants_at w.histories (places_after n.table.own (w.places node) spans) asks))
-        → IsStepAt w (received w node (Ack asks spans)) node n (after_taking n now after outcomes, reply.Both outcomes ack2)
+        → IsStepAt w (received w node (Ack asks spans)) spans node n (after_taking n now after outcomes, reply.Both outcomes ack2)
     unfolding with_spans with_message
     both_step asks ack2 says = record {
       settings = refl;
@@ -135,23 +147,24 @@ module _ (w : PlaceWorld) (is : IsWorld w) (node : ℕ) (n : NodeValue) (p : IsP
           names = tt;
         };
       };
+      told = told_here;
       owners = refl;
     }
 
   ack_step : (now : ℕ) (ack : AckValue) (asks : ℕ → Option Ask) (spans : ℕ → Option Span) → Says w.histories (message.Ack ack) (Ack asks spans) → (x : NodeValue × Reply)
-      → node_step n (event.Ack now ack) ≡ Ok x → IsStepAt w (received w node (Ack asks spans)) node n x
-  ack_step now ack asks spans says x e = done_then (taking_ack n.table ack) (λ t. (after_taking n now t.0 t.2, reply.Both t.2 t.1)) x (IsStepAt w (received w node (Ack asks spans)) node n)
+      → node_step n (event.Ack now ack) ≡ Ok x → IsStepAt w (received w node (Ack asks spans)) spans node n x
+  ack_step now ack asks spans says x e = done_then (taking_ack n.table ack) (λ t. (after_taking n now t.0 t.2, reply.Both t.2 t.1)) x (IsStepAt w (received w node (Ack asks spans)) spans node n)
       (λ t due. let moves : AckMoves w.histories n.table (w.places node) asks spans t.0 t.1 t.2 =
       ack_is_taken w.histories is.histories n.table ack (w.places node) asks spans p.spells says t.0 t.1 t.2 due in
       both_step spans now t.0 t.2 moves.moved asks t.1 moves.says) e
 
   ack2_step : (now : ℕ) (ack2 : Ack2Value) (spans : ℕ → Option Span) → Says w.histories (message.Ack2 ack2) (Ack2 spans) → (x : NodeValue × Reply)
-      → node_step n (event.Ack2 now ack2) ≡ Ok x → IsStepAt w (received w node (Ack2 spans)) node n x
-  ack2_step now ack2 spans says x e = done_then (taking_ack2 n.table ack2) (λ t. (after_taking n now t.0 t.1, reply.Took t.1)) x (IsStepAt w (received w node (Ack2 spans)) node n)
+      → node_step n (event.Ack2 now ack2) ≡ Ok x → IsStepAt w (received w node (Ack2 spans)) spans node n x
+  ack2_step now ack2 spans says x e = done_then (taking_ack2 n.table ack2) (λ t. (after_taking n now t.0 t.1, reply.Took t.1)) x (IsStepAt w (received w node (Ack2 spans)) spans node n)
       (λ t due. took_step spans now t.0 t.1 (ack2_is_taken w.histories is.histories n.table ack2 (w.places node) spans p.spells says t.0 t.1 due)) e
 
   -- a message that is handed over
-  handed_step : (now : ℕ) (m : Message) (said : PlaceMessage) → Says w.histories m said → (x : NodeValue × Reply) → node_step n (arrival_of now m) ≡ Ok x → IsStepAt w (received w node said) node n x
+  handed_step : (now : ℕ) (m : Message) (said : PlaceMessage) → Says w.histories m said → (x : NodeValue × Reply) → node_step n (arrival_of now m) ≡ Ok x → IsStepAt w (received w node said) (spans_in said) node n x
   handed_step now (message.Syn syn) (Syn theirs) says x e = syn_step now syn theirs says x e
   handed_step now (message.Ack ack) (Ack asks spans) says x e = ack_step now ack asks spans says x e
   handed_step now (message.Ack2 ack2) (Ack2 spans) says x e = ack2_step now ack2 spans says x e
@@ -162,8 +175,10 @@ module _ (w : PlaceWorld) (is : IsWorld w) (node : ℕ) (n : NodeValue) (p : IsP
   handed_step now (message.Ack2 ack2) (Syn places) says x e = absurd says.spells
   handed_step now (message.Ack2 ack2) (Ack asks spans) says x e = absurd says.spells
 
-  delivered_step : (number now : ℕ) (m : Message) → SaysSent w number m → (x : NodeValue × Reply) → node_step n (arrival_of now m) ≡ Ok x → IsStepAt w (delivered w node (at_place w.sent number)) node n x
-  delivered_step number now m s x e = rw s.is_said (rw p.runs_here (handed_step now m s.said s.says x e))
+  delivered_step : (number now : ℕ) (m : Message) → SaysSent w number m → (x : NodeValue × Reply) → node_step n (arrival_of now m) ≡ Ok x → IsStepAt w (delivered w node (at_place w.sent number)) (span_handed w (Deliver number node)) node n x
+  delivered_step number now m s x e =
+      subst (λ (o : Option PlaceMessage). IsStepAt w (delivered w node o) (λ owner. option_and_then (λ said. spans_in said owner) o) node n x) (sym s.is_said)
+      (rw p.runs_here (handed_step now m s.said s.says x e))
 
 -- ---- a tick
 
@@ -177,9 +192,9 @@ module _ (w : PlaceWorld) (is : IsWorld w) (node : ℕ) (n : NodeValue) (p : IsP
   v_runs : runs v node ≡ true
   v_runs = running_here w v node (beating n).table.entries beaten_at
 
-  tick_at : (answer : Reply) → message_of answer ≡ Some (message.Syn (opening (beating n))) → IsStepAt w (with_message v (Syn (v.places node))) node n (beating n, answer)
+  tick_at : (answer : Reply) → message_of answer ≡ Some (message.Syn (opening (beating n))) → outcomes_in answer ≡ [] → IsStepAt w (with_message v (Syn (v.places node))) no_spans node n (beating n, answer)
   unfolding with_message with_entry
-  tick_at answer sends = record {
+  tick_at answer sends quiet = record {
     settings = refl;
     own = refl;
     changed = record { histories = beaten_at.histories; running = beaten_at.running; here = beaten_at.here; elsewhere = beaten_at.elsewhere };
@@ -188,12 +203,13 @@ module _ (w : PlaceWorld) (is : IsWorld w) (node : ℕ) (n : NodeValue) (p : IsP
       added = refl;
       is_sent = record { says = syn_says_places v.histories (beating n).table n.settings.cluster (v.places node) beaten_at.here; names = refl };
     });
+    told = λ owner. ap (outcome_about owner) quiet;
     owners = refl;
   }
 
-  tick_step : (now : ℕ) (words : List ℕ) (x : NodeValue × Reply) → node_step n (event.Tick now words) ≡ Ok x → IsStepAt w (opened (changed w node beaten (last_entry (w.histories node))) node) node n x
+  tick_step : (now : ℕ) (words : List ℕ) (x : NodeValue × Reply) → node_step n (event.Tick now words) ≡ Ok x → IsStepAt w (opened (changed w node beaten (last_entry (w.histories node))) node) no_spans node n x
   tick_step now words x e = rw (own_held w is node n p) (rw v_runs (done_then (next_of n) (λ version. (beating n, reply.Round (round_of (beating n) now words) (opening (beating n)))) x
-      (IsStepAt w (with_message v (Syn (v.places node))) node n) (λ version due. tick_at (reply.Round (round_of (beating n) now words) (opening (beating n))) refl) e))
+      (IsStepAt w (with_message v (Syn (v.places node))) no_spans node n) (λ version due. tick_at (reply.Round (round_of (beating n) now words) (opening (beating n))) refl refl) e))
 
 -- ---- the law
 

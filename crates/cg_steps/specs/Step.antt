@@ -1,19 +1,24 @@
 -- One step of a node, by places.
-use Rattle.std.specs.Prelude.{◌≡◌, ⊤, ℕ, true, List, [], ◌∷◌, ◌++◌, Option, Some, None, Ok}
+use Rattle.std.specs.Prelude.{◌≡◌, ◌==◌, ⊤, ℕ, true, List, [], ◌∷◌, ◌++◌, Option, Some, None, Ok}
+use Rattle.std.specs.Option.{option_map, option_and_then}
 use Rattle.cg_types.specs.Text.{ClusterValue}
 use Rattle.cg_entry.specs.Values.{EntryValue}
 use Rattle.cg_entry.specs.History.{at_place}
+use Rattle.cg_entry.specs.Place.{Span}
 use Rattle.cg_exchange.specs.declared.message.Message.{Message}
 use Rattle.cg_exchange.specs.declared.message.Message.TheVariants as message
-use Rattle.cg_exchange.specs.PlaceMessages.{PlaceMessage}
+use Rattle.cg_exchange.specs.Places.{took_for}
+use Rattle.cg_exchange.specs.PlaceMessages.{PlaceMessage, Syn, Ack, Ack2}
+use Rattle.cg_exchange.specs.Spelling.{outcome_about}
 use Rattle.cg_exchange.specs.Laws.{Says}
 use Rattle.cg_core.specs.declared.event.Event.{Event}
 use Rattle.cg_core.specs.declared.event.Event.TheVariants as event
 use Rattle.cg_core.specs.declared.reply.Reply.{Reply}
 use Rattle.cg_core.specs.declared.reply.Reply.TheVariants as reply
 use Rattle.cg_core.specs.Values.{NodeValue}
+use Rattle.cg_core.specs.Arrivals.{outcomes_in}
 use Rattle.cg_core.specs.Step.{node_step}
-use Rattle.cg_places.specs.PlaceWorld.{PlaceWorld, PlaceAction, Beat, Set, Opening, Tick, Deliver, runs, after_action}
+use Rattle.cg_places.specs.PlaceWorld.{PlaceWorld, PlaceAction, Start, Beat, Set, Opening, Tick, Deliver, runs, after_action}
 use Rattle.cg_places.specs.Laws.{IsWorld}
 use Rattle.cg_places.specs.Spelling.{SpellsNode, IsChangedAt}
 
@@ -44,6 +49,21 @@ action_at node number event.Opening = Opening node
 action_at node number (event.Syn syn) = Deliver number node
 action_at node number (event.Ack now ack) = Deliver number node
 action_at node number (event.Ack2 now ack2) = Deliver number node
+
+-- the spans that a message has by places
+abbrev pub spans_in : PlaceMessage → ℕ → Option Span
+spans_in (Syn places) owner = None
+spans_in (Ack asks spans) owner = spans owner
+spans_in (Ack2 spans) owner = spans owner
+
+-- the span about an owner that an action hands over, if it hands one over
+abbrev pub span_handed : PlaceWorld → PlaceAction → ℕ → Option Span
+span_handed w (Start node generation) owner = None
+span_handed w (Beat node) owner = None
+span_handed w (Set node key text) owner = None
+span_handed w (Opening node) owner = None
+span_handed w (Tick node) owner = None
+span_handed w (Deliver number to) owner = option_and_then (λ said. spans_in said owner) (at_place w.sent number)
 
 -- ---- what a step needs
 
@@ -89,14 +109,20 @@ abbrev pub Sends : ClusterValue → PlaceWorld → PlaceWorld → Option Message
 Sends cluster w v None = v.sent ≡ w.sent
 Sends cluster w v (Some m) = SendsOne cluster w v m
 
--- The step of a node n, which gives the node and the reply x, is what one of its actions does by places.
-pub record IsStepAt (w v : PlaceWorld) (node : ℕ) (n : NodeValue) (x : NodeValue × Reply) : Type 0 where
+-- The step of a node n, which gives the node and the reply x, is what one of its actions does by places, where it is
+-- handed these spans, if any, and leads to v.
+pub record IsStepAt (w v : PlaceWorld) (spans : ℕ → Option Span) (node : ℕ) (n : NodeValue) (x : NodeValue × Reply)
+    : Type 0 where
   pub settings : x.0.settings ≡ n.settings
   pub own : x.0.table.own ≡ n.table.own
   -- the table spells the places after the action, which changes those of no other node
   pub changed : IsChangedAt w v node x.0.table.entries
   -- the message that is sent says the one by places
   pub sends : Sends n.settings.cluster w v (message_of x.1)
+  -- what is told of a delta about an owner is what becomes of the span about it, at the node's place before the step
+  pub told : (owner : ℕ) → outcome_about owner (outcomes_in x.1)
+      ≡ option_map (λ span. record { endpoint = owner; took = took_for (owner == node) (w.places node owner) span })
+      (spans owner)
   -- nobody started
   pub owners : v.owners ≡ w.owners
 
@@ -106,4 +132,4 @@ abbrev pub StepsAreByPlaces : Type 0
 StepsAreByPlaces =
     (w : PlaceWorld) (node number : ℕ) (n : NodeValue) (e : Event) (x : NodeValue × Reply)
     → IsWorld w → IsPlaced w node n → IsSentBefore w number (message_in e) → node_step n e ≡ Ok x
-    → IsStepAt w (after_action w (action_at node number e)) node n x
+    → IsStepAt w (after_action w (action_at node number e)) (span_handed w (action_at node number e)) node n x

@@ -13,9 +13,8 @@ use Rattle.cg_world.specs.Acting.{shown_by, showing, found_no_memory, Ran, done_
 use Rattle.cg_world.specs.World.{Action, WorldValue, acting, act, or_unchanged, new_world, run_from, run}
 use Rattle.cg_world.specs.WorldLaws.{IsReached}
 use Rattle.cg_world.specs.Consistent.{IsConsistent, IsConsistentWorld}
-use Rattle.cg_world.proofs.WholeEntries.{entries_are_whole}
 use Rattle.cg_world.proofs.HeadlineLaws.{headline}
-use Rattle.cg_world.proofs.WorldLaws.{reached_worlds, nodes_spell_places, tables_are_the_join, equal_sets_give_equal_tables, equal_digests_give_equal_tables}
+use Rattle.cg_world.proofs.WorldLaws.{reached_worlds, nodes_spell_places, tables_are_the_join, equal_sets_give_equal_tables}
 use Rattle.cg_world.proofs.TakenLaws.{outcomes_tell_what_is_taken}
 
 module _ (c d : WorldValue) (action : Action) where
@@ -76,9 +75,7 @@ consistent_after settings actions c is = subst (IsConsistent settings actions) (
   spelled = nodes_spell_places settings actions;
   told = λ earlier later whole. outcomes_tell_what_is_taken settings earlier;
   joined = tables_are_the_join settings actions;
-  whole = entries_are_whole settings actions;
   equal_sets = equal_sets_give_equal_tables settings actions;
-  equal_digests = equal_digests_give_equal_tables settings actions;
 })
 
 pub consistent_reached : (c : WorldValue) → IsReached c → IsConsistentWorld c
@@ -88,6 +85,17 @@ consistent_reached c reached = record { reached = reached; consistent = λ actio
 pub consistent_ran : (settings : SettingsValue) (actions : List Action) (answers : List (Result Shown Fault)) (c : WorldValue) → Ran (new_world settings) actions answers c
     → IsConsistent settings (done_of actions answers) c
 consistent_ran settings actions answers c ran = consistent_after settings (done_of actions answers) c (ran_leads (new_world settings) c actions answers ran)
+
+-- where actions lead from a world that is reached
+reached_from : (c : WorldValue) (actions : List Action) → IsReached c → IsReached (run_from c actions)
+reached_from c [] reached = reached
+reached_from c (action ∷ actions) reached = reached_from (act c action) actions (reached_worlds.go_on c action reached)
+
+-- and whatever list leads to that world
+pub consistent_world_ran : (settings : SettingsValue) (actions : List Action) (answers : List (Result Shown Fault)) (c : WorldValue) → Ran (new_world settings) actions answers c
+    → IsConsistentWorld c
+consistent_world_ran settings actions answers c ran =
+    consistent_reached c (subst IsReached (sym (ran_leads (new_world settings) c actions answers ran)) (reached_from (new_world settings) (done_of actions answers) (reached_worlds.begin settings)))
 
 -- ---- a run that goes on
 

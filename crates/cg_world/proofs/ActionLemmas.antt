@@ -41,7 +41,7 @@ use Rattle.cg_places.proofs.PutLemmas.{test_same, same_number}
 use Rattle.cg_places.proofs.GrowthLemmas.{grown_continue}
 use Rattle.cg_places.proofs.RoomLemmas.{room_for_deltas}
 use Rattle.cg_places.proofs.FollowLemmas.{follow, replaced_spells}
-use Rattle.cg_steps.specs.Step.{message_in, message_of, action_at, IsPlaced, IsSentBefore, IsSent, Sends, IsStepAt}
+use Rattle.cg_steps.specs.Step.{message_in, message_of, action_at, span_handed, IsPlaced, IsSentBefore, IsSent, Sends, IsStepAt}
 use Rattle.cg_steps.proofs.StepLaws.{own_held as own_is_held, steps_are_by_places}
 use Rattle.cg_world.specs.World.{LocalEvent, Beat, Set, Opening, Tick, Action, Start, Local, Deliver, WorldValue, tables_of, with_node, with_sent, after_step, handed, generation_held, event_of, arrival_of, delivering, acting, plain_local, plain}
 use Rattle.cg_world.specs.WorldLaws.{AllSent, IsNodeAt, SpellsWorld}
@@ -158,8 +158,8 @@ module _ (c : WorldValue) (w : PlaceWorld) (t : Tied c w) (node : ℕ) (n : Node
   at = at_node c w t node n e
 
   -- a step that is one by places leaves what the places say
-  step_spells : (v : PlaceWorld) (x : NodeValue × Reply) → IsStepAt w v node n x → SpellsWorld (with_sent (with_node c node x.0) (message_of x.1)) v
-  step_spells v x s = sent_spells c node x.0 v (message_of x.1)
+  step_spells : (v : PlaceWorld) (spans : ℕ → Option Span) (x : NodeValue × Reply) → IsStepAt w v spans node n x → SpellsWorld (with_sent (with_node c node x.0) (message_of x.1)) v
+  step_spells v spans x s = sent_spells c node x.0 v (message_of x.1)
       (replaced_spells (tables_of c) (tables_of (with_node c node x.0)) w v node x.0.table.entries t.is.tables s.changed (replaced c node x.0))
       (sent_after c node x.0 w v (message_of x.1) (all_stay c.settings.cluster w.histories v.histories s.changed.histories c.sent w.sent t.is.messages)
       (subst (λ cluster. Sends cluster w v (message_of x.1)) (ap (λ s. s.cluster) at.its_settings) s.sends))
@@ -182,7 +182,7 @@ module _ (c : WorldValue) (w : PlaceWorld) (t : Tied c w) (node : ℕ) (n : Node
       v = after_action w (action_at node number f)
 
       go : (due : Step) → node_step n f ≡ due → fault_of due ≡ refusal w (action_at node number f) → AgreesBy (refusal w (action_at node number f)) (after_action w (action_at node number f)) (after_step c node due)
-      go (Ok x) is alike = (sym alike, step_spells (after_action w (action_at node number f)) x (steps_are_by_places w node number n f x t.is_world (placed_here c w t node n e) sent is))
+      go (Ok x) is alike = (sym alike, step_spells (after_action w (action_at node number f)) (span_handed w (action_at node number f)) x (steps_are_by_places w node number n f x t.is_world (placed_here c w t node n e) sent is))
       go (Err fault) is alike = sym alike
 
   -- a change of the own entry is refused where there is no next version

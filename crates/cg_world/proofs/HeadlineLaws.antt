@@ -22,7 +22,7 @@ use Rattle.cg_exchange.specs.declared.message.Message.{Message}
 use Rattle.cg_exchange.specs.declared.outcome.Outcome.{Outcome}
 use Rattle.cg_exchange.specs.declared.owner_delta.OwnerDelta.{OwnerDelta}
 use Rattle.cg_exchange.specs.Members.{about}
-use Rattle.cg_exchange.specs.PlaceMessages.{PlaceMessage, Syn, Ack, Ack2, IsPlaceMessage, AreSpans}
+use Rattle.cg_exchange.specs.PlaceMessages.{AreSpans}
 use Rattle.cg_exchange.specs.Places.{took_for}
 use Rattle.cg_exchange.specs.Spelling.{delta_about, outcome_about}
 use Rattle.cg_core.specs.declared.reply.Reply.{Reply}
@@ -46,6 +46,7 @@ use Rattle.cg_world.proofs.WorldLaws.{Joined, joined, done_by_places, actions_on
 use Rattle.cg_world.proofs.SingleActions.{replies_are_of_steps}
 use Rattle.cg_world.proofs.TakenLaws.{all_more, outcomes_tell_what_is_taken}
 use Rattle.cg_world.proofs.WholeEntries.{entries_are_whole, places_were_own}
+use Rattle.cg_world.proofs.GapLaws.{spans_are, gap_told}
 
 -- ---- what a node took
 
@@ -72,12 +73,6 @@ marked_more w v node owner marks span on more is m =
       ap (λ (ms : List Mark). ms ++ mark_at h span.to ∷ []) m.0 ∙ sym (marks_push h (w.taken node owner) span) ∙ sym (marks_stay h (v.histories owner) on (w.taken node owner ++ span ∷ []) all),
       all_stay h (v.histories owner) on (w.taken node owner ++ span ∷ []) all,
     )
-
--- the spans of a message of the histories
-spans_are : (histories : ℕ → List EntryValue) (said : PlaceMessage) → IsPlaceMessage histories said → AreSpans histories (spans_in said)
-spans_are histories (Syn places) is = λ owner span e. absurd cc
-spans_are histories (Ack asks spans) is = is.1
-spans_are histories (Ack2 spans) is = is
 
 module _ (settings : SettingsValue) (earlier : List Action) (owner : ℕ) where
   abbrev c : WorldValue
@@ -349,6 +344,7 @@ module _ (settings : SettingsValue) (actions : List Action) where
   pub headline : Headline settings actions d
   headline = record {
     joined = held_greatest;
+    gaps = λ earlier later whole number node now owner n runs outcome delta told sent. gap_told settings earlier number node now owner n runs outcome delta told sent;
     whole = entries_are_whole settings actions;
     marked = all_marked;
     named = marks_name;

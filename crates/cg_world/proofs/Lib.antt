@@ -10,4 +10,5 @@ pub mod ActingLemmas
 pub mod MergingLemmas
 pub mod ExchangeCalls
 pub mod MarkLemmas
+pub mod GapLaws
 pub mod HeadlineLaws

@@ -57,6 +57,17 @@ leads_to_mark v e d is = go (nat_le (newest e) v) refl is
         let same : record { generation = e.generation; above = v; heartbeat = e.heartbeat; states = newer_than v e.states } ≡ d = cc in
         subst (λ d. mark_led_to d ≡ mark_of e) same (ap (λ (n : ℕ). (e.generation, n)) (newest_newer v e.heartbeat e.states lt))
 
+-- what a delta lies above
+begins_at : (v : ℕ) (e : EntryValue) (d : DeltaValue) → delta_above v e ≡ Some d → (d.generation ≡ e.generation) × (d.above ≡ v)
+begins_at v e d is = go (nat_le (newest e) v) refl is
+  where
+    go : (b : Bool) → nat_le (newest e) v ≡ b → cond b None (Some (record { generation = e.generation; above = v; heartbeat = e.heartbeat; states = newer_than v e.states })) ≡ Some d
+        → (d.generation ≡ e.generation) × (d.above ≡ v)
+    go true t is = absurd cc
+    go false t is =
+        let same : record { generation = e.generation; above = v; heartbeat = e.heartbeat; states = newer_than v e.states } ≡ d = cc in
+        subst (λ (d : DeltaValue). (d.generation ≡ e.generation) × (d.above ≡ v)) same (refl, refl)
+
 -- ---- places
 
 -- the mark at a place
@@ -71,6 +82,8 @@ pub record IsDeltaTo (h : List EntryValue) (span : Span) : Type 0 where
   pub delta : DeltaValue
   pub is : delta_of h span ≡ Some delta
   pub leads : mark_led_to delta ≡ mark_at h span.to
+  pub generation : delta.generation ≡ generation_at h span.to
+  pub above : delta.above ≡ version_at h span.from
 
 some_of : {X : Type 0} (o : Option X) → IsSome o → (x : X) × (o ≡ Some x)
 some_of None e = absurd cc
@@ -82,9 +95,12 @@ span_delta h is span s =
     let alike : (span.from ≡ 0) ⊎ (generation_at h span.from ≡ end.0.generation) = elim (s.alike) [ inl z ↦ inl z | inr g ↦ inr (g ∙ ap generation_of end.1) ] in
     let between : IsDeltaOfPlaces h span.from span.to (delta_above (version_at h span.from) end.0) = deltas_spell_spans h is span.from span.to end.0 (omega (arith, s.rises, s.stands)) end.1 alike in
     let some = some_of (delta_above (version_at h span.from) end.0) (between.exists.1 s.rises) in
+    let begins : (some.0.generation ≡ end.0.generation) × (some.0.above ≡ version_at h span.from) = begins_at (version_at h span.from) end.0 some.0 some.1 in
     record {
       delta = some.0;
       is = (between.spells some.0 some.1).1;
+      generation = begins.0 ∙ sym (ap generation_of end.1);
+      above = begins.1;
       leads = leads_to_mark (version_at h span.from) end.0 some.0 some.1 ∙ sym (mark_here h span.to end.0 end.1);
     }
 

@@ -70,7 +70,11 @@ find_the_join c r x y z one two three rx ry rz =
         both = first_room c.settings r.actions x y z one two three runs_x runs_y runs_z;
         all = second_room c.settings r.actions x y z one two three runs_x runs_y runs_z;
       };
-      join = record { actions = r.actions; is = r.is; join = merges_of_nodes_are_the_join c.settings r.actions x y z one two three runs_x runs_y runs_z };
+      join = record {
+        reached = r;
+        join = λ actions is. merges_of_nodes_are_the_join c.settings actions x y z one two three
+            (subst (λ d. Runs d x one) is rx) (subst (λ d. Runs d y two) is ry) (subst (λ d. Runs d z three) is rz);
+      };
     }
 
 -- ---- tables compared

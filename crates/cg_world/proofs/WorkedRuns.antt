@@ -19,4 +19,5 @@ worked_runs settings = record {
   not_rising = refusals_agree settings worked_exchange (Start 2 5);
   no_message = refusals_agree settings worked_exchange (Deliver 99 7 400);
   no_node = refusals_agree settings worked_exchange (Deliver 1 7 400);
+  short = λ first second third one two c ran. ran.1.1.1.1;
 }

@@ -1,13 +1,10 @@
 -- What is true of the nodes that run after a list of actions.
-use Rattle.std.specs.Prelude.{ℕ, ◌≡◌, ◌++◌, List, Some}
-use Rattle.std.specs.FinMap as map
-use Rattle.cg_entry.specs.Values.{EntryValue}
-use Rattle.cg_table.specs.Table.{digests_of}
+use Rattle.std.specs.Prelude.{ℕ, ◌≡◌, ◌++◌, List}
 use Rattle.cg_core.specs.Values.{SettingsValue, NodeValue}
 use Rattle.cg_places.specs.Join.{sources, SamePlaces}
 use Rattle.cg_places.specs.TableLaws.{IsJoined, AreEqual}
-use Rattle.cg_world.specs.World.{Action, WorldValue, new_world, run, placed}
-use Rattle.cg_world.specs.WorldLaws.{IsReached, Runs, SpellsWorld, WasOwn}
+use Rattle.cg_world.specs.World.{Action, WorldValue, run, placed}
+use Rattle.cg_world.specs.WorldLaws.{IsReached, Runs, SpellsWorld}
 use Rattle.cg_world.specs.Taken.{IsTold}
 use Rattle.cg_world.specs.Headline.{Headline}
 
@@ -22,16 +19,10 @@ pub record IsConsistent (settings : SettingsValue) (actions : List Action) (c : 
   pub told : (earlier later : List Action) → earlier ++ later ≡ actions → IsTold settings earlier
   -- each node's table is the join of its own newest entry and of those to which the deltas led that it took
   pub joined : (node : ℕ) (n : NodeValue) → Runs c node n → IsJoined (placed actions) node n.table.entries
-  -- each entry in it was its owner's own, whole, after some of the first actions
-  pub whole : (node : ℕ) (n : NodeValue) → Runs c node n → (owner : ℕ) (entry : EntryValue)
-      → map.get n.table.entries owner ≡ Some entry → WasOwn (new_world settings) actions owner entry
   -- nodes that took the same have equal tables and rings
   pub equal_sets : (a b : ℕ) (one other : NodeValue) → Runs c a one → Runs c b other
       → ((owner : ℕ) → SamePlaces (sources (placed actions) a owner) (sources (placed actions) b owner))
       → AreEqual one.table.entries other.table.entries
-  -- and so have nodes with equal digests
-  pub equal_digests : (a b : ℕ) (one other : NodeValue) → Runs c a one → Runs c b other
-      → digests_of one.table.entries ≡ digests_of other.table.entries → AreEqual one.table.entries other.table.entries
 
 -- A world is where some actions led, and consistent after whatever list of actions leads to it.
 pub record IsConsistentWorld (c : WorldValue) : Type 0 where

@@ -26,7 +26,16 @@ pub record Exchange : Type 0 where
 -- an exchange with nothing between its messages
 abbrev pub undisturbed : ℕ → ℕ → ℕ → ℕ → ℕ → Exchange
 undisturbed opener answerer syn_at ack_at ack2_at =
-    record { opener = opener; answerer = answerer; before_syn = []; syn_at = syn_at; before_ack = []; ack_at = ack_at; before_ack2 = []; ack2_at = ack2_at }
+    record {
+      opener = opener;
+      answerer = answerer;
+      before_syn = [];
+      syn_at = syn_at;
+      before_ack = [];
+      ack_at = ack_at;
+      before_ack2 = [];
+      ack2_at = ack2_at;
+    }
 
 -- the opener has sent its SYN
 abbrev pub after_opening : WorldValue → Exchange → WorldValue
@@ -59,7 +68,8 @@ exchanged c x = act (at_ack2 c x) (Deliver (length (after_ack c x).sent) x.answe
 -- the actions of an exchange that follow its opening, in their order
 abbrev pub following : WorldValue → Exchange → List Action
 following c x =
-    x.before_syn ++ (Deliver (length (after_opening c x).sent) x.answerer x.syn_at ∷ (x.before_ack ++ (Deliver (length (after_syn c x).sent) x.opener x.ack_at
+    x.before_syn ++ (Deliver (length (after_opening c x).sent) x.answerer x.syn_at
+    ∷ (x.before_ack ++ (Deliver (length (after_syn c x).sent) x.opener x.ack_at
     ∷ (x.before_ack2 ++ (Deliver (length (after_ack c x).sent) x.answerer x.ack2_at ∷ [])))))
 
 -- all actions of an exchange, in their order
@@ -69,13 +79,17 @@ actions_of c x = Local x.opener Opening ∷ following c x
 -- An exchange is the list of its actions.
 abbrev pub ExchangesAreLists : Type 0
 ExchangesAreLists =
-    (settings : SettingsValue) (actions : List Action) (x : Exchange) → run settings (actions ++ actions_of (run settings actions) x) ≡ exchanged (run settings actions) x
+    (settings : SettingsValue) (actions : List Action) (x : Exchange)
+    → run settings (actions ++ actions_of (run settings actions) x) ≡ exchanged (run settings actions) x
 
 -- An exchange whose SYN a tick sent is the exchange after a beat: the same actions follow, and the same is left.
 abbrev pub TickedExchangesFollowBeats : Type 0
 TickedExchangesFollowBeats =
-    (settings : SettingsValue) (actions : List Action) (x : Exchange) (now : ℕ) (words : List ℕ) → IsOk (acting (run settings actions) (Local x.opener Beat))
-    → run settings (actions ++ Local x.opener (Tick now words) ∷ following (run settings (actions ++ Local x.opener Beat ∷ [])) x) ≡ exchanged (run settings (actions ++ Local x.opener Beat ∷ [])) x
+    (settings : SettingsValue) (actions : List Action) (x : Exchange) (now : ℕ) (words : List ℕ)
+    → IsOk (acting (run settings actions) (Local x.opener Beat))
+    → run settings (actions ++ Local x.opener (Tick now words)
+    ∷ following (run settings (actions ++ Local x.opener Beat ∷ [])) x)
+    ≡ exchanged (run settings (actions ++ Local x.opener Beat ∷ [])) x
 
 -- the same exchange without moments and words
 abbrev pub plain_exchange : Exchange → PlaceExchange
@@ -126,7 +140,8 @@ pub record ReachesTheMerge (c : WorldValue) (x : Exchange) (opening : NodeValue)
 -- An exchange takes both of its nodes to the join, whatever is done between its messages but a start of the two.
 abbrev pub ExchangesEndAtTheJoin : Type 0
 ExchangesEndAtTheJoin =
-    (settings : SettingsValue) (actions : List Action) (x : Exchange) (opening other : NodeValue) → Runs (run settings actions) x.opener opening → Runs (run settings actions) x.answerer other
+    (settings : SettingsValue) (actions : List Action) (x : Exchange) (opening other : NodeValue)
+    → Runs (run settings actions) x.opener opening → Runs (run settings actions) x.answerer other
     → StartsNeither x → ReachesTheMerge (run settings actions) x opening
 
 -- Both nodes end with equal tables and rings, and each table is the merge of what the two held.
@@ -142,7 +157,8 @@ pub record EndsAtTheMerge (c : WorldValue) (x : Exchange) (opening answering : N
 -- With nothing between its messages, an exchange leaves both nodes with the merge of their tables.
 abbrev pub UndisturbedExchangesMerge : Type 0
 UndisturbedExchangesMerge =
-    (settings : SettingsValue) (actions : List Action) (a b syn_at ack_at ack2_at : ℕ) (opening answering : NodeValue) → Runs (run settings actions) a opening → Runs (run settings actions) b answering
+    (settings : SettingsValue) (actions : List Action) (a b syn_at ack_at ack2_at : ℕ) (opening answering : NodeValue)
+    → Runs (run settings actions) a opening → Runs (run settings actions) b answering
     → EndsAtTheMerge (run settings actions) (undisturbed a b syn_at ack_at ack2_at) opening answering
 
 -- ---- as a call

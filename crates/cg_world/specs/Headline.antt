@@ -1,19 +1,19 @@
 -- The headline: what is true of the nodes of a cluster after any list of starts, local changes, openings, ticks and
 -- deliveries, whatever messages are lost, repeated and reordered. A refused action changes nothing.
-use Rattle.std.specs.Prelude.{ℕ, ◌≡◌, ◌↔◌, ◌==◌, ◌&&◌, is_ok, List, [], ◌∷◌, All, Some, if◌then◌else◌}
+use Rattle.std.specs.Prelude.{ℕ, ◌≡◌, ◌↔◌, ◌==◌, ◌&&◌, ◌++◌, IsTrue, is_ok, List, [], ◌∷◌, All, Some, if◌then◌else◌}
 use Rattle.std.specs.List.{Contains}
 use Rattle.std.specs.FinMap as map
 use Rattle.cg_entry.specs.Values.{EntryValue}
 use Rattle.cg_table.specs.Own.{own_entry}
 use Rattle.cg_table.specs.Table.{digests_of}
-use Rattle.cg_exchange.specs.Spelling.{delta_about, outcome_about}
+use Rattle.cg_exchange.specs.declared.outcome.Outcome.{Outcome}
+use Rattle.cg_exchange.specs.declared.owner_delta.OwnerDelta.{OwnerDelta}
 use Rattle.cg_core.specs.Values.{SettingsValue, NodeValue}
 use Rattle.cg_places.specs.TableLaws.{AreEqual}
-use Rattle.cg_world.specs.World.{Action, Start, Local, Deliver, WorldValue, new_world, acting, act, run, reply_to}
+use Rattle.cg_world.specs.World.{Action, Start, Local, Deliver, WorldValue, new_world, acting, act, run}
 use Rattle.cg_world.specs.WorldLaws.{Runs, WasOwn}
-use Rattle.cg_world.specs.SingleActions.{outcomes_shown}
-use Rattle.cg_world.specs.Taken.{deltas_sent}
-pub use Rattle.cg_world.specs.Mark.{Mark, mark_of, mark_led_to, IsWithin, HasGreatest, with_delta}
+use Rattle.cg_world.specs.Taken.{delta_sent, outcome_told, is_gap}
+pub use Rattle.cg_world.specs.Mark.{Mark, mark_of, mark_led_to, IsWithin, HasGreatest, LiesPast, with_delta}
 
 -- What a node took of an owner since its start, by the marks of the deltas that were handed to it and were no gap, with
 -- what one action brings; a start that is done forgets all.
@@ -22,9 +22,7 @@ with_action c node owner marks (Start other generation) =
     if other == node && is_ok (acting c (Start other generation)) then [] else marks
 with_action c node owner marks (Local other change) = marks
 with_action c node owner marks (Deliver number to now) =
-    if to == node then with_delta marks (outcome_about owner (outcomes_shown (reply_to c (Deliver number to now))))
-    (delta_about owner (deltas_sent c number))
-    else marks
+    if to == node then with_delta marks (outcome_told c number to now owner) (delta_sent c number owner) else marks
 
 abbrev pub took_from : WorldValue → ℕ → ℕ → List Mark → List Action → List Mark
 took_from c node owner marks [] = marks
@@ -57,6 +55,12 @@ module _ (settings : SettingsValue) (actions : List Action) where
     -- each table is the join of the node's own entry and the deltas that it took: it holds the furthest of each owner
     pub joined : (node : ℕ) (n : NodeValue) → Runs c node n
         → (owner : ℕ) → HasGreatest (map.get n.table.entries owner) (marks_of node n owner)
+    -- a delta is left out, as a gap, exactly where it lies past what the node then held
+    pub gaps : (earlier later : List Action) → earlier ++ later ≡ actions → (number node now owner : ℕ) (n : NodeValue)
+        → Runs (run settings earlier) node n → (outcome : Outcome) (d : OwnerDelta)
+        → outcome_told (run settings earlier) number node now owner ≡ Some outcome
+        → delta_sent (run settings earlier) number owner ≡ Some d
+        → IsTrue (is_gap outcome.took) ↔ LiesPast d.delta (map.get n.table.entries owner)
     -- each entry in it was its owner's own, whole, at one past time
     pub whole : (node : ℕ) (n : NodeValue) → Runs c node n
         → (owner : ℕ) (entry : EntryValue) → map.get n.table.entries owner ≡ Some entry → Was owner entry

@@ -22,6 +22,11 @@ mark_led_to d = (d.generation, greatest d.heartbeat d.states)
 abbrev pub IsWithin : Mark → Mark → Type 0
 IsWithin m n = (m.0 < n.0) ⊎ ((m.0 ≡ n.0) × (m.1 ≤ n.1))
 
+-- The delta begins past what is held, so nothing that is held joins it.
+abbrev pub LiesPast : DeltaValue → Option EntryValue → Type 0
+LiesPast d None = 0 < d.above
+LiesPast d (Some e) = (0 < d.above) × (IsWithin (d.generation, d.above) (mark_of e) → ⊥)
+
 -- The entry held has the greatest of the marks; where there are none, nothing is held.
 abbrev pub HasGreatest : Option EntryValue → List Mark → Type 0
 HasGreatest None marks = marks ≡ []

@@ -7,7 +7,7 @@ use Rattle.cg_core.specs.Values.{NodeValue}
 use Rattle.cg_table.specs.Values.{TableValue, Entries}
 use Rattle.cg_table.specs.Table.{digests_of}
 use Rattle.cg_tokens.specs.Ring.{ring}
-use Rattle.cg_world.specs.WorldLaws.{Runs}
+use Rattle.cg_world.specs.WorldLaws.{IsReached, Runs}
 use Rattle.cg_table.specs.Merge.{merged, owners_together}
 use Rattle.cg_types.specs.declared.limits.TheConstants.{MEMBER_LIMIT}
 use Rattle.cg_places.specs.TableLaws.{IsMergedOf}
@@ -30,17 +30,18 @@ pub record FitTogether (one two three : TableValue) : Type 0 where
 -- the merged tables of three nodes
 abbrev pub merging_nodes : WorldValue → ℕ → ℕ → ℕ → Result TableValue Fault
 merging_nodes c x y z =
-    of_node (map.get c.nodes x) (λ one. of_node (map.get c.nodes y) (λ two. of_node (map.get c.nodes z) (λ three. Ok (merged_three one.table two.table three.table))))
+    of_node (map.get c.nodes x) (λ one. of_node (map.get c.nodes y) (λ two. of_node (map.get c.nodes z)
+    (λ three. Ok (merged_three one.table two.table three.table))))
 
--- The table is the join of what three nodes of a world hold.
+-- The table is the join of what three nodes of a world hold, whatever list of actions leads to the world.
 pub record IsJoinIn (c : WorldValue) (x y z : ℕ) (t : TableValue) : Type 0 where
-  pub actions : List Action
-  pub is : c ≡ run c.settings actions
-  pub join : IsMergedOf (placed actions) x y z t.entries
+  pub reached : IsReached c
+  pub join : (actions : List Action) → c ≡ run c.settings actions → IsMergedOf (placed actions) x y z t.entries
 
 -- ---- tables compared
 
--- What it tells of two tables: whether their digests are equal, which is whether their entries are; and then so are their rings.
+-- What it tells of two tables: whether their digests are equal, which is whether their entries are; and then so are
+-- their rings.
 pub record TellsEqual (same : Bool) (one other : Entries) : Type 0 where
   pub digests : IsTrue same ↔ (digests_of one ≡ digests_of other)
   pub entries : IsTrue same ↔ (one ≡ other)

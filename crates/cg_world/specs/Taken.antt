@@ -14,13 +14,14 @@ use Rattle.cg_exchange.specs.declared.owner_delta.OwnerDelta.{OwnerDelta}
 use Rattle.cg_exchange.specs.Members.{endpoints_of_deltas}
 use Rattle.cg_exchange.specs.Changes.{endpoints_of_outcomes}
 use Rattle.cg_exchange.specs.Places.{took_for}
-use Rattle.cg_exchange.specs.PlaceMessages.{PlaceMessage, Syn, Ack, Ack2}
-use Rattle.cg_exchange.specs.Spelling.{SpellsSpans, outcome_about}
+use Rattle.cg_exchange.specs.PlaceMessages.{PlaceMessage}
+use Rattle.cg_exchange.specs.Spelling.{SpellsSpans, delta_about, outcome_about}
 use Rattle.cg_core.specs.declared.reply.Reply.{Reply}
 use Rattle.cg_core.specs.Values.{SettingsValue}
+pub use Rattle.cg_steps.specs.Step.{spans_in}
 use Rattle.cg_places.specs.PlaceWorld.{PlaceWorld, unless_gap}
 use Rattle.cg_world.specs.World.{Action, Start, Local, Deliver, WorldValue, reply_to, acting, run, placed}
-use Rattle.cg_world.specs.SingleActions.{outcomes_in}
+use Rattle.cg_world.specs.SingleActions.{outcomes_in, outcomes_shown}
 
 -- the deltas that a message has
 abbrev pub deltas_in : Message → List OwnerDelta
@@ -32,6 +33,13 @@ deltas_in (kinds.Ack2 ack2) = ack2.deltas
 abbrev pub deltas_sent : WorldValue → ℕ → List OwnerDelta
 deltas_sent c number = option_map_or deltas_in (at_place c.sent number) []
 
+-- the delta about an owner among them, and what the node that they are handed to tells of it
+abbrev pub delta_sent : WorldValue → ℕ → ℕ → Option OwnerDelta
+delta_sent c number owner = delta_about owner (deltas_sent c number)
+
+abbrev pub outcome_told : WorldValue → ℕ → ℕ → ℕ → ℕ → Option Outcome
+outcome_told c number node now owner = outcome_about owner (outcomes_shown (reply_to c (Deliver number node now)))
+
 -- whether a delta was left out
 abbrev pub is_gap : Took → Bool
 is_gap took.Gap = true
@@ -39,19 +47,14 @@ is_gap took.Taken = false
 is_gap took.Old = false
 is_gap took.Own = false
 
--- the spans that it has by places
-abbrev pub spans_in : PlaceMessage → ℕ → Option Span
-spans_in (Syn places) owner = None
-spans_in (Ack asks spans) owner = spans owner
-spans_in (Ack2 spans) owner = spans owner
-
 -- what was taken of an owner, with one more span where its outcome is Taken, Old or Own
 abbrev pub counted : List Span → Option Outcome → Option Span → List Span
 counted spans (Some outcome) (Some span) = unless_gap outcome.took spans span
 counted spans (Some outcome) None = spans
 counted spans None span = spans
 
--- The outcomes of a delivery to a node are those of its spans at the places of w, and tell what the node took, as v has it.
+-- The outcomes of a delivery to a node are those of its spans at the places of w, and tell what the node took, as v
+-- has it.
 pub record AreCounted (c : WorldValue) (w v : PlaceWorld) (number node : ℕ) (outcomes : List Outcome) : Type 0 where
   -- the message, and what it says by places: its deltas spell these spans, owner by owner
   pub message : Message
@@ -63,9 +66,13 @@ pub record AreCounted (c : WorldValue) (w v : PlaceWorld) (number node : ℕ) (o
   pub in_order : endpoints_of_outcomes outcomes ≡ endpoints_of_deltas (deltas_in message)
   pub rise : Rises (endpoints_of_outcomes outcomes)
   -- about each owner the outcome of the span about it
-  pub each : (owner : ℕ) → outcome_about owner outcomes ≡ option_map (λ span. record { endpoint = owner; took = took_for (owner == node) (w.places node owner) span }) (spans_in said owner)
+  pub each : (owner : ℕ)
+      → outcome_about owner outcomes
+      ≡ option_map (λ span. record { endpoint = owner; took = took_for (owner == node) (w.places node owner) span })
+      (spans_in said owner)
   -- what the node took since its start is now one span more about each owner whose outcome is no gap
-  pub taken : (owner : ℕ) → v.taken node owner ≡ counted (w.taken node owner) (outcome_about owner outcomes) (spans_in said owner)
+  pub taken : (owner : ℕ)
+      → v.taken node owner ≡ counted (w.taken node owner) (outcome_about owner outcomes) (spans_in said owner)
 
 -- the node whose taken spans an action may change
 abbrev pub taker : Action → Option ℕ
@@ -76,14 +83,19 @@ taker (Deliver number to now) = Some to
 -- What one more action changes of what the nodes took.
 pub record IsTold (settings : SettingsValue) (actions : List Action) : Type 0 where
   -- a delivery that is done adds what the outcomes in the node's reply tell
-  pub deliveries : (number to now : ℕ) (answer : Reply) → reply_to (run settings actions) (Deliver number to now) ≡ Some answer
-      → AreCounted (run settings actions) (placed actions) (placed (actions ++ Deliver number to now ∷ [])) number to (outcomes_in answer)
+  pub deliveries : (number to now : ℕ) (answer : Reply)
+      → reply_to (run settings actions) (Deliver number to now) ≡ Some answer
+      → AreCounted (run settings actions) (placed actions) (placed (actions ++ Deliver number to now ∷ [])) number to
+      (outcomes_in answer)
   -- a start that is done forgets all that its node took
-  pub starts : (node generation owner : ℕ) → IsOk (acting (run settings actions) (Start node generation)) → (placed (actions ++ Start node generation ∷ [])).taken node owner ≡ []
+  pub starts : (node generation owner : ℕ) → IsOk (acting (run settings actions) (Start node generation))
+      → (placed (actions ++ Start node generation ∷ [])).taken node owner ≡ []
   -- what the other nodes took stays, as does what any took where a node does something by itself
-  pub others : (action : Action) (node owner : ℕ) → taker action ≢ Some node → (placed (actions ++ action ∷ [])).taken node owner ≡ (placed actions).taken node owner
+  pub others : (action : Action) (node owner : ℕ) → taker action ≢ Some node
+      → (placed (actions ++ action ∷ [])).taken node owner ≡ (placed actions).taken node owner
   -- a refused action changes nothing
-  pub refused : (action : Action) (fault : Fault) → acting (run settings actions) action ≡ Err fault → placed (actions ++ action ∷ []) ≡ placed actions
+  pub refused : (action : Action) (fault : Fault) → acting (run settings actions) action ≡ Err fault
+      → placed (actions ++ action ∷ []) ≡ placed actions
 
 -- What a node took since its start is what the outcomes in its replies tell.
 abbrev pub OutcomesTellWhatIsTaken : Type 0

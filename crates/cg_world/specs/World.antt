@@ -40,7 +40,8 @@ pub record WorldValue : Type 0 where
 -- the code that a model of such a value asks for
 abbrev pub world_code : Coded WorldValue
 world_code =
-    code_by (SettingsValue × (map.FinMap nat_cmp NodeValue × List Message)) (coded× settings_code (coded× (map.code coded_ℕ node_code) (coded_list message_code)))
+    code_by (SettingsValue × (map.FinMap nat_cmp NodeValue × List Message))
+    (coded× settings_code (coded× (map.code coded_ℕ node_code) (coded_list message_code)))
     (λ c. (c.settings, (c.nodes, c.sent))) (λ p. record { settings = p.0; nodes = p.1.0; sent = p.1.1 }) (λ _. refl)
 
 -- no node runs

@@ -1,4 +1,5 @@
--- What holds of the nodes of a cluster as they run, after every list of actions. A refused action may stand in the list: it changes nothing.
+-- What holds of the nodes of a cluster as they run, after every list of actions. A refused action may stand in the
+-- list: it changes nothing.
 use Rattle.std.specs.Prelude.{ℕ, ◌≡◌, ◌⊎◌, Result, Ok, Err, IsOk, true, is_some, ⊤, List, [], ◌∷◌, ◌++◌, length, Some}
 use Rattle.std.specs.Option.{option_and_then, option_to_list}
 use Rattle.std.specs.FinMap as map
@@ -24,7 +25,9 @@ use Rattle.cg_world.specs.World.{Action, Local, Beat, Opening, Tick, Deliver, Wo
 
 -- One more action is done after all others.
 abbrev pub ActionsOneByOne : Type 0
-ActionsOneByOne = (settings : SettingsValue) (actions : List Action) (action : Action) → run settings (actions ++ action ∷ []) ≡ act (run settings actions) action
+ActionsOneByOne =
+    (settings : SettingsValue) (actions : List Action) (action : Action)
+    → run settings (actions ++ action ∷ []) ≡ act (run settings actions) action
 
 -- What an action sends, and its number.
 pub record IsNumbered (c : WorldValue) (action : Action) : Type 0 where
@@ -36,14 +39,17 @@ pub record IsNumbered (c : WorldValue) (action : Action) : Type 0 where
 abbrev pub MessagesAreNumbered : Type 0
 MessagesAreNumbered = (c : WorldValue) (action : Action) → IsNumbered c action
 
--- What a tick leaves of a world, by what a beat leaves of it: the tick is refused where the beat is, by the same fault; where the beat is done, it is the opening after the beat.
+-- What a tick leaves of a world, by what a beat leaves of it: the tick is refused where the beat is, by the same
+-- fault; where the beat is done, it is the opening after the beat.
 pub record IsBeatAndOpening (node : ℕ) (beat tick : Result WorldValue Fault) : Type 0 where
   pub refused : fault_of tick ≡ fault_of beat
   pub done : (d : WorldValue) → beat ≡ Ok d → tick ≡ acting d (Local node Opening)
 
 -- A tick is a beat and then an opening, whatever its moment and words.
 abbrev pub TicksAreBeatsAndOpenings : Type 0
-TicksAreBeatsAndOpenings = (c : WorldValue) (node now : ℕ) (words : List ℕ) → IsBeatAndOpening node (acting c (Local node Beat)) (acting c (Local node (Tick now words)))
+TicksAreBeatsAndOpenings =
+    (c : WorldValue) (node now : ℕ) (words : List ℕ)
+    → IsBeatAndOpening node (acting c (Local node Beat)) (acting c (Local node (Tick now words)))
 
 -- The world is where some actions lead.
 pub record IsReached (c : WorldValue) : Type 0 where
@@ -79,21 +85,28 @@ pub record SpellsWorld (c : WorldValue) (w : PlaceWorld) : Type 0 where
 
 -- What runs is what the places of the actions say, of which the refused ones are left out.
 abbrev pub NodesSpellPlaces : Type 0
-NodesSpellPlaces = (settings : SettingsValue) (actions : List Action) → SpellsWorld (run settings actions) (placed actions)
+NodesSpellPlaces =
+    (settings : SettingsValue) (actions : List Action) → SpellsWorld (run settings actions) (placed actions)
 
 -- The nodes refuse what the places refuse.
 abbrev pub RefusalsAgree : Type 0
-RefusalsAgree = (settings : SettingsValue) (actions : List Action) (action : Action) → fault_of (acting (run settings actions) action) ≡ refusal (placed actions) (plain action)
+RefusalsAgree =
+    (settings : SettingsValue) (actions : List Action) (action : Action)
+    → fault_of (acting (run settings actions) action) ≡ refusal (placed actions) (plain action)
 
--- A delivery is refused where there is no such message, or no such node, and never for want of room or for another cluster.
+-- A delivery is refused where there is no such message, or no such node, and never for want of room or for another
+-- cluster.
 abbrev pub DeliveriesFindRoom : Type 0
 DeliveriesFindRoom =
-    (settings : SettingsValue) (actions : List Action) (number to now : ℕ) (fault : Fault) → acting (run settings actions) (Deliver number to now) ≡ Err fault → (fault ≡ NoSuchMessage) ⊎ (fault ≡ NoSuchNode)
+    (settings : SettingsValue) (actions : List Action) (number to now : ℕ) (fault : Fault)
+    → acting (run settings actions) (Deliver number to now) ≡ Err fault → (fault ≡ NoSuchMessage) ⊎ (fault ≡ NoSuchNode)
 
 -- The delivery of a message that was sent to a node that runs is done.
 abbrev pub DeliveriesAreDone : Type 0
 DeliveriesAreDone =
-    (settings : SettingsValue) (actions : List Action) (number to now : ℕ) → is_some (at_place (run settings actions).sent number) ≡ true → is_some (map.get (run settings actions).nodes to) ≡ true
+    (settings : SettingsValue) (actions : List Action) (number to now : ℕ)
+    → is_some (at_place (run settings actions).sent number) ≡ true
+    → is_some (map.get (run settings actions).nodes to) ≡ true
     → IsOk (acting (run settings actions) (Deliver number to now))
 
 -- ---- what the tables are
@@ -102,10 +115,12 @@ DeliveriesAreDone =
 abbrev pub Runs : WorldValue → ℕ → NodeValue → Type 0
 Runs c node n = map.get c.nodes node ≡ Some n
 
--- Each node's table is the join of its own newest entry and of the entries to which the deltas led that it took since its start.
+-- Each node's table is the join of its own newest entry and of the entries to which the deltas led that it took since
+-- its start.
 abbrev pub TablesAreTheJoin : Type 0
 TablesAreTheJoin =
-    (settings : SettingsValue) (actions : List Action) (node : ℕ) (n : NodeValue) → Runs (run settings actions) node n → IsJoined (placed actions) node n.table.entries
+    (settings : SettingsValue) (actions : List Action) (node : ℕ) (n : NodeValue)
+    → Runs (run settings actions) node n → IsJoined (placed actions) node n.table.entries
 
 -- After some of the first actions the owner ran, and this was its own entry.
 pub record WasOwn (c : WorldValue) (actions : List Action) (owner : ℕ) (entry : EntryValue) : Type 0 where
@@ -119,23 +134,28 @@ pub record WasOwn (c : WorldValue) (actions : List Action) (owner : ℕ) (entry 
 -- Each entry that a node holds was its owner's own, whole, at one past time.
 abbrev pub EntriesAreWhole : Type 0
 EntriesAreWhole =
-    (settings : SettingsValue) (actions : List Action) (node : ℕ) (n : NodeValue) → Runs (run settings actions) node n → (owner : ℕ) (entry : EntryValue) → map.get n.table.entries owner ≡ Some entry
+    (settings : SettingsValue) (actions : List Action) (node : ℕ) (n : NodeValue)
+    → Runs (run settings actions) node n → (owner : ℕ) (entry : EntryValue) → map.get n.table.entries owner ≡ Some entry
     → WasOwn (new_world settings) actions owner entry
 
 -- Nodes that took the same have equal tables and rings, whatever the order and number of deliveries.
 abbrev pub EqualSetsGiveEqualTables : Type 0
 EqualSetsGiveEqualTables =
-    (settings : SettingsValue) (actions : List Action) (a b : ℕ) (one other : NodeValue) → Runs (run settings actions) a one → Runs (run settings actions) b other
-    → ((owner : ℕ) → SamePlaces (sources (placed actions) a owner) (sources (placed actions) b owner)) → AreEqual one.table.entries other.table.entries
+    (settings : SettingsValue) (actions : List Action) (a b : ℕ) (one other : NodeValue)
+    → Runs (run settings actions) a one → Runs (run settings actions) b other
+    → ((owner : ℕ) → SamePlaces (sources (placed actions) a owner) (sources (placed actions) b owner))
+    → AreEqual one.table.entries other.table.entries
 
 -- Nodes with equal digests have equal tables and rings.
 abbrev pub EqualDigestsGiveEqualTables : Type 0
 EqualDigestsGiveEqualTables =
-    (settings : SettingsValue) (actions : List Action) (a b : ℕ) (one other : NodeValue) → Runs (run settings actions) a one → Runs (run settings actions) b other
+    (settings : SettingsValue) (actions : List Action) (a b : ℕ) (one other : NodeValue)
+    → Runs (run settings actions) a one → Runs (run settings actions) b other
     → digests_of one.table.entries ≡ digests_of other.table.entries → AreEqual one.table.entries other.table.entries
 
 -- The merged tables of three nodes are the join of their places.
 abbrev pub MergesOfNodesAreTheJoin : Type 0
 MergesOfNodesAreTheJoin =
-    (settings : SettingsValue) (actions : List Action) (a b c : ℕ) (one two three : NodeValue) → Runs (run settings actions) a one → Runs (run settings actions) b two → Runs (run settings actions) c three
+    (settings : SettingsValue) (actions : List Action) (a b c : ℕ) (one two three : NodeValue)
+    → Runs (run settings actions) a one → Runs (run settings actions) b two → Runs (run settings actions) c three
     → IsMergedOf (placed actions) a b c (merged (merged one.table.entries two.table.entries) three.table.entries)

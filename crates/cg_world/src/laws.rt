@@ -1,6 +1,6 @@
-//! Laws of every list of actions: what holds of the nodes as they run. Each is the contract of an empty function, but for
-//! three calls on a world in hand, `merge_is_join`, `equal_digests` and `exchange_reaches_join`. Laws of the same actions by places stand in
-//! `cg_places`.
+//! Laws of every list of actions: what holds of the nodes as they run. Each is the contract of an empty function, but
+//! for three calls on a world in hand, `merge_is_join`, `equal_digests` and `exchange_reaches_join`. Laws of the same
+//! actions by places stand in `cg_places`.
 
 ghost use Rattle.cg_world.specs.Exchange.{
   ExchangesEndAtTheJoin,
@@ -41,9 +41,9 @@ pub use worlds::{equal_digests, merge_is_join};
 
 // ---- the headline
 
-/// The headline: after every list of actions each node's table holds of each owner the furthest of its own entry and of
-/// those to which the deltas led that it took since its start; each was its owner's own, whole, at one past time; so equal
-/// sets give equal tables, and equal digests give equal tables and rings.
+/// The headline: after every list of actions each node's table holds of each owner the furthest of its own entry and
+/// of those to which the deltas led that it took since its start; each was its owner's own, whole, at one past time;
+/// so equal sets give equal tables, and equal digests give equal tables and rings.
 pub fn headline()
     ensures { HeadlineHolds }
 {}

@@ -182,8 +182,12 @@ impl Nodes {
         after: Node,
         reply: Reply,
     ) -> Result<Shown, AllocError>
-        ensures ok { IfOk result (λ shown. (self.new ≡ with_sent (with_node self.old endpoint after) (message_of_reply reply))
-            × (shown ≡ record { reply = Some reply; sent = option_map (λ m. length self.old.sent + 1) (message_of_reply reply) })) }
+        ensures ok { IfOk result (λ shown.
+            (self.new ≡ with_sent (with_node self.old endpoint after) (message_of_reply reply))
+            × (shown ≡ record {
+              reply = Some reply;
+              sent = option_map (λ m. length self.old.sent + 1) (message_of_reply reply);
+            })) }
         ensures err { OnErr result (self.new ≡ self.old) }
     {
         let nodes = self.nodes.put(alloc, endpoint, after)?;

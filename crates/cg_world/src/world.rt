@@ -1,6 +1,6 @@
 //! All nodes of a cluster, as a list of actions leaves them.
 
-ghost use Rattle.std.specs.Prelude.{◌≡◌, IfOk, IfErr, OnOk, OnErr, length, option_copied};
+ghost use Rattle.std.specs.Prelude.{◌≡◌, ◌≤◌, IsOk, IfOk, IfErr, OnOk, OnErr, [], length, vec_capacity, option_copied};
 ghost use Rattle.std.specs.FinMap as map;
 ghost use Rattle.cg_types.specs.declared.fault.Fault.TheVariants as faults;
 ghost use Rattle.cg_types.specs.Answer.{Answers};
@@ -119,10 +119,10 @@ impl World {
     /// Does an action, and tells what it shows. A refused action changes nothing.
     ///
     /// `NotRising` for a start in a generation that is not greater than that of the endpoint's last start, and
-    /// `TableFull` where it would be one endpoint more than `MEMBER_LIMIT`. `NoSuchMessage`, and then `NoSuchNode`, for a
-    /// delivery of what was not sent, or to whom no node runs; `NoSuchNode` for a local event of none. `VersionsSpent` for a
-    /// beat, a set or a tick where the node's versions are spent; a delivery has no other refusal
-    /// (`laws::deliveries_find_room`). Else at most `OutOfMemory`.
+    /// `TableFull` where it would be one endpoint more than `MEMBER_LIMIT`. `NoSuchMessage`, and then `NoSuchNode`,
+    /// for a delivery of what was not sent, or to whom no node runs; `NoSuchNode` for a local event of none.
+    /// `VersionsSpent` for a beat, a set or a tick where the node's versions are spent; a delivery has no other
+    /// refusal (`laws::deliveries_find_room`). Else at most `OutOfMemory`.
     pub fn act(&mut self, alloc: Global, action: &Action) -> Result<Shown, Fault>
         ensures shown { Answers (λ s. s) (showing self.old action.now) result }
         ensures done { OnOk result (self.new ≡ after_act self.old action.now) }
@@ -138,7 +138,7 @@ impl World {
     /// one before it, after the actions that were done.
     ///
     /// `OutOfMemory` comes in place of a world only where the list of answers could not be made, before the first
-    /// action.
+    /// action: all that follows is `run_in`, which can't fail.
     pub fn run(
         alloc: Global,
         settings: Settings,
@@ -146,20 +146,39 @@ impl World {
     ) -> Result<(World, Vec<Result<Shown, Fault>>), Fault>
         ensures ran { IfOk result (λ x. Ran (new_world settings) actions.now x.1.items x.0) }
         ensures consistent { IfOk result (λ x. IsConsistent settings (done_of actions.now x.1.items) x.0) }
+        // Whatever list of actions leads to this world, the headline holds of that list.
+        ensures world { IfOk result (λ x. IsConsistentWorld x.0) }
         ensures err { IfErr result (λ f. f ≡ faults.OutOfMemory) }
+        // No room is needed for no answers.
+        ensures empty { actions.now ≡ [] → IsOk result }
+    {
+        let room = Vec::with_capacity(alloc, actions.len())?;
+        Ok(World::run_in(alloc, settings, actions, room))
+    }
+
+    /// What `run` does once the list of answers is made: it is handed a list with room for one answer for each action,
+    /// whose members it drops. It always answers a world.
+    pub fn run_in(
+        alloc: Global,
+        settings: Settings,
+        actions: &[Action],
+        mut answers: Vec<Result<Shown, Fault>>,
+    ) -> (World, Vec<Result<Shown, Fault>>)
+        requires { length actions.now ≤ vec_capacity answers }
+        ensures ran { Ran (new_world settings) actions.now result.1.items result.0 }
+        ensures consistent { IsConsistent settings (done_of actions.now result.1.items) result.0 }
+        ensures world { IsConsistentWorld result.0 }
     {
         let mut world = World::new(alloc, settings);
-        let mut answers = Vec::with_capacity(alloc, actions.len())?;
+        answers.clear();
         for action in actions {
             let answer = world.act(alloc, action);
             let ends = is_short(&answer);
-            let Ok(()) = answers.push(answer) else {
-                unreachable!()
-            };
+            answers.push_reserved(answer);
             if ends {
-                return Ok((world, answers));
+                return (world, answers);
             }
         }
-        Ok((world, answers))
+        (world, answers)
     }
 }

@@ -20,8 +20,8 @@ fn merge_three(alloc: Global, one: &Table, two: &Table, three: &Table) -> Result
     both.merge(alloc, three)
 }
 
-/// The merge of the tables of three nodes, that of the first with the entries of all: its entries spell the join of what
-/// the three hold, and there are no more than endpoints started.
+/// The merge of the tables of three nodes, that of the first with the entries of all: its entries spell the join of
+/// what the three hold, and there are no more than endpoints started.
 ///
 /// `NoSuchNode` where one of the three does not run; else at most `OutOfMemory`.
 pub fn merge_is_join(
@@ -40,7 +40,8 @@ pub fn merge_is_join(
     merge_three(alloc, one.table(), two.table(), three.table())
 }
 
-/// Whether two nodes have equal digests: exactly where their tables hold the same entries, and then their rings are equal.
+/// Whether two nodes have equal digests: exactly where their tables hold the same entries, and then their rings are
+/// equal.
 ///
 /// `NoSuchNode` where one of the two does not run. It takes no memory.
 pub fn equal_digests(world: &World, a: Endpoint, b: Endpoint) -> Result<bool, Fault>

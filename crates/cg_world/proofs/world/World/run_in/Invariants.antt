@@ -3,7 +3,7 @@ use Rattle.cg_types.specs.declared.fault.Fault.{Fault}
 use Rattle.cg_world.specs.declared.world.Shown.{Shown}
 use Rattle.cg_world.specs.Acting.{Ran}
 use Rattle.cg_world.specs.World.{WorldValue, new_world}
-use Rattle.cg_world.proofs.world.World.run.Given as goal
+use Rattle.cg_world.proofs.world.World.run_in.Given as goal
 
 -- What the rest of the actions answer, all of them answer, behind the answers so far, for which there is room.
 abbrev pub invariant-loop-action : goal.invariant-loop-action
