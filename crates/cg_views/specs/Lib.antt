@@ -1,0 +1,5 @@
+pub mod Lists
+pub mod Law
+pub mod Shows
+pub mod Rules
+pub mod Reading

@@ -1,0 +1,46 @@
+-- What is shown, and what a publisher has beside it.
+use Rattle.std.specs.Prelude.{◌≡◌, true, List, drop, length, refl, fold}
+use mathlib.Core.List.{IsPrefix}
+use Rattle.std.specs.Coded.{Coded, code_by, coded×}
+use Rattle.logbook.specs.Pages.{Book}
+use Rattle.cg_table.specs.Values.{TableValue, table_code}
+use Rattle.cg_table.specs.Puts.{with_puts, keep_order}
+use Rattle.cg_views.specs.Lists.{joined, FrontValue, front_code, PublisherValue}
+
+-- a table, and all operations that made it
+pub record ShownValue : Type 0 where
+  pub table : TableValue
+  pub front : FrontValue
+
+-- what is taken in last is what is shown
+abbrev pub latest : ShownValue → ShownValue → ShownValue
+latest s o = o
+
+-- The table is the opening one after the puts of the operations, each later than what stood.
+pub record IsSound (book : Book) (opening : TableValue) (s : ShownValue) : Type 0 where
+  pub of_book : s.front.of ≡ book
+  pub table_is : s.table ≡ with_puts opening (joined s.front.all)
+  pub order : keep_order opening (joined s.front.all) ≡ true
+
+-- what a publisher shows, by the operations that are published and by all that were appended
+abbrev pub publisher_of : TableValue → FrontValue → FrontValue → PublisherValue
+publisher_of opening shown last = record {
+  opening = opening;
+  published = joined shown.all;
+  pending = joined (drop (length shown.all) last.all);
+}
+
+-- The operations that are pending lead from what is shown to what was appended last.
+pub record IsPublisher (book : Book) (opening : TableValue) (shown : ShownValue) (pending : List ShownValue)
+    (last : ShownValue) (head : Book) : Type 0 where
+  pub shown_sound : IsSound book opening shown
+  pub last_sound : IsSound book opening last
+  pub leads : fold latest shown pending ≡ last
+  pub begins : IsPrefix shown.front.all last.front.all
+  pub head_is : head ≡ book
+
+-- the code that the model of what is shown asks for
+abbrev pub shown_code : Coded ShownValue
+shown_code =
+    code_by (TableValue × FrontValue) (coded× table_code front_code) (λ s. (s.table, s.front))
+    (λ p. record { table = p.0; front = p.1 }) (λ _. refl)

@@ -1,0 +1,71 @@
+//! Whether puts may follow in a table.
+
+ghost use Rattle.std.specs.Prelude.{◌≡◌, ◌↔◌, IsTrue};
+ghost use Rattle.std.specs.FinMap as map;
+ghost use Rattle.std.specs.List.{list_all};
+ghost use Rattle.cg_types.specs.Rising.{Rises};
+ghost use Rattle.cg_map.specs.Rows.{keys_of};
+ghost use Rattle.cg_table.specs.Puts.{is_held_from, keeps_keys as keeps_keys_of};
+ghost use Rattle.cg_table.specs.Puts.{is_in_order as is_in_order_of, keep_order as keep_order_of};
+ghost use Rattle.cg_views.specs.Lists.{MayFollow};
+
+use cg_entry::{Entry, State};
+use cg_map::Row;
+use cg_table::{Puts, Table};
+
+// Whether an entry has the state's key, and not at a smaller version.
+fn keeps_key(entry: &Entry, state: &State) -> bool
+    ensures { result ≡ is_held_from state.now.version (map.get entry.now.states state.now.key) }
+{
+    match entry.get(state.key) {
+        Some((_text, version)) => state.version.get() <= version.get(),
+        None => false,
+    }
+}
+
+fn keeps_each(entry: &Entry, states: &[State]) -> bool
+    ensures { result ≡ list_all (λ s. is_held_from s.version (map.get entry.now.states s.key)) states.now }
+{
+    states.iter().all(|state| keeps_key(entry, state))
+}
+
+fn keeps_keys(before: &Entry, after: &Entry) -> bool
+    ensures { result ≡ keeps_keys_of before.now.states after.now.states }
+{
+    keeps_each(after, before.states())
+}
+
+// Whether a row is later than what is held, and goes on from it where it is the table's own.
+fn is_in_order(table: &Table, row: &Row<Entry>) -> bool
+    ensures { result ≡ is_in_order_of table.now row.now }
+{
+    let is_own = row.endpoint() == table.own();
+    let after = row.value();
+    let Some(before) = table.get(row.endpoint()) else {
+        return !is_own;
+    };
+    let goes_on = after.generation() == before.generation() && keeps_keys(before, after);
+    after.is_later(before) && (!is_own || goes_on)
+}
+
+fn each_is_in_order(table: &Table, rows: &[Row<Entry>]) -> bool
+    ensures { result ≡ list_all (is_in_order_of table.now) rows.now }
+{
+    rows.iter().all(|row| is_in_order(table, row))
+}
+
+// Since the rows rise, what is held before each is what the table holds.
+fn keep_order(table: &Table, rows: &[Row<Entry>]) -> bool
+    requires { Rises (keys_of rows.now) }
+    ensures { result ≡ keep_order_of table.now rows.now }
+{
+    each_is_in_order(table, rows)
+}
+
+/// Whether puts may follow in a table.
+pub(crate) fn may_follow(table: &Table, puts: &Puts) -> bool
+    ensures { IsTrue result ↔ MayFollow table.now puts.now }
+{
+    let rows = puts.rows();
+    keep_order(table, rows) && table.has_room_for(rows)
+}

@@ -1,0 +1,171 @@
+//! The one who publishes.
+
+ghost use Rattle.std.specs.Prelude.{◌≡◌, ◌∷◌, ◌<◌, ◌≤◌, ◌↔◌, [], vec_len, IfOk, IfSome, IsTrue, OnOk, OnErr};
+ghost use Rattle.std.specs.List.{All};
+ghost use Rattle.left_right.specs.Sides.{view};
+ghost use Rattle.cg_views.specs.Lists.{MayAppend, appended, opened_with, all_published};
+
+use crate::front::{Head, Naming, Opened};
+use crate::pass::{Pass, Told};
+use crate::shown::{Known, Published, Sees, Shown};
+use cg_entry::Entry;
+use cg_table::{Puts, Table};
+use cg_types::Endpoint;
+use core::mem::replace_with;
+use left_right::reader::Reader;
+use left_right::writer::Writer;
+use std::alloc::{AllocError, Global};
+use std::marker::Model;
+use std::sync::Wait;
+
+/// The one who publishes. A contract sees the table that the views open with, the puts that are published, and those
+/// that are pending. It is ended by `close`.
+pub struct Publisher<N: Naming> {
+    writer: Writer<Shown, Shown, Known, Published<N>>,
+    last: Shown,
+    book: Head,
+}
+
+impl<N: Naming> Model for Publisher<N> {
+    ghost use Rattle.std.specs.Prelude.{drop};
+    ghost use Rattle.cg_views.specs.Lists.{PublisherValue, publisher_code};
+    ghost use Rattle.cg_views.specs.Shows.{publisher_of, IsPublisher};
+
+    ghost Value = { PublisherValue };
+
+    ghost coded = { publisher_code };
+
+    ghost view = { λ p. publisher_of N.opening p.writer.desk.shown.value.front p.last.front };
+
+    ghost invariant = { λ p.
+        IsPublisher N.book N.opening p.writer.desk.shown.value (drop p.writer.behind p.writer.log.items) p.last
+        p.book.head.book };
+}
+
+impl<N: Naming> Publisher<N> {
+    /// Whether puts may be appended: each is later than what stands for its owner in the opening table or was appended
+    /// since, the own one keeps the generation and all keys, none at a smaller version, and with them at most
+    /// `MEMBER_LIMIT` owners stand. It takes no memory.
+    pub fn may_append(&self, puts: &Puts) -> bool
+        ensures { IsTrue result ↔ MayAppend self.now puts.now }
+    {
+        self.last.may_follow(puts)
+    }
+
+    // Makes one operation of these puts.
+    fn add(&mut self, alloc: Global, puts: &Puts) -> Result<(), AllocError>
+        requires { MayAppend self.old puts.now }
+        ensures ok { OnOk result (self.new ≡ appended puts.now self.old) }
+        ensures err { OnErr result (self.new ≡ self.old) }
+    {
+        let table = self.last.table_with(alloc, puts)?;
+        let mut after = self.last.front();
+        if after.len() >= 1 << 62 || !after.add(&self.book, puts) {
+            // The publisher alone adds to its book, so this is never so, though no proof rules it out.
+            return Err(AllocError);
+        }
+        let next = Shown::of(alloc, table, after)?;
+        let operation = next.again()?;
+        match self.writer.append(operation) {
+            Ok(()) => {
+                self.last = next;
+                Ok(())
+            }
+            Err(_) => Err(AllocError),
+        }
+    }
+
+    /// Makes one operation of a put, which is then pending. `may_append` tells whether it may. Refused, for want of
+    /// memory, it changes nothing, and the entry is gone.
+    pub fn append(&mut self, alloc: Global, owner: Endpoint, entry: Entry) -> Result<(), AllocError>
+        requires { MayAppend self.old ((owner, entry) ∷ []) }
+        ensures ok { OnOk result (self.new ≡ appended ((owner, entry) ∷ []) self.old) }
+        ensures err { OnErr result (self.new ≡ self.old) }
+    {
+        let put = Puts::one(alloc, owner, entry)?;
+        self.add(alloc, &put)
+    }
+
+    /// Makes one operation of all these puts, which are then pending. `may_append` tells whether they may; no puts
+    /// always may, and make an operation too. Refused, for want of memory, it changes nothing, and the list is gone.
+    pub fn append_all(&mut self, alloc: Global, puts: Puts) -> Result<(), AllocError>
+        requires { MayAppend self.old puts }
+        ensures ok { OnOk result (self.new ≡ appended puts self.old) }
+        ensures err { OnErr result (self.new ≡ self.old) }
+    {
+        self.add(alloc, &puts)
+    }
+
+    /// Moves all pending puts, in order, to the end of the published ones. It waits for passes that still read the
+    /// table before the last one. Refused, for want of memory, it changes neither.
+    pub fn publish<R: Wait>(&mut self, rt: &R) -> Result<(), AllocError>
+        ensures ok { OnOk result (self.new ≡ all_published self.old) }
+        ensures err { OnErr result (self.new ≡ self.old) }
+    {
+        replace_with(self, rt, publish_out)
+    }
+
+    /// What is published. It takes no memory.
+    pub fn tell(&self) -> Told<N>
+        ensures { result ≡ self.now.published }
+    {
+        Told::over(self.writer.published().front())
+    }
+
+    // A reader that has seen nothing. There are as many places as passes, so there is always one, though no proof
+    // says so.
+    fn reader(&self) -> Option<Reader<Shown, Known, Published<N>>>
+        ensures { IfSome result (λ r. view r.place ≡ []) }
+    {
+        self.writer.factory().reader().ok()
+    }
+
+    /// Waits for those who read, and ends the views: from then on passes read nothing.
+    pub fn close<R: Wait>(self, rt: &R) {
+        let Publisher {
+            writer,
+            last: _last,
+            book: _book,
+        } = self;
+        writer.take(rt);
+    }
+}
+
+fn publish_out<N: Naming, R: Wait>(
+    publisher: Publisher<N>,
+    rt: &R,
+) -> (Publisher<N>, Result<(), AllocError>)
+    ensures ok { OnOk result.1 (result.0 ≡ all_published publisher) }
+    ensures err { OnErr result.1 (result.0 ≡ publisher) }
+{
+    let Publisher { writer, last, book } = publisher;
+    let (writer, result) = writer.publish_as::<Sees<N>, R>(rt);
+    match result {
+        Ok(()) => (Publisher { writer, last, book }, Ok(())),
+        Err(_) => (Publisher { writer, last, book }, Err(AllocError)),
+    }
+}
+
+/// A publisher of a table, and so many passes, 1 to 16. `AllocError` where one of its parts finds no memory.
+pub fn views<N: Naming>(
+    alloc: Global,
+    opened: Opened,
+    table: Table,
+    readers: usize,
+) -> Result<(Publisher<N>, Vec<Pass<N>>), AllocError>
+    requires book { opened ≡ N.book }
+    requires opening { table ≡ N.opening }
+    requires readers { (0 < readers) × (readers ≤ 16) }
+    ensures publisher { IfOk result (λ r. r.0 ≡ opened_with N.opening) }
+    ensures passes { IfOk result (λ r. (vec_len r.1 ≡ readers) × All (λ p. p ≡ []) r.1.items) }
+{
+    let mut passes = Vec::with_capacity(alloc, readers)?;
+    let (book, front) = opened.begin();
+    let last = Shown::of(alloc, table, front)?;
+    let writer = Writer::new(alloc, last.again()?, last.again()?, readers)?;
+    let publisher = Publisher { writer, last, book };
+    for _ in 0..readers {
+        passes.push_reserved(Pass::over(publisher.reader(), publisher.last.front()));
+    }
+    Ok((publisher, passes))
+}
