@@ -14,7 +14,7 @@ mod timing;
 mod world;
 
 use model::Endpoint;
-use naive::{cluster, empty, held, read, Ack, Ack2, Message, Syn, Table};
+use naive::{cluster, empty, held, read, Ack, Ack2, Entry, Message, Syn, Table};
 use std::hint::black_box;
 use timing::{case, Mode};
 use world::*;
@@ -120,6 +120,47 @@ fn gossip(mode: Mode, tag: &str, states: usize, text: usize) {
     exchange(mode, &format!("equal_{tag}"), &full, &other);
     exchange(mode, &format!("beats_{tag}"), &left, &right);
     exchange(mode, &format!("join_{tag}"), &alone, &other);
+}
+
+/// An exchange of two tables that hold the same, over links in memory.
+fn links(mode: Mode, tag: &str, states: usize, text: usize) {
+    let mut opener = table(0, 256, states, text);
+    for (number, generation) in [(0, 5), (255, 6)] {
+        let bare = Entry {
+            generation,
+            heartbeat: 1,
+            ..entry(number, 0, 0)
+        };
+        opener.entries.insert(Endpoint::number(number), bare);
+    }
+    let mut answerer = opener.clone();
+    answerer.own = Endpoint::number(255);
+    let (to_opener, to_answerer) = naive::inputs(&opener, &answerer);
+    case(
+        mode,
+        &format!("naive_links_equal_{tag}"),
+        || naive::linked(&opener, &answerer, &to_opener, &to_answerer),
+        |(one, other)| [held(&one.0), one.1.clone(), held(&other.0), other.1.clone()].concat(),
+    );
+    let (opener, answerer) = (shared::of_naive(&opener), shared::of_naive(&answerer));
+    case(
+        mode,
+        &format!("shared_links_equal_{tag}"),
+        || shared::linked(&opener, &answerer, &to_opener, &to_answerer),
+        |(one, other)| [shared::held(&one.0), one.1.clone(), shared::held(&other.0), other.1.clone()].concat(),
+    );
+}
+
+/// The ACK that brings a whole table, read from a link in memory.
+fn messages(mode: Mode, tag: &str, states: usize, text: usize) {
+    let whole = naive::answer_syn(&table(255, 256, states, text), &cluster(), &empty()).unwrap();
+    let frame = naive::encode(&Message::Ack(whole));
+    case(
+        mode,
+        &format!("naive_receive_whole_{tag}"),
+        || naive::received(&mut black_box(&frame[..])),
+        naive::encode,
+    );
 }
 
 /// Endpoint 0, just started, which has taken all that the others hold.
@@ -252,4 +293,6 @@ fn main() {
     }
     rings(mode);
     windows(mode);
+    links(mode, "16x64", 16, 64);
+    messages(mode, "16x1024", 16, 1024);
 }

@@ -515,3 +515,51 @@ pub fn exchanged(opener: &Table, answerer: &Table) -> (Table, Table) {
     let Message::Ack2(m) = read(&frame) else { panic!() };
     (opener, take_ack2(answerer, &m).unwrap().0)
 }
+
+/// What one side of an exchange over links is after it, and what it wrote.
+pub type Part = (Table, Vec<u8>);
+
+/// The opener's part: it reads the frame of an ACK.
+fn opened(own: &Table, mut input: &[u8]) -> Part {
+    let mut written = encode(&Message::Syn(syn(own, &cluster())));
+    let Message::Ack(m) = received(&mut input) else { panic!() };
+    let (after, m, _) = take_ack(own, &m).unwrap();
+    written.extend(encode(&Message::Ack2(m)));
+    (after, written)
+}
+
+/// The answerer's part: it reads the frames of a SYN and an ACK2.
+fn answered(own: &Table, mut input: &[u8]) -> Part {
+    let Message::Syn(m) = received(&mut input) else { panic!() };
+    let written = encode(&Message::Ack(answer_syn(own, &cluster(), &m).unwrap()));
+    let Message::Ack2(m) = received(&mut input) else { panic!() };
+    (take_ack2(own, &m).unwrap().0, written)
+}
+
+/// What each side reads in an exchange: the opener the ACK, the answerer the SYN and the ACK2.
+pub fn inputs(opener: &Table, answerer: &Table) -> (Vec<u8>, Vec<u8>) {
+    let m = syn(opener, &cluster());
+    let ack = answer_syn(answerer, &cluster(), &m).unwrap();
+    let (_, ack2, _) = take_ack(opener, &ack).unwrap();
+    let to_answerer = [encode(&Message::Syn(m)), encode(&Message::Ack2(ack2))].concat();
+    (encode(&Message::Ack(ack)), to_answerer)
+}
+
+/// Both parts of an exchange, each over a link in memory.
+pub fn linked(opener: &Table, answerer: &Table, to_opener: &[u8], to_answerer: &[u8]) -> (Part, Part) {
+    (opened(opener, to_opener), answered(answerer, to_answerer))
+}
+
+/// One message of a reader, read in pieces of at most 4,096 bytes.
+pub fn received(reader: &mut impl std::io::Read) -> Message {
+    let mut frame = vec![0; 4];
+    reader.read_exact(&mut frame).unwrap();
+    let end = 4 + u32::from_be_bytes(frame[..4].try_into().unwrap()) as usize;
+    let mut piece = [0; 4096];
+    while frame.len() < end {
+        let room = (end - frame.len()).min(piece.len());
+        let count = reader.read(&mut piece[..room]).unwrap();
+        frame.extend_from_slice(&piece[..count]);
+    }
+    read(&frame)
+}

@@ -6,10 +6,12 @@ use anyhow::Result;
 use bytes::Bytes;
 use cg_core::Node;
 use cg_exchange::Message;
+use cg_history::History;
 use cg_silence::Verdict;
 use cg_table::Table;
 use cg_tokens::Ring;
 use cg_types::{Endpoint, Fault};
+use cg_world::World;
 use md5::{Digest, Md5};
 use std::alloc::Global;
 
@@ -26,6 +28,11 @@ pub(crate) enum Made {
     Ring(Ring),
     Replicas(Vec<Endpoint>),
     Verdict(Verdict),
+    History(History),
+    Stray(Option<usize>),
+    Linked((Node, Vec<u8>), (Node, Vec<u8>)),
+    Text(Vec<u8>),
+    World(World),
 }
 
 // All that a table holds, as the ACK that brings it.
@@ -87,6 +94,47 @@ fn add_answered(alloc: Global, hasher: &mut Md5, table: &Table, frame: &Bytes) -
     Ok(())
 }
 
+// A node's table, and what it wrote.
+fn add_part(alloc: Global, hasher: &mut Md5, part: &(Node, Vec<u8>)) -> Result<()> {
+    let (node, written) = part;
+    add_table(alloc, hasher, node.table())?;
+    hasher.update(written);
+    Ok(())
+}
+
+fn add_parts(
+    alloc: Global,
+    hasher: &mut Md5,
+    one: &(Node, Vec<u8>),
+    other: &(Node, Vec<u8>),
+) -> Result<()> {
+    add_part(alloc, hasher, one)?;
+    add_part(alloc, hasher, other)
+}
+
+fn add_stray(alloc: Global, hasher: &mut Md5, place: Option<usize>) -> Result<()> {
+    match place {
+        Some(place) => hasher.update(format!(in alloc; "{place}\n")?.as_bytes()),
+        None => hasher.update(b"confirmed\n"),
+    }
+    Ok(())
+}
+
+// The table of a node of a world, if the node runs.
+fn add_node(alloc: Global, hasher: &mut Md5, world: &World, endpoint: Endpoint) -> Result<()> {
+    match world.node(endpoint) {
+        Some(node) => add_table(alloc, hasher, node.table()),
+        None => Ok(()),
+    }
+}
+
+fn add_world(alloc: Global, hasher: &mut Md5, world: &World) -> Result<()> {
+    for endpoint in world.endpoints(alloc)? {
+        add_node(alloc, hasher, world, endpoint)?;
+    }
+    Ok(())
+}
+
 fn add(alloc: Global, hasher: &mut Md5, made: &Made) -> Result<()> {
     match made {
         Made::Frame(frame) => {
@@ -105,6 +153,14 @@ fn add(alloc: Global, hasher: &mut Md5, made: &Made) -> Result<()> {
             hasher.update(verdict_name(*verdict).as_bytes());
             Ok(())
         }
+        Made::History(history) => add_table(alloc, hasher, history.node().table()),
+        Made::Stray(place) => add_stray(alloc, hasher, *place),
+        Made::Linked(one, other) => add_parts(alloc, hasher, one, other),
+        Made::Text(text) => {
+            hasher.update(text);
+            Ok(())
+        }
+        Made::World(world) => add_world(alloc, hasher, world),
     }
 }
 

@@ -6,6 +6,7 @@ use crate::work::Work;
 use anyhow::{Context, Result};
 use cg_core::{Event, Node, Settings};
 use cg_exchange::Ack;
+use cg_history::History;
 use cg_silence::Silence;
 use cg_types::{Generation, StateKey, StateText};
 use std::alloc::Global;
@@ -16,12 +17,20 @@ fn settings(alloc: Global) -> Result<Settings> {
     Settings::new(cluster(alloc)?, Vec::new(alloc), silence).context("settings of a node")
 }
 
-// Endpoint 0, which has just started.
-fn started(alloc: Global) -> Result<Node> {
+/// An endpoint that has just started.
+pub(crate) fn started(alloc: Global, number: usize, generation: u32) -> Result<Node> {
+    let own = endpoint(number)?;
+    let generation = Generation::new(generation).context("a generation")?;
+    let settings = settings(alloc)?;
+    Ok(Node::start(alloc, own, generation, settings)?)
+}
+
+/// The history of endpoint 0, which has just started.
+pub(crate) fn begun(alloc: Global) -> Result<History> {
     let own = endpoint(0)?;
     let generation = Generation::new(5).context("a generation")?;
     let settings = settings(alloc)?;
-    Ok(Node::start(alloc, own, generation, settings)?)
+    Ok(History::begin(alloc, own, generation, settings)?)
 }
 
 /// The node after an event.
@@ -36,16 +45,16 @@ fn comes(alloc: Global, now: u64, ack: &Ack) -> Result<Event> {
     Ok(Event::Ack2 { now, m })
 }
 
-// The event of all that the others hold.
-fn others(alloc: Global, shape: Shape) -> Result<Event> {
+/// The event of all that the others hold.
+pub(crate) fn others(alloc: Global, shape: Shape) -> Result<Event> {
     let others = full(alloc, 255, shape, Newer::Nothing)?;
     let ack = bringing(alloc, &others)?;
     comes(alloc, 1000, &ack)
 }
 
-// Endpoint 0, which has taken all that the others hold.
-fn joined(alloc: Global, shape: Shape) -> Result<Node> {
-    let node = started(alloc)?;
+/// Endpoint 0, which has taken all that the others hold.
+pub(crate) fn joined(alloc: Global, shape: Shape) -> Result<Node> {
+    let node = started(alloc, 0, 5)?;
     let others = others(alloc, shape)?;
     after(alloc, &node, &others)
 }

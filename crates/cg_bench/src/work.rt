@@ -2,16 +2,21 @@
 
 use crate::answers::{answered, ended, exchanged, opened, taken};
 use crate::frames::{fault, read, write};
+use crate::histories::{confirmed, recorded, stepped};
+use crate::links::{Side, linked, received};
 use crate::made::Made;
 use crate::nodes::after;
 use crate::rings::{last_verdict, replicas, replicas_of_keys, ring, verdicts};
+use crate::scripts::{acted, printed};
 use anyhow::Result;
 use cg_core::{Event, Node};
 use cg_exchange::{Ack2, Message};
+use cg_history::{History, Receipt};
 use cg_silence::{Silence, Window};
 use cg_table::Table;
 use cg_tokens::{Ring, Token};
 use cg_types::Cluster;
+use cg_world::Action;
 use std::alloc::Global;
 
 /// One piece of work, with what it works on.
@@ -45,6 +50,20 @@ pub(crate) enum Work<'a, 'b, 'c> {
     Verdicts(&'a Window),
     /// One step of a node.
     Step(&'a Node, &'b Event),
+    /// Steps of a node that starts, one after the other.
+    Steps(&'a [Event]),
+    /// The same as records of a history.
+    Records(&'a [Event]),
+    /// Confirms receipts.
+    Confirms(&'a History, &'b [Receipt]),
+    /// Both parts of an exchange, over links in memory.
+    Links(&'a Side, &'b Side),
+    /// Reads the one message of a link.
+    Receive(&'a [u8]),
+    /// Plays a script.
+    Script(&'a str),
+    /// Does the actions of a script.
+    Actions(&'a [Action]),
 }
 
 /// What one turn of the work makes.
@@ -66,5 +85,12 @@ pub(crate) fn turn(alloc: Global, work: &Work<'_, '_, '_>) -> Result<Made> {
         Work::Arrivals(silence) => last_verdict(alloc, *silence).map(Made::Verdict),
         Work::Verdicts(window) => Ok(Made::Verdict(verdicts(window))),
         Work::Step(node, event) => after(alloc, node, event).map(Made::Node),
+        Work::Steps(events) => stepped(alloc, events),
+        Work::Records(events) => recorded(alloc, events),
+        Work::Confirms(history, receipts) => Ok(confirmed(history, receipts)),
+        Work::Links(opener, answerer) => linked(alloc, opener, answerer),
+        Work::Receive(frame) => received(alloc, frame).map(Made::Message),
+        Work::Script(script) => printed(alloc, script),
+        Work::Actions(actions) => acted(alloc, actions),
     }
 }

@@ -1,3 +1,4 @@
 pub mod Items
 pub mod History
+pub mod Marks
 pub mod Confirming

@@ -1,17 +1,24 @@
 //! Whether receipts are a history's own.
 
 ghost use Rattle.std.specs.Prelude.{◌↔◌, IsTrue, MatchResult};
+ghost use Rattle.cg_history.specs.Marks.{AreMarked};
 ghost use Rattle.cg_history.specs.Confirming.{IsOf, Stands, Follows, AreInOrder, AreConfirmed, IsFirstStray};
 
 use crate::history::History;
 use crate::item::{Item, Receipt, Stray};
+use crate::marks::Marks;
 use cg_types::Fault;
 
-// Whether a receipt comes after the earlier ones of its caller, where each of those does: the nearest one tells.
-fn follows(before: &[Receipt], receipt: &Receipt) -> bool
-    requires { AreInOrder before.now }
+// Whether a receipt comes after the earlier ones of its caller, where each of those does: it does where it has a greater
+// number than all of the caller's group; else the nearest one tells.
+fn follows(before: &[Receipt], marks: &Marks, receipt: &Receipt) -> bool
+    requires order { AreInOrder before.now }
+    requires marked { AreMarked marks.now before.now }
     ensures { IsTrue result ↔ Follows before.now receipt.now }
 {
+    if marks.of(receipt.caller) < receipt.number {
+        return true;
+    }
     let mut place = before.len();
     while place > 0 {
         place -= 1;
@@ -47,22 +54,25 @@ impl History {
     /// Says whether each receipt stands in the history at its number, with its caller, event and reply, and numbers
     /// rise for each caller. If not, it answers the first receipt that does not, as `Stranger`. It takes no memory.
     ///
-    /// Each receipt is compared with its record, and its number with that of the nearest earlier receipt of its
-    /// caller: that takes as many steps as there are receipts of others between the two, so it is at its slowest for a
-    /// list in which most callers have a single receipt.
+    /// Each receipt is compared with its record, and its number with the greatest so far among callers that leave the
+    /// same rest by 1,024. Only where that is no smaller is it compared with the nearest earlier receipt of its caller,
+    /// in as many steps as there are receipts of others between the two. So the time is linear in the receipts where
+    /// numbers rise, and where no two callers leave the same rest; it is quadratic at worst.
     pub fn confirms(&self, receipts: &[Receipt]) -> Result<(), Stray>
         ensures { MatchResult result
             (λ _. AreConfirmed self.now.records receipts.now)
             (λ stray. IsFirstStray self.now.records receipts.now stray) }
     {
+        let mut marks = Marks::new();
         for place in 0..receipts.len() {
             let receipt = &receipts[place];
-            if !self.has(receipt) || !follows(&receipts[..place], receipt) {
+            if !self.has(receipt) || !follows(&receipts[..place], &marks, receipt) {
                 return Err(Stray {
                     place,
                     fault: Fault::Stranger,
                 });
             }
+            marks.raise(receipt.caller, receipt.number);
         }
         Ok(())
     }

@@ -9,6 +9,7 @@
 mod confirming;
 mod history;
 mod item;
+mod marks;
 
 pub use history::History;
 pub use item::{Item, Receipt, Stray};

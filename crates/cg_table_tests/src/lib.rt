@@ -4,4 +4,6 @@
 #[cfg(test)]
 mod maps;
 #[cfg(test)]
+mod puts;
+#[cfg(test)]
 mod tables;

@@ -24,8 +24,8 @@ returns-then-earlier-receipt c =
     let less : p < length c.args.before.now = omega arith in
     let at = at_place_within c.args.before.now p near less ∙ ap Some (sym c.index-before-place.is) in
     let others = λ (i : _) (q : Receipt) (le : p + 1 ≤ i) (is : slice_get c.args.before.now i ≡ Some q). c.loop-place.invariant.others i q (omega arith) is in (
-      λ t. follows_near c.args.before.now r near p c.requires at c.if-earlier-receipt.true others (ltb-true near.number r.number t),
-      λ f. lt-ltb near.number r.number (near_before c.args.before.now r near p c.requires at c.if-earlier-receipt.true others f),
+      λ t. follows_near c.args.before.now r near p c.requires.order at c.if-earlier-receipt.true others (ltb-true near.number r.number t),
+      λ f. lt-ltb near.number r.number (near_before c.args.before.now r near p c.requires.order at c.if-earlier-receipt.true others f),
     )
 
 pub returns : goal.returns

@@ -1,6 +1,10 @@
 use Rattle.std.proofs.Common.{take}
+use Rattle.cg_history.specs.Marks.{AreMarked}
 use Rattle.cg_history.specs.Confirming.{AreConfirmed}
 use Rattle.cg_history.proofs.history.History.confirms.Given as goal
 
 abbrev pub invariant-loop-place : goal.invariant-loop-place
-invariant-loop-place l = AreConfirmed l.self.records (take l.place l.receipts)
+invariant-loop-place l = record {
+  confirmed : AreConfirmed l.self.records (take l.place l.receipts);
+  marked : AreMarked l.marks (take l.place l.receipts);
+}
