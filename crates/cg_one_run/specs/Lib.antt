@@ -1,0 +1,4 @@
+pub mod Items
+pub mod OneRun
+pub mod Turns
+pub mod Laws
