@@ -38,13 +38,35 @@ fn running(world: &World) -> usize {
         .count()
 }
 
-// Where memory ends the run, the nodes run that started before; else all do.
+// Whether three starts were done, or memory ended their run and those nodes run that started before.
+fn is_kept(world: &World, answers: &[Result<Shown, Fault>]) -> bool {
+    let done = answers.iter().filter(|answer| answer.is_ok()).count();
+    let whole = done == 3 || matches!(answers.last(), Some(Err(Fault::OutOfMemory)));
+    whole && running(world) == done
+}
+
 #[test]
 fn a_run_keeps_what_was_done(rt: HostRuntime) -> Result<(), Fail> {
     let actions = [start(A, 9), start(B, 5), start(C, 4)];
     let (world, answers) = World::run(rt.alloc(), settings(rt.alloc())?, &actions)?;
-    let done = answers.iter().filter(|answer| answer.is_ok()).count();
-    let whole = answers.len() == 3 || matches!(answers.last(), Some(Err(Fault::OutOfMemory)));
-    assert_eq!(rt; (running(&world), whole), (done, true));
+    assert!(rt; is_kept(&world, &answers));
+    Ok(())
+}
+
+// A list with room for three answers is at hand, so memory can't take the world away.
+#[test]
+fn a_run_in_room_at_hand_ends_with_a_world(rt: HostRuntime) -> Result<(), Fail> {
+    let actions = [start(A, 9), start(B, 5), start(C, 4)];
+    let set_to = settings(rt.alloc())?;
+    let room = Vec::with_capacity(rt.alloc(), 3)?;
+    let (world, answers) = World::run_in(rt.alloc(), set_to, &actions, room);
+    assert!(rt; is_kept(&world, &answers));
+    Ok(())
+}
+
+#[test]
+fn a_run_of_nothing_runs_nobody(rt: HostRuntime) -> Result<(), Fail> {
+    let (world, answers) = World::run(rt.alloc(), settings(rt.alloc())?, &[])?;
+    assert_eq!(rt; (running(&world), answers.len()), (0, 0));
     Ok(())
 }
