@@ -1,9 +1,12 @@
 -- What clap finds for a command whose shape is known.
-use Rattle.std.proofs.Common.{◌≡◌, List, true, refl, ap, ◌∙◌}
+use Rattle.std.proofs.Common.{◌≡◌, List, [], Option, true, refl, sym, ap, ◌∙◌, codes, option_map, unwrap_or}
 use Rattle.clap.specs.Words.{App, HasMatchesOf, Text, fault_of, is_simple, is_simple_and_free, subcommand_of, subcommand_rows_of, takes}
 use Rattle.clap.proofs.OnLiterals.{clap_on_literals}
+use Rattle.clap.specs.Words.{matched_of, raw_values, rows_of}
 use Rattle.clap.specs.declared.parser.matches.ArgMatches.{ArgMatches}
-use Rattle.cg_command.specs.Job.{program, met, are_taken, faults_of}
+use Rattle.clap.specs.declared.parser.matches.Found.{Found}
+use Rattle.clap.proofs.WalkLemmas.{raw_values-rows}
+use Rattle.cg_command.specs.Job.{program, subcommand_in, are_taken, faults_of, files_in}
 
 pub program_is_simple : is_simple program ≡ true
 unfolding program clap_on_literals
@@ -13,8 +16,8 @@ pub program_is_free : is_simple_and_free program ≡ true
 unfolding program clap_on_literals
 program_is_free = refl
 
-pub met_by : (a : App) (words : List Text) (m : ArgMatches) → a ≡ program → HasMatchesOf a words m → subcommand_rows_of m ≡ met words
-unfolding met
+pub met_by : (a : App) (words : List Text) (m : ArgMatches) → a ≡ program → HasMatchesOf a words m → subcommand_rows_of m ≡ subcommand_in words
+unfolding subcommand_in
 met_by a words m e h = (h (ap is_simple e ∙ program_is_simple)).1 ∙ ap (λ (x : App). subcommand_of x words) e
 
 pub taken_by : (a : App) (words : List Text) → a ≡ program → are_taken words ≡ true → takes a words ≡ true
@@ -27,3 +30,6 @@ faults_by a words e = ap (λ (x : App). fault_of x words) e
 
 pub free_by : (a : App) → a ≡ program → is_simple_and_free a ≡ true
 free_by a e = ap is_simple_and_free e ∙ program_is_free
+
+pub files_from : (f : Found) (r : Option (List Text)) → r ≡ option_map raw_values (matched_of f (codes "file")) → files_in (rows_of f) ≡ unwrap_or r []
+files_from f r e = ap (λ (o : Option (List Text)). unwrap_or o []) (sym (raw_values-rows f (codes "file")) ∙ sym e)

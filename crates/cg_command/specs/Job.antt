@@ -1,36 +1,58 @@
 -- What a command line asks for.
-use Rattle.std.specs.Prelude.{Bool, true, List, map, codes, Option, Some, None, if◌then◌else◌, bytes_eq}
+use Rattle.std.specs.Prelude.{Bool, true, List, [], map, codes, Option, Some, None, unwrap_or, if◌then◌else◌, bytes_eq}
 use Rattle.std.specs.Borrow.{Bor}
-use Rattle.clap.specs.Words.{App, Kinds, Row, Text, fault_of, new_app, subcommand_of, takes, with_subcommand}
-use Rattle.cg_command.specs.declared.job.Job.{Job}
-use Rattle.cg_command.specs.declared.job.Job.TheVariants.{Answer, Sim}
+use Rattle.clap.specs.Words.{App, Kinds, Row, Rule, Text, all_of, fault_of, new_app, new_rule, subcommand_of, takes}
+use Rattle.clap.specs.Words.{with_rule, with_subcommand}
+use Rattle.clap.specs.declared.builder.action.ArgAction.TheVariants.{Append}
+use Rattle.cg_command.specs.declared.job.Subcommand.{Subcommand}
+use Rattle.cg_command.specs.declared.job.Subcommand.TheVariants.{Answer, Sim, Audit}
 
 -- a command that tells its version
 abbrev pub with_version : App → App
 with_version app = record app { top = record app.top { has_version = true } }
 
+-- one file or more
+abbrev pub files_rule : Rule
+files_rule = record (new_rule (codes "file")) { required = true; action = Some Append }
+
+-- `audit` with its files
+abbrev pub audit_command : App
+audit_command = with_rule (new_app (codes "audit")) files_rule
+
 -- the command with its subcommands
 unfoldable pub program : App
 program =
-    with_subcommand (with_subcommand (with_version (new_app (codes "cg"))) (new_app (codes "answer")).top)
-    (new_app (codes "sim")).top
+    with_subcommand
+    (with_subcommand (with_subcommand (with_version (new_app (codes "cg"))) (new_app (codes "answer")).top)
+    (new_app (codes "sim")).top)
+    audit_command.top
 
--- the job of this name
-abbrev pub job_named : Text → Job
-job_named name = if bytes_eq name (codes "sim") then Sim else Answer
+-- the subcommand of this name
+abbrev pub subcommand_named : Text → Subcommand
+subcommand_named name =
+    if bytes_eq name (codes "sim") then Sim else if bytes_eq name (codes "audit") then Audit else Answer
 
--- the job of the subcommand that was met, and `answer` where none was
-abbrev pub job_met : Option (Text × List Row) → Job
-job_met None = Answer
-job_met (Some met) = job_named met.0
+-- the subcommand that was met, and `answer` where none was
+abbrev pub subcommand_met : Option (Text × List Row) → Subcommand
+subcommand_met None = Answer
+subcommand_met (Some met) = subcommand_named met.0
+
+-- the files among the matches of a subcommand
+abbrev pub files_in : List Row → List Text
+files_in rows = unwrap_or (all_of (codes "file") rows) []
+
+-- the files of the subcommand that was met
+abbrev pub files_met : Option (Text × List Row) → List Text
+files_met None = []
+files_met (Some met) = files_in met.1
 
 -- the texts behind references
 abbrev pub texts : List (Bor Text) → List Text
 texts = map (λ s. s.now)
 
 -- the subcommand that clap finds among the words, with its matches
-unfoldable pub met : List Text → Option (Text × List Row)
-met words = subcommand_of program words
+unfoldable pub subcommand_in : List Text → Option (Text × List Row)
+subcommand_in words = subcommand_of program words
 
 -- whether the words name what the command has
 unfoldable pub are_taken : List Text → Bool

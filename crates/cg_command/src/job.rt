@@ -1,22 +1,34 @@
 //! What a command line asks for.
 
 ghost use Rattle.std.specs.Prelude.{◌≡◌, IfOk, IfErr, true, false, codes};
-ghost use Rattle.clap.specs.Words.{app_of, new_app, subcommand_rows_of, kind_of, FailsBy};
+ghost use Rattle.clap.specs.Words.{app_of, found_of, new_app, rows_of, subcommand_rows_of, kind_of, FailsBy};
 ghost use Rattle.clap.specs.declared.builder.command.Command.TheViews.{out-Command};
-ghost use Rattle.cg_command.specs.Job.{with_version, program, job_named as name_of_job, job_met, texts, met, are_taken, faults_of};
+ghost use Rattle.cg_command.specs.Job.{with_version, audit_command, program, subcommand_named as named_subcommand, subcommand_met, files_met, files_in, texts, subcommand_in, are_taken, faults_of};
 
-use crate::texts::{ABOUT, ANSWER_ABOUT, ANSWER_HELP, SIM_ABOUT, SIM_HELP, STATUSES, VERSION};
+use crate::texts::{
+    ABOUT, ANSWER_ABOUT, ANSWER_HELP, AUDIT_ABOUT, AUDIT_HELP, SIM_ABOUT, SIM_HELP, STATUSES,
+    VERSION,
+};
 use clap::error::ErrorKind;
-use clap::{ArgMatches, Command, Error};
+use clap::{Arg, ArgAction, ArgMatches, Command, Error};
 use std::alloc::{AllocError, Global};
 
-/// What the program is to do.
+/// A kind of work.
 #[derive(Clone, Copy, Debug, PartialEq, Eq)]
-pub enum Job {
+pub enum Subcommand {
     /// Answer one SYN.
     Answer,
     /// Play a script.
     Sim,
+    /// Audit journals.
+    Audit,
+}
+
+/// What the program is to do, and the files that it is given for it, in the order of the words.
+#[derive(Debug, Drop)]
+pub struct Job<'a> {
+    pub subcommand: Subcommand,
+    pub files: Vec<&'a str>,
 }
 
 fn answer<'a>(alloc: Global) -> Command<'a>
@@ -35,6 +47,19 @@ fn sim<'a>(alloc: Global) -> Command<'a>
     command.after_help(SIM_HELP)
 }
 
+fn audit<'a>(alloc: Global) -> Result<Command<'a>, AllocError>
+    ensures app { IfOk result (λ c. app_of c ≡ audit_command) }
+    ensures local { IfOk result (λ c. (out-Command c).has_globals ≡ false) }
+{
+    let files = Arg::new(alloc, "file")
+        .required(true)
+        .action(ArgAction::Append);
+    let command = Command::new(alloc, "audit").about(AUDIT_ABOUT);
+    let helped = command.after_help(AUDIT_HELP);
+    let with_files = helped.arg(files)?;
+    Ok(with_files)
+}
+
 fn top<'a>(alloc: Global) -> Command<'a>
     ensures { app_of result ≡ with_version (new_app (codes "cg")) }
 {
@@ -46,14 +71,16 @@ fn top<'a>(alloc: Global) -> Command<'a>
 fn command<'a>(alloc: Global) -> Result<Command<'a>, AllocError>
     ensures { IfOk result (λ c. app_of c ≡ program) }
 {
+    let audit = audit(alloc)?;
     let with_answer = top(alloc).subcommand(answer(alloc))?;
     let with_sim = with_answer.subcommand(sim(alloc))?;
-    Ok(with_sim)
+    let with_audit = with_sim.subcommand(audit)?;
+    Ok(with_audit)
 }
 
 // The matches of the words, of which the first is the program's name.
 fn matches<'a>(alloc: Global, words: &'a [&'a str]) -> Result<ArgMatches<'a>, Error>
-    ensures ok { IfOk result (λ m. subcommand_rows_of m ≡ met (texts words.entry.now)) }
+    ensures ok { IfOk result (λ m. subcommand_rows_of m ≡ subcommand_in (texts words.entry.now)) }
     ensures passes { IfErr result (λ e. are_taken (texts words.entry.now) ≡ true → kind_of e ≡ ErrorKind.OutOfMemory) }
     ensures kinds { FailsBy (faults_of (texts words.entry.now)) result }
 {
@@ -61,27 +88,46 @@ fn matches<'a>(alloc: Global, words: &'a [&'a str]) -> Result<ArgMatches<'a>, Er
     command.try_get_matches_from(words)
 }
 
-fn job_named(name: &str) -> Job
-    ensures { result ≡ name_of_job name.now }
+fn subcommand_named(name: &str) -> Subcommand
+    ensures { result ≡ named_subcommand name.now }
 {
     match name {
-        "sim" => Job::Sim,
-        _ => Job::Answer,
+        "sim" => Subcommand::Sim,
+        "audit" => Subcommand::Audit,
+        _ => Subcommand::Answer,
+    }
+}
+
+fn files_of<'a>(alloc: Global, found: &ArgMatches<'a>) -> Result<Vec<&'a str>, AllocError>
+    ensures { IfOk result (λ files. texts files.items ≡ files_in (rows_of (found_of found.now))) }
+{
+    match found.get_strs("file") {
+        Some(files) => Vec::from_slice(alloc, files),
+        None => Ok(Vec::new(alloc)),
     }
 }
 
 /// What the words ask for, of which the first is the program's name: the subcommand that `clap` finds, and `answer` where
-/// it finds none. The error is `clap`'s; where help or the version is asked for, it is their text.
-pub fn job_of<'a>(alloc: Global, words: &'a [&'a str]) -> Result<Job, Error>
-    ensures job { IfOk result (λ job. job ≡ job_met (met (texts words.entry.now))) }
+/// it finds none, with the files that it finds. The error is `clap`'s; where help or the version is asked for, it is
+/// their text.
+pub fn job_of<'a>(alloc: Global, words: &'a [&'a str]) -> Result<Job<'a>, Error>
+    ensures subcommand { IfOk result (λ job. job.subcommand ≡ subcommand_met (subcommand_in (texts words.entry.now))) }
+    ensures files { IfOk result (λ job. texts job.files.items ≡ files_met (subcommand_in (texts words.entry.now))) }
     // Where the words name what the command has, only memory fails.
     ensures passes { IfErr result (λ e. are_taken (texts words.entry.now) ≡ true → kind_of e ≡ ErrorKind.OutOfMemory) }
     // An error is the one that clap finds first, and there is none where it finds none.
     ensures kinds { FailsBy (faults_of (texts words.entry.now)) result }
 {
     let matches = matches(alloc, words)?;
-    let Some((name, _)) = matches.subcommand() else {
-        return Ok(Job::Answer);
+    let Some((name, found)) = matches.subcommand() else {
+        return Ok(Job {
+            subcommand: Subcommand::Answer,
+            files: Vec::new(alloc),
+        });
     };
-    Ok(job_named(name))
+    let files = files_of(alloc, found)?;
+    Ok(Job {
+        subcommand: subcommand_named(name),
+        files,
+    })
 }

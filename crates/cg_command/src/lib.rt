@@ -6,4 +6,4 @@ mod texts;
 
 pub use clap::Error;
 pub use clap::error::ErrorKind;
-pub use job::{Job, job_of};
+pub use job::{Job, Subcommand, job_of};

@@ -8,7 +8,8 @@ pub const ABOUT: &str =
     "Cluster metadata by gossip, as Apache Cassandra's members exchange it. With no command it is `answer`.";
 
 /// What holds of all commands.
-pub const STATUSES: &str = "Every command reads standard input and writes standard output. \
+pub const STATUSES: &str =
+    "answer and sim read standard input, audit reads files; all write standard output. \
 Endpoints are written as 10.0.0.1:7000.\n\
 \n\
 Exit status: 0 when done; 1 after a fault that ended the work, told by a line as `fault 9 OtherCluster`; \
@@ -59,3 +60,19 @@ Example:\n\
 \n    generation:9\
 \n    heartbeat:1\
 \n    STATUS:2:NORMAL";
+
+/// `audit` in a line.
+pub const AUDIT_ABOUT: &str = "Tell whether the journals of nodes are one run of the gossip";
+
+/// What `audit` reads and writes.
+pub const AUDIT_HELP: &str =
+    "Reads one journal from each file: the life of one node, as a first line \
+`life EP GENERATION WINDOW INITIAL MAX THRESHOLD SEEDS CLUSTER` and a line for each thing that it did. Journals of one \
+endpoint are its lives, in the order of the files.\n\
+Writes the events of all nodes in an order in which each message was sent before it was handled, a line each, \
+and then `one run`, with status 0. Where there is no such order: a line `stuck EP GENERATION ITEM` for the next event of each node \
+that cannot be done, then `fault 17 Stuck`; where the lives of an endpoint do not rise in generation, `fault 11 NotRising`; \
+where a journal can't be read, a fault line; each with status 1.\n\
+\n\
+Example:\n\
+\n  cg audit a.journal b.journal";

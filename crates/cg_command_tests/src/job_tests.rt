@@ -1,12 +1,23 @@
 //! Words that name a job, words that don't, and words that ask for help.
 
-use cg_command::{Job, job_of};
+use cg_command::{Subcommand, job_of};
 use std::alloc::Global;
 use std::test::Fail;
 
-// The job that the words name, if they do.
-fn job(alloc: Global, words: &[&str]) -> Option<Job> {
-    job_of(alloc, words).ok()
+// The subcommand that the words name, if they do, with how many files there are for it.
+fn job(alloc: Global, words: &[&str]) -> Option<(Subcommand, usize)> {
+    let job = job_of(alloc, words).ok()?;
+    Some((job.subcommand, job.files.len()))
+}
+
+// The files that the words name, each behind a space.
+fn files(alloc: Global, words: &[&str]) -> Result<String, Fail> {
+    let mut text = String::new(alloc);
+    for file in job_of(alloc, words)?.files.as_slice() {
+        text.push(' ')?;
+        text.push_str(file)?;
+    }
+    Ok(text)
 }
 
 // The status and the text of what the words are answered in place of a job.
@@ -32,9 +43,27 @@ fn is_told(alloc: Global, words: &[&str], part: &str) -> Result<bool, Fail> {
 #[test]
 fn words_name_jobs(rt: HostRuntime) {
     let alloc = rt.alloc();
-    assert_eq!(rt; job(alloc, &["cg"]), Some(Job::Answer));
-    assert_eq!(rt; job(alloc, &["cg", "answer"]), Some(Job::Answer));
-    assert_eq!(rt; job(alloc, &["cg", "sim"]), Some(Job::Sim));
+    assert_eq!(rt; job(alloc, &["cg"]), Some((Subcommand::Answer, 0)));
+    assert_eq!(rt;
+        job(alloc, &["cg", "answer"]),
+        Some((Subcommand::Answer, 0))
+    );
+    assert_eq!(rt; job(alloc, &["cg", "sim"]), Some((Subcommand::Sim, 0)));
+    assert_eq!(rt;
+        job(alloc, &["cg", "audit", "a"]),
+        Some((Subcommand::Audit, 1))
+    );
+}
+
+#[test]
+fn files_come_in_the_order_of_the_words(rt: HostRuntime) -> Result<(), Fail> {
+    let alloc = rt.alloc();
+    let named = files(
+        alloc,
+        &["cg", "audit", "b.journal", "a.journal", "b.journal"],
+    )?;
+    assert_eq!(rt; named.as_str(), " b.journal a.journal b.journal");
+    Ok(())
 }
 
 #[test]
@@ -45,7 +74,7 @@ fn other_words_are_faults(rt: HostRuntime) -> Result<(), Fail> {
     assert!(rt; is_fault(alloc, &["cg", "nothing"])?);
     assert!(rt; is_fault(alloc, &["cg", ""])?);
     assert!(rt; is_fault(alloc, &["cg", "serve", "f"])?);
-    assert!(rt; is_fault(alloc, &["cg", "audit", "f"])?);
+    assert!(rt; is_fault(alloc, &["cg", "audit"])?);
     assert!(rt; is_fault(alloc, &["cg", "--nothing"])?);
     Ok(())
 }
@@ -65,6 +94,13 @@ fn help_and_the_version_are_told(rt: HostRuntime) -> Result<(), Fail> {
         )?
     );
     assert!(rt; !is_told(alloc, &["cg", "--help"], "serve")?);
-    assert!(rt; !is_told(alloc, &["cg", "--help"], "audit")?);
+    assert!(rt; is_told(alloc, &["cg", "--help"], "one run of the gossip")?);
+    assert!(rt;
+        is_told(
+            alloc,
+            &["cg", "audit", "--help"],
+            "stuck EP GENERATION ITEM"
+        )?
+    );
     Ok(())
 }

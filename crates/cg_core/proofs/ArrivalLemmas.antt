@@ -11,7 +11,7 @@ use Rattle.cg_exchange.specs.declared.message.Message.TheVariants as message
 use Rattle.cg_exchange.specs.Answering.{answer_to_syn}
 use Rattle.cg_exchange.specs.Taking.{taking_ack, taking_ack2}
 use Rattle.cg_silence.specs.Values.{SilenceValue, Shown}
-use Rattle.cg_silence.specs.Silence.{heard}
+use Rattle.cg_silence.specs.Silence.{after_arrival}
 use Rattle.cg_silence.proofs.WindowLemmas.{shown-push}
 use Rattle.cg_core.specs.declared.event.Event.{Event}
 use Rattle.cg_core.specs.declared.event.Event.TheVariants as event
@@ -19,21 +19,21 @@ use Rattle.cg_core.specs.declared.reply.Reply.{Reply}
 use Rattle.cg_core.specs.declared.reply.Reply.TheVariants as reply
 use Rattle.cg_core.specs.Values.{Heard, SettingsValue, NodeValue}
 use Rattle.cg_core.specs.Windows.{is_taken, tells_taken, with_arrival, arrivals}
-use Rattle.cg_core.specs.Step.{Step, begun, then, next_of, beating, setting, opening, round_of, after_taking, node_step, left, after_event, after_events}
+use Rattle.cg_core.specs.Step.{Step, starting_node, then, next_of, beating, setting, opening, round_of, after_taking, node_step, left, after_event, after_events}
 use Rattle.cg_core.specs.Arrivals.{outcomes_in, outcomes_told, moment_of, moments_told, moments_taken, window_of}
 use Rattle.cg_core.specs.Laws.{WindowsShowAllTaken}
 use Rattle.cg_core.proofs.HearingLemmas.{other_arrival}
 
 module _ (s : SilenceValue) where
   -- one more arrival
-  window-push : (past : List ℕ) (now : ℕ) → window_of s (past ++ now ∷ []) ≡ Some (heard s (window_of s past) now)
+  window-push : (past : List ℕ) (now : ℕ) → window_of s (past ++ now ∷ []) ≡ Some (after_arrival s (window_of s past) now)
   window-push [] now = ap Some (shown-push s [] now)
   window-push (a ∷ past) now = ap Some (shown-push s (a ∷ past) now)
 
   own_arrival : (now q : ℕ) (windows : Heard) (past : List ℕ) → get windows q ≡ window_of s past → get (with_arrival s now windows q) q ≡ window_of s (past ++ now ∷ [])
   own_arrival now q windows past is =
-      get-insert nat_cmp_total windows q (heard s (get windows q) now) q
-      ∙ rw ((eq_by_cmp_equiv nat_cmp_total).refl q) (ap (λ (h : Option Shown). Some (heard s h now)) is ∙ sym (window-push past now))
+      get-insert nat_cmp_total windows q (after_arrival s (get windows q) now) q
+      ∙ rw ((eq_by_cmp_equiv nat_cmp_total).refl q) (ap (λ (h : Option Shown). Some (after_arrival s h now)) is ∙ sym (window-push past now))
 
   one_more : (now q : ℕ) (windows : Heard) (o : Outcome) (os : List Outcome) (past : List ℕ) (same took : Bool) → (o.endpoint == q) ≡ same → get windows q ≡ window_of s past
       → ((w : Heard) (p : List ℕ) → get w q ≡ window_of s p → get (arrivals s now w os) q ≡ window_of s (p ++ moments_told q now os))
@@ -94,4 +94,4 @@ events_show n (e ∷ es) q past is =
     ∙ ap (window_of n.settings.silence) (append_assoc past told (moments_taken q after es))
 
 pub windows_show_all_taken : WindowsShowAllTaken
-windows_show_all_taken own generation settings events endpoint = events_show (begun own generation settings) events endpoint [] (get-empty nat_cmp endpoint)
+windows_show_all_taken own generation settings events endpoint = events_show (starting_node own generation settings) events endpoint [] (get-empty nat_cmp endpoint)

@@ -14,8 +14,8 @@ use Rattle.cg_map.specs.Map.{put_each}
 use Rattle.cg_entry.specs.declared.entry.Absorbed.{Absorbed}
 use Rattle.cg_entry.specs.declared.entry.Absorbed.TheVariants as absorbed
 use Rattle.cg_entry.specs.Values.{EntryValue, DeltaValue}
-use Rattle.cg_entry.specs.Entry.{started, beaten, with_state, is_later}
-use Rattle.cg_entry.specs.Taking.{met}
+use Rattle.cg_entry.specs.Entry.{starting_entry, entry_after_beat, with_state, is_later}
+use Rattle.cg_entry.specs.Taking.{meeting}
 use Rattle.cg_table.specs.declared.took.Took.TheVariants as took
 use Rattle.cg_table.specs.Values.{TableValue, Entries}
 use Rattle.cg_table.specs.Own.{own_entry, with_own}
@@ -56,12 +56,12 @@ own_row : (t : TableValue) (e : EntryValue) → is_some (get t.entries t.own) �
 own_row t e held later =
     let tied : eq_by_cmp nat_cmp t.own t.own ≡ true = (eq_by_cmp_equiv nat_cmp_total).refl t.own in
     let here : get (insert t.entries t.own e) t.own ≡ Some e = get-insert nat_cmp_total t.entries t.own e t.own ∙ rw tied refl in
-    only_put t.entries t.own e (ahead_by (get t.entries t.own) (started 0) e held later)
+    only_put t.entries t.own e (ahead_by (get t.entries t.own) (starting_entry 0) e held later)
     ∙ sym (ap (λ (o : Option EntryValue). cons_option (option_map (λ (x : EntryValue). (t.own, x)) o) []) here)
 
 -- ---- the rows of the deltas that were taken
 
-ahead_at : (k : ℕ) (held : Option EntryValue) (d : DeltaValue) (own : Bool) (a : Absorbed) (r : Put) → met held d ≡ a → (cond own (None, took.Own) (change_by k a)).0 ≡ Some r → is_ahead held r.1 ≡ true
+ahead_at : (k : ℕ) (held : Option EntryValue) (d : DeltaValue) (own : Bool) (a : Absorbed) (r : Put) → meeting held d ≡ a → (cond own (None, took.Own) (change_by k a)).0 ≡ Some r → is_ahead held r.1 ≡ true
 ahead_at k held d true a r made is = absurd cc
 ahead_at k held d false (absorbed.Taken x) r made is = ap (λ (p : Put). is_ahead held p.1) (sym (same_Some (k, x) r is)) ∙ met_ahead held d x made
 ahead_at k held d false absorbed.Old r made is = absurd cc
@@ -71,7 +71,7 @@ module _ (t : TableValue) where
   row_ahead : (d : OwnerDelta) (r : Put) → row_changed t d ≡ Some r → is_ahead (get t.entries r.0) r.1 ≡ true
   row_ahead d r is =
       ap (λ (k : ℕ). is_ahead (get t.entries k) r.1) (row_key t d.endpoint d.delta r is)
-      ∙ ahead_at d.endpoint (get t.entries d.endpoint) d.delta (d.endpoint == t.own) (met (get t.entries d.endpoint) d.delta) r refl is
+      ∙ ahead_at d.endpoint (get t.entries d.endpoint) d.delta (d.endpoint == t.own) (meeting (get t.entries d.endpoint) d.delta) r refl is
 
   found_by : (q : ℕ) (e : EntryValue) (d : OwnerDelta) (o : Option Put) (rows : List Put) → row_changed t d ≡ o → (find nat_cmp q rows ≡ Some e → is_ahead (get t.entries q) e ≡ true)
       → find nat_cmp q (cons_option o rows) ≡ Some e → is_ahead (get t.entries q) e ≡ true
@@ -96,7 +96,7 @@ module _ (t : TableValue) where
   rows_by : (m : Entries) (ds : List OwnerDelta) → AreHeld m (filter_map (row_changed t) ds) → rows_at m (taken_owners (map (outcome_of t) ds)) ≡ filter_map (row_changed t) ds
   rows_by m [] held = refl
   rows_by m (d ∷ ds) held =
-      row_by m d.endpoint (d.endpoint == t.own) (met (get t.entries d.endpoint) d.delta) (map (outcome_of t) ds) (filter_map (row_changed t) ds) held (rows_by m ds)
+      row_by m d.endpoint (d.endpoint == t.own) (meeting (get t.entries d.endpoint) d.delta) (map (outcome_of t) ds) (filter_map (row_changed t) ds) held (rows_by m ds)
 
   -- the puts of a message are the rows of the deltas that were taken
   taken_rows : (ds : List OwnerDelta) (after : TableValue) (os : List Outcome) → Rises (endpoints_of_deltas ds) → AreLed t ds after os → puts t after ≡ rows_at after.entries (taken_owners os)
@@ -123,13 +123,13 @@ pub puts_are_the_changed_rows : (n : NodeValue) (e : Event) (after : NodeValue) 
     → puts n.table after.table ≡ rows_at after.table.entries (changed_owners n.table.own answer)
 puts_are_the_changed_rows n event.Beat after answer held rise is =
     let gave = then_gave (λ v. (beating n, reply.Done v)) (next_of n) (after, answer) is in
-    subst (Shows n) gave.1.1 (own_row n.table (beaten (own_entry n.table)) held (beaten_later (own_entry n.table)))
+    subst (Shows n) gave.1.1 (own_row n.table (entry_after_beat (own_entry n.table)) held (beaten_later (own_entry n.table)))
 puts_are_the_changed_rows n (event.Set key text) after answer held rise is =
     let gave = then_gave (λ v. (setting key text n, reply.Done v)) (next_of n) (after, answer) is in
     subst (Shows n) gave.1.1 (own_row n.table (with_state key text (own_entry n.table)) held (given_later key text (own_entry n.table)))
 puts_are_the_changed_rows n (event.Tick now words) after answer held rise is =
     let gave = then_gave (λ v. (beating n, reply.Round (round_of (beating n) now words) (opening (beating n)))) (next_of n) (after, answer) is in
-    subst (Shows n) gave.1.1 (own_row n.table (beaten (own_entry n.table)) held (beaten_later (own_entry n.table)))
+    subst (Shows n) gave.1.1 (own_row n.table (entry_after_beat (own_entry n.table)) held (beaten_later (own_entry n.table)))
 puts_are_the_changed_rows n event.Opening after answer held rise is =
     let same : ◌≡◌ {A = NodeValue × Reply} (n, reply.Sent (message.Syn (opening n))) (after, answer) = cc in
     subst (Shows n) same (nothing_later n.table)

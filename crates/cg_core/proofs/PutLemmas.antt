@@ -14,7 +14,7 @@ use Rattle.cg_map.proofs.PastLemmas.{AgreePast, still_agree, agree_later}
 use Rattle.cg_entry.specs.Values.{EntryValue}
 use Rattle.cg_entry.specs.Entry.{is_later}
 use Rattle.cg_table.specs.Values.{TableValue, Entries}
-use Rattle.cg_table.specs.Merge.{is_ahead, later_of, later_entries, merged}
+use Rattle.cg_table.specs.Merge.{is_ahead, later_of, later_entries, merge_of}
 use Rattle.cg_table.proofs.MergeLemmas.{get-merged, later_rise}
 use Rattle.cg_table.proofs.PutsLemmas.{later_entries-put_each}
 use Rattle.cg_table.specs.Puts.{with_put, goes_on, is_in_order, keep_order}
@@ -58,8 +58,8 @@ later_moves x None (inl is) = sym is
 later_moves x (Some e) (inl is) = later_by (is_ahead x e) x e (sym is)
 later_moves x y (inr m) = rw (m.1.0, m.1.1) refl
 
-put_leads : (before after : TableValue) → GoesOn before after → merged before.entries after.entries ≡ after.entries
-put_leads before after g = same_map nat_cmp_total nat_cmp-IsAntisymmetric (merged before.entries after.entries) after.entries (λ q.
+put_leads : (before after : TableValue) → GoesOn before after → merge_of before.entries after.entries ≡ after.entries
+put_leads before after g = same_map nat_cmp_total nat_cmp-IsAntisymmetric (merge_of before.entries after.entries) after.entries (λ q.
     get-merged before.entries after.entries q ∙ later_moves (get before.entries q) (get after.entries q) (g.moves q))
 
 -- ---- they keep the order

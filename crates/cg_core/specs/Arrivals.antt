@@ -2,7 +2,7 @@
 use Rattle.std.specs.Prelude.{ℕ, List, [], ◌∷◌, ◌++◌, map, filter, Option, Some, None, Ok, Err}
 use Rattle.cg_exchange.specs.declared.outcome.Outcome.{Outcome}
 use Rattle.cg_silence.specs.Values.{SilenceValue, Shown}
-use Rattle.cg_silence.specs.Silence.{shown}
+use Rattle.cg_silence.specs.Silence.{window_of_all}
 use Rattle.cg_core.specs.declared.event.Event.{Event}
 use Rattle.cg_core.specs.declared.event.Event.TheVariants as event
 use Rattle.cg_core.specs.declared.reply.Reply.{Reply}
@@ -47,4 +47,4 @@ moments_taken endpoint n (e ∷ es) =
 -- what a window shows of all its arrivals; there is none before the first
 abbrev pub window_of : SilenceValue → List ℕ → Option Shown
 window_of s [] = None
-window_of s (a ∷ arrivals) = Some (shown s (a ∷ arrivals))
+window_of s (a ∷ arrivals) = Some (window_of_all s (a ∷ arrivals))

@@ -4,7 +4,7 @@ use Rattle.std.specs.FinMap as map
 use Rattle.cg_types.specs.Rising.{Rises}
 use Rattle.cg_types.specs.declared.limits.TheConstants.{MEMBER_LIMIT}
 use Rattle.cg_map.specs.Rows.{keys_of}
-use Rattle.cg_entry.specs.Entry.{newest, beaten, with_state}
+use Rattle.cg_entry.specs.Entry.{newest, entry_after_beat, with_state}
 use Rattle.cg_table.specs.Values.{TableValue, IsTable}
 use Rattle.cg_table.specs.Own.{own_entry, with_own}
 use Rattle.cg_exchange.specs.declared.owner_delta.OwnerDelta.{OwnerDelta}
@@ -15,7 +15,7 @@ use Rattle.cg_core.specs.declared.reply.Reply.{Reply}
 use Rattle.cg_core.specs.declared.reply.Reply.TheVariants as reply
 use Rattle.cg_core.specs.declared.limits.TheConstants.{SEED_LIMIT}
 use Rattle.cg_core.specs.Values.{SettingsValue, NodeValue, HearsOthersAlone}
-use Rattle.cg_core.specs.Step.{begun, node_step, after_events, replay}
+use Rattle.cg_core.specs.Step.{starting_node, node_step, after_events, replay}
 use Rattle.cg_core.specs.Arrivals.{moments_taken, window_of}
 use Rattle.cg_table.specs.Puts.{puts, with_puts, keep_order}
 
@@ -38,9 +38,9 @@ pub record IsAfter (before : TableValue) (deltas : List OwnerDelta) (after : Tab
 
 -- what an event leaves of a table
 abbrev pub TableAfter : TableValue → Event → TableValue → Type 0
-TableAfter t event.Beat after = after ≡ with_own (beaten (own_entry t)) t
+TableAfter t event.Beat after = after ≡ with_own (entry_after_beat (own_entry t)) t
 TableAfter t (event.Set key text) after = after ≡ with_own (with_state key text (own_entry t)) t
-TableAfter t (event.Tick now words) after = after ≡ with_own (beaten (own_entry t)) t
+TableAfter t (event.Tick now words) after = after ≡ with_own (entry_after_beat (own_entry t)) t
 TableAfter t event.Opening after = after ≡ t
 TableAfter t (event.Syn syn) after = after ≡ t
 TableAfter t (event.Ack now ack) after = IsAfter t ack.deltas after
@@ -104,7 +104,7 @@ OnlyOwnEventsChangeTheOwnEntry =
 
 -- A node that starts is small, and stays so, whatever comes; events that are refused are among them.
 pub record NodesStaySmall : Type 0 where
-  pub starts : (own generation : ℕ) (settings : SettingsValue) → IsSmall (begun own generation settings)
+  pub starts : (own generation : ℕ) (settings : SettingsValue) → IsSmall (starting_node own generation settings)
   pub steps :
       (n : NodeValue) (e : Event) (after : NodeValue) (answer : Reply) → IsSmall n → Leads n e after answer
       → IsSmall after
@@ -112,7 +112,8 @@ pub record NodesStaySmall : Type 0 where
 
 -- A node that starts hears others alone, and goes on so, whatever comes.
 pub record NodesHearOthersAlone : Type 0 where
-  pub starts : (own generation : ℕ) (settings : SettingsValue) → HearsOthersAlone (begun own generation settings)
+  pub starts : (own generation : ℕ) (settings : SettingsValue)
+      → HearsOthersAlone (starting_node own generation settings)
   pub steps :
       (n : NodeValue) (e : Event) (after : NodeValue) (answer : Reply) → HearsOthersAlone n → Leads n e after answer
       → HearsOthersAlone after
@@ -123,7 +124,7 @@ pub record NodesHearOthersAlone : Type 0 where
 abbrev pub WindowsShowAllTaken : Type 0
 WindowsShowAllTaken =
     (own generation : ℕ) (settings : SettingsValue) (events : List Event) (endpoint : ℕ)
-    → let n = begun own generation settings in
+    → let n = starting_node own generation settings in
     map.get (after_events n events).windows endpoint
     ≡ window_of settings.silence (moments_taken endpoint n events)
 

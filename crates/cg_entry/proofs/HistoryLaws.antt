@@ -1,17 +1,17 @@
 -- The laws of histories.
 use Rattle.std.proofs.Common.{◌≡◌, ℕ, suc, ◌+◌, ◌<◌, ◌≤◌, ◌⊎◌, inl, inr, List, [], ◌∷◌, ◌++◌, length, Some, sym, subst, ◌∙◌, arith, length-append}
 use Rattle.cg_entry.specs.Values.{EntryValue}
-use Rattle.cg_entry.specs.Entry.{started}
+use Rattle.cg_entry.specs.Entry.{starting_entry}
 use Rattle.cg_types.specs.ListPlace.{at_place}
 use Rattle.cg_entry.specs.History.{Follows, IsHistory}
 use Rattle.cg_entry.specs.Laws.{HistoriesGrow, EntriesRise, VersionsNameEntries}
 use Rattle.cg_entry.proofs.PlaceLemmas.{at_place_within, at_place-append, at_place_last}
 use Rattle.cg_entry.proofs.HistoryLemmas.{compared, later_is, same_named}
 
-start_begins : (g : ℕ) → IsHistory (started g ∷ [])
+start_begins : (g : ℕ) → IsHistory (starting_entry g ∷ [])
 start_begins g = record {
-  begins = λ x e. (g, let same : started g ≡ x = cc in sym same);
-  goes_on = λ p x y ex ey. absurd (omega (arith, (at_place_within (started g ∷ []) p x ex).0, (at_place_within (started g ∷ []) (suc p) y ey).1));
+  begins = λ x e. (g, let same : starting_entry g ≡ x = cc in sym same);
+  goes_on = λ p x y ex ey. absurd (omega (arith, (at_place_within (starting_entry g ∷ []) p x ex).0, (at_place_within (starting_entry g ∷ []) (suc p) y ey).1));
 }
 
 -- an entry that follows the last one

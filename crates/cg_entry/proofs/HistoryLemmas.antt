@@ -6,7 +6,7 @@ use Rattle.std.specs.FinMap.{get, get-insert, get-empty}
 use Rattle.std.proofs.lemmas.Bool.Decides.{nat_tests}
 use Rattle.cg_entry.specs.Versioned.{Versioned}
 use Rattle.cg_entry.specs.Values.{EntryValue}
-use Rattle.cg_entry.specs.Entry.{newest, started, beaten, with_state, is_later}
+use Rattle.cg_entry.specs.Entry.{newest, starting_entry, entry_after_beat, with_state, is_later}
 use Rattle.cg_types.specs.ListPlace.{at_place}
 use Rattle.cg_entry.specs.History.{Follows, Starts, Beats, Sets, IsHistory, generation_at, generation_of}
 use Rattle.cg_entry.specs.Spelling.{version_of, version_at}
@@ -24,19 +24,19 @@ newest_stands x = greatest_stands x.heartbeat x.states
 
 -- ---- the newest version of the next entry
 
-pub newest_started : (g : ℕ) → newest (started g) ≡ 1
-newest_started g = go (newest_stands (started g))
+pub newest_started : (g : ℕ) → newest (starting_entry g) ≡ 1
+newest_started g = go (newest_stands (starting_entry g))
   where
-    go : Stands (started g).heartbeat (started g).states → newest (started g) ≡ 1
+    go : Stands (starting_entry g).heartbeat (starting_entry g).states → newest (starting_entry g) ≡ 1
     go (inl e) = e
     go (inr e) = absurd (let none = get-empty {X = Versioned} nat_cmp e.0 in let some = e.2 in cc)
 
-pub newest_beaten : (x : EntryValue) → newest (beaten x) ≡ newest x + 1
-newest_beaten x = go (newest_stands (beaten x))
+pub newest_beaten : (x : EntryValue) → newest (entry_after_beat x) ≡ newest x + 1
+newest_beaten x = go (newest_stands (entry_after_beat x))
   where
-    go : Stands (beaten x).heartbeat (beaten x).states → newest (beaten x) ≡ newest x + 1
+    go : Stands (entry_after_beat x).heartbeat (entry_after_beat x).states → newest (entry_after_beat x) ≡ newest x + 1
     go (inl e) = e
-    go (inr e) = absurd (omega (arith, e.3, state_within x e.0 e.1 e.2, heartbeat_within (beaten x)))
+    go (inr e) = absurd (omega (arith, e.3, state_within x e.0 e.1 e.2, heartbeat_within (entry_after_beat x)))
 
 module _ (key : ℕ) (text : List ℕ) (x : EntryValue) where
   -- what a set leaves at its key
@@ -144,7 +144,7 @@ pub record AllPositive (x : EntryValue) : Type 0 where
   pub newest_is : 1 ≤ newest x
   pub states_are : (k : ℕ) (s : Versioned) → get x.states k ≡ Some s → 1 ≤ s.version
 
-started_positive : (g : ℕ) → AllPositive (started g)
+started_positive : (g : ℕ) → AllPositive (starting_entry g)
 started_positive g = record {
   newest_is = omega (arith, newest_started g);
   states_are = λ k s e. absurd (let none = get-empty {X = Versioned} nat_cmp k in cc);

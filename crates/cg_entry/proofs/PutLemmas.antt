@@ -15,7 +15,7 @@ use Rattle.cg_types.specs.Rising.{is_past, rise_past}
 use Rattle.cg_types.proofs.RisingLemmas.{keys_of, rise_sorted, sorted_rising, find_past, find-before, second_of}
 use Rattle.cg_entry.specs.declared.state.State.{State}
 use Rattle.cg_entry.specs.Versioned.{Versioned, States}
-use Rattle.cg_entry.specs.State.{pair, pairs, versioned, count_below, KeysRise}
+use Rattle.cg_entry.specs.State.{pair, pairs, value_at_key, count_below, KeysRise}
 use Rattle.cg_entry.specs.Entry.{overlay}
 use Rattle.cg_entry.proofs.StateLemmas.{keys-pairs, pairs_rise, entries-pairs}
 
@@ -25,23 +25,23 @@ place_within k (x ∷ xs) =
     elim (nat_lt x.key k) as (λ b. cond b (suc (count_below k (pairs xs))) 0 ≤ suc (length xs)) [ true ↦ omega (arith, place_within k xs) | false ↦ omega arith ]
 
 abbrev put_at : State → State → List State → Ordering → List (ℕ × Versioned)
-put_at s x xs r = by_order r (pair s ∷ pair x ∷ pairs xs) ((x.key, versioned s) ∷ pairs xs) (pair x ∷ put nat_cmp s.key (versioned s) (pairs xs))
+put_at s x xs r = by_order r (pair s ∷ pair x ∷ pairs xs) ((x.key, value_at_key s) ∷ pairs xs) (pair x ∷ put nat_cmp s.key (value_at_key s) (pairs xs))
 
-pub put_replaces : (s d : State) (xs : List State) → count_below s.key (pairs xs) < length xs → (get_or xs (count_below s.key (pairs xs)) d).key ≡ s.key → pairs (set xs (count_below s.key (pairs xs)) s) ≡ put nat_cmp s.key (versioned s) (pairs xs)
+pub put_replaces : (s d : State) (xs : List State) → count_below s.key (pairs xs) < length xs → (get_or xs (count_below s.key (pairs xs)) d).key ≡ s.key → pairs (set xs (count_below s.key (pairs xs)) s) ≡ put nat_cmp s.key (value_at_key s) (pairs xs)
 put_replaces s d [] lt same = absurd (omega arith)
 put_replaces s d (x ∷ xs) lt same =
-    elim (nat_lt x.key s.key) as (λ b. nat_lt x.key s.key ≡ b → cond b (suc (count_below s.key (pairs xs))) 0 < suc (length xs) → (get_or (x ∷ xs) (cond b (suc (count_below s.key (pairs xs))) 0) d).key ≡ s.key → pairs (set (x ∷ xs) (cond b (suc (count_below s.key (pairs xs))) 0) s) ≡ put nat_cmp s.key (versioned s) (pair x ∷ pairs xs)) [
+    elim (nat_lt x.key s.key) as (λ b. nat_lt x.key s.key ≡ b → cond b (suc (count_below s.key (pairs xs))) 0 < suc (length xs) → (get_or (x ∷ xs) (cond b (suc (count_below s.key (pairs xs))) 0) d).key ≡ s.key → pairs (set (x ∷ xs) (cond b (suc (count_below s.key (pairs xs))) 0) s) ≡ put nat_cmp s.key (value_at_key s) (pair x ∷ pairs xs)) [
       | true ↦ λ b lt same.
           let above : x.key < s.key = ltb-true x.key s.key b in
           ap (λ (es : List (ℕ × Versioned)). pair x ∷ es) (put_replaces s d xs (omega arith) same) ∙ ap (put_at s x xs) (nat_cmp_is s.key x.key Greater above)
       | false ↦ λ b lt same.
-          ap (λ (k : ℕ). (k, versioned s) ∷ pairs xs) (sym same) ∙ ap (put_at s x xs) (nat_cmp_is s.key x.key Equal (sym same))
+          ap (λ (k : ℕ). (k, value_at_key s) ∷ pairs xs) (sym same) ∙ ap (put_at s x xs) (nat_cmp_is s.key x.key Equal (sym same))
     ] refl lt same
 
-pub put_inserts : (s d : State) (xs : List State) → (count_below s.key (pairs xs) < length xs → (get_or xs (count_below s.key (pairs xs)) d).key ≡ s.key → ⊥) → pairs (insert xs (count_below s.key (pairs xs)) s) ≡ put nat_cmp s.key (versioned s) (pairs xs)
+pub put_inserts : (s d : State) (xs : List State) → (count_below s.key (pairs xs) < length xs → (get_or xs (count_below s.key (pairs xs)) d).key ≡ s.key → ⊥) → pairs (insert xs (count_below s.key (pairs xs)) s) ≡ put nat_cmp s.key (value_at_key s) (pairs xs)
 put_inserts s d [] other = refl
 put_inserts s d (x ∷ xs) other =
-    elim (nat_lt x.key s.key) as (λ b. nat_lt x.key s.key ≡ b → (cond b (suc (count_below s.key (pairs xs))) 0 < suc (length xs) → (get_or (x ∷ xs) (cond b (suc (count_below s.key (pairs xs))) 0) d).key ≡ s.key → ⊥) → pairs (insert (x ∷ xs) (cond b (suc (count_below s.key (pairs xs))) 0) s) ≡ put nat_cmp s.key (versioned s) (pair x ∷ pairs xs)) [
+    elim (nat_lt x.key s.key) as (λ b. nat_lt x.key s.key ≡ b → (cond b (suc (count_below s.key (pairs xs))) 0 < suc (length xs) → (get_or (x ∷ xs) (cond b (suc (count_below s.key (pairs xs))) 0) d).key ≡ s.key → ⊥) → pairs (insert (x ∷ xs) (cond b (suc (count_below s.key (pairs xs))) 0) s) ≡ put nat_cmp s.key (value_at_key s) (pair x ∷ pairs xs)) [
       | true ↦ λ b other.
           let above : x.key < s.key = ltb-true x.key s.key b in
           ap (λ (es : List (ℕ × Versioned)). pair x ∷ es) (put_inserts s d xs (λ lt same. other (omega arith) same)) ∙ ap (put_at s x xs) (nat_cmp_is s.key x.key Greater above)
@@ -87,7 +87,7 @@ overlay-pairs made news olds rm rn ro e =
     ∙ ap (option_or (get (from_sorted {R = nat_cmp} (pairs news)) q)) (sym (get-from_sorted nat_cmp (pairs olds) q (sorted_rising (pairs olds) (pairs_rise olds ro))))
     ∙ sym (get-overlay (from_sorted (pairs olds)) (from_sorted (pairs news)) q))
 
-pub put_all_next : (news : List State) (i : ℕ) (s : State) (made next : List State) → i < length news → s ≡ get_or news i s → pairs next ≡ put nat_cmp s.key (versioned s) (pairs made) → put_all (pairs (drop (i + 1) news)) (pairs next) ≡ put_all (pairs (drop i news)) (pairs made)
+pub put_all_next : (news : List State) (i : ℕ) (s : State) (made next : List State) → i < length news → s ≡ get_or news i s → pairs next ≡ put nat_cmp s.key (value_at_key s) (pairs made) → put_all (pairs (drop (i + 1) news)) (pairs next) ≡ put_all (pairs (drop i news)) (pairs made)
 put_all_next news i s made next lt is step =
     let front : drop i news ≡ s ∷ drop (i + 1) news = rw add-one (drop-cons news i s lt ∙ ap (λ (t : State). t ∷ drop (suc i) news) (sym is)) in
     rw (front, step) refl

@@ -7,7 +7,7 @@ use Rattle.cg_entry.specs.Entry.{newest, delta_above}
 use Rattle.cg_entry.specs.Taking.{entry_after}
 use Rattle.cg_types.specs.ListPlace.{at_place}
 use Rattle.cg_entry.specs.History.{IsHistory, generation_at, generation_of}
-use Rattle.cg_entry.specs.Place.{Span, IsSpan, SpanOutcome, Taken, Old, Gap, taking, place_after}
+use Rattle.cg_entry.specs.Place.{Span, IsSpan, SpanOutcome, Taken, Old, Gap, span_outcome, place_after}
 use Rattle.cg_entry.specs.Spelling.{version_of, version_at, delta_of, absorbed_of}
 use Rattle.cg_entry.specs.Laws.{IsTakenAsItsSpan, SpelledDeltasAreTaken, IsDeltaOfPlaces, DeltasSpellSpans}
 use Rattle.cg_entry.proofs.PlaceLemmas.{at_place_some, at_place_within}
@@ -24,7 +24,7 @@ held_spelled h span r y ey Gap = refl
 pub taken_as_its_span : (h : List EntryValue) → IsHistory h → (span : Span) → IsSpan h span → (r : ℕ) → r ≤ length h → (y : EntryValue) → at_place h span.to ≡ Some y → IsTakenAsItsSpan h span r (part (version_at h span.from) y)
 taken_as_its_span h is span s r le y ey =
     let outcome = met_spelled h is span s y ey r le in
-    record { outcome = outcome; held = ap (entry_after (at_place h r)) outcome ∙ held_spelled h span r y ey (taking r span) }
+    record { outcome = outcome; held = ap (entry_after (at_place h r)) outcome ∙ held_spelled h span r y ey (span_outcome r span) }
 
 pub spelled_deltas_are_taken : SpelledDeltasAreTaken
 spelled_deltas_are_taken h is span s r le d e =

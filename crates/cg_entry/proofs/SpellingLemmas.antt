@@ -6,10 +6,10 @@ use Rattle.std.proofs.lemmas.Bool.Decides.{nat_tests}
 use Rattle.cg_entry.specs.declared.entry.Absorbed.TheVariants as absorbed_as
 use Rattle.cg_entry.specs.Values.{EntryValue}
 use Rattle.cg_entry.specs.Entry.{newest, with_state}
-use Rattle.cg_entry.specs.Taking.{absorbed, met, taken_or_gap}
+use Rattle.cg_entry.specs.Taking.{absorption, meeting, taken_or_gap}
 use Rattle.cg_types.specs.ListPlace.{at_place}
 use Rattle.cg_entry.specs.History.{Follows, Starts, Beats, Sets, IsHistory, generation_at, generation_of}
-use Rattle.cg_entry.specs.Place.{Span, IsSpan, SpanOutcome, Taken, Old, Gap, taking}
+use Rattle.cg_entry.specs.Place.{Span, IsSpan, SpanOutcome, Taken, Old, Gap, span_outcome}
 use Rattle.cg_entry.specs.Spelling.{version_of, version_at, absorbed_of}
 use Rattle.cg_entry.proofs.PlaceLemmas.{at_place_some, at_place_within, at_place_none}
 use Rattle.cg_entry.proofs.HistoryLemmas.{GivenAt, Here, Elsewhere, given, given_at, IsBefore, comes_before, generation_rises, version_tells, version_positive, all_positive, Compared, Behind, Ahead, SameBehind, SameAhead, SamePlace, compared}
@@ -63,7 +63,7 @@ keeps_between h p q is x z ex ez le same k =
 -- ---- what the places of a span say of versions
 
 pub taking_cases : (place : ℕ) (span : Span) →
-    ((taking place span ≡ Old) × (span.to ≤ place)) ⊎ ((taking place span ≡ Taken) × (span.from ≤ place) × (place < span.to)) ⊎ ((taking place span ≡ Gap) × (place < span.from) × (place < span.to))
+    ((span_outcome place span ≡ Old) × (span.to ≤ place)) ⊎ ((span_outcome place span ≡ Taken) × (span.from ≤ place) × (place < span.to)) ⊎ ((span_outcome place span ≡ Gap) × (place < span.from) × (place < span.to))
 taking_cases place span = grind (arith, nat_tests)
 
 module _ (h : List EntryValue) (is : IsHistory h) (span : Span) (s : IsSpan h span) (y : EntryValue) (ey : at_place h span.to ≡ Some y) where
@@ -93,14 +93,14 @@ module _ (h : List EntryValue) (is : IsHistory h) (span : Span) (s : IsSpan h sp
     within : r ≤ length h
     within = (at_place_within h r x ex).1
 
-    old : span.to ≤ r → Compared r span.to x y → absorbed x (part (version_at h span.from) y) ≡ absorbed_as.Old
+    old : span.to ≤ r → Compared r span.to x y → absorption x (part (version_at h span.from) y) ≡ absorbed_as.Old
     old le (Behind lt g) = absurd (omega arith)
     old le (Ahead lt g) = absorbed_older (version_at h span.from) x y g
     old le (SameBehind lt g n) = absurd (omega arith)
     old le (SameAhead lt g n) = absorbed_old (version_at h span.from) x y g span_below (omega arith)
     old le (SamePlace e same) = absorbed_old (version_at h span.from) x y (ap (λ (e : EntryValue). e.generation) same) span_below (omega (arith, ap newest same))
 
-    taken : span.from ≤ r → r < span.to → Begins → Compared r span.to x y → absorbed x (part (version_at h span.from) y) ≡ absorbed_as.Taken y
+    taken : span.from ≤ r → r < span.to → Begins → Compared r span.to x y → absorption x (part (version_at h span.from) y) ≡ absorbed_as.Taken y
     taken le lt (AtNone z e) (Behind l g) = absorbed_whole (version_at h span.from) x y g e (all_positive h span.to is y ey)
     taken le lt (Within p q b) (Behind l g) = absurd (omega (arith, generation_rises h span.from r is le within, b, ap generation_of ex, g))
     taken le lt b (Ahead l g) = absurd (omega arith)
@@ -112,39 +112,39 @@ module _ (h : List EntryValue) (is : IsHistory h) (span : Span) (s : IsSpan h sp
     taken le lt b (SameAhead l g n) = absurd (omega arith)
     taken le lt b (SamePlace e same) = absurd (omega arith)
 
-    gap : r < span.from → Begins → absorbed x (part (version_at h span.from) y) ≡ absorbed_as.Gap
+    gap : r < span.from → Begins → absorption x (part (version_at h span.from) y) ≡ absorbed_as.Gap
     gap lt (AtNone z e) = absurd (omega arith)
     gap lt (Within p q b) = go (comes_before h r span.from is lt (omega (arith, s.rises, s.stands)))
       where
-        go : IsBefore (generation_at h r) (version_at h r) (generation_at h span.from) (version_at h span.from) → absorbed x (part (version_at h span.from) y) ≡ absorbed_as.Gap
+        go : IsBefore (generation_at h r) (version_at h r) (generation_at h span.from) (version_at h span.from) → absorption x (part (version_at h span.from) y) ≡ absorbed_as.Gap
         go (inl less) = absorbed_part (version_at h span.from) x y (omega (arith, less, b, ap generation_of ex)) q
         go (inr more) = absorbed_gap (version_at h span.from) x y (sym (ap generation_of ex) ∙ more.0 ∙ b) span_below (omega (arith, more.1, ap version_of ex))
 
   -- ---- at an entry, or at none
 
   abbrev MetAs : ℕ → Option EntryValue → SpanOutcome → Type 0
-  MetAs r held t = met held (part (version_at h span.from) y) ≡ absorbed_of h span t
+  MetAs r held t = meeting held (part (version_at h span.from) y) ≡ absorbed_of h span t
 
   taken_is : taken_or_gap (at_place h span.to) ≡ absorbed_as.Taken y
   taken_is = ap taken_or_gap ey
 
-  at_none : (r : ℕ) → r ≡ 0 → Begins → MetAs r None (taking r span)
+  at_none : (r : ℕ) → r ≡ 0 → Begins → MetAs r None (span_outcome r span)
   at_none r none (AtNone z e) =
-      let t : taking r span ≡ Taken = rw (lt-leb span.to r (omega (arith, s.rises)), le-leb span.from r (omega arith)) refl in
+      let t : span_outcome r span ≡ Taken = rw (lt-leb span.to r (omega (arith, s.rises)), le-leb span.from r (omega arith)) refl in
       subst (MetAs r None) (sym t) (ap taken_or_gap (whole_part (version_at h span.from) y e (all_positive h span.to is y ey)) ∙ sym taken_is)
   at_none r none (Within p q g) =
-      let t : taking r span ≡ Gap = rw (lt-leb span.to r (omega (arith, s.rises)), lt-leb span.from r (omega arith)) refl in
+      let t : span_outcome r span ≡ Gap = rw (lt-leb span.to r (omega (arith, s.rises)), lt-leb span.from r (omega arith)) refl in
       subst (MetAs r None) (sym t) (ap taken_or_gap (no_whole_part (version_at h span.from) y q))
 
   at_some : (r : ℕ) (x : EntryValue) → at_place h r ≡ Some x →
-      ((taking r span ≡ Old) × (span.to ≤ r)) ⊎ ((taking r span ≡ Taken) × (span.from ≤ r) × (r < span.to)) ⊎ ((taking r span ≡ Gap) × (r < span.from) × (r < span.to)) → MetAs r (Some x) (taking r span)
+      ((span_outcome r span ≡ Old) × (span.to ≤ r)) ⊎ ((span_outcome r span ≡ Taken) × (span.from ≤ r) × (r < span.to)) ⊎ ((span_outcome r span ≡ Gap) × (r < span.from) × (r < span.to)) → MetAs r (Some x) (span_outcome r span)
   at_some r x ex (inl c) = subst (MetAs r (Some x)) (sym c.0) (old r x ex c.1 (compared h r span.to is x y ex ey))
   at_some r x ex (inr (inl c)) = subst (MetAs r (Some x)) (sym c.0) (taken r x ex c.1 c.2 begins (compared h r span.to is x y ex ey) ∙ sym taken_is)
   at_some r x ex (inr (inr c)) = subst (MetAs r (Some x)) (sym c.0) (gap r x ex c.1 begins)
 
-  met_cases : (r : ℕ) (held : Option EntryValue) → r ≤ length h → at_place h r ≡ held → MetAs r held (taking r span)
+  met_cases : (r : ℕ) (held : Option EntryValue) → r ≤ length h → at_place h r ≡ held → MetAs r held (span_outcome r span)
   met_cases r None le e = at_none r (at_place_none h r le e) begins
   met_cases r (Some x) le e = at_some r x e (taking_cases r span)
 
-  pub met_spelled : (r : ℕ) → r ≤ length h → met (at_place h r) (part (version_at h span.from) y) ≡ absorbed_of h span (taking r span)
+  pub met_spelled : (r : ℕ) → r ≤ length h → meeting (at_place h r) (part (version_at h span.from) y) ≡ absorbed_of h span (span_outcome r span)
   met_spelled r le = met_cases r (at_place h r) le refl

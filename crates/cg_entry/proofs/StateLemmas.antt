@@ -11,7 +11,7 @@ use Rattle.cg_types.specs.Rising.{Rises}
 use Rattle.cg_types.proofs.RisingLemmas.{keys_of, entries_rising, get_rising, filter_rising, rise_filter}
 use Rattle.cg_entry.specs.declared.state.State.{State}
 use Rattle.cg_entry.specs.Versioned.{Versioned, States}
-use Rattle.cg_entry.specs.State.{pair, pairs, versioned, KeysRise}
+use Rattle.cg_entry.specs.State.{pair, pairs, value_at_key, KeysRise}
 use Rattle.cg_entry.specs.Entry.{greatest_of, greatest, newer_than}
 
 pub keys-pairs : (items : List State) → keys_of (pairs items) ≡ map (λ s. s.key) items
@@ -60,20 +60,20 @@ greatest_whole n most i xs all states le so_far same rise is =
 same_keys : (q k : ℕ) → eq_by_cmp nat_cmp q k ≡ (k == q)
 same_keys q k = grind (arith, nat_tests)
 
-found_by : (b : Bool) (s : State) (ss : List State) (q : ℕ) → option_map versioned (find (λ (t : State). t.key == q) ss) ≡ find_entry nat_cmp q (pairs ss)
-    → option_map versioned (cond b (Some s) (find (λ (t : State). t.key == q) ss)) ≡ cond b (Some (versioned s)) (find_entry nat_cmp q (pairs ss))
+found_by : (b : Bool) (s : State) (ss : List State) (q : ℕ) → option_map value_at_key (find (λ (t : State). t.key == q) ss) ≡ find_entry nat_cmp q (pairs ss)
+    → option_map value_at_key (cond b (Some s) (find (λ (t : State). t.key == q) ss)) ≡ cond b (Some (value_at_key s)) (find_entry nat_cmp q (pairs ss))
 found_by true s ss q h = refl
 found_by false s ss q h = h
 
-find-pairs : (q : ℕ) (ss : List State) → option_map versioned (find (λ (t : State). t.key == q) ss) ≡ find_entry nat_cmp q (pairs ss)
+find-pairs : (q : ℕ) (ss : List State) → option_map value_at_key (find (λ (t : State). t.key == q) ss) ≡ find_entry nat_cmp q (pairs ss)
 find-pairs q [] = refl
-find-pairs q (s ∷ ss) = found_by (s.key == q) s ss q (find-pairs q ss) ∙ ap (λ (b : Bool). cond b (Some (versioned s)) (find_entry nat_cmp q (pairs ss))) (sym (same_keys q s.key))
+find-pairs q (s ∷ ss) = found_by (s.key == q) s ss q (find-pairs q ss) ∙ ap (λ (b : Bool). cond b (Some (value_at_key s)) (find_entry nat_cmp q (pairs ss))) (sym (same_keys q s.key))
 
 -- what a list has at a key, its map has
 pub get-pairs : (q : ℕ) (given items : List State) (states : States) → given ≡ items → KeysRise items → from_sorted {R = nat_cmp} (pairs items) ≡ states
-    → option_map versioned (find (λ (t : State). t.key == q) given) ≡ get states q
+    → option_map value_at_key (find (λ (t : State). t.key == q) given) ≡ get states q
 get-pairs q given items states same rise seen =
-    ap (λ (ss : List State). option_map versioned (find (λ (t : State). t.key == q) ss)) same ∙ find-pairs q items ∙ sym (get_rising (pairs items) q (pairs_rise items rise)) ∙ ap (λ (m : States). get m q) seen
+    ap (λ (ss : List State). option_map value_at_key (find (λ (t : State). t.key == q) ss)) same ∙ find-pairs q items ∙ sym (get_rising (pairs items) q (pairs_rise items rise)) ∙ ap (λ (m : States). get m q) seen
 
 -- ---- lists with the same map
 

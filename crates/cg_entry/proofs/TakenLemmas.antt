@@ -10,7 +10,7 @@ use Rattle.cg_entry.specs.declared.entry.Absorbed.TheVariants.{Taken, Old, Gap}
 use Rattle.cg_entry.specs.Versioned.{Versioned, States}
 use Rattle.cg_entry.specs.Values.{EntryValue, DeltaValue}
 use Rattle.cg_entry.specs.Entry.{newest, greatest}
-use Rattle.cg_entry.specs.Taking.{whole_entry, taken_or_gap, advanced, absorbed, met, states_under, IsTakenEntry, IfTaken}
+use Rattle.cg_entry.specs.Taking.{whole_entry, taken_or_gap, advanced_entry, absorption, meeting, states_under, IsTakenEntry, IfTaken}
 use Rattle.cg_entry.proofs.PutLemmas.{get-overlay}
 
 or_none : {X : Type 0} (o p : Option X) → p ≡ None → o ≡ option_or o p
@@ -34,14 +34,14 @@ module _ (e : EntryValue) (d : DeltaValue) where
   Fact a = IfTaken a (IsTakenEntry (Some e) d)
 
   -- of a part, over what is held of its generation
-  part_taken : e.generation ≡ d.generation → Fact (Taken (advanced e d))
+  part_taken : e.generation ≡ d.generation → Fact (Taken (advanced_entry e d))
   part_taken same = record {
     generation = same;
     heartbeat = refl;
     each = λ key. rw (eq-eqb e.generation d.generation same) (get-overlay e.states d.states key);
   }
 
-  by_version : (old gap : Bool) → e.generation ≡ d.generation → Fact (cond old Old (cond gap Gap (Taken (advanced e d))))
+  by_version : (old gap : Bool) → e.generation ≡ d.generation → Fact (cond old Old (cond gap Gap (Taken (advanced_entry e d))))
   by_version true gap same = tt
   by_version false true same = tt
   by_version false false same = part_taken same
@@ -52,7 +52,7 @@ module _ (e : EntryValue) (d : DeltaValue) where
       whole_taken (Some e) d (rw (ne_eqb e.generation d.generation (λ same. omega arith)) refl)
 
   by_generation : (old new : Bool) → nat_lt d.generation e.generation ≡ old → nat_lt e.generation d.generation ≡ new
-      → Fact (cond old Old (cond new (taken_or_gap (whole_entry d)) (cond (nat_le (greatest d.heartbeat d.states) (newest e)) Old (cond (nat_lt (newest e) d.above) Gap (Taken (advanced e d))))))
+      → Fact (cond old Old (cond new (taken_or_gap (whole_entry d)) (cond (nat_le (greatest d.heartbeat d.states) (newest e)) Old (cond (nat_lt (newest e) d.above) Gap (Taken (advanced_entry e d))))))
   by_generation true new o n = tt
   by_generation false true o n = later n
   by_generation false false o n =
@@ -60,11 +60,11 @@ module _ (e : EntryValue) (d : DeltaValue) where
       let low = ltb-false e.generation d.generation n in
       by_version (nat_le (greatest d.heartbeat d.states) (newest e)) (nat_lt (newest e) d.above) (omega arith)
 
-taken_at : (held : Option EntryValue) (d : DeltaValue) → IfTaken (met held d) (IsTakenEntry held d)
+taken_at : (held : Option EntryValue) (d : DeltaValue) → IfTaken (meeting held d) (IsTakenEntry held d)
 taken_at None d = whole_taken None d refl
 taken_at (Some e) d = by_generation e d (nat_lt d.generation e.generation) (nat_lt e.generation d.generation) refl refl
 
 -- what a caller sees of what a delta was made
-pub taken_each : {E : Type 0} (held : Option EntryValue) (d : DeltaValue) (r : Result Absorbed E) → IfOk r (λ a. a ≡ met held d) → IfOk r (λ a. IfTaken a (IsTakenEntry held d))
+pub taken_each : {E : Type 0} (held : Option EntryValue) (d : DeltaValue) (r : Result Absorbed E) → IfOk r (λ a. a ≡ meeting held d) → IfOk r (λ a. IfTaken a (IsTakenEntry held d))
 taken_each held d (Ok a) e = subst (λ (x : Absorbed). IfTaken x (IsTakenEntry held d)) (sym e) (taken_at held d)
 taken_each held d (Err x) e = tt

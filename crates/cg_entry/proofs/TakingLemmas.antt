@@ -9,7 +9,7 @@ use Rattle.cg_entry.specs.declared.entry.Absorbed.TheVariants.{Taken, Old, Gap}
 use Rattle.cg_entry.specs.Versioned.{Versioned, States}
 use Rattle.cg_entry.specs.Values.{EntryValue, DeltaValue}
 use Rattle.cg_entry.specs.Entry.{greatest, newest, newer_than, overlay, delta_above}
-use Rattle.cg_entry.specs.Taking.{whole_entry, taken_or_gap, advanced, absorbed}
+use Rattle.cg_entry.specs.Taking.{whole_entry, taken_or_gap, advanced_entry, absorption}
 use Rattle.cg_entry.proofs.PutLemmas.{get-overlay}
 use Rattle.cg_entry.proofs.VersionLemmas.{Stands, get-newer_than, at_least, version_within, greatest_stands}
 use Rattle.cg_entry.proofs.HistoryLemmas.{AllPositive, heartbeat_within, state_within}
@@ -93,34 +93,34 @@ module _ (v : ℕ) (x y : EntryValue) (keeps : (k : ℕ) → KeptAt x y k) (same
   at_each : (k : ℕ) → get (overlay x.states (newer_than v y.states)) k ≡ get y.states k
   at_each k = get-overlay x.states (newer_than v y.states) k ∙ ap (λ (o : Option Versioned). option_or o (get x.states k)) (get-newer_than v y.states k) ∙ at_key k (keeps k)
 
-  advanced_is : advanced x (part v y) ≡ y
+  advanced_is : advanced_entry x (part v y) ≡ y
   advanced_is = λ i. record { generation = same i; heartbeat = y.heartbeat; states = same_states (overlay x.states (newer_than v y.states)) y.states at_each i }
 
 -- ---- what becomes of it
 
 module _ (v : ℕ) (x y : EntryValue) where
-  pub absorbed_older : y.generation < x.generation → absorbed x (part v y) ≡ Old
+  pub absorbed_older : y.generation < x.generation → absorption x (part v y) ≡ Old
   absorbed_older g = rw (lt-ltb y.generation x.generation g) refl
 
-  absorbed_newer : x.generation < y.generation → absorbed x (part v y) ≡ taken_or_gap (whole_entry (part v y))
+  absorbed_newer : x.generation < y.generation → absorption x (part v y) ≡ taken_or_gap (whole_entry (part v y))
   absorbed_newer g = rw (le-ltb y.generation x.generation (omega arith), lt-ltb x.generation y.generation g) refl
 
-  pub absorbed_whole : x.generation < y.generation → v ≡ 0 → AllPositive y → absorbed x (part v y) ≡ Taken y
+  pub absorbed_whole : x.generation < y.generation → v ≡ 0 → AllPositive y → absorption x (part v y) ≡ Taken y
   absorbed_whole g e all = absorbed_newer g ∙ ap taken_or_gap (whole_part v y e all)
 
-  pub absorbed_part : x.generation < y.generation → 0 < v → absorbed x (part v y) ≡ Gap
+  pub absorbed_part : x.generation < y.generation → 0 < v → absorption x (part v y) ≡ Gap
   absorbed_part g lt = absorbed_newer g ∙ ap taken_or_gap (no_whole_part v y lt)
 
   module _ (same : x.generation ≡ y.generation) (below : v < newest y) where
-    pub absorbed_old : newest y ≤ newest x → absorbed x (part v y) ≡ Old
+    pub absorbed_old : newest y ≤ newest x → absorption x (part v y) ≡ Old
     absorbed_old le =
         rw (le-ltb y.generation x.generation (omega arith), le-ltb x.generation y.generation (omega arith), newest_part v y below, le-leb (newest y) (newest x) le) refl
 
-    pub absorbed_gap : newest x < v → absorbed x (part v y) ≡ Gap
+    pub absorbed_gap : newest x < v → absorption x (part v y) ≡ Gap
     absorbed_gap lt =
         rw (le-ltb y.generation x.generation (omega arith), le-ltb x.generation y.generation (omega arith), newest_part v y below, lt-leb (newest y) (newest x) (omega arith), lt-ltb (newest x) v lt) refl
 
-    pub absorbed_taken : newest x < newest y → v ≤ newest x → ((k : ℕ) → KeptAt x y k) → absorbed x (part v y) ≡ Taken y
+    pub absorbed_taken : newest x < newest y → v ≤ newest x → ((k : ℕ) → KeptAt x y k) → absorption x (part v y) ≡ Taken y
     absorbed_taken lt le keeps =
         rw (le-ltb y.generation x.generation (omega arith), le-ltb x.generation y.generation (omega arith), newest_part v y below, lt-leb (newest y) (newest x) lt, le-ltb (newest x) v le)
         (ap Taken (advanced_is v x y keeps same le))

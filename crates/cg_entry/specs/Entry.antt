@@ -23,16 +23,16 @@ abbrev pub overlay : States → States → States
 overlay old new = map.from_entries (map.entries new ++ map.entries old)
 
 -- the entry of an endpoint that starts
-abbrev pub started : ℕ → EntryValue
-started generation = record { generation = generation; heartbeat = 1; states = map.empty }
+abbrev pub starting_entry : ℕ → EntryValue
+starting_entry generation = record { generation = generation; heartbeat = 1; states = map.empty }
 
 -- the greatest version in an entry
 abbrev pub newest : EntryValue → ℕ
 newest e = greatest e.heartbeat e.states
 
 -- the entry after a heartbeat
-abbrev pub beaten : EntryValue → EntryValue
-beaten e = record { generation = e.generation; heartbeat = newest e + 1; states = e.states }
+abbrev pub entry_after_beat : EntryValue → EntryValue
+entry_after_beat e = record { generation = e.generation; heartbeat = newest e + 1; states = e.states }
 
 -- the entry after a key is given a text
 abbrev pub with_state : ℕ → List ℕ → EntryValue → EntryValue

@@ -2,17 +2,17 @@
 use Rattle.std.specs.Prelude.{◌≡◌, ℕ, suc, ◌<◌, List, Option, Some, None}
 pub use Rattle.cg_types.specs.ListPlace.{at_place}
 use Rattle.cg_entry.specs.Values.{EntryValue}
-use Rattle.cg_entry.specs.Entry.{started, beaten, with_state}
+use Rattle.cg_entry.specs.Entry.{starting_entry, entry_after_beat, with_state}
 
 -- Entry y may come next after x: the owner starts again, beats, or gives a key a text.
 pub data Follows (x y : EntryValue) : Type 0 where
-  Starts : (generation : ℕ) → x.generation < generation → y ≡ started generation → Follows x y
-  Beats : y ≡ beaten x → Follows x y
+  Starts : (generation : ℕ) → x.generation < generation → y ≡ starting_entry generation → Follows x y
+  Beats : y ≡ entry_after_beat x → Follows x y
   Sets : (key : ℕ) (text : List ℕ) → y ≡ with_state key text x → Follows x y
 
 -- The entries of one owner, oldest first: the first is a start, and each other follows the one before.
 pub record IsHistory (history : List EntryValue) : Type 0 where
-  pub begins : (x : EntryValue) → at_place history 1 ≡ Some x → (generation : ℕ) × (x ≡ started generation)
+  pub begins : (x : EntryValue) → at_place history 1 ≡ Some x → (generation : ℕ) × (x ≡ starting_entry generation)
   pub goes_on : (place : ℕ) (x y : EntryValue)
       → at_place history place ≡ Some x → at_place history (suc place) ≡ Some y → Follows x y
 

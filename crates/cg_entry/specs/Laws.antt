@@ -1,16 +1,16 @@
 -- What holds of the entries of one owner, and of the deltas that spell spans of its history.
 use Rattle.std.specs.Prelude.{◌≡◌, ◌↔◌, ℕ, ◌<◌, ◌≤◌, ◌⊎◌, true, List, [], ◌∷◌, ◌++◌, length, Option, Some, IsSome}
 use Rattle.cg_entry.specs.Values.{EntryValue, DeltaValue}
-use Rattle.cg_entry.specs.Entry.{started, newest, is_later, delta_above}
-use Rattle.cg_entry.specs.Taking.{met, entry_after}
+use Rattle.cg_entry.specs.Entry.{starting_entry, newest, is_later, delta_above}
+use Rattle.cg_entry.specs.Taking.{meeting, entry_after}
 use Rattle.cg_types.specs.ListPlace.{at_place}
 use Rattle.cg_entry.specs.History.{Follows, IsHistory, generation_at}
-use Rattle.cg_entry.specs.Place.{Span, IsSpan, taking, place_after}
+use Rattle.cg_entry.specs.Place.{Span, IsSpan, span_outcome, place_after}
 use Rattle.cg_entry.specs.Spelling.{version_at, delta_of, absorbed_of}
 
 -- A start alone is a history, and a history goes on by each entry that may follow its last one.
 pub record HistoriesGrow : Type 0 where
-  pub first : (generation : ℕ) → IsHistory (started generation ∷ [])
+  pub first : (generation : ℕ) → IsHistory (starting_entry generation ∷ [])
   pub next : (history : List EntryValue) (x y : EntryValue)
       → IsHistory history → at_place history (length history) ≡ Some x → Follows x y → IsHistory (history ++ y ∷ [])
 
@@ -31,10 +31,10 @@ VersionsNameEntries =
 pub record IsTakenAsItsSpan (history : List EntryValue) (span : Span) (place : ℕ) (delta : DeltaValue) : Type 0 where
   -- what becomes of it is what becomes of the span: where it is taken, the entry that it leads to is the whole entry at
   -- the span's end
-  pub outcome : met (at_place history place) delta ≡ absorbed_of history span (taking place span)
+  pub outcome : meeting (at_place history place) delta ≡ absorbed_of history span (span_outcome place span)
   -- what is then held is the whole entry at the new place
-  pub held : entry_after (at_place history place) (met (at_place history place) delta)
-      ≡ at_place history (place_after (taking place span) place span)
+  pub held : entry_after (at_place history place) (meeting (at_place history place) delta)
+      ≡ at_place history (place_after (span_outcome place span) place span)
 
 -- A delta that spells a span is taken as the span is, at each place of its history.
 abbrev pub SpelledDeltasAreTaken : Type 0

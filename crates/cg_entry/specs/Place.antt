@@ -20,8 +20,8 @@ pub data SpanOutcome : Type 0 where
   Taken Old Gap : SpanOutcome
 
 -- what a holder at a place makes of a span: the first case that fits
-abbrev pub taking : ℕ → Span → SpanOutcome
-taking place span =
+abbrev pub span_outcome : ℕ → Span → SpanOutcome
+span_outcome place span =
     if nat_le span.to place then Old
     else if nat_le span.from place then Taken
     else Gap

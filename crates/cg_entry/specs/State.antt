@@ -12,12 +12,12 @@ use Rattle.cg_entry.specs.Entry.{greatest}
 use Rattle.cg_entry.specs.Contents.{IsState}
 
 -- what is held at a state's key
-abbrev pub versioned : State → Versioned
-versioned s = record { text = s.text; version = s.version }
+abbrev pub value_at_key : State → Versioned
+value_at_key s = record { text = s.text; version = s.version }
 
 -- a state as its key and what is held at it
 abbrev pub pair : State → ℕ × Versioned
-pair s = (s.key, versioned s)
+pair s = (s.key, value_at_key s)
 
 -- a list of states as the entries of a finite map
 abbrev pub pairs : List State → List (ℕ × Versioned)

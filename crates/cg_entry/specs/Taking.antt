@@ -25,22 +25,22 @@ is_taken Old = false
 is_taken Gap = false
 
 -- the heartbeat of the delta, its states over those of the entry
-abbrev pub advanced : EntryValue → DeltaValue → EntryValue
-advanced e d = record { generation = e.generation; heartbeat = d.heartbeat; states = overlay e.states d.states }
+abbrev pub advanced_entry : EntryValue → DeltaValue → EntryValue
+advanced_entry e d = record { generation = e.generation; heartbeat = d.heartbeat; states = overlay e.states d.states }
 
 -- the first case that fits
-abbrev pub absorbed : EntryValue → DeltaValue → Absorbed
-absorbed e d =
+abbrev pub absorption : EntryValue → DeltaValue → Absorbed
+absorption e d =
     if nat_lt d.generation e.generation then Old
     else if nat_lt e.generation d.generation then taken_or_gap (whole_entry d)
     else if nat_le (greatest d.heartbeat d.states) (newest e) then Old
     else if nat_lt (newest e) d.above then Gap
-    else Taken (advanced e d)
+    else Taken (advanced_entry e d)
 
 -- what becomes of a delta at what is held
-abbrev pub met : Option EntryValue → DeltaValue → Absorbed
-met None d = taken_or_gap (whole_entry d)
-met (Some e) d = absorbed e d
+abbrev pub meeting : Option EntryValue → DeltaValue → Absorbed
+meeting None d = taken_or_gap (whole_entry d)
+meeting (Some e) d = absorption e d
 
 -- what is then held
 abbrev pub entry_after : Option EntryValue → Absorbed → Option EntryValue

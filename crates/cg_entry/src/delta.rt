@@ -32,7 +32,8 @@ impl Model for Delta {
 
     ghost coded = { delta_code };
 
-    ghost view = { λ d. record { generation = d.generation; above = d.above; heartbeat = d.heartbeat; states = d.states } };
+    ghost view = { λ d.
+        record { generation = d.generation; above = d.above; heartbeat = d.heartbeat; states = d.states } };
 
     ghost invariant = { λ d. IsVersionHeld d.above × IsDelta d.above d.heartbeat d.states };
 }

@@ -6,9 +6,9 @@ ghost use Rattle.std.specs.Option.{option_map};
 ghost use Rattle.cg_types.specs.Answer.{Answers, AnswersExactly};
 ghost use Rattle.cg_version.specs.Version.{next_version};
 ghost use Rattle.cg_entry.specs.Contents.{IsEntry};
-ghost use Rattle.cg_entry.specs.Entry.{newest, newer_than, delta_above, started, beaten, with_state, is_later as is_later_of};
+ghost use Rattle.cg_entry.specs.Entry.{newest, newer_than, delta_above, starting_entry, entry_after_beat, with_state, is_later as is_later_of};
 ghost use Rattle.cg_entry.specs.State.{KeysRise, pairs};
-ghost use Rattle.cg_entry.specs.Taking.{whole_entry, taken_or_gap, advanced, absorbed, is_taken, met as met_of, IsTakenEntry, IfTaken};
+ghost use Rattle.cg_entry.specs.Taking.{whole_entry, taken_or_gap, advanced_entry, absorption, is_taken, meeting as met_of, IsTakenEntry, IfTaken};
 
 use crate::delta::Delta;
 use crate::state::State;
@@ -80,7 +80,7 @@ pub fn met(alloc: Global, held: Option<&Entry>, delta: &Delta) -> Result<Absorbe
 impl Entry {
     /// The entry of an endpoint that starts. `alloc` is kept for what is held later.
     pub fn start(alloc: Global, generation: Generation) -> Entry
-        ensures { result ≡ started generation }
+        ensures { result ≡ starting_entry generation }
     {
         Entry {
             generation,
@@ -110,7 +110,7 @@ impl Entry {
     pub fn beat(&mut self, versions: &mut Versions) -> Result<Version, Fault>
         requires { versions.old ≡ newest self.old }
         ensures version { AnswersExactly (λ v. v) (next_version (newest self.old)) result }
-        ensures ok { OnOk result (self.new ≡ beaten self.old) }
+        ensures ok { OnOk result (self.new ≡ entry_after_beat self.old) }
         ensures given { IfOk result (λ v. versions.new ≡ v) }
         ensures stands { versions.new ≡ newest self.new }
         ensures err { OnErr result (self.new ≡ self.old) }
@@ -167,7 +167,7 @@ impl Entry {
 
     // The entry with a delta of its generation.
     fn advance(&self, alloc: Global, delta: &Delta) -> Result<Entry, AllocError>
-        ensures { IfOk result (λ e. e ≡ advanced self.now delta.now) }
+        ensures { IfOk result (λ e. e ≡ advanced_entry self.now delta.now) }
     {
         let heartbeat = delta.heartbeat();
         Ok(Entry {
@@ -178,8 +178,8 @@ impl Entry {
     }
 
     fn outcome(&self, alloc: Global, delta: &Delta) -> Result<Absorbed, AllocError>
-        ensures value { IfOk result (λ a. a ≡ absorbed self.now delta.now) }
-        ensures refused { IfErr result (λ _. is_taken (absorbed self.now delta.now) ≡ true) }
+        ensures value { IfOk result (λ a. a ≡ absorption self.now delta.now) }
+        ensures refused { IfErr result (λ _. is_taken (absorption self.now delta.now) ≡ true) }
     {
         if delta.generation() < self.generation {
             return Ok(Absorbed::Old);
@@ -199,9 +199,9 @@ impl Entry {
     /// What taking a delta about this endpoint makes of the entry, which stays as it is. Texts are shared; `AllocError`
     /// only where the delta is to be taken and the new list of states finds no memory.
     pub fn absorb(&self, alloc: Global, delta: &Delta) -> Result<Absorbed, AllocError>
-        ensures value { IfOk result (λ a. a ≡ absorbed self.now delta.now) }
+        ensures value { IfOk result (λ a. a ≡ absorption self.now delta.now) }
         ensures each { IfOk result (λ a. IfTaken a (IsTakenEntry (Some self.now) delta.now)) }
-        ensures refused { IfErr result (λ _. is_taken (absorbed self.now delta.now) ≡ true) }
+        ensures refused { IfErr result (λ _. is_taken (absorption self.now delta.now) ≡ true) }
     {
         met(alloc, Some(self), delta)
     }

@@ -8,7 +8,7 @@ ghost use Rattle.std.specs.Ordering.{nat_cmp};
 ghost use Rattle.std.specs.List.{AllByRecursion};
 ghost use Rattle.cg_entry.specs.Contents.{IsState, AreStates};
 ghost use Rattle.cg_entry.specs.Entry.{greatest, newer_than, overlay};
-ghost use Rattle.cg_entry.specs.State.{KeysRise, keys_rise as keys_rise_of, pair, pairs, count_below, versioned};
+ghost use Rattle.cg_entry.specs.State.{KeysRise, keys_rise as keys_rise_of, pair, pairs, count_below, value_at_key};
 
 use crate::state::State;
 use cg_types::{StateKey, Version};
@@ -66,7 +66,8 @@ fn place_of(items: &[State], key: StateKey) -> usize
 
 // Puts a state in its place, in place of one with its key.
 fn put_state(items: &mut Vec<State>, state: State) -> Result<(), AllocError>
-    ensures ok { OnOk result (pairs items.new.items ≡ put nat_cmp state.key (versioned state) (pairs items.old.items)) }
+    ensures ok { OnOk result
+        (pairs items.new.items ≡ put nat_cmp state.key (value_at_key state) (pairs items.old.items)) }
     ensures err { OnErr result (items.new.items ≡ items.old.items) }
 {
     let at = place_of(items, state.key);
@@ -158,14 +159,14 @@ impl States {
 
     // The state of a key, if there is one.
     pub(crate) fn get(&self, key: StateKey) -> Option<&State>
-        ensures { option_map versioned (option_copied result) ≡ map.get self.now key }
+        ensures { option_map value_at_key (option_copied result) ≡ map.get self.now key }
     {
         state_of(&self.items, key)
     }
 
     // Puts a state, in place of one with its key.
     pub(crate) fn put(&mut self, state: State) -> Result<(), AllocError>
-        ensures ok { OnOk result (self.new ≡ map.insert self.old state.key (versioned state)) }
+        ensures ok { OnOk result (self.new ≡ map.insert self.old state.key (value_at_key state)) }
         ensures err { OnErr result (self.new ≡ self.old) }
     {
         show_state(&state);

@@ -19,8 +19,8 @@ use Rattle.cg_table.specs.Spelling.{SpellsPlaces}
 use Rattle.cg_table.specs.Values.{Entries}
 use Rattle.cg_exchange.specs.declared.owner_delta.OwnerDelta.{OwnerDelta}
 use Rattle.cg_exchange.specs.Values.{RequestValue}
-use Rattle.cg_exchange.specs.Answering.{asked, sent, delta_for, requests_for, deltas_for}
-use Rattle.cg_exchange.specs.Taking.{granted, delta_granted, deltas_granted}
+use Rattle.cg_exchange.specs.Answering.{request_by, delta_by, delta_for, requests_for, deltas_for}
+use Rattle.cg_exchange.specs.Taking.{grant_of, delta_granted, deltas_granted}
 use Rattle.cg_exchange.specs.Places.{Ask, IsAsk, within_generation, span_for, ask_for, span_asked}
 use Rattle.cg_exchange.specs.Members.{about, endpoints_of_digests, endpoints_of_requests}
 use Rattle.cg_exchange.specs.Spelling.{request_of, SpellsDigests, SpellsAsks, SpellsSpans}
@@ -83,7 +83,7 @@ module _ (owner : ℕ) (h : List EntryValue) (is : IsHistory h) (p q : ℕ) (lp 
   spelled_ask g g' from from' a b = λ i. Some (record { endpoint = owner; generation = a i; version = version_at h (b i) })
 
   abbrev AskedSpelled : Option EntryValue → Option EntryValue → Type 0
-  AskedSpelled mine theirs = option_and_then (λ d. asked d mine) (option_map shown theirs) ≡ option_map (request_of owner h) (ask_for h p q)
+  AskedSpelled mine theirs = option_and_then (λ d. request_by d mine) (option_map shown theirs) ≡ option_map (request_of owner h) (ask_for h p q)
 
   both_hold : (x y : EntryValue) → at_place h p ≡ Some x → at_place h q ≡ Some y → Compared p q x y → AskedSpelled (Some x) (Some y)
   both_hold x y ex ey (Behind lt g) = rw (ask_behind h p q lt, is_less x.generation y.generation g)
@@ -109,7 +109,7 @@ module _ (owner : ℕ) (h : List EntryValue) (is : IsHistory h) (p q : ℕ) (lp 
   asked_spells = asked_cases (at_place h p) (at_place h q) refl refl
 
   abbrev SentSpelled : Option EntryValue → Option EntryValue → Type 0
-  SentSpelled mine theirs = option_and_then (λ e. sent e (option_map shown theirs)) mine ≡ option_and_then (delta_of h) (span_for h p q)
+  SentSpelled mine theirs = option_and_then (λ e. delta_by e (option_map shown theirs)) mine ≡ option_and_then (delta_of h) (span_for h p q)
 
   -- the delta of the entry at p, above the version at a place
   spelled_span : (x : EntryValue) (from from' : ℕ) → at_place h p ≡ Some x → from ≡ from' → option_and_then (delta_of h) (Some (record { from = from; to = p })) ≡ delta_above (version_at h from') x
@@ -142,7 +142,7 @@ module _ (owner : ℕ) (h : List EntryValue) (is : IsHistory h) (p q : ℕ) (lp 
 
 module _ (owner : ℕ) (h : List EntryValue) (is : IsHistory h) (p : ℕ) (lp : p ≤ length h) (ask : Ask) (stands : IsAsk h ask) where
   abbrev GrantSpelled : Option EntryValue → Type 0
-  GrantSpelled mine = granted (request_of owner h ask) mine ≡ option_and_then (delta_of h) (span_asked h p ask)
+  GrantSpelled mine = grant_of (request_of owner h ask) mine ≡ option_and_then (delta_of h) (span_asked h p ask)
 
   -- an ask from a place that is not earlier is granted nothing
   nothing_above : (x : EntryValue) → at_place h p ≡ Some x → x.generation ≡ ask.generation → p ≤ ask.from → newest x ≤ version_at h ask.from
@@ -186,12 +186,12 @@ module _ (owner : ℕ) (h : List EntryValue) (is : IsHistory h) (p : ℕ) (lp : 
 -- ---- all owners
 
 asked_about : (owner : ℕ) (m : Entries) (theirs : Option EntryValue)
-    → option_and_then (λ (d : Digest). asked d (table.get m d.endpoint)) (option_map (λ e. digest_of (owner, e)) theirs) ≡ option_and_then (λ (d : Digest). asked d (table.get m owner)) (option_map (λ e. digest_of (owner, e)) theirs)
+    → option_and_then (λ (d : Digest). request_by d (table.get m d.endpoint)) (option_map (λ e. digest_of (owner, e)) theirs) ≡ option_and_then (λ (d : Digest). request_by d (table.get m owner)) (option_map (λ e. digest_of (owner, e)) theirs)
 asked_about owner m None = refl
 asked_about owner m (Some y) = refl
 
 sent_about : (owner : ℕ) (digests : List Digest) (mine : Option EntryValue)
-    → option_and_then (delta_for digests) (option_map (λ e. (owner, e)) mine) ≡ option_map (about owner) (option_and_then (λ e. sent e (find (λ d. d.endpoint == owner) digests)) mine)
+    → option_and_then (delta_for digests) (option_map (λ e. (owner, e)) mine) ≡ option_map (about owner) (option_and_then (λ e. delta_by e (find (λ d. d.endpoint == owner) digests)) mine)
 sent_about owner digests None = refl
 sent_about owner digests (Some x) = refl
 
@@ -201,10 +201,10 @@ module _ (hs : ℕ → List EntryValue) (are : (owner : ℕ) → IsHistory (hs o
   pub requests_spell_asks : Rises (endpoints_of_digests digests) → SpellsAsks hs (requests_for m digests) (λ owner. ask_for (hs owner) (mine owner) (theirs owner))
   requests_spell_asks rise = record {
     at = λ owner.
-        found_mapped (λ (d : Digest). d.endpoint) (λ (r : RequestValue). r.endpoint) (λ (d : Digest). asked d (table.get m d.endpoint)) (asked_same m) owner digests rise
-        ∙ ap (option_and_then (λ (d : Digest). asked d (table.get m d.endpoint))) (named.at owner)
+        found_mapped (λ (d : Digest). d.endpoint) (λ (r : RequestValue). r.endpoint) (λ (d : Digest). request_by d (table.get m d.endpoint)) (asked_same m) owner digests rise
+        ∙ ap (option_and_then (λ (d : Digest). request_by d (table.get m d.endpoint))) (named.at owner)
         ∙ asked_about owner m (at_place (hs owner) (theirs owner))
-        ∙ ap (λ (o : Option EntryValue). option_and_then (λ (d : Digest). asked d o) (option_map (λ e. digest_of (owner, e)) (at_place (hs owner) (theirs owner)))) (held.at owner)
+        ∙ ap (λ (o : Option EntryValue). option_and_then (λ (d : Digest). request_by d o) (option_map (λ e. digest_of (owner, e)) (at_place (hs owner) (theirs owner)))) (held.at owner)
         ∙ asked_spells owner (hs owner) (are owner) (mine owner) (theirs owner) (held.stand owner) (lt owner);
   }
 
@@ -215,7 +215,7 @@ module _ (hs : ℕ → List EntryValue) (are : (owner : ℕ) → IsHistory (hs o
         ∙ ap (option_and_then (delta_for digests)) (row_held m owner ∙ ap (option_map (λ (e : EntryValue). (owner, e))) (held.at owner))
         ∙ sent_about owner digests (at_place (hs owner) (mine owner))
         ∙ ap (option_map (about owner)) (
-        ap (λ (o : Option Digest). option_and_then (λ e. sent e o) (at_place (hs owner) (mine owner))) (named.at owner)
+        ap (λ (o : Option Digest). option_and_then (λ e. delta_by e o) (at_place (hs owner) (mine owner))) (named.at owner)
         ∙ sent_spells owner (hs owner) (are owner) (mine owner) (theirs owner) (held.stand owner) (lt owner)
         );
   }
@@ -224,7 +224,7 @@ granted_about : (owner : ℕ) (h : List EntryValue) (is : IsHistory h) (m : Entr
     → option_and_then (delta_granted m) (option_map (request_of owner h) o) ≡ option_map (about owner) (option_and_then (delta_of h) (option_and_then (span_asked h p) o))
 granted_about owner h is m p lp held None stand = refl
 granted_about owner h is m p lp held (Some ask) stand =
-    ap (option_map (about owner)) (ap (granted (request_of owner h ask)) held ∙ grant_spells owner h is p lp ask (stand ask refl))
+    ap (option_map (about owner)) (ap (grant_of (request_of owner h ask)) held ∙ grant_spells owner h is p lp ask (stand ask refl))
 
 -- requests that spell asks are granted what spells the grants
 pub grants_spell_spans : (hs : ℕ → List EntryValue) → ((owner : ℕ) → IsHistory (hs owner)) → (m : Entries) (requests : List RequestValue) (mine : ℕ → ℕ) (asks : ℕ → Option Ask)

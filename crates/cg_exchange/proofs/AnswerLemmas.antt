@@ -15,9 +15,9 @@ use Rattle.cg_map.proofs.ListLemmas.{rise_mapped}
 use Rattle.cg_table.specs.Values.{Entries}
 use Rattle.cg_exchange.specs.declared.owner_delta.OwnerDelta.{OwnerDelta}
 use Rattle.cg_exchange.specs.Values.{RequestValue}
-use Rattle.cg_exchange.specs.Taking.{granted, delta_granted, deltas_granted}
+use Rattle.cg_exchange.specs.Taking.{grant_of, delta_granted, deltas_granted}
 use Rattle.cg_table.specs.Table.{digest_of, digests_of}
-use Rattle.cg_exchange.specs.Answering.{asked, requests_for, sent, delta_for, deltas_for}
+use Rattle.cg_exchange.specs.Answering.{request_by, requests_for, delta_by, delta_for, deltas_for}
 use Rattle.std.specs.List.{cons_option}
 use Rattle.cg_exchange.specs.Members.{AreListed, endpoints_of_digests, endpoints_of_requests, endpoints_of_deltas}
 use Rattle.cg_types.specs.Rising.{Rises}
@@ -43,22 +43,22 @@ chosen P true c x y z px py e = subst P (same_Some x z e) px
 chosen P false true x y z px py e = subst P (same_Some y z e) py
 chosen P false false x y z px py e = absurd cc
 
-asked_endpoint : (d : Digest) (held : Option EntryValue) (r : RequestValue) → asked d held ≡ Some r → r.endpoint ≡ d.endpoint
+asked_endpoint : (d : Digest) (held : Option EntryValue) (r : RequestValue) → request_by d held ≡ Some r → r.endpoint ≡ d.endpoint
 asked_endpoint d None r e = ap (λ (r : RequestValue). r.endpoint) (sym (same_Some _ _ e))
 asked_endpoint d (Some x) r e = chosen (λ (r : RequestValue). r.endpoint ≡ d.endpoint) (nat_lt x.generation d.generation) (x.generation == d.generation && nat_lt (newest x) d.newest) _ _ r refl refl e
 
-mapped_endpoint : (o : ℕ) (sent : Option DeltaValue) (d : OwnerDelta) → option_map (λ x. record { endpoint = o; delta = x }) sent ≡ Some d → d.endpoint ≡ o
+mapped_endpoint : (o : ℕ) (delta_by : Option DeltaValue) (d : OwnerDelta) → option_map (λ x. record { endpoint = o; delta = x }) delta_by ≡ Some d → d.endpoint ≡ o
 mapped_endpoint o None d e = absurd cc
 mapped_endpoint o (Some x) d e = ap (λ (d : OwnerDelta). d.endpoint) (sym (same_Some _ _ e))
 
-pub asked_same : (entries : Entries) (d : Digest) (r : RequestValue) → asked d (table.get entries d.endpoint) ≡ Some r → r.endpoint ≡ d.endpoint
+pub asked_same : (entries : Entries) (d : Digest) (r : RequestValue) → request_by d (table.get entries d.endpoint) ≡ Some r → r.endpoint ≡ d.endpoint
 asked_same entries d r e = asked_endpoint d (table.get entries d.endpoint) r e
 
 pub requests_listed : (entries : Entries) (digests : List Digest) → AreListed (endpoints_of_digests digests) → AreListed (endpoints_of_requests (requests_for entries digests))
-requests_listed entries digests h = listed_mapped (λ d. asked d (table.get entries d.endpoint)) (λ d. d.endpoint) (λ r. r.endpoint) (asked_same entries) digests h
+requests_listed entries digests h = listed_mapped (λ d. request_by d (table.get entries d.endpoint)) (λ d. d.endpoint) (λ r. r.endpoint) (asked_same entries) digests h
 
 pub delta_same : (digests : List Digest) (held : ℕ × EntryValue) (d : OwnerDelta) → delta_for digests held ≡ Some d → d.endpoint ≡ held.0
-delta_same digests held d e = mapped_endpoint held.0 (sent held.1 (find (λ d. d.endpoint == held.0) digests)) d e
+delta_same digests held d e = mapped_endpoint held.0 (delta_by held.1 (find (λ d. d.endpoint == held.0) digests)) d e
 
 pub deltas_listed : (owners : List (ℕ × EntryValue)) (digests : List Digest) → Rises (keys_of owners) → length owners ≤ MEMBER_LIMIT → AreListed (endpoints_of_deltas (filter_map (delta_for digests) owners))
 deltas_listed owners digests rise few = listed_mapped (delta_for digests) (λ e. e.0) (λ d. d.endpoint) (delta_same digests) owners (record { rise = rise; few = omega (arith, few, length-map {A = ℕ × EntryValue} {B = ℕ}) })
@@ -79,7 +79,7 @@ digests_listed entries digests is few = record {
 }
 
 pub granted_same : (entries : Entries) (r : RequestValue) (d : OwnerDelta) → delta_granted entries r ≡ Some d → d.endpoint ≡ r.endpoint
-granted_same entries r d e = mapped_endpoint r.endpoint (granted r (table.get entries r.endpoint)) d e
+granted_same entries r d e = mapped_endpoint r.endpoint (grant_of r (table.get entries r.endpoint)) d e
 
 pub granted_listed : (entries : Entries) (requests : List RequestValue) → AreListed (endpoints_of_requests requests) → AreListed (endpoints_of_deltas (deltas_granted entries requests))
 granted_listed entries requests h = listed_mapped (delta_granted entries) (λ r. r.endpoint) (λ d. d.endpoint) (granted_same entries) requests h
@@ -87,7 +87,7 @@ granted_listed entries requests h = listed_mapped (delta_granted entries) (λ r.
 -- ---- lists that rise make lists that rise
 
 pub requests_rise : (entries : Entries) (digests : List Digest) → Rises (endpoints_of_digests digests) → Rises (endpoints_of_requests (requests_for entries digests))
-requests_rise entries digests rise = rise_mapped (λ d. asked d (table.get entries d.endpoint)) (λ d. d.endpoint) (λ r. r.endpoint) (asked_same entries) None digests rise
+requests_rise entries digests rise = rise_mapped (λ d. request_by d (table.get entries d.endpoint)) (λ d. d.endpoint) (λ r. r.endpoint) (asked_same entries) None digests rise
 
 pub deltas_rise : (entries : Entries) (digests : List Digest) → Rises (endpoints_of_deltas (deltas_for entries digests))
 deltas_rise entries digests = rise_mapped (delta_for digests) (λ e. e.0) (λ d. d.endpoint) (delta_same digests) None (table.entries entries) (rise_sorted (table.entries entries) (table.entries_sorted entries))

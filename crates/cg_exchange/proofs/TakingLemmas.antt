@@ -12,7 +12,7 @@ use Rattle.cg_map.proofs.PastLemmas.{AgreePast, still_agree, agree_later}
 use Rattle.cg_entry.specs.declared.entry.Absorbed.{Absorbed}
 use Rattle.cg_entry.specs.declared.entry.Absorbed.TheVariants as absorbed
 use Rattle.cg_entry.specs.Values.{EntryValue, DeltaValue}
-use Rattle.cg_entry.specs.Taking.{met, taken_or_gap}
+use Rattle.cg_entry.specs.Taking.{meeting, taken_or_gap}
 use Rattle.cg_table.specs.declared.took.Took.TheVariants as took
 use Rattle.cg_table.specs.Values.{TableValue, Entries}
 use Rattle.cg_table.specs.Taking.{Change, change_by, after_change, take_one, needs_room}
@@ -59,7 +59,7 @@ module _ (t : TableValue) where
   taken_past m last (d ∷ ds) h same =
       let here = first_of (is_past last d.endpoint) (rise_past (Some d.endpoint) (endpoints_of_deltas ds)) h in
       let rest = second_of (is_past last d.endpoint) (rise_past (Some d.endpoint) (endpoints_of_deltas ds)) h in
-      let s = step m d ds (d.endpoint == t.own) (met (get t.entries d.endpoint) d.delta) (agree_later t.entries m last d.endpoint here same) (λ n agree. taken_past n (Some d.endpoint) ds rest agree) in
+      let s = step m d ds (d.endpoint == t.own) (meeting (get t.entries d.endpoint) d.delta) (agree_later t.entries m last d.endpoint here same) (λ n agree. taken_past n (Some d.endpoint) ds rest agree) in
       record { after = rw (same d.endpoint here) s.after; outcomes = rw (same d.endpoint here) s.outcomes }
 
   -- deltas about owners that rise, taken one after the other, are taken against the table as it was
@@ -77,7 +77,7 @@ whole_by e true x r is = refl
 whole_by e false x r is = absurd cc
 
 -- a row of an owner that was not held is that of a whole delta
-stranger_by : (own : Bool) (e : ℕ) (held : Option EntryValue) (d : DeltaValue) (r : ℕ × EntryValue) → (cond own (None, took.Own) (change_by e (met held d))).0 ≡ Some r → not (is_some held) ≡ true
+stranger_by : (own : Bool) (e : ℕ) (held : Option EntryValue) (d : DeltaValue) (r : ℕ × EntryValue) → (cond own (None, took.Own) (change_by e (meeting held d))).0 ≡ Some r → not (is_some held) ≡ true
     → (d.above == 0 && not (is_some held)) ≡ true
 stranger_by true e held d r is new = absurd cc
 stranger_by false e (Some x) d r is new = absurd cc
@@ -117,7 +117,7 @@ rows_fit t ds room = omega (arith, room, len-put_each (filter_map (row_changed t
 
 -- ---- whom the outcomes are about
 
-outcomes_about : (t : TableValue) (ds : List OwnerDelta) → endpoints_of_outcomes (outcomes_of t ds) ≡ endpoints_of_deltas ds
+pub outcomes_about : (t : TableValue) (ds : List OwnerDelta) → endpoints_of_outcomes (outcomes_of t ds) ≡ endpoints_of_deltas ds
 outcomes_about t [] = refl
 outcomes_about t (d ∷ ds) = ap (λ (ks : List ℕ). d.endpoint ∷ ks) (outcomes_about (take_one t d.endpoint d.delta).0 ds)
 

@@ -15,7 +15,7 @@ use Rattle.cg_entry.specs.Values.{EntryValue}
 use Rattle.cg_table.specs.declared.digest.Digest.{Digest}
 use Rattle.cg_table.specs.Values.{Entries}
 use Rattle.cg_exchange.specs.Members.{endpoints_of_digests}
-use Rattle.cg_exchange.specs.Answering.{asked, requests_for, deltas_for}
+use Rattle.cg_exchange.specs.Answering.{request_by, requests_for, deltas_for}
 use Rattle.cg_exchange.specs.Walking.{from_owner, first_about, asked_by, sent_by}
 
 less_differs : (x k : ℕ) → x < k → (x == k) ≡ false
@@ -131,7 +131,7 @@ row_found k (r ∷ rows) =
 pub requests_walked : (m : Entries) (digests : List Digest) → Rises (endpoints_of_digests digests) → side_by_side (λ d. d.endpoint) (λ r. r.0) asked_by digests (table.entries m) ≡ requests_for m digests
 requests_walked m digests rise =
     walked_is (λ d. d.endpoint) (λ r. r.0) asked_by digests (table.entries m) rise (rise_sorted (table.entries m) (table.entries_sorted m))
-    ∙ (λ i. filter_map (λ d. asked d ((row_found d.endpoint (table.entries m) ∙ sym (table.get-entries m d.endpoint)) i)) digests)
+    ∙ (λ i. filter_map (λ d. request_by d ((row_found d.endpoint (table.entries m) ∙ sym (table.get-entries m d.endpoint)) i)) digests)
 
 pub deltas_walked : (m : Entries) (digests : List Digest) → Rises (endpoints_of_digests digests) → side_by_side (λ r. r.0) (λ d. d.endpoint) sent_by (table.entries m) digests ≡ deltas_for m digests
 deltas_walked m digests rise = walked_is (λ r. r.0) (λ d. d.endpoint) sent_by (table.entries m) digests (rise_sorted (table.entries m) (table.entries_sorted m)) rise

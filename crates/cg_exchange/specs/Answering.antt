@@ -21,9 +21,9 @@ abbrev pub same_cluster : ClusterValue → ClusterValue → Bool
 same_cluster c d = bytes_eq c.name d.name && (c.partitioner == d.partitioner)
 
 -- what is asked of the sender of a digest, by what is held of its endpoint
-abbrev pub asked : Digest → Option EntryValue → Option RequestValue
-asked d None = Some (record { endpoint = d.endpoint; generation = d.generation; version = 0 })
-asked d (Some e) =
+abbrev pub request_by : Digest → Option EntryValue → Option RequestValue
+request_by d None = Some (record { endpoint = d.endpoint; generation = d.generation; version = 0 })
+request_by d (Some e) =
     if nat_lt e.generation d.generation
     then Some (record { endpoint = d.endpoint; generation = d.generation; version = 0 })
     else if e.generation == d.generation && nat_lt (newest e) d.newest
@@ -32,19 +32,19 @@ asked d (Some e) =
 
 -- what is asked of the sender of these digests
 abbrev pub requests_for : Entries → List Digest → List RequestValue
-requests_for entries digests = filter_map (λ d. asked d (table.get entries d.endpoint)) digests
+requests_for entries digests = filter_map (λ d. request_by d (table.get entries d.endpoint)) digests
 
 -- what is sent of an entry, by the digest that names its endpoint, if there is one
-abbrev pub sent : EntryValue → Option Digest → Option DeltaValue
-sent e None = delta_above 0 e
-sent e (Some d) =
+abbrev pub delta_by : EntryValue → Option Digest → Option DeltaValue
+delta_by e None = delta_above 0 e
+delta_by e (Some d) =
     if nat_lt d.generation e.generation then delta_above 0 e
     else if e.generation == d.generation then delta_above d.newest e
     else None
 
 -- what is sent of an endpoint's entry, by the sender's digests
 abbrev pub delta_for : List Digest → ℕ × EntryValue → Option OwnerDelta
-delta_for digests held = option_map (about held.0) (sent held.1 (digest_about held.0 digests))
+delta_for digests held = option_map (about held.0) (delta_by held.1 (digest_about held.0 digests))
 
 -- what is sent of all entries; one that no digest names is sent whole
 abbrev pub deltas_for : Entries → List Digest → List OwnerDelta

@@ -13,8 +13,8 @@ pub record AreListed (endpoints : List ℕ) : Type 0 where
   pub few : length endpoints ≤ MEMBER_LIMIT
 
 -- whether these endpoints can stand in one list of a message
-abbrev pub listed : List ℕ → Bool
-listed endpoints = nat_le (length endpoints) MEMBER_LIMIT && rise_past None endpoints
+abbrev pub is_member_list : List ℕ → Bool
+is_member_list endpoints = nat_le (length endpoints) MEMBER_LIMIT && rise_past None endpoints
 
 -- whom each member is about
 abbrev pub endpoints_of_digests : List Digest → List ℕ

@@ -35,16 +35,16 @@ abbrev pub held_after : TableValue → List OwnerDelta → ℕ
 held_after t ds = table.len t.entries + count_by (λ d. needs_room t.entries d.endpoint d.delta) ds
 
 -- what a request is sent of an entry, or of none
-abbrev pub granted : RequestValue → Option EntryValue → Option DeltaValue
-granted r None = None
-granted r (Some e) =
+abbrev pub grant_of : RequestValue → Option EntryValue → Option DeltaValue
+grant_of r None = None
+grant_of r (Some e) =
     if nat_lt e.generation r.generation then None
     else if e.generation == r.generation then delta_above r.version e
     else delta_above 0 e
 
 -- what a request is sent of a table
 abbrev pub delta_granted : Entries → RequestValue → Option OwnerDelta
-delta_granted entries r = option_map (about r.endpoint) (granted r (table.get entries r.endpoint))
+delta_granted entries r = option_map (about r.endpoint) (grant_of r (table.get entries r.endpoint))
 
 -- what requests are sent of a table
 abbrev pub deltas_granted : Entries → List RequestValue → List OwnerDelta

@@ -6,7 +6,7 @@ use Rattle.cg_table.specs.declared.digest.Digest.{Digest}
 use Rattle.cg_exchange.specs.declared.owner_delta.OwnerDelta.{OwnerDelta}
 use Rattle.cg_exchange.specs.Values.{RequestValue}
 use Rattle.cg_exchange.specs.Members.{about}
-use Rattle.cg_exchange.specs.Answering.{asked, sent}
+use Rattle.cg_exchange.specs.Answering.{request_by, delta_by}
 
 module _ {X : Type 0} (owner : X → ℕ) where
   -- the members from an owner on
@@ -21,8 +21,8 @@ module _ {X : Type 0} (owner : X → ℕ) where
 
 -- what is asked of the sender of a digest, by the row of its endpoint
 abbrev pub asked_by : Digest → Option (ℕ × EntryValue) → Option RequestValue
-asked_by d row = asked d (option_map (λ r. r.1) row)
+asked_by d row = request_by d (option_map (λ r. r.1) row)
 
 -- what is sent of a row, by the digest that names its endpoint
 abbrev pub sent_by : ℕ × EntryValue → Option Digest → Option OwnerDelta
-sent_by row named = option_map (about row.0) (sent row.1 named)
+sent_by row named = option_map (about row.0) (delta_by row.1 named)

@@ -1,7 +1,7 @@
 //! The answer to a SYN.
 
 ghost use Rattle.std.specs.Prelude.{◌≡◌, ◌&&◌, ◌↔◌, IsTrue, IfOk, IfSome, is_some};
-ghost use Rattle.cg_exchange.specs.Members.{AreListed, listed, endpoints_of_requests, endpoints_of_deltas};
+ghost use Rattle.cg_exchange.specs.Members.{AreListed, is_member_list, endpoints_of_requests, endpoints_of_deltas};
 ghost use Rattle.cg_exchange.specs.Contents.{IsAck};
 
 use crate::owned::are_listed;
@@ -59,7 +59,8 @@ impl Ack {
     /// `None` unless each list rises strictly by endpoint and has at most `MEMBER_LIMIT` members.
     pub fn new(requests: Vec<Request>, deltas: Vec<OwnerDelta>) -> Option<Ack>
         ensures when { is_some result
-            ≡ (listed (endpoints_of_requests requests.items) && listed (endpoints_of_deltas deltas.items)) }
+            ≡ (is_member_list (endpoints_of_requests requests.items)
+            && is_member_list (endpoints_of_deltas deltas.items)) }
         ensures value { IfSome result (λ a. a ≡ record { requests = requests.items; deltas = deltas.items }) }
     {
         if !are_listed(&requests) || !are_listed(&deltas) {

@@ -1,7 +1,7 @@
 //! The answer to an ACK.
 
 ghost use Rattle.std.specs.Prelude.{◌≡◌, ◌↔◌, IsTrue, IfOk, IfSome, is_some};
-ghost use Rattle.cg_exchange.specs.Members.{AreListed, listed, endpoints_of_deltas};
+ghost use Rattle.cg_exchange.specs.Members.{AreListed, is_member_list, endpoints_of_deltas};
 ghost use Rattle.cg_exchange.specs.Contents.{IsAck2};
 
 use crate::owned::are_listed;
@@ -56,7 +56,7 @@ impl Eq for Ack2 {
 impl Ack2 {
     /// `None` unless the deltas rise strictly by endpoint and are at most `MEMBER_LIMIT`.
     pub fn new(deltas: Vec<OwnerDelta>) -> Option<Ack2>
-        ensures when { is_some result ≡ listed (endpoints_of_deltas deltas.items) }
+        ensures when { is_some result ≡ is_member_list (endpoints_of_deltas deltas.items) }
         ensures value { IfSome result (λ a. a ≡ record { deltas = deltas.items }) }
     {
         if !are_listed(&deltas) {

@@ -4,7 +4,7 @@ ghost use Rattle.std.specs.Prelude.{◌≡◌, IfOk, option_copied};
 ghost use Rattle.cg_types.specs.Answer.{Answers};
 ghost use Rattle.cg_types.specs.Rising.{Rises};
 ghost use Rattle.cg_exchange.specs.Members.{AreListed, endpoints_of_digests, endpoints_of_deltas};
-ghost use Rattle.cg_exchange.specs.Answering.{asked as asked_of, sent as sent_of, requests_for as requests_of, deltas_for as deltas_of, answer_to_syn, syn_of};
+ghost use Rattle.cg_exchange.specs.Answering.{request_by as asked_of, delta_by as sent_of, requests_for as requests_of, deltas_for as deltas_of, answer_to_syn, syn_of};
 ghost use Rattle.cg_exchange.specs.Walking.{asked_by as asked_by_of, sent_by as sent_by_of};
 
 use crate::ack::Ack;

@@ -1,7 +1,7 @@
 //! The message that opens an exchange.
 
 ghost use Rattle.std.specs.Prelude.{◌≡◌, ◌↔◌, IsTrue, IfOk, IfSome, is_some};
-ghost use Rattle.cg_exchange.specs.Members.{AreListed, listed, endpoints_of_digests};
+ghost use Rattle.cg_exchange.specs.Members.{AreListed, is_member_list, endpoints_of_digests};
 ghost use Rattle.cg_exchange.specs.Contents.{IsSyn};
 
 use crate::owned::are_listed;
@@ -56,7 +56,7 @@ impl Eq for Syn {
 impl Syn {
     /// `None` unless the digests rise strictly by endpoint and are at most `MEMBER_LIMIT`.
     pub fn new(cluster: Cluster, digests: Vec<Digest>) -> Option<Syn>
-        ensures when { is_some result ≡ listed (endpoints_of_digests digests.items) }
+        ensures when { is_some result ≡ is_member_list (endpoints_of_digests digests.items) }
         ensures value { IfSome result (λ s. s ≡ record { cluster = cluster; digests = digests.items }) }
     {
         if !are_listed(&digests) {

@@ -2,7 +2,7 @@
 
 ghost use Rattle.std.specs.Prelude.{◌≡◌, ℕ, None, map, option_copied};
 ghost use Rattle.cg_types.specs.Rising.{rise_past};
-ghost use Rattle.cg_exchange.specs.Members.{listed};
+ghost use Rattle.cg_exchange.specs.Members.{is_member_list};
 ghost use Rattle.cg_exchange.specs.Walking.{from_owner as from_owner_of, first_about as first_about_of};
 
 use crate::owner_delta::OwnerDelta;
@@ -61,7 +61,7 @@ fn owners_rise<M: Owned>(members: &[M]) -> bool
 
 /// Whether the members can stand in one list of a message.
 pub(crate) fn are_listed<M: Owned>(members: &[M]) -> bool
-    ensures { result ≡ listed (map M.owner_of members.now) }
+    ensures { result ≡ is_member_list (map M.owner_of members.now) }
 {
     members.len() <= MEMBER_LIMIT && owners_rise(members)
 }

@@ -5,7 +5,7 @@ ghost use Rattle.std.specs.List.{filter_map};
 ghost use Rattle.cg_types.specs.Answer.{Answers};
 ghost use Rattle.cg_types.specs.Rising.{Rises};
 ghost use Rattle.cg_exchange.specs.Members.{endpoints_of_deltas};
-ghost use Rattle.cg_exchange.specs.Taking.{table_after, outcome_of, outcomes_of, held_after as held_after_of, granted as granted_of, delta_granted as delta_granted_of, deltas_granted as deltas_granted_of, taking_ack, taking_ack2};
+ghost use Rattle.cg_exchange.specs.Taking.{table_after, outcome_of, outcomes_of, held_after as held_after_of, grant_of as granted_of, delta_granted as delta_granted_of, deltas_granted as deltas_granted_of, taking_ack, taking_ack2};
 ghost use Rattle.cg_exchange.specs.Changes.{row_changed, endpoints_of_outcomes};
 
 use crate::ack::Ack;

@@ -10,7 +10,7 @@ use Rattle.std.proofs.lemmas.Option.{slice_get_past, slice_get-get_or}
 use Rattle.cg_exchange.specs.declared.message.Message.{Message}
 use Rattle.cg_frames.specs.declared.layout.Layout.{Layout}
 use Rattle.cg_frames.specs.Spelling.{four_bytes, frame}
-use Rattle.cg_frames.specs.Choosing.{named, wider, widest, due_by, due, IsOneOf}
+use Rattle.cg_frames.specs.Choosing.{layout_with_byte, wider, widest, due_by, due, IsOneOf}
 
 -- ---- what holds of each layout of a list
 
@@ -42,7 +42,7 @@ widest_all P (l ∷ ls) some all = fold_all P l ls all.0 all.1
 due_by_all : (P : Layout → Type 0) (layouts : List Layout) (byte : Option ℕ) → P (widest layouts) → AllByRecursion P layouts → P (due_by layouts byte)
 due_by_all P layouts None wide all = wide
 due_by_all P layouts (Some byte) wide all =
-    elim (named layouts byte) as (λ o. named layouts byte ≡ o → P (unwrap_or o (widest layouts))) [
+    elim (layout_with_byte layouts byte) as (λ o. layout_with_byte layouts byte ≡ o → P (unwrap_or o (widest layouts))) [
       | None ↦ λ none. wide
       | Some l ↦ λ is. find_all P (λ k. k.byte == byte) layouts l all is
     ] refl
@@ -79,10 +79,10 @@ due_shorter layouts bytes = due_by_all (λ l. l.length ≤ (widest layouts).leng
 
 -- The byte of the layout names one.
 abbrev Named : List Layout → Layout → Type 0
-Named layouts layout = named layouts layout.byte ≡ None → ⊥
+Named layouts layout = layout_with_byte layouts layout.byte ≡ None → ⊥
 
 named_further : (l : Layout) (layouts : List Layout) (k : Layout) → Named layouts k → Named (l ∷ layouts) k
-named_further l layouts k some = elim (l.byte == k.byte) as (λ b. cond b (Some l) (named layouts k.byte) ≡ None → ⊥) [
+named_further l layouts k some = elim (l.byte == k.byte) as (λ b. cond b (Some l) (layout_with_byte layouts k.byte) ≡ None → ⊥) [
   | true ↦ λ (e : ◌≡◌ {A = Option Layout} (Some l) None). cc
   | false ↦ λ e. some e
 ]
@@ -92,24 +92,24 @@ each_further l layouts [] all = tt
 each_further l layouts (k ∷ ks) all = (named_further l layouts k all.0, each_further l layouts ks all.1)
 
 named_first : (l : Layout) (layouts : List Layout) → Named (l ∷ layouts) l
-named_first l layouts = subst (λ b. cond b (Some l) (named layouts l.byte) ≡ None → ⊥) (sym (eq-eqb l.byte l.byte refl)) (λ (e : ◌≡◌ {A = Option Layout} (Some l) None). cc)
+named_first l layouts = subst (λ b. cond b (Some l) (layout_with_byte layouts l.byte) ≡ None → ⊥) (sym (eq-eqb l.byte l.byte refl)) (λ (e : ◌≡◌ {A = Option Layout} (Some l) None). cc)
 
 each_named : (layouts : List Layout) → AllByRecursion (Named layouts) layouts
 each_named [] = tt
 each_named (l ∷ ls) = (named_first l ls, each_further l ls ls (each_named ls))
 
 -- The widest layout's byte names one.
-pub widest_named : (layouts : List Layout) → 0 < length layouts → named layouts (widest layouts).byte ≡ None → ⊥
+pub widest_named : (layouts : List Layout) → 0 < length layouts → layout_with_byte layouts (widest layouts).byte ≡ None → ⊥
 widest_named layouts some none = widest_all (Named layouts) layouts some (each_named layouts) none
 
-one_by : (layouts : List Layout) (layout : Layout) (o : Option Layout) → 0 < length layouts → named layouts layout.byte ≡ o → layout ≡ unwrap_or o (widest layouts) → IsOneOf layouts layout
-one_by layouts layout None some none is = absurd (widest_named layouts some (subst (λ (l : Layout). named layouts l.byte ≡ None) is none))
+one_by : (layouts : List Layout) (layout : Layout) (o : Option Layout) → 0 < length layouts → layout_with_byte layouts layout.byte ≡ o → layout ≡ unwrap_or o (widest layouts) → IsOneOf layouts layout
+one_by layouts layout None some none is = absurd (widest_named layouts some (subst (λ (l : Layout). layout_with_byte layouts l.byte ≡ None) is none))
 one_by layouts layout (Some l) some found is = found ∙ ap (λ (k : Layout). Some k) (sym is)
 
 -- The layout that is due is of the list, where its byte stands behind the length.
 pub due_is_one : (layouts : List Layout) (bytes : List ℕ) → 0 < length layouts → slice_get bytes 4 ≡ Some (due layouts bytes).byte → IsOneOf layouts (due layouts bytes)
 unfolding due
-due_is_one layouts bytes some at = one_by layouts (due layouts bytes) (named layouts (due layouts bytes).byte) some refl (ap (due_by layouts) at)
+due_is_one layouts bytes some at = one_by layouts (due layouts bytes) (layout_with_byte layouts (due layouts bytes).byte) some refl (ap (due_by layouts) at)
 
 -- A layout of the list is due where its byte stands behind the length.
 pub due_of : (layouts : List Layout) (layout : Layout) (bytes : List ℕ) → IsOneOf layouts layout → slice_get bytes 4 ≡ Some layout.byte → due layouts bytes ≡ layout
@@ -117,7 +117,7 @@ unfolding due
 due_of layouts layout bytes one at = ap (due_by layouts) at ∙ ap (λ (o : Option Layout). unwrap_or o (widest layouts)) one
 
 -- Where the byte names no layout the widest is due.
-pub due_unnamed : (layouts : List Layout) (byte : ℕ) (bytes : List ℕ) → named layouts byte ≡ None → slice_get bytes 4 ≡ Some byte → due layouts bytes ≡ widest layouts
+pub due_unnamed : (layouts : List Layout) (byte : ℕ) (bytes : List ℕ) → layout_with_byte layouts byte ≡ None → slice_get bytes 4 ≡ Some byte → due layouts bytes ≡ widest layouts
 unfolding due
 due_unnamed layouts byte bytes none at = ap (due_by layouts) at ∙ ap (λ (o : Option Layout). unwrap_or o (widest layouts)) none
 

@@ -11,8 +11,8 @@ use Rattle.cg_frames.specs.declared.layout.Layout.{Layout}
 use Rattle.cg_frames.specs.declared.misread.Misread.{Misread}
 use Rattle.cg_types.specs.ResultSteps.{◌>>=◌}
 use Rattle.cg_frames.specs.Fields.{Field}
-use Rattle.cg_frames.specs.Reading.{kind_at, of_kind, inside_at, located, with_size, size_of, frame_at}
-use Rattle.cg_frames.specs.Choosing.{named, widest, due, frame_among, IsOneOf}
+use Rattle.cg_frames.specs.Reading.{kind_at, of_kind, inside_at, with_place, with_size, size_of, frame_at}
+use Rattle.cg_frames.specs.Choosing.{layout_with_byte, widest, due, frame_among, IsOneOf}
 use Rattle.cg_frames.specs.Laws.{ChoosesByTheByte}
 use Rattle.cg_frames.proofs.SpelledIsReadLemmas.{byte_again}
 use Rattle.cg_frames.proofs.ChoosingLemmas.{named_all, due_all, each_shorter, due_early, due_of, due_unnamed, widest_named}
@@ -34,16 +34,16 @@ front_byte (suc n) byte bytes some long at =
     (take n (drop 5 bytes), ap (take (suc n)) (drop-cons bytes 4 0 long) ∙ ap (λ (b : ℕ). b ∷ take n (drop 5 bytes)) same)
 
 module _ (layouts : List Layout) (some : 0 < length layouts) where
-  unnamed_other : (byte : ℕ) → named layouts byte ≡ None → (byte == (widest layouts).byte) ≡ false
+  unnamed_other : (byte : ℕ) → layout_with_byte layouts byte ≡ None → (byte == (widest layouts).byte) ≡ false
   unnamed_other byte none = elim (byte == (widest layouts).byte) as (λ t. (byte == (widest layouts).byte) ≡ t → t ≡ false) [
-    | true ↦ λ same. absurd (widest_named layouts some (subst (λ (b : ℕ). named layouts b ≡ None) (eqb-true byte (widest layouts).byte same) none))
+    | true ↦ λ same. absurd (widest_named layouts some (subst (λ (b : ℕ). layout_with_byte layouts b ≡ None) (eqb-true byte (widest layouts).byte same) none))
     | false ↦ λ other. refl
   ] refl
 
   within_widest : (layout : Layout) → IsOneOf layouts layout → layout.length ≤ (widest layouts).length
   within_widest layout one = named_all (λ (l : Layout). l.length ≤ (widest layouts).length) layouts layout (each_shorter layouts) one
 
-  unnamed_is : (byte : ℕ) (bytes : List ℕ) → named layouts byte ≡ None → slice_get bytes 4 ≡ Some byte → 0 < size_of bytes → 4 + size_of bytes ≤ length bytes → size_of bytes ≤ (widest layouts).length → frame_among layouts bytes ≡ Err (faults.BadFrame 4 causes.Layout)
+  unnamed_is : (byte : ℕ) (bytes : List ℕ) → layout_with_byte layouts byte ≡ None → slice_get bytes 4 ≡ Some byte → 0 < size_of bytes → 4 + size_of bytes ≤ length bytes → size_of bytes ≤ (widest layouts).length → frame_among layouts bytes ≡ Err (faults.BadFrame 4 causes.Layout)
   unnamed_is byte bytes none at more whole low =
       let n = size_of bytes in
       let layout = widest layouts in
@@ -53,8 +53,8 @@ module _ (layouts : List Layout) (some : 0 < length layouts) where
       let left : length (byte ∷ front.0) ≡ n = omega (arith, ap (λ (l : List ℕ). length l) front.1, length-take n behind) in
       ap (λ (l : Layout). frame_at l bytes) (due_unnamed layouts byte bytes none at)
       ∙ whole_is layout bytes (omega arith) low enough
-      ∙ ap (λ (l : List ℕ). with_size n (located n (inside_at layout l))) front.1
-      ∙ ap (λ (r : Result Message Misread). with_size n (located n r)) (other_inside layout byte front.0 (unnamed_other byte none))
+      ∙ ap (λ (l : List ℕ). with_size n (with_place n (inside_at layout l))) front.1
+      ∙ ap (λ (r : Result Message Misread). with_size n (with_place n r)) (other_inside layout byte front.0 (unnamed_other byte none))
       ∙ ap (λ (k : ℕ). Err (faults.BadFrame k causes.Layout)) (omega (arith, left))
 
   waits_is : (layout : Layout) (bytes : List ℕ) → IsOneOf layouts layout → length bytes ≡ 4 → 0 < size_of bytes → size_of bytes ≤ layout.length → frame_among layouts bytes ≡ Ok None

@@ -8,7 +8,7 @@ use Rattle.cg_exchange.specs.declared.message.Message.{Message}
 use Rattle.cg_frames.specs.declared.layout.Layout.{Layout}
 use Rattle.cg_frames.specs.Choosing.{frame_among}
 use Rattle.cg_frames.specs.Faults.{IsBadFrame, IsBadFrameOr}
-use Rattle.cg_frames.specs.Feeding.{Standing, standing_of, fed, fed_all, IsPartial}
+use Rattle.cg_frames.specs.Feeding.{Standing, standing_of, cut_of_piece, fed_all, IsPartial}
 use Rattle.cg_frames.specs.Laws.{FaultsAreBadFrames}
 use Rattle.cg_frames.proofs.FrontLemmas.{fault_among}
 use Rattle.cg_frames.proofs.FeedingLemmas.{nothing_at, fed_partial}
@@ -34,7 +34,7 @@ module _ (layouts : List Layout) where
 
   all_partial : (s : Standing) (pieces : List (List ℕ)) → IsPartial layouts s → IsPartial layouts (fed_all layouts s pieces).rest
   all_partial s [] partial = partial
-  all_partial s (piece ∷ pieces) partial = all_partial (fed layouts s piece).rest pieces (fed_partial layouts s piece partial)
+  all_partial s (piece ∷ pieces) partial = all_partial (cut_of_piece layouts s piece).rest pieces (fed_partial layouts s piece partial)
 
   pub faults_are_bad : FaultsAreBadFrames layouts
   faults_are_bad = record {

@@ -8,7 +8,7 @@ use Rattle.cg_frames.specs.declared.layout.Layout.{Layout}
 use Rattle.cg_frames.specs.Reading.{size_of, frame_at}
 use Rattle.cg_frames.specs.Choosing.{due, frame_among}
 use Rattle.cg_frames.specs.Laws.{WhatIsHeldIsPartial}
-use Rattle.cg_frames.specs.Feeding.{Standing, Cut, lack_of, with_front, cut_by, cut_within, frames_in, fed, fed_all, IsPartial, HasAtMostOne}
+use Rattle.cg_frames.specs.Feeding.{Standing, Cut, lack_of, with_front, cut_by, cut_within, frames_in, cut_of_piece, fed_all, IsPartial, HasAtMostOne}
 use Rattle.cg_frames.proofs.FrameLemmas.{frame_parts}
 use Rattle.cg_frames.proofs.FrontLemmas.{settled_among, fault_among, frame_is_all}
 
@@ -59,7 +59,7 @@ module _ (layouts : List Layout) where
 
   -- What is cut from the bytes, and then from the rest with what follows.
   abbrev pub carried : List Message → Standing → List ℕ → Cut
-  carried messages rest more = with_front messages (fed layouts rest more)
+  carried messages rest more = with_front messages (cut_of_piece layouts rest more)
 
   longer_by : (xs ys : List ℕ) (r : Result (Option (Message × ℕ)) Fault) → frame_among layouts xs ≡ r
       → ((p : Message × ℕ) → r ≡ Ok (Some p) → frames_in layouts (drop p.1 xs ++ ys) ≡ carried (frames_in layouts (drop p.1 xs)).messages (frames_in layouts (drop p.1 xs)).rest ys)
@@ -122,24 +122,24 @@ module _ (layouts : List Layout) where
   pub frames_partial : (xs : List ℕ) → IsPartial layouts (frames_in layouts xs).rest
   frames_partial xs = partial_within (length xs) xs (omega arith)
 
-  pub fed_partial : (s : Standing) (piece : List ℕ) → IsPartial layouts s → IsPartial layouts (fed layouts s piece).rest
+  pub fed_partial : (s : Standing) (piece : List ℕ) → IsPartial layouts s → IsPartial layouts (cut_of_piece layouts s piece).rest
   fed_partial (Ok held) piece partial = frames_partial (held ++ piece)
   fed_partial (Err f) piece partial = partial
 
   -- Two pieces are one.
-  pub fed_twice : (s : Standing) (first second : List ℕ) → fed layouts s (first ++ second) ≡ carried (fed layouts s first).messages (fed layouts s first).rest second
+  pub fed_twice : (s : Standing) (first second : List ℕ) → cut_of_piece layouts s (first ++ second) ≡ carried (cut_of_piece layouts s first).messages (cut_of_piece layouts s first).rest second
   fed_twice (Ok held) first second = ap (frames_in layouts) (sym (append_assoc held first second)) ∙ frames_longer (held ++ first) second
   fed_twice (Err f) first second = refl
 
-  pub fed_nothing : (s : Standing) → IsPartial layouts s → fed layouts s [] ≡ record { messages = []; rest = s }
+  pub fed_nothing : (s : Standing) → IsPartial layouts s → cut_of_piece layouts s [] ≡ record { messages = []; rest = s }
   fed_nothing (Ok held) partial = ap (frames_in layouts) (append-nil held) ∙ frames_at held (Ok None) partial
   fed_nothing (Err f) partial = refl
 
   -- However the stream is cut into pieces, they give what the whole gives.
-  pub pieces_add_up : (s : Standing) (pieces : List (List ℕ)) → IsPartial layouts s → fed_all layouts s pieces ≡ fed layouts s (flat_map (λ (piece : List ℕ). piece) pieces)
+  pub pieces_add_up : (s : Standing) (pieces : List (List ℕ)) → IsPartial layouts s → fed_all layouts s pieces ≡ cut_of_piece layouts s (flat_map (λ (piece : List ℕ). piece) pieces)
   pieces_add_up s [] partial = sym (fed_nothing s partial)
   pieces_add_up s (piece ∷ pieces) partial =
-      ap (with_front (fed layouts s piece).messages) (pieces_add_up (fed layouts s piece).rest pieces (fed_partial s piece partial))
+      ap (with_front (cut_of_piece layouts s piece).messages) (pieces_add_up (cut_of_piece layouts s piece).rest pieces (fed_partial s piece partial))
       ∙ sym (fed_twice s piece (flat_map (λ (q : List ℕ). q) pieces))
 
   pub from_nothing : (pieces : List (List ℕ)) → fed_all layouts (Ok []) pieces ≡ frames_in layouts (flat_map (λ (piece : List ℕ). piece) pieces)

@@ -11,7 +11,7 @@ use Rattle.cg_types.specs.declared.fault.Cause.TheVariants as causes
 use Rattle.cg_exchange.specs.declared.message.Message.{Message}
 use Rattle.cg_frames.specs.declared.layout.Layout.{Layout}
 use Rattle.cg_frames.specs.declared.misread.Misread.{Misread}
-use Rattle.cg_frames.specs.Reading.{inside_at, located, with_size, sized_at, frame_at}
+use Rattle.cg_frames.specs.Reading.{inside_at, with_place, with_size, sized_at, frame_at}
 use Rattle.cg_frames.specs.Spelling.{four_bytes}
 
 sized_again : (layout : Layout) (inside rest : List ℕ) (m : Message) → length inside ≤ layout.length → inside_at layout inside ≡ Ok m → sized_at layout (length inside) (inside ++ rest) ≡ Ok (Some (m, 4 + length inside))
@@ -55,7 +55,7 @@ not_refused false f r x e = e
 some_is : (p q : Message × ℕ) → ◌≡◌ {A = Answer} (Ok (Some p)) (Ok (Some q)) → p ≡ q
 some_is p q e = cc
 
-was_read : (size : ℕ) (r : Result Message Misread) (m : Message) (n : ℕ) → with_size size (located size r) ≡ Ok (Some (m, n)) → (r ≡ Ok m) × (n ≡ 4 + size)
+was_read : (size : ℕ) (r : Result Message Misread) (m : Message) (n : ℕ) → with_size size (with_place size r) ≡ Ok (Some (m, n)) → (r ≡ Ok m) × (n ≡ 4 + size)
 was_read size (Ok x) m n e =
     let same = some_is (x, 4 + size) (m, n) e in
     (ap (λ (p : Message × ℕ). Ok p.0) same, sym (ap (λ (p : Message × ℕ). p.1) same))
@@ -67,7 +67,7 @@ frame_parts layout bytes m n h =
     let size = from_be_bytes w32 (take 4 bytes) in
     let behind = drop 4 bytes in
     let sized = not_none (nat_lt (length bytes) 4) (sized_at layout size behind) (m, n) h in
-    let whole : Answer = with_size size (located size (inside_at layout (take size behind))) in
+    let whole : Answer = with_size size (with_place size (inside_at layout (take size behind))) in
     let short = not_refused (nat_lt layout.length size) (faults.BadFrame 0 causes.Length) (cond (nat_lt (length behind) size) (Ok None) whole) (m, n) sized.1 in
     let enough = not_none (nat_lt (length behind) size) whole (m, n) short in
     let read = was_read size (inside_at layout (take size behind)) m n enough.1 in

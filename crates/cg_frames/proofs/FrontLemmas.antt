@@ -9,7 +9,7 @@ use Rattle.cg_types.specs.declared.fault.Fault.{Fault}
 use Rattle.cg_types.specs.declared.fault.Fault.TheVariants as faults
 use Rattle.cg_exchange.specs.declared.message.Message.{Message}
 use Rattle.cg_frames.specs.declared.layout.Layout.{Layout}
-use Rattle.cg_frames.specs.Reading.{inside_at, fault_at, located, with_size, size_of, frame_at}
+use Rattle.cg_frames.specs.Reading.{inside_at, fault_at, with_place, with_size, size_of, frame_at}
 use Rattle.cg_frames.specs.declared.misread.Misread.{Misread}
 use Rattle.cg_frames.specs.Choosing.{widest, due, frame_among}
 use Rattle.cg_frames.specs.Faults.{IsBadFrame}
@@ -32,7 +32,7 @@ err_is : (f g : Fault) → ◌≡◌ {A = Result (Option (Message × ℕ)) Fault
 err_is f g e = cc
 
 -- A fault that is located is a bad frame.
-located_fault : (n : ℕ) (r : Result Message Misread) (f : Fault) → with_size n (located n r) ≡ Err f → IsBadFrame f
+located_fault : (n : ℕ) (r : Result Message Misread) (f : Fault) → with_size n (with_place n r) ≡ Err f → IsBadFrame f
 located_fault n (Ok x) f is = cc
 located_fault n (Err m) f is = subst IsBadFrame (err_is (fault_at n m) f is) tt
 
@@ -51,7 +51,7 @@ data Front (layout : Layout) (xs : List ℕ) : Type 0 where
   short : length xs < 4 → frame_at layout xs ≡ Ok None → Front layout xs
   over : 4 ≤ length xs → layout.length < size_of xs → frame_at layout xs ≡ Err (faults.BadFrame 0 causes.Length) → Front layout xs
   part : 4 ≤ length xs → length xs < 4 + size_of xs → frame_at layout xs ≡ Ok None → Front layout xs
-  whole : 4 + size_of xs ≤ length xs → size_of xs ≤ layout.length → frame_at layout xs ≡ with_size (size_of xs) (located (size_of xs) (inside_at layout (take (size_of xs) (drop 4 xs)))) → Front layout xs
+  whole : 4 + size_of xs ≤ length xs → size_of xs ≤ layout.length → frame_at layout xs ≡ with_size (size_of xs) (with_place (size_of xs) (inside_at layout (take (size_of xs) (drop 4 xs)))) → Front layout xs
 
 module _ (layout : Layout) where
   short_is : (xs : List ℕ) → length xs < 4 → frame_at layout xs ≡ Ok None
@@ -66,7 +66,7 @@ module _ (layout : Layout) where
   unfolding frame_at
   part_is xs long low few = rw (le-ltb (length xs) 4 long, le-ltb layout.length (size_of xs) low, lt-ltb (length (drop 4 xs)) (size_of xs) few) refl
 
-  pub whole_is : (xs : List ℕ) → 4 ≤ length xs → size_of xs ≤ layout.length → size_of xs ≤ length (drop 4 xs) → frame_at layout xs ≡ with_size (size_of xs) (located (size_of xs) (inside_at layout (take (size_of xs) (drop 4 xs))))
+  pub whole_is : (xs : List ℕ) → 4 ≤ length xs → size_of xs ≤ layout.length → size_of xs ≤ length (drop 4 xs) → frame_at layout xs ≡ with_size (size_of xs) (with_place (size_of xs) (inside_at layout (take (size_of xs) (drop 4 xs))))
   unfolding frame_at
   whole_is xs long low enough = rw (le-ltb (length xs) 4 long, le-ltb layout.length (size_of xs) low, le-ltb (length (drop 4 xs)) (size_of xs) enough) refl
 
@@ -91,8 +91,8 @@ module _ (layout : Layout) where
     | whole long low is ↦
         let same : size_of (xs ++ ys) ≡ size_of xs = size_longer xs ys (omega arith) in
         inr (whole_is (xs ++ ys) (omega (arith, length-append xs ys)) (subst (λ n. n ≤ layout.length) (sym same) low) (omega (arith, length-append xs ys, length-drop 4 (xs ++ ys), same))
-        ∙ ap (λ n. with_size n (located n (inside_at layout (take n (drop 4 (xs ++ ys)))))) same
-        ∙ ap (λ l. with_size (size_of xs) (located (size_of xs) (inside_at layout l))) (inside_longer xs ys (size_of xs) long)
+        ∙ ap (λ n. with_size n (with_place n (inside_at layout (take n (drop 4 (xs ++ ys)))))) same
+        ∙ ap (λ l. with_size (size_of xs) (with_place (size_of xs) (inside_at layout l))) (inside_longer xs ys (size_of xs) long)
         ∙ sym is)
   ]
 
@@ -101,7 +101,7 @@ module _ (layout : Layout) where
     | short few is ↦ omega (arith, short_lacks xs few)
     | over long high is ↦ cc
     | part long few is ↦ omega (arith, long_lacks xs long)
-    | whole long low is ↦ absurd (with_size_none (size_of xs) (located (size_of xs) (inside_at layout (take (size_of xs) (drop 4 xs)))) (sym is ∙ none))
+    | whole long low is ↦ absurd (with_size_none (size_of xs) (with_place (size_of xs) (inside_at layout (take (size_of xs) (drop 4 xs)))) (sym is ∙ none))
   ]
 
   -- A fault is a bad frame.
@@ -118,7 +118,7 @@ module _ (layout : Layout) where
   unfolding inside_at
   empty_is xs long zero =
       whole_is xs long (omega (arith, zero)) (omega (arith, zero))
-      ∙ ap (λ n. with_size n (located n (inside_at layout (take n (drop 4 xs))))) zero
+      ∙ ap (λ n. with_size n (with_place n (inside_at layout (take n (drop 4 xs))))) zero
 
 -- ---- the same, in the layout that is due
 
@@ -165,5 +165,5 @@ module _ (layouts : List Layout) where
         | short few is ↦ drop_all p.1 (held ++ piece) (omega (arith, short_lacks held few, length-append held piece))
         | over long high is ↦ cc
         | part long few is ↦ drop_all p.1 (held ++ piece) (omega (arith, long_lacks held long, length-append held piece, size_longer held piece long))
-        | whole long low is ↦ absurd (with_size_none (size_of held) (located (size_of held) (inside_at (due layouts held) (take (size_of held) (drop 4 held)))) (sym is ∙ none))
+        | whole long low is ↦ absurd (with_size_none (size_of held) (with_place (size_of held) (inside_at (due layouts held) (take (size_of held) (drop 4 held)))) (sym is ∙ none))
       ]

@@ -28,14 +28,14 @@ use Rattle.cg_frames.specs.declared.reader.Kind.{Kind}
 use Rattle.cg_frames.specs.declared.reader.Kind.TheVariants as kinds
 use Rattle.cg_types.specs.ResultSteps.{◌>>=◌}
 use Rattle.cg_frames.specs.Fields.{Field}
-use Rattle.cg_frames.specs.Reading.{ended, told, layout_at, kind_from, kind_at, of_kind, syn_at, inside_at, frame_at, ack_at, ack2_at}
+use Rattle.cg_frames.specs.Reading.{whole_field, as_message, layout_at, kind_from, kind_at, of_kind, syn_at, inside_at, frame_at, ack_at, ack2_at}
 use Rattle.cg_frames.specs.Spelling.{two_bytes, four_bytes, digest, request, text, state, delta, members, cluster, kind, body, message, inside, frame}
 use Rattle.cg_frames.specs.Fits.{Fits}
 use Rattle.cg_frames.proofs.FitsFields.{FitsState, FitsDelta, FitsMembers, FitsSyn, FitsFields}
 use Rattle.cg_frames.proofs.FitsLemmas.{fields_of}
 use Rattle.cg_frames.specs.Lengths.{state_most, delta_most, deltas_most, digests_most, syn_most, ack_most, greatest_length}
 use Rattle.cg_frames.specs.Layouts.{IsLayout}
-use Rattle.cg_frames.specs.Choosing.{named, frame_among, IsOneOf, AreLayouts, AreRead}
+use Rattle.cg_frames.specs.Choosing.{layout_with_byte, frame_among, IsOneOf, AreLayouts, AreRead}
 use Rattle.cg_frames.specs.Laws.{GivesEachSpelled, NoSpellingBeginsAnother, EachIsShort}
 use Rattle.cg_frames.proofs.ChoosingLemmas.{named_all, due_of_frame}
 use Rattle.cg_frames.proofs.SpelledIsReadLemmas.{byte_again, length_keys, syn_again}
@@ -118,8 +118,8 @@ inside_short layout m fits = fields_short layout m (fields_of layout m fits)
 -- ---- what is spelled so is read
 
 -- a body that is read, whatever follows, is read to its end
-ended_again : {A : Type 0} (tag : A → Message) (at : List ℕ → Field A) (x : A) (bytes : List ℕ) → at (bytes ++ []) ≡ Ok (x, []) → told tag (ended (at bytes)) ≡ Ok (tag x)
-ended_again {A = A} tag at x bytes read = ap (λ (r : Field A). told tag (ended r)) (ap at (sym (append-nil bytes)) ∙ read)
+ended_again : {A : Type 0} (tag : A → Message) (at : List ℕ → Field A) (x : A) (bytes : List ℕ) → at (bytes ++ []) ≡ Ok (x, []) → as_message tag (whole_field (at bytes)) ≡ Ok (tag x)
+ended_again {A = A} tag at x bytes read = ap (λ (r : Field A). as_message tag (whole_field r)) (ap at (sym (append-nil bytes)) ∙ read)
 
 abbrev kind_of : Message → Kind
 kind_of (Syn m) = kinds.Syn
@@ -200,7 +200,7 @@ inside_fits layout is m fits =
 -- A byte names one layout of a list.
 one_layout : (layouts : List Layout) (k l : Layout) → IsOneOf layouts k → IsOneOf layouts l → k.byte ≡ l.byte → k ≡ l
 one_layout layouts k l one other byte =
-    let both : ◌≡◌ {A = Option Layout} (Some k) (Some l) = sym one ∙ ap (named layouts) byte ∙ other in
+    let both : ◌≡◌ {A = Option Layout} (Some k) (Some l) = sym one ∙ ap (layout_with_byte layouts) byte ∙ other in
     cc both
 
 pub no_spelling_begins_another : (layouts : List Layout) → AreLayouts layouts → NoSpellingBeginsAnother layouts

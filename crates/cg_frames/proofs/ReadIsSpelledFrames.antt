@@ -20,7 +20,7 @@ use Rattle.cg_frames.specs.declared.reader.Kind.TheVariants as kinds
 use Rattle.cg_types.specs.ResultSteps.{◌>>=◌}
 use Rattle.cg_frames.specs.Fields.{Field, number_at}
 use Rattle.cg_frames.specs.Lists.{digest_at, request_at, delta_at, listed_requests_at, listed_deltas_at}
-use Rattle.cg_frames.specs.Reading.{syn_at, ack_at, ack2_at, ended, told, layout_at, kind_from, kind_at, of_kind, inside_at, frame_at}
+use Rattle.cg_frames.specs.Reading.{syn_at, ack_at, ack2_at, whole_field, as_message, layout_at, kind_from, kind_at, of_kind, inside_at, frame_at}
 use Rattle.cg_frames.specs.Choosing.{due, frame_among, IsOneOf, AreRead}
 use Rattle.cg_frames.specs.Spelling.{four_bytes, digest, request, delta, cluster, members, kind, body, inside, frame}
 use Rattle.cg_exchange.specs.Contents.{IsDigest, IsRequest}
@@ -83,14 +83,14 @@ ack2_found layout bytes m rest small h =
 
 -- ---- a message
 
-ended_well : {A : Type 0} (r : Field A) (x : A) → ended r ≡ Ok x → (rest : List ℕ) × (r ≡ Ok (x, rest)) × (length rest ≡ 0)
+ended_well : {A : Type 0} (r : Field A) (x : A) → whole_field r ≡ Ok x → (rest : List ℕ) × (r ≡ Ok (x, rest)) × (length rest ≡ 0)
 ended_well {A = A} (Ok y) x e =
     let g = goes_on_by (length y.1 == 0) (record { cause = causes.Rest; left = length y.1 }) (Ok y.0) x e in
     let same : y.0 ≡ x = ok_is y.0 x g.1 in
     (y.1, ap (λ (z : A). Ok (z, y.1)) same, eqb-true (length y.1) 0 g.0)
 ended_well (Err m) x e = absurd cc
 
-told_well : {A : Type 0} (tag : A → Message) (r : Result A Misread) (m : Message) → told tag r ≡ Ok m → (x : A) × (r ≡ Ok x) × (tag x ≡ m)
+told_well : {A : Type 0} (tag : A → Message) (r : Result A Misread) (m : Message) → as_message tag r ≡ Ok m → (x : A) × (r ≡ Ok x) × (tag x ≡ m)
 told_well tag (Ok x) m e = (x, refl, ok_is (tag x) m e)
 told_well tag (Err f) m e = absurd cc
 
@@ -149,9 +149,9 @@ no_bytes (b ∷ rest) e = absurd (omega arith)
 
 -- a body that was read to its end, by how its kind is read
 body_found : {A : Type 0} (tag : A → Message) (layout : Layout) (at : List ℕ → Field A) → ((bytes : List ℕ) (x : A) (rest : List ℕ) → AreBytes bytes → at bytes ≡ Ok (x, rest) → Stands (body (tag x)) bytes rest × FitsFields layout (tag x))
-    → (number : ℕ) (behind : List ℕ) (m : Message) → ((x : A) → number ≡ kind (tag x)) → AreBytes behind → told tag (ended (at behind)) ≡ Ok m → KindFound layout number behind m
+    → (number : ℕ) (behind : List ℕ) (m : Message) → ((x : A) → number ≡ kind (tag x)) → AreBytes behind → as_message tag (whole_field (at behind)) ≡ Ok m → KindFound layout number behind m
 body_found tag layout at found number behind m is small h =
-    let t = told_well tag (ended (at behind)) m h in
+    let t = told_well tag (whole_field (at behind)) m h in
     let e = ended_well (at behind) t.0 t.1 in
     let f = found behind t.0 e.0 small e.1 in
     subst (λ (m : Message). KindFound layout number behind m) t.2

@@ -15,7 +15,7 @@ use Rattle.cg_table.specs.declared.digest.Digest.{Digest}
 use Rattle.cg_entry.specs.declared.state.State.{State}
 use Rattle.cg_entry.specs.State.{pairs, all_newer, keys_rise, makes_delta}
 use Rattle.cg_exchange.specs.declared.owner_delta.OwnerDelta.{OwnerDelta}
-use Rattle.cg_exchange.specs.Members.{listed, endpoints_of_digests, endpoints_of_requests, endpoints_of_deltas}
+use Rattle.cg_exchange.specs.Members.{is_member_list, endpoints_of_digests, endpoints_of_requests, endpoints_of_deltas}
 use Rattle.cg_exchange.specs.Values.{RequestValue, SynValue}
 use Rattle.cg_frames.specs.declared.layout.Layout.{Layout}
 use Rattle.cg_frames.specs.declared.misread.Misread.{Misread}
@@ -334,7 +334,7 @@ count_within layout bytes n rest h =
 
 -- members that were read with their count make a list
 pub read_listed : {X : Type 0} (key : X → ℕ) (one : Option ℕ → List ℕ → Field X) → ((last : Option ℕ) (bytes : List ℕ) (x : X) (after : List ℕ) → one last bytes ≡ Ok (x, after) → is_past last (key x) ≡ true)
-    → (layout : Layout) (at : List ℕ) (count : ℕ) (from : List ℕ) (xs : List X) (rest : List ℕ) → layout.members ≤ MEMBER_LIMIT → count_at layout at ≡ Ok (count, from) → rising_at key one count None from ≡ Ok (xs, rest) → listed (map key xs) ≡ true
+    → (layout : Layout) (at : List ℕ) (count : ℕ) (from : List ℕ) (xs : List X) (rest : List ℕ) → layout.members ≤ MEMBER_LIMIT → count_at layout at ≡ Ok (count, from) → rising_at key one count None from ≡ Ok (xs, rest) → is_member_list (map key xs) ≡ true
 read_listed {X = X} key one past layout at count from xs rest few counted read =
     let t = rising_taken key one past count None from xs rest read in
     let within = (count_within layout at count from counted).1 in
@@ -345,15 +345,15 @@ pub counted_parts : {X : Type 0} (key : X → ℕ) (one : Option ℕ → List �
     → (c : ℕ × List ℕ) × (count_at layout at ≡ Ok c) × (rising_at key one c.0 None c.1 ≡ Ok (xs, rest))
 counted_parts key one layout at xs rest h = bind_ok (count_at layout at) (λ count. rising_at key one count.0 None count.1) (xs, rest) h
 
-pub digests_listed : (layout : Layout) (at : List ℕ) (count : ℕ) (from : List ℕ) (ds : List Digest) (rest : List ℕ) → layout.members ≤ MEMBER_LIMIT → count_at layout at ≡ Ok (count, from) → digests_at count None from ≡ Ok (ds, rest) → listed (endpoints_of_digests ds) ≡ true
+pub digests_listed : (layout : Layout) (at : List ℕ) (count : ℕ) (from : List ℕ) (ds : List Digest) (rest : List ℕ) → layout.members ≤ MEMBER_LIMIT → count_at layout at ≡ Ok (count, from) → digests_at count None from ≡ Ok (ds, rest) → is_member_list (endpoints_of_digests ds) ≡ true
 digests_listed = read_listed (λ (d : Digest). d.endpoint) digest_at digest_past
 
-pub requests_listed : (layout : Layout) (at : List ℕ) (rs : List RequestValue) (rest : List ℕ) → layout.members ≤ MEMBER_LIMIT → listed_requests_at layout at ≡ Ok (rs, rest) → listed (endpoints_of_requests rs) ≡ true
+pub requests_listed : (layout : Layout) (at : List ℕ) (rs : List RequestValue) (rest : List ℕ) → layout.members ≤ MEMBER_LIMIT → listed_requests_at layout at ≡ Ok (rs, rest) → is_member_list (endpoints_of_requests rs) ≡ true
 requests_listed layout at rs rest few h =
     let c = counted_parts (λ (r : RequestValue). r.endpoint) request_at layout at rs rest h in
     read_listed (λ (r : RequestValue). r.endpoint) request_at request_past layout at c.0.0 c.0.1 rs rest few c.1 c.2
 
-pub deltas_listed : (layout : Layout) (at : List ℕ) (ds : List OwnerDelta) (rest : List ℕ) → layout.members ≤ MEMBER_LIMIT → listed_deltas_at layout at ≡ Ok (ds, rest) → listed (endpoints_of_deltas ds) ≡ true
+pub deltas_listed : (layout : Layout) (at : List ℕ) (ds : List OwnerDelta) (rest : List ℕ) → layout.members ≤ MEMBER_LIMIT → listed_deltas_at layout at ≡ Ok (ds, rest) → is_member_list (endpoints_of_deltas ds) ≡ true
 deltas_listed layout at ds rest few h =
     let c = counted_parts (λ (d : OwnerDelta). d.endpoint) (delta_at layout) layout at ds rest h in
     read_listed (λ (d : OwnerDelta). d.endpoint) (delta_at layout) (delta_past layout) layout at c.0.0 c.0.1 ds rest few c.1 c.2

@@ -10,8 +10,8 @@ use Rattle.cg_frames.specs.Layouts.{IsLayout, IsRead}
 use Rattle.cg_frames.specs.Reading.{frame_at}
 
 -- the layout that a byte names: the first of the list that has it
-abbrev pub named : List Layout → ℕ → Option Layout
-named layouts byte = find (λ layout. layout.byte == byte) layouts
+abbrev pub layout_with_byte : List Layout → ℕ → Option Layout
+layout_with_byte layouts byte = find (λ layout. layout.byte == byte) layouts
 
 -- the one with the longer frames; the first where both are as long
 abbrev pub wider : Layout → Layout → Layout
@@ -23,7 +23,7 @@ widest layouts = unwrap_or (reduce wider layouts) LAYOUT_1
 
 -- the layout that is due by the byte behind the length, where it has come
 abbrev pub due_by : List Layout → Option ℕ → Layout
-due_by layouts (Some byte) = unwrap_or (named layouts byte) (widest layouts)
+due_by layouts (Some byte) = unwrap_or (layout_with_byte layouts byte) (widest layouts)
 due_by layouts None = widest layouts
 
 -- The layout that is due: the one that the byte behind the length names; where it names none, or none has come yet,
@@ -37,7 +37,7 @@ frame_among layouts bytes = frame_at (due layouts bytes) bytes
 
 -- The layout is one of the list: its byte names it.
 abbrev pub IsOneOf : List Layout → Layout → Type 0
-IsOneOf layouts layout = named layouts layout.byte ≡ Some layout
+IsOneOf layouts layout = layout_with_byte layouts layout.byte ≡ Some layout
 
 -- One layout at least; each is the one that its byte names, and its limits and greatest frame fit into their fields.
 pub record AreLayouts (layouts : List Layout) : Type 0 where

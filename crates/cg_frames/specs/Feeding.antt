@@ -44,15 +44,15 @@ unfoldable pub frames_in : List Layout → List ℕ → Cut
 frames_in layouts bytes = cut_within layouts (length bytes) bytes
 
 -- What a piece gives, and where the feed stands then.
-abbrev pub fed : List Layout → Standing → List ℕ → Cut
-fed layouts (Ok held) piece = frames_in layouts (held ++ piece)
-fed layouts (Err f) piece = record { messages = []; rest = Err f }
+abbrev pub cut_of_piece : List Layout → Standing → List ℕ → Cut
+cut_of_piece layouts (Ok held) piece = frames_in layouts (held ++ piece)
+cut_of_piece layouts (Err f) piece = record { messages = []; rest = Err f }
 
 -- What pieces give, one after another.
 abbrev pub fed_all : List Layout → Standing → List (List ℕ) → Cut
 fed_all layouts s [] = record { messages = []; rest = s }
 fed_all layouts s (piece ∷ pieces) =
-    with_front (fed layouts s piece).messages (fed_all layouts (fed layouts s piece).rest pieces)
+    with_front (cut_of_piece layouts s piece).messages (fed_all layouts (cut_of_piece layouts s piece).rest pieces)
 
 -- Nothing whole and no fault stands in what is held; the fault that stands is a bad frame.
 abbrev pub IsPartial : List Layout → Standing → Type 0
@@ -95,9 +95,9 @@ standing_of held None = Ok held
 standing_of held (Some f) = Err f
 
 -- how many bytes may come without passing the present length or frame
-abbrev pub wanted : Standing → ℕ
-wanted (Ok held) = lack_of held
-wanted (Err f) = 0
+abbrev pub wants_of : Standing → ℕ
+wants_of (Ok held) = lack_of held
+wants_of (Err f) = 0
 
 -- At most one message, and then nothing is held.
 abbrev pub HasAtMostOne : List Message → Standing → Type 0

@@ -12,8 +12,8 @@ use Rattle.cg_frames.specs.Fits.{Fits}
 use Rattle.cg_frames.specs.Lengths.{greatest_length}
 use Rattle.cg_frames.specs.Faults.{IsBadFrame}
 use Rattle.cg_frames.specs.Reading.{size_of, frame_at}
-use Rattle.cg_frames.specs.Choosing.{named, frame_among, IsOneOf}
-use Rattle.cg_frames.specs.Feeding.{Standing, Cut, lack_of, with_front, frames_in, fed, fed_all, IsPartial, Splits, HasAtMostOne}
+use Rattle.cg_frames.specs.Choosing.{layout_with_byte, frame_among, IsOneOf}
+use Rattle.cg_frames.specs.Feeding.{Standing, Cut, lack_of, with_front, frames_in, cut_of_piece, fed_all, IsPartial, Splits, HasAtMostOne}
 
 -- The first bytes, so many of them, are the frame of a message that the layout can spell.
 pub record IsSpelledIn (layout : Layout) (bytes : List ℕ) (message : Message) (size : ℕ) : Type 0 where
@@ -58,7 +58,7 @@ pub record ChoosesByTheByte (layouts : List Layout) : Type 0 where
   pub waits : (layout : Layout) (bytes : List ℕ) → IsOneOf layouts layout → length bytes ≡ 4 → 0 < size_of bytes
       → size_of bytes ≤ layout.length → frame_among layouts bytes ≡ Ok None
   -- A byte that names none is refused once its frame is whole, however long some layout allows it to be.
-  pub unnamed : (byte : ℕ) (bytes : List ℕ) → named layouts byte ≡ None → slice_get bytes 4 ≡ Some byte
+  pub unnamed : (byte : ℕ) (bytes : List ℕ) → layout_with_byte layouts byte ≡ None → slice_get bytes 4 ≡ Some byte
       → 0 < size_of bytes → 4 + size_of bytes ≤ length bytes
       → (layout : Layout) → IsOneOf layouts layout → size_of bytes ≤ layout.length
       → frame_among layouts bytes ≡ Err (faults.BadFrame 4 causes.Layout)
@@ -77,7 +77,7 @@ SomeAreLacking layouts = (held : List ℕ) → frame_among layouts held ≡ Ok N
 abbrev pub PiecesAddUp : List Layout → Type 0
 PiecesAddUp layouts =
     (s : Standing) (pieces : List (List ℕ)) → IsPartial layouts s
-    → fed_all layouts s pieces ≡ fed layouts s (flat_map (λ (piece : List ℕ). piece) pieces)
+    → fed_all layouts s pieces ≡ cut_of_piece layouts s (flat_map (λ (piece : List ℕ). piece) pieces)
 
 -- A stream that is cut into pieces gives what its bytes at once give, whatever the pieces are.
 abbrev pub EveryCuttingIsTheWhole : List Layout → Type 0
@@ -88,7 +88,8 @@ EveryCuttingIsTheWhole layouts =
 -- Nothing whole and no fault stands in what is held after a piece.
 pub record WhatIsHeldIsPartial (layouts : List Layout) : Type 0 where
   pub new : IsPartial layouts (Ok [])
-  pub later : (s : Standing) (piece : List ℕ) → IsPartial layouts s → IsPartial layouts (fed layouts s piece).rest
+  pub later : (s : Standing) (piece : List ℕ)
+      → IsPartial layouts s → IsPartial layouts (cut_of_piece layouts s piece).rest
 
 -- A fault of bytes, in whichever layout they are read, and of a feed is a bad frame.
 pub record FaultsAreBadFrames (layouts : List Layout) : Type 0 where
@@ -99,8 +100,9 @@ pub record FaultsAreBadFrames (layouts : List Layout) : Type 0 where
 abbrev pub TwoPiecesAreOne : List Layout → Type 0
 TwoPiecesAreOne layouts =
     (s : Standing) (first second : List ℕ)
-    → fed layouts s (first ++ second)
-    ≡ with_front (fed layouts s first).messages (fed layouts (fed layouts s first).rest second)
+    → cut_of_piece layouts s (first ++ second)
+    ≡ with_front (cut_of_piece layouts s first).messages
+    (cut_of_piece layouts (cut_of_piece layouts s first).rest second)
 
 -- A piece that is no longer than what is lacking gives at most one message, and then nothing is held.
 abbrev pub OneAtATime : List Layout → Type 0

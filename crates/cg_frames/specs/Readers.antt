@@ -12,9 +12,9 @@ Reads view (Ok x) rest read = read ≡ Ok (view x, rest)
 Reads view (Err m) rest read = read ≡ Err m
 
 -- a field of which a part is kept
-abbrev pub seen : {X Y : Type 0} → (Y → X) → Field Y → Field X
-seen part (Ok y) = Ok (part y.0, y.1)
-seen part (Err m) = Err m
+abbrev pub part_of_field : {X Y : Type 0} → (Y → X) → Field Y → Field X
+part_of_field part (Ok y) = Ok (part y.0, y.1)
+part_of_field part (Err m) = Err m
 
 -- where reading stands behind a field
 abbrev pub behind : {A : Type 0} → Field A → Result (List ℕ) Misread

@@ -14,7 +14,7 @@ use Rattle.cg_frames.specs.declared.reader.Kind.{Kind}
 use Rattle.cg_frames.specs.declared.reader.Kind.TheVariants as kinds
 pub use Rattle.cg_frames.specs.Fields.{Field, wrong, bytes_at, number_at, count_at, endpoint_from, endpoint_at, ranged_at, generation_at, version_at, heartbeat_at, held_at, version_above_at, plain_at, name_at, key_from, key_at, state_count_at, text_at}
 pub use Rattle.cg_frames.specs.Lists.{digest_at, request_at, state_at, rising_at, digests_at, requests_at, states_at, carries, delta_from, delta_at, deltas_at, listed_requests_at, listed_deltas_at}
-pub use Rattle.cg_frames.specs.Readers.{Reads, seen, behind, Passes, Fails, Gives, FindsEnd, Checks, GivesWhole}
+pub use Rattle.cg_frames.specs.Readers.{Reads, part_of_field, behind, Passes, Fails, Gives, FindsEnd, Checks, GivesWhole}
 
 unfoldable pub syn_at : Layout → List ℕ → Field SynValue
 syn_at layout bytes = do
@@ -38,13 +38,13 @@ ack2_at layout bytes = do
   Ok (record { deltas = deltas.0 }, deltas.1)
 
 -- nothing is left behind the last field
-abbrev pub ended : {A : Type 0} → Field A → Result A Misread
-ended (Ok x) = if length x.1 == 0 then Ok x.0 else wrong causes.Rest x.1
-ended (Err m) = Err m
+abbrev pub whole_field : {A : Type 0} → Field A → Result A Misread
+whole_field (Ok x) = if length x.1 == 0 then Ok x.0 else wrong causes.Rest x.1
+whole_field (Err m) = Err m
 
-abbrev pub told : {A : Type 0} → (A → Message) → Result A Misread → Result Message Misread
-told message (Ok x) = Ok (message x)
-told message (Err m) = Err m
+abbrev pub as_message : {A : Type 0} → (A → Message) → Result A Misread → Result Message Misread
+as_message message (Ok x) = Ok (message x)
+as_message message (Err m) = Err m
 
 -- the byte that names the layout
 abbrev pub layout_at : Layout → List ℕ → Field ℕ
@@ -67,9 +67,9 @@ kind_at bytes = do
 
 -- the body of a message of this kind, and nothing behind it
 abbrev pub of_kind : Layout → Kind → List ℕ → Result Message Misread
-of_kind layout kinds.Syn bytes = told messages.Syn (ended (syn_at layout bytes))
-of_kind layout kinds.Ack bytes = told messages.Ack (ended (ack_at layout bytes))
-of_kind layout kinds.Ack2 bytes = told messages.Ack2 (ended (ack2_at layout bytes))
+of_kind layout kinds.Syn bytes = as_message messages.Syn (whole_field (syn_at layout bytes))
+of_kind layout kinds.Ack bytes = as_message messages.Ack (whole_field (ack_at layout bytes))
+of_kind layout kinds.Ack2 bytes = as_message messages.Ack2 (whole_field (ack2_at layout bytes))
 
 -- all that stands behind the length of a frame
 unfoldable pub inside_at : Layout → List ℕ → Result Message Misread
@@ -82,9 +82,9 @@ inside_at layout bytes = do
 abbrev pub fault_at : ℕ → Misread → Fault
 fault_at size m = faults.BadFrame (4 + size - m.left) m.cause
 
-abbrev pub located : {A : Type 0} → ℕ → Result A Misread → Result A Fault
-located size (Ok x) = Ok x
-located size (Err m) = Err (fault_at size m)
+abbrev pub with_place : {A : Type 0} → ℕ → Result A Misread → Result A Fault
+with_place size (Ok x) = Ok x
+with_place size (Err m) = Err (fault_at size m)
 
 abbrev pub with_size : {A : Type 0} → ℕ → Result A Fault → Result (Option (A × ℕ)) Fault
 with_size size (Ok x) = Ok (Some (x, 4 + size))
@@ -94,7 +94,7 @@ abbrev pub sized_at : Layout → ℕ → List ℕ → Result (Option (Message ×
 sized_at layout size rest =
     if nat_lt layout.length size then Err (faults.BadFrame 0 causes.Length)
     else if nat_lt (length rest) size then Ok None
-    else with_size size (located size (inside_at layout (take size rest)))
+    else with_size size (with_place size (inside_at layout (take size rest)))
 
 -- the length that the first four bytes say
 abbrev pub size_of : List ℕ → ℕ

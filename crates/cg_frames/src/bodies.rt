@@ -55,7 +55,7 @@ fn check_ack2(layout: &Layout, reader: &mut Reader<'_>) -> Result<(), Misread>
 }
 
 fn check_whole_syn(layout: &Layout, reader: &mut Reader<'_>) -> Result<(), Misread>
-    ensures { spec.Checks result (spec.told kinds.Syn (spec.ended (spec.syn_at layout.now reader.old))) }
+    ensures { spec.Checks result (spec.as_message kinds.Syn (spec.whole_field (spec.syn_at layout.now reader.old))) }
 {
     check_syn(layout, reader)?;
     reader.end()?;
@@ -63,7 +63,7 @@ fn check_whole_syn(layout: &Layout, reader: &mut Reader<'_>) -> Result<(), Misre
 }
 
 fn check_whole_ack(layout: &Layout, reader: &mut Reader<'_>) -> Result<(), Misread>
-    ensures { spec.Checks result (spec.told kinds.Ack (spec.ended (spec.ack_at layout.now reader.old))) }
+    ensures { spec.Checks result (spec.as_message kinds.Ack (spec.whole_field (spec.ack_at layout.now reader.old))) }
 {
     check_ack(layout, reader)?;
     reader.end()?;
@@ -71,7 +71,7 @@ fn check_whole_ack(layout: &Layout, reader: &mut Reader<'_>) -> Result<(), Misre
 }
 
 fn check_whole_ack2(layout: &Layout, reader: &mut Reader<'_>) -> Result<(), Misread>
-    ensures { spec.Checks result (spec.told kinds.Ack2 (spec.ended (spec.ack2_at layout.now reader.old))) }
+    ensures { spec.Checks result (spec.as_message kinds.Ack2 (spec.whole_field (spec.ack2_at layout.now reader.old))) }
 {
     check_ack2(layout, reader)?;
     reader.end()?;
@@ -169,7 +169,7 @@ fn ack2_of(alloc: Global, layout: &Layout, reader: &mut Reader<'_>) -> Result<Ac
 
 fn whole_syn_of(alloc: Global, layout: &Layout, reader: &mut Reader<'_>) -> Result<Syn, ReadError>
     requires { IsRead layout.now }
-    ensures { spec.GivesWhole (λ s. s) result (spec.ended (spec.syn_at layout.now reader.old)) }
+    ensures { spec.GivesWhole (λ s. s) result (spec.whole_field (spec.syn_at layout.now reader.old)) }
 {
     let syn = syn_of(alloc, layout, reader)?;
     reader.end()?;
@@ -178,7 +178,7 @@ fn whole_syn_of(alloc: Global, layout: &Layout, reader: &mut Reader<'_>) -> Resu
 
 fn whole_ack_of(alloc: Global, layout: &Layout, reader: &mut Reader<'_>) -> Result<Ack, ReadError>
     requires { IsRead layout.now }
-    ensures { spec.GivesWhole (λ a. a) result (spec.ended (spec.ack_at layout.now reader.old)) }
+    ensures { spec.GivesWhole (λ a. a) result (spec.whole_field (spec.ack_at layout.now reader.old)) }
 {
     let ack = ack_of(alloc, layout, reader)?;
     reader.end()?;
@@ -187,7 +187,7 @@ fn whole_ack_of(alloc: Global, layout: &Layout, reader: &mut Reader<'_>) -> Resu
 
 fn whole_ack2_of(alloc: Global, layout: &Layout, reader: &mut Reader<'_>) -> Result<Ack2, ReadError>
     requires { IsRead layout.now }
-    ensures { spec.GivesWhole (λ a. a) result (spec.ended (spec.ack2_at layout.now reader.old)) }
+    ensures { spec.GivesWhole (λ a. a) result (spec.whole_field (spec.ack2_at layout.now reader.old)) }
 {
     let ack2 = ack2_of(alloc, layout, reader)?;
     reader.end()?;

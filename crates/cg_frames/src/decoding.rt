@@ -34,7 +34,7 @@ fn read_inside(alloc: Global, layout: &Layout, inside: &[u8]) -> Result<Message,
     requires short { length inside.now < 2 ^ 32 }
     requires layout { IsRead layout.now }
     ensures { Answers (λ m. m)
-        (spec.located (length inside.now) (spec.inside_at layout.now inside.now)) result }
+        (spec.with_place (length inside.now) (spec.inside_at layout.now inside.now)) result }
 {
     if let Err(misread) = check(layout, inside) {
         return Err(fault_at(inside.len(), misread));

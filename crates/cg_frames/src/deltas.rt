@@ -22,7 +22,7 @@ fn check_state(
     last: Option<StateKey>,
 ) -> Result<StateKey, Misread>
     ensures { spec.Reads (λ x. x) result reader.new
-        (spec.seen (λ s. s.key) (spec.state_at layout.now above last reader.old)) }
+        (spec.part_of_field (λ s. s.key) (spec.state_at layout.now above last reader.old)) }
 {
     let key = reader.key(last)?;
     reader.version_above(above)?;
@@ -55,7 +55,7 @@ fn check_delta(
     last: Option<Endpoint>,
 ) -> Result<Endpoint, Misread>
     ensures { spec.Reads (λ x. x) result reader.new
-        (spec.seen (λ d. d.endpoint) (spec.delta_at layout.now last reader.old)) }
+        (spec.part_of_field (λ d. d.endpoint) (spec.delta_at layout.now last reader.old)) }
 {
     let left = reader.left();
     let endpoint = reader.endpoint(last)?;

@@ -178,13 +178,13 @@ impl Feed {
     /// `OutOfMemory` leaves the feed as it was; there is no other refusal. There is none for the empty piece, after a
     /// fault, and where nothing is held and the piece begins with a fault: none of these takes memory.
     pub fn push(&mut self, piece: &[u8]) -> Result<Fed, Fault>
-        ensures given { IfOk result (λ fed. fed.messages.items ≡ (spec.fed LAYOUTS self.old piece.now).messages) }
-        ensures rest { OnOk result (self.new ≡ (spec.fed LAYOUTS self.old piece.now).rest) }
+        ensures given { IfOk result (λ fed. fed.messages.items ≡ (spec.cut_of_piece LAYOUTS self.old piece.now).messages) }
+        ensures rest { OnOk result (self.new ≡ (spec.cut_of_piece LAYOUTS self.old piece.now).rest) }
         ensures fault { IfOk result (λ fed. fed.fault ≡ spec.fault_of self.new) }
         ensures bad { IfOk result (λ fed. IfSome fed.fault IsBadFrame) }
         ensures spelled { IfOk result (λ fed. spec.SplitsFrom LAYOUTS self.old piece.now
             (record { messages = fed.messages.items; rest = self.new })) }
-        ensures one { IfOk result (λ fed. length piece.now ≤ spec.wanted self.old
+        ensures one { IfOk result (λ fed. length piece.now ≤ spec.wants_of self.old
             → spec.HasAtMostOne fed.messages.items self.new) }
         ensures same { OnErr result (self.new ≡ self.old) }
         ensures stands { IsErr self.old → IsOk result }
@@ -205,7 +205,7 @@ impl Feed {
 
     /// How many bytes the present length, of 4 bytes, or the present frame lacks: at least 1, and 0 after a fault.
     pub fn wants(&self) -> usize
-        ensures is { result ≡ spec.wanted self.now }
+        ensures is { result ≡ spec.wants_of self.now }
         ensures some { IsOk self.now → 0 < result }
     {
         match self.fault {

@@ -8,7 +8,7 @@ use crate::layout::{LAYOUT_1, Layout};
 
 // The layout that a byte names.
 fn named(layouts: &[Layout], byte: u8) -> Option<Layout>
-    ensures { result ≡ spec.named layouts.now byte }
+    ensures { result ≡ spec.layout_with_byte layouts.now byte }
 {
     layouts.iter().copied().find(|layout| layout.byte == byte)
 }

@@ -40,5 +40,6 @@ AreConfirmed records receipts =
 -- The receipts before the place are confirmed, and the one that stands there is not.
 pub record IsFirstStray (records : List Item) (receipts : List Receipt) (s : Stray) : Type 0 where
   pub before : AreConfirmed records (take s.place receipts)
-  pub stray : (r : Receipt) × (slice_get receipts s.place ≡ Some r) × (IsConfirmed records (take s.place receipts) r → ⊥)
+  pub stray : (r : Receipt)
+      × (slice_get receipts s.place ≡ Some r) × (IsConfirmed records (take s.place receipts) r → ⊥)
   pub why : s.fault ≡ Stranger

@@ -6,7 +6,7 @@ use Rattle.cg_types.specs.declared.fault.Fault.TheVariants.{VersionsSpent}
 use Rattle.cg_core.specs.declared.event.Event.{Event}
 use Rattle.cg_core.specs.declared.reply.Reply.{Reply}
 use Rattle.cg_core.specs.Values.{SettingsValue, NodeValue, node_code}
-use Rattle.cg_core.specs.Step.{Step, node_step, begun}
+use Rattle.cg_core.specs.Step.{Step, node_step, starting_node}
 use Rattle.cg_core.specs.Laws.{IsSmall}
 use Rattle.cg_history.specs.declared.item.Item.{Item}
 use Rattle.cg_history.specs.declared.item.Receipt.{Receipt}
@@ -40,7 +40,7 @@ pub record IsReplayed (h : HistoryValue) : Type 0 where
 -- the history of a node that starts
 abbrev pub new_history : ℕ → ℕ → SettingsValue → HistoryValue
 new_history own generation settings =
-    record { base = begun own generation settings; records = []; node = begun own generation settings }
+    record { base = starting_node own generation settings; records = []; node = starting_node own generation settings }
 
 -- the history with one more record, which led to this node
 abbrev pub with_record : HistoryValue → NodeValue → Item → HistoryValue

@@ -50,6 +50,14 @@ impl History {
         })
     }
 
+    /// The node that the history began with.
+    pub fn base(&self) -> &Node
+        ensures value { result.now ≡ self.now.base }
+        ensures replayed { IsReplayed self.now }
+    {
+        &self.base
+    }
+
     /// The node, which is where the records lead from the one that the history began with.
     pub fn node(&self) -> &Node
         ensures value { result.now ≡ self.now.node }

@@ -6,10 +6,11 @@ use Rattle.cg_entry.specs.Place.{Span}
 use Rattle.cg_entry.proofs.PlaceLemmas.{at_place_last}
 use Rattle.cg_exchange.specs.Places.{Ask, span_for, ask_for}
 use Rattle.cg_exchange.specs.PlaceMessages.{PlaceMessage, Syn, Ack, Ack2, places_after, grants_at, AreSpans}
-use Rattle.cg_places.specs.PlaceWorld.{PlaceWorld, Opening, Deliver, runs, with_message, with_spans, received, after_action}
-use Rattle.cg_places.specs.Exchange.{PlaceExchange, after_opening, at_syn, after_syn, at_ack, after_ack, at_ack2, exchanged, NoStartsOf, NoStartsOfEither}
+use Rattle.cg_places.specs.PlaceWorld.{PlaceWorld, Opening, Deliver, runs, with_message, with_spans, after_receipt, after_action}
+use Rattle.cg_places.specs.Exchange.{PlaceExchange, by_places, after_opening, at_syn, after_syn, after_ack, after_exchange, NoStartsOf, NoStartsOfEither}
 use Rattle.cg_places.specs.Refusals.{refusal}
 use Rattle.cg_places.specs.Laws.{exchange_join, BothRun, ReachesTheJoin}
+use Rattle.cg_places.proofs.Stages.{syn_delivery, at_ack, ack_delivery, at_ack2, ack2_delivery}
 use Rattle.cg_places.proofs.PutLemmas.{length_push, put_at_here, same_number}
 use Rattle.cg_places.proofs.StepLemmas.{place_with_rises}
 use Rattle.cg_places.proofs.WorldLemmas.{IsSound, action_sound, actions_from_sound, spans_stand}
@@ -26,7 +27,7 @@ unfolding after_action with_message
 opening_sends w opener e = rw e (sent_last w.sent (Syn (w.places opener)))
 
 -- a message that stands is received
-pub receives : (w : PlaceWorld) (number node : ℕ) (message : PlaceMessage) → runs w node ≡ true → at_place w.sent number ≡ Some message → after_action w (Deliver number node) ≡ received w node message
+pub receives : (w : PlaceWorld) (number node : ℕ) (message : PlaceMessage) → runs w node ≡ true → at_place w.sent number ≡ Some message → after_action w (Deliver number node) ≡ after_receipt w node message
 unfolding after_action
 receives w number node message e there = rw there (rw e refl)
 
@@ -66,107 +67,107 @@ end_places w number node spans e there owner = rw (receives w number node (Ack2 
 -- ---- the exchange
 
 module _ (w : PlaceWorld) (x : PlaceExchange) (s : IsSound w) (both : BothRun w x) (neither : NoStartsOfEither x) where
-  after_opening_sound : IsSound (after_opening w x)
+  after_opening_sound : IsSound (after_opening by_places w x)
   after_opening_sound = action_sound w (Opening x.opener) s
 
-  at_syn_sound : IsSound (at_syn w x)
-  at_syn_sound = actions_from_sound (after_opening w x) x.before_syn after_opening_sound
+  at_syn_sound : IsSound (at_syn by_places w x)
+  at_syn_sound = actions_from_sound (after_opening by_places w x) x.before_syn after_opening_sound
 
-  after_syn_sound : IsSound (after_syn w x)
-  after_syn_sound = action_sound (at_syn w x) (Deliver (length (after_opening w x).sent) x.answerer) at_syn_sound
+  after_syn_sound : IsSound (after_syn by_places w x)
+  after_syn_sound = action_sound (at_syn by_places w x) (syn_delivery by_places w x) at_syn_sound
 
-  at_ack_sound : IsSound (at_ack w x)
-  at_ack_sound = actions_from_sound (after_syn w x) x.before_ack after_syn_sound
+  at_ack_sound : IsSound (at_ack by_places w x)
+  at_ack_sound = actions_from_sound (after_syn by_places w x) x.before_ack after_syn_sound
 
-  after_ack_sound : IsSound (after_ack w x)
-  after_ack_sound = action_sound (at_ack w x) (Deliver (length (after_syn w x).sent) x.opener) at_ack_sound
+  after_ack_sound : IsSound (after_ack by_places w x)
+  after_ack_sound = action_sound (at_ack by_places w x) (ack_delivery by_places w x) at_ack_sound
 
-  at_ack2_sound : IsSound (at_ack2 w x)
-  at_ack2_sound = actions_from_sound (after_ack w x) x.before_ack2 after_ack_sound
+  at_ack2_sound : IsSound (at_ack2 by_places w x)
+  at_ack2_sound = actions_from_sound (after_ack by_places w x) x.before_ack2 after_ack_sound
 
-  pub to_at_syn : Keeps w (at_syn w x)
-  to_at_syn = keeps_on (action_keeps w (Opening x.opener)) (actions_from_keeps (after_opening w x) x.before_syn)
+  pub to_at_syn : Keeps w (at_syn by_places w x)
+  to_at_syn = keeps_on (action_keeps w (Opening x.opener)) (actions_from_keeps (after_opening by_places w x) x.before_syn)
 
-  pub to_at_ack : Keeps (at_syn w x) (at_ack w x)
-  to_at_ack = keeps_on (action_keeps (at_syn w x) (Deliver (length (after_opening w x).sent) x.answerer)) (actions_from_keeps (after_syn w x) x.before_ack)
+  pub to_at_ack : Keeps (at_syn by_places w x) (at_ack by_places w x)
+  to_at_ack = keeps_on (action_keeps (at_syn by_places w x) (syn_delivery by_places w x)) (actions_from_keeps (after_syn by_places w x) x.before_ack)
 
-  pub to_at_ack2 : Keeps (at_ack w x) (at_ack2 w x)
-  to_at_ack2 = keeps_on (action_keeps (at_ack w x) (Deliver (length (after_syn w x).sent) x.opener)) (actions_from_keeps (after_ack w x) x.before_ack2)
+  pub to_at_ack2 : Keeps (at_ack by_places w x) (at_ack2 by_places w x)
+  to_at_ack2 = keeps_on (action_keeps (at_ack by_places w x) (ack_delivery by_places w x)) (actions_from_keeps (after_ack by_places w x) x.before_ack2)
 
-  holds_to_at_syn : (n : ℕ) → NoStartsOf n x.before_syn → HoldsOn n w (at_syn w x)
-  holds_to_at_syn n never = holds_further n w (after_opening w x) (at_syn w x) (action_holds n w (Opening x.opener) s tt) (actions_from_holds n (after_opening w x) x.before_syn after_opening_sound never)
+  holds_to_at_syn : (n : ℕ) → NoStartsOf n x.before_syn → HoldsOn n w (at_syn by_places w x)
+  holds_to_at_syn n never = holds_further n w (after_opening by_places w x) (at_syn by_places w x) (action_holds n w (Opening x.opener) s tt) (actions_from_holds n (after_opening by_places w x) x.before_syn after_opening_sound never)
 
-  holds_to_at_ack : (n : ℕ) → NoStartsOf n x.before_ack → HoldsOn n (at_syn w x) (at_ack w x)
+  holds_to_at_ack : (n : ℕ) → NoStartsOf n x.before_ack → HoldsOn n (at_syn by_places w x) (at_ack by_places w x)
   holds_to_at_ack n never =
-      holds_further n (at_syn w x) (after_syn w x) (at_ack w x) (action_holds n (at_syn w x) (Deliver (length (after_opening w x).sent) x.answerer) at_syn_sound tt) (actions_from_holds n (after_syn w x) x.before_ack after_syn_sound never)
+      holds_further n (at_syn by_places w x) (after_syn by_places w x) (at_ack by_places w x) (action_holds n (at_syn by_places w x) (syn_delivery by_places w x) at_syn_sound tt) (actions_from_holds n (after_syn by_places w x) x.before_ack after_syn_sound never)
 
-  holds_to_at_ack2 : (n : ℕ) → NoStartsOf n x.before_ack2 → HoldsOn n (at_ack w x) (at_ack2 w x)
+  holds_to_at_ack2 : (n : ℕ) → NoStartsOf n x.before_ack2 → HoldsOn n (at_ack by_places w x) (at_ack2 by_places w x)
   holds_to_at_ack2 n never =
-      holds_further n (at_ack w x) (after_ack w x) (at_ack2 w x) (action_holds n (at_ack w x) (Deliver (length (after_syn w x).sent) x.opener) at_ack_sound tt) (actions_from_holds n (after_ack w x) x.before_ack2 after_ack_sound never)
+      holds_further n (at_ack by_places w x) (after_ack by_places w x) (at_ack2 by_places w x) (action_holds n (at_ack by_places w x) (ack_delivery by_places w x) at_ack_sound tt) (actions_from_holds n (after_ack by_places w x) x.before_ack2 after_ack_sound never)
 
-  pub syn_stands : at_place (at_syn w x).sent (length (after_opening w x).sent) ≡ Some (Syn (w.places x.opener))
-  syn_stands = (actions_from_keeps (after_opening w x) x.before_syn).sent _ _ (opening_sends w x.opener both.opener)
+  pub syn_stands : at_place (at_syn by_places w x).sent (length (after_opening by_places w x).sent) ≡ Some (Syn (w.places x.opener))
+  syn_stands = (actions_from_keeps (after_opening by_places w x) x.before_syn).sent _ _ (opening_sends w x.opener both.opener)
 
   abbrev pub asks : ℕ → Option Ask
-  asks = asks_of (at_syn w x) x.answerer (w.places x.opener)
+  asks = asks_of (at_syn by_places w x) x.answerer (w.places x.opener)
 
   abbrev pub spans : ℕ → Option Span
-  spans = spans_of (at_syn w x) x.answerer (w.places x.opener)
+  spans = spans_of (at_syn by_places w x) x.answerer (w.places x.opener)
 
-  pub answerer_runs : runs (at_syn w x) x.answerer ≡ true
+  pub answerer_runs : runs (at_syn by_places w x) x.answerer ≡ true
   answerer_runs = still_runs to_at_syn x.answerer both.answerer
 
-  pub ack_stands : at_place (at_ack w x).sent (length (after_syn w x).sent) ≡ Some (Ack asks spans)
-  ack_stands = (actions_from_keeps (after_syn w x) x.before_ack).sent _ _ (reply_sends (at_syn w x) (length (after_opening w x).sent) x.answerer (w.places x.opener) answerer_runs syn_stands)
+  pub ack_stands : at_place (at_ack by_places w x).sent (length (after_syn by_places w x).sent) ≡ Some (Ack asks spans)
+  ack_stands = (actions_from_keeps (after_syn by_places w x) x.before_ack).sent _ _ (reply_sends (at_syn by_places w x) (length (after_opening by_places w x).sent) x.answerer (w.places x.opener) answerer_runs syn_stands)
 
-  pub opener_runs : runs (at_ack w x) x.opener ≡ true
+  pub opener_runs : runs (at_ack by_places w x) x.opener ≡ true
   opener_runs = still_runs (keeps_on to_at_syn to_at_ack) x.opener both.opener
 
   abbrev pub back : ℕ → Option Span
-  back = spans_back (at_ack w x) x.opener asks spans
+  back = spans_back (at_ack by_places w x) x.opener asks spans
 
-  pub ack2_stands : at_place (at_ack2 w x).sent (length (after_ack w x).sent) ≡ Some (Ack2 back)
-  ack2_stands = (actions_from_keeps (after_ack w x) x.before_ack2).sent _ _ (close_sends (at_ack w x) (length (after_syn w x).sent) x.opener asks spans opener_runs ack_stands)
+  pub ack2_stands : at_place (at_ack2 by_places w x).sent (length (after_ack by_places w x).sent) ≡ Some (Ack2 back)
+  ack2_stands = (actions_from_keeps (after_ack by_places w x) x.before_ack2).sent _ _ (close_sends (at_ack by_places w x) (length (after_syn by_places w x).sent) x.opener asks spans opener_runs ack_stands)
 
-  pub answerer_runs_on : runs (at_ack2 w x) x.answerer ≡ true
+  pub answerer_runs_on : runs (at_ack2 by_places w x) x.answerer ≡ true
   answerer_runs_on = still_runs (keeps_on to_at_ack to_at_ack2) x.answerer answerer_runs
 
   -- where a node stands that is the owner
   full : (v : PlaceWorld) → IsSound v → (node owner : ℕ) → (owner == node) ≡ true → v.places node owner ≡ length (v.histories owner)
   full v sound node owner e = subst (λ n. v.places n owner ≡ length (v.histories owner)) (same_number owner node e) (sound.own owner)
 
-  opener_end : (owner : ℕ) → exchange_join w x owner ≤ (exchanged w x).places x.opener owner
+  opener_end : (owner : ℕ) → exchange_join w x owner ≤ (after_exchange by_places w x).places x.opener owner
   opener_end owner =
-      let before : w.places x.opener owner ≤ (at_ack w x).places x.opener owner =
+      let before : w.places x.opener owner ≤ (at_ack by_places w x).places x.opener owner =
       omega (arith, holds_to_at_syn x.opener neither.opener.0 owner, holds_to_at_ack x.opener neither.opener.1 owner) in
-      let after : (after_ack w x).places x.opener owner ≤ (exchanged w x).places x.opener owner =
-      omega (arith, actions_from_holds x.opener (after_ack w x) x.before_ack2 after_ack_sound neither.opener.2 owner, action_holds x.opener (at_ack2 w x) (Deliver (length (after_ack w x).sent) x.answerer) at_ack2_sound tt owner) in
-      let at_end : (owner == x.opener) ≡ true → (at_syn w x).places x.answerer owner ≤ (at_ack w x).places x.opener owner =
-      λ e. omega (arith, full (at_ack w x) at_ack_sound x.opener owner e, at_syn_sound.stands x.answerer owner, (to_at_ack.histories owner).longer) in
-      let reached : exchange_join w x owner ≤ places_after x.opener ((at_ack w x).places x.opener) spans owner =
-      opener_reaches ((at_syn w x).histories owner) (owner == x.opener) ((at_syn w x).places x.answerer owner) (w.places x.opener owner) ((at_ack w x).places x.opener owner) before at_end in
-      omega (arith, reached, close_places (at_ack w x) (length (after_syn w x).sent) x.opener asks spans opener_runs ack_stands owner, after)
+      let after : (after_ack by_places w x).places x.opener owner ≤ (after_exchange by_places w x).places x.opener owner =
+      omega (arith, actions_from_holds x.opener (after_ack by_places w x) x.before_ack2 after_ack_sound neither.opener.2 owner, action_holds x.opener (at_ack2 by_places w x) (ack2_delivery by_places w x) at_ack2_sound tt owner) in
+      let at_end : (owner == x.opener) ≡ true → (at_syn by_places w x).places x.answerer owner ≤ (at_ack by_places w x).places x.opener owner =
+      λ e. omega (arith, full (at_ack by_places w x) at_ack_sound x.opener owner e, at_syn_sound.stands x.answerer owner, (to_at_ack.histories owner).longer) in
+      let reached : exchange_join w x owner ≤ places_after x.opener ((at_ack by_places w x).places x.opener) spans owner =
+      opener_reaches ((at_syn by_places w x).histories owner) (owner == x.opener) ((at_syn by_places w x).places x.answerer owner) (w.places x.opener owner) ((at_ack by_places w x).places x.opener owner) before at_end in
+      omega (arith, reached, close_places (at_ack by_places w x) (length (after_syn by_places w x).sent) x.opener asks spans opener_runs ack_stands owner, after)
 
   -- what the opener holds when it answers the asks
-  reached_stands : (owner : ℕ) → (with_spans (at_ack w x) x.opener spans).places x.opener owner ≤ length ((at_ack w x).histories owner)
+  reached_stands : (owner : ℕ) → (with_spans (at_ack by_places w x) x.opener spans).places x.opener owner ≤ length ((at_ack by_places w x).histories owner)
   reached_stands owner =
-      let are : AreSpans (at_ack w x).histories spans = (at_ack_sound.messages (length (after_syn w x).sent) (Ack asks spans) ack_stands).1 in
-      spans_stand (at_ack w x) x.opener spans at_ack_sound are x.opener owner
+      let are : AreSpans (at_ack by_places w x).histories spans = (at_ack_sound.messages (length (after_syn by_places w x).sent) (Ack asks spans) ack_stands).1 in
+      spans_stand (at_ack by_places w x) x.opener spans at_ack_sound are x.opener owner
 
-  answerer_end : (owner : ℕ) → exchange_join w x owner ≤ (exchanged w x).places x.answerer owner
+  answerer_end : (owner : ℕ) → exchange_join w x owner ≤ (after_exchange by_places w x).places x.answerer owner
   answerer_end owner =
-      let now : ℕ = (with_spans (at_ack w x) x.opener spans).places x.opener owner in
-      let on : (at_syn w x).places x.answerer owner ≤ (at_ack2 w x).places x.answerer owner =
+      let now : ℕ = (with_spans (at_ack by_places w x) x.opener spans).places x.opener owner in
+      let on : (at_syn by_places w x).places x.answerer owner ≤ (at_ack2 by_places w x).places x.answerer owner =
       omega (arith, holds_to_at_ack x.answerer neither.answerer.1 owner, holds_to_at_ack2 x.answerer neither.answerer.2 owner) in
       let theirs : w.places x.opener owner ≤ now =
-      omega (arith, held_after (at_ack w x) x.opener spans owner, place_with_rises (owner == x.opener) ((at_ack w x).places x.opener owner) (spans owner), holds_to_at_syn x.opener neither.opener.0 owner, holds_to_at_ack x.opener neither.opener.1 owner) in
-      let at_end : (owner == x.answerer) ≡ true → now ≤ (at_ack2 w x).places x.answerer owner =
-      λ e. omega (arith, full (at_ack2 w x) at_ack2_sound x.answerer owner e, reached_stands owner, (to_at_ack2.histories owner).longer) in
-      let within : w.places x.opener owner ≤ length ((at_syn w x).histories owner) = omega (arith, s.stands x.opener owner, (to_at_syn.histories owner).longer) in
-      let taken : exchange_join w x owner ≤ places_after x.answerer ((at_ack2 w x).places x.answerer) back owner =
-      answerer_reaches ((at_syn w x).histories owner) ((at_ack w x).histories owner) (owner == x.answerer) ((at_syn w x).places x.answerer owner) (w.places x.opener owner) now ((at_ack2 w x).places x.answerer owner)
+      omega (arith, held_after (at_ack by_places w x) x.opener spans owner, place_with_rises (owner == x.opener) ((at_ack by_places w x).places x.opener owner) (spans owner), holds_to_at_syn x.opener neither.opener.0 owner, holds_to_at_ack x.opener neither.opener.1 owner) in
+      let at_end : (owner == x.answerer) ≡ true → now ≤ (at_ack2 by_places w x).places x.answerer owner =
+      λ e. omega (arith, full (at_ack2 by_places w x) at_ack2_sound x.answerer owner e, reached_stands owner, (to_at_ack2.histories owner).longer) in
+      let within : w.places x.opener owner ≤ length ((at_syn by_places w x).histories owner) = omega (arith, s.stands x.opener owner, (to_at_syn.histories owner).longer) in
+      let taken : exchange_join w x owner ≤ places_after x.answerer ((at_ack2 by_places w x).places x.answerer) back owner =
+      answerer_reaches ((at_syn by_places w x).histories owner) ((at_ack by_places w x).histories owner) (owner == x.answerer) ((at_syn by_places w x).places x.answerer owner) (w.places x.opener owner) now ((at_ack2 by_places w x).places x.answerer owner)
       (at_ack_sound.histories owner) (to_at_ack.histories owner) within (reached_stands owner) theirs on at_end in
-      omega (arith, taken, end_places (at_ack2 w x) (length (after_ack w x).sent) x.answerer back answerer_runs_on ack2_stands owner)
+      omega (arith, taken, end_places (at_ack2 by_places w x) (length (after_ack by_places w x).sent) x.answerer back answerer_runs_on ack2_stands owner)
 
   pub exchange_reaches : ReachesTheJoin w x
   exchange_reaches = record { opener = opener_end; answerer = answerer_end }
@@ -179,11 +180,11 @@ module _ (w : PlaceWorld) (x : PlaceExchange) (s : IsSound w) (both : BothRun w 
   pub opening_is_due : refusal w (Opening x.opener) ≡ None
   opening_is_due = rw both.opener refl
 
-  pub syn_is_due : refusal (at_syn w x) (Deliver (length (after_opening w x).sent) x.answerer) ≡ None
-  syn_is_due = delivery_is_due (at_syn w x) _ x.answerer _ answerer_runs syn_stands
+  pub syn_is_due : refusal (at_syn by_places w x) (syn_delivery by_places w x) ≡ None
+  syn_is_due = delivery_is_due (at_syn by_places w x) _ x.answerer _ answerer_runs syn_stands
 
-  pub ack_is_due : refusal (at_ack w x) (Deliver (length (after_syn w x).sent) x.opener) ≡ None
-  ack_is_due = delivery_is_due (at_ack w x) _ x.opener _ opener_runs ack_stands
+  pub ack_is_due : refusal (at_ack by_places w x) (ack_delivery by_places w x) ≡ None
+  ack_is_due = delivery_is_due (at_ack by_places w x) _ x.opener _ opener_runs ack_stands
 
-  pub ack2_is_due : refusal (at_ack2 w x) (Deliver (length (after_ack w x).sent) x.answerer) ≡ None
-  ack2_is_due = delivery_is_due (at_ack2 w x) _ x.answerer _ answerer_runs_on ack2_stands
+  pub ack2_is_due : refusal (at_ack2 by_places w x) (ack2_delivery by_places w x) ≡ None
+  ack2_is_due = delivery_is_due (at_ack2 by_places w x) _ x.answerer _ answerer_runs_on ack2_stands

@@ -1,13 +1,13 @@
 -- Tables and messages go on to spell a world that changes.
 use Rattle.std.proofs.Common.{◌≡◌, ◌≢◌, ℕ, ◌+◌, ◌≤◌, List, [], ◌∷◌, ◌++◌, length, refl, sym, ◌∙◌, ap, subst, arith, Bool, true, false, Option, Some, None, add-one}
-use Rattle.std.specs.Prelude.{◌==◌, cond, is_some, nat_eq}
+use Rattle.std.specs.Prelude.{cond, is_some, nat_eq}
 use Rattle.std.specs.Option.{option_map, option_and_then}
 use Rattle.std.specs.Ordering.{nat_cmp}
 use Rattle.std.specs.Cmp.{nat_cmp_total}
 use Rattle.std.specs.FinMap as table
 use Rattle.std.specs.FinMap.{get-insert, get-empty}
 use Rattle.cg_entry.specs.Values.{EntryValue}
-use Rattle.cg_entry.specs.Entry.{started, delta_above}
+use Rattle.cg_entry.specs.Entry.{starting_entry, delta_above}
 use Rattle.cg_entry.specs.History.{at_place}
 use Rattle.cg_entry.specs.Place.{Span, IsSpan}
 use Rattle.cg_entry.specs.Spelling.{version_of, version_at, delta_of}
@@ -110,13 +110,13 @@ entry_changes w node entry entries s = record {
   elsewhere = λ n apart. put_at_other w.places node (put_at (w.places node) node (length (w.histories node) + 1)) n apart;
 }
 
-pub start_changes : (w : PlaceWorld) (node generation : ℕ) → IsChangedAt w (with_start w node generation) node (alone node (started generation)).entries
+pub start_changes : (w : PlaceWorld) (node generation : ℕ) → IsChangedAt w (with_start w node generation) node (alone node (starting_entry generation)).entries
 unfolding with_start
 start_changes w node generation = record {
-  histories = grown_continue w.histories node (started generation);
-  running = grown_runs w node (started generation);
-  here = subst (SpellsPlaces (grown w.histories node (started generation)) (alone node (started generation)).entries) (sym (put_at_here w.places node (put_at (λ owner. 0) node (length (w.histories node) + 1))))
-      (own_put w node (started generation) table.empty (λ owner. 0) (λ owner. omega arith) (λ owner apart. get-empty nat_cmp owner));
+  histories = grown_continue w.histories node (starting_entry generation);
+  running = grown_runs w node (starting_entry generation);
+  here = subst (SpellsPlaces (grown w.histories node (starting_entry generation)) (alone node (starting_entry generation)).entries) (sym (put_at_here w.places node (put_at (λ owner. 0) node (length (w.histories node) + 1))))
+      (own_put w node (starting_entry generation) table.empty (λ owner. 0) (λ owner. omega arith) (λ owner apart. get-empty nat_cmp owner));
   elsewhere = λ n apart. put_at_other w.places node (put_at (λ owner. 0) node (length (w.histories node) + 1)) n apart;
 }
 

@@ -1,7 +1,7 @@
 -- What a history keeps that goes on.
 use Rattle.std.proofs.Common.{◌≡◌, ℕ, ◌+◌, ◌<◌, ◌≤◌, inl, inr, List, [], ◌∷◌, ◌++◌, length, refl, sym, ◌∙◌, ap, subst, arith, Option, Some, None}
 use Rattle.cg_entry.specs.Values.{EntryValue}
-use Rattle.cg_entry.specs.Entry.{started}
+use Rattle.cg_entry.specs.Entry.{starting_entry}
 use Rattle.cg_entry.specs.History.{Follows, Starts, IsHistory, generation_at, generation_of}
 use Rattle.cg_entry.specs.Place.{Span, IsSpan}
 use Rattle.cg_entry.proofs.HistoryLaws.{histories_grow}
@@ -47,12 +47,12 @@ empty_of : (h : List EntryValue) → length h ≡ 0 → h ≡ []
 empty_of [] e = refl
 empty_of (x ∷ h) e = absurd (omega (arith, e))
 
-pub history_starts : (h : List EntryValue) (g : ℕ) → IsHistory h → generation_at h (length h) < g → IsHistory (h ++ started g ∷ [])
+pub history_starts : (h : List EntryValue) (g : ℕ) → IsHistory h → generation_at h (length h) < g → IsHistory (h ++ starting_entry g ∷ [])
 history_starts h g is rises = go (last_entry h) refl
   where
-    go : (o : Option EntryValue) → last_entry h ≡ o → IsHistory (h ++ started g ∷ [])
-    go None e = subst (λ h. IsHistory (h ++ started g ∷ [])) (sym (empty_of h (at_place_none h (length h) (omega arith) e))) (histories_grow.first g)
-    go (Some x) e = history_follows h x (started g) is e (Starts g (omega (arith, rises, ap generation_of e)) refl)
+    go : (o : Option EntryValue) → last_entry h ≡ o → IsHistory (h ++ starting_entry g ∷ [])
+    go None e = subst (λ h. IsHistory (h ++ starting_entry g ∷ [])) (sym (empty_of h (at_place_none h (length h) (omega arith) e))) (histories_grow.first g)
+    go (Some x) e = history_follows h x (starting_entry g) is e (Starts g (omega (arith, rises, ap generation_of e)) refl)
 
 -- ---- messages of a history that goes on
 

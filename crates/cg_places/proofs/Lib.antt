@@ -1,4 +1,6 @@
 pub mod PutLemmas
+pub mod KeptLemmas
+pub mod Stages
 pub mod GrowthLemmas
 pub mod StepLemmas
 pub mod WorldLemmas

@@ -1,31 +1,21 @@
 -- Where no action was refused, owners and versions keep their limits.
 use Rattle.std.proofs.Common.{◌≡◌, ℕ, suc, zero, ◌+◌, ◌<◌, ◌≤◌, List, [], ◌∷◌, ◌++◌, length, refl, sym, ◌∙◌, ap, subst, arith, Bool, true, false, Option, Some, None, inl, inr}
 use Rattle.std.specs.Prelude.{cond, nat_lt, Result, Ok, Err}
-use Rattle.std.specs.Ordering.{nat_cmp}
-use Rattle.std.specs.FinMap.{get-empty}
 use Rattle.std.proofs.lemmas.Bool.Decides.{nat_tests}
 use Rattle.cg_types.specs.declared.fault.Fault.{Fault}
 use Rattle.cg_types.specs.declared.fault.Fault.TheVariants.{TableFull, NotRising, VersionsSpent}
 use Rattle.cg_types.specs.declared.limits.TheConstants.{MEMBER_LIMIT, NUMBER_LIMIT}
-use Rattle.cg_entry.specs.Versioned.{Versioned}
 use Rattle.cg_entry.specs.Values.{EntryValue}
-use Rattle.cg_entry.specs.Entry.{started, beaten, with_state, newest}
+use Rattle.cg_entry.specs.Entry.{starting_entry, entry_after_beat, with_state, newest}
 use Rattle.cg_entry.specs.History.{at_place}
 use Rattle.cg_entry.specs.Place.{Span}
-use Rattle.cg_entry.proofs.VersionLemmas.{Stands, greatest_stands}
-use Rattle.cg_entry.proofs.HistoryLemmas.{newest_beaten, newest_given}
-use Rattle.cg_exchange.specs.PlaceMessages.{PlaceMessage, Syn, Ack, Ack2}
-use Rattle.cg_places.specs.PlaceWorld.{PlaceWorld, PlaceAction, Start, Beat, Set, Opening, Tick, Deliver, grown, nobody, runs, with_start, with_entry, with_message, with_spans, may_start, last_entry, changed, opened, received, delivered, after_action, after_actions, world_after}
+use Rattle.cg_entry.proofs.HistoryLemmas.{newest_started, newest_beaten, newest_given}
+use Rattle.cg_exchange.specs.PlaceMessages.{PlaceMessage}
+use Rattle.cg_places.specs.PlaceWorld.{PlaceWorld, PlaceAction, Start, Beat, Set, Opening, Tick, Deliver, grown, nobody, runs, with_start, with_entry, with_message, with_spans, may_start, last_entry, after_action, after_actions, world_after}
 use Rattle.cg_places.specs.Refusals.{fault_of, change_refusal, start_refusal, refusal, AreDone}
 use Rattle.cg_places.specs.Laws.{IsWithinLimits}
+use Rattle.cg_places.proofs.KeptLemmas.{IsKept, AfterChange, OwnPart, action_kept}
 use Rattle.cg_places.proofs.PutLemmas.{put_at-each, at_place_push}
-
-newest_started : (g : ℕ) → newest (started g) ≡ 1
-newest_started g = go (greatest_stands (started g).heartbeat (started g).states)
-  where
-    go : Stands (started g).heartbeat (started g).states → newest (started g) ≡ 1
-    go (inl e) = e
-    go (inr e) = absurd (let none = get-empty {X = Versioned} nat_cmp e.0 in let some = e.2 in cc)
 
 -- each version of a history is below the limit
 abbrev AllBelow : List EntryValue → Type 0
@@ -61,7 +51,7 @@ start_limited : (w : PlaceWorld) (node generation : ℕ) → IsWithinLimits w �
 unfolding with_start
 start_limited w node generation l free may = record {
   owners = go (runs w node) (sym (ap (λ b. cond b (cond (runs w node) None (cond (nat_lt (length w.owners) MEMBER_LIMIT) None (Some TableFull))) (Some NotRising)) may) ∙ free);
-  versions = grown_below w.histories node (started generation) l.versions (omega (arith, newest_started generation));
+  versions = grown_below w.histories node (starting_entry generation) l.versions (omega (arith, newest_started generation));
 }
   where
     room : (b : Bool) → nat_lt (length w.owners) MEMBER_LIMIT ≡ b → cond b None (Some TableFull) ≡ None → length w.owners + 1 ≤ MEMBER_LIMIT
@@ -80,43 +70,23 @@ next_below x free = go (nat_lt (newest x + 1) NUMBER_LIMIT) refl free
     go true e f = grind (arith, nat_tests)
     go false e f = absurd cc
 
-changed_limited : (w : PlaceWorld) (node : ℕ) (change : EntryValue → EntryValue) → ((x : EntryValue) → newest (change x) ≡ newest x + 1) → (o : Option EntryValue) → change_refusal o ≡ None
-    → IsWithinLimits w → IsWithinLimits (changed w node change o)
-changed_limited w node change one None free l = l
-changed_limited w node change one (Some x) free l = entry_limited w node (change x) (omega (arith, one x, next_below x free)) l
+change_limited : (w : PlaceWorld) (node : ℕ) (change : EntryValue → EntryValue) → ((x : EntryValue) → newest (change x) ≡ newest x + 1) → change_refusal (last_entry (w.histories node)) ≡ None
+    → IsWithinLimits w → AfterChange IsWithinLimits w node change
+change_limited w node change one free l x e = entry_limited w node (change x) (omega (arith, one x, next_below x (ap change_refusal (sym e) ∙ free))) l
 
-opened_limited : (w : PlaceWorld) (node : ℕ) → IsWithinLimits w → IsWithinLimits (opened w node)
-opened_limited w node l = go (runs w node)
-  where
-    go : (b : Bool) → IsWithinLimits (cond b (with_message w (Syn (w.places node))) w)
-    go true = message_limited w (Syn (w.places node)) l
-    go false = l
+limits_kept : IsKept IsWithinLimits
+limits_kept = record { message = message_limited; spans = spans_limited }
 
-received_limited : (w : PlaceWorld) (node : ℕ) (message : PlaceMessage) → IsWithinLimits w → IsWithinLimits (received w node message)
-received_limited w node (Syn theirs) l = message_limited w _ l
-received_limited w node (Ack asks spans) l = message_limited (with_spans w node spans) _ (spans_limited w node spans l)
-received_limited w node (Ack2 spans) l = spans_limited w node spans l
-
-delivered_limited : (w : PlaceWorld) (node : ℕ) (o : Option PlaceMessage) → IsWithinLimits w → IsWithinLimits (delivered w node o)
-delivered_limited w node None l = l
-delivered_limited w node (Some message) l = go (runs w node)
-  where
-    go : (b : Bool) → IsWithinLimits (cond b (received w node message) w)
-    go true = received_limited w node message l
-    go false = l
+own_limited : (w : PlaceWorld) (action : PlaceAction) → refusal w action ≡ None → IsWithinLimits w → OwnPart IsWithinLimits w action
+own_limited w (Start node generation) free l = λ may. start_limited w node generation l free may
+own_limited w (Beat node) free l = change_limited w node entry_after_beat newest_beaten free l
+own_limited w (Set node key text) free l = change_limited w node (with_state key text) (newest_given key text) free l
+own_limited w (Opening node) free l = tt
+own_limited w (Tick node) free l = change_limited w node entry_after_beat newest_beaten free l
+own_limited w (Deliver number to) free l = tt
 
 pub action_limited : (w : PlaceWorld) (action : PlaceAction) → refusal w action ≡ None → IsWithinLimits w → IsWithinLimits (after_action w action)
-unfolding after_action
-action_limited w (Start node generation) free l = go (may_start w node generation) refl
-  where
-    go : (b : Bool) → may_start w node generation ≡ b → IsWithinLimits (cond b (with_start w node generation) w)
-    go true e = start_limited w node generation l free e
-    go false e = l
-action_limited w (Beat node) free l = changed_limited w node beaten newest_beaten (last_entry (w.histories node)) free l
-action_limited w (Set node key text) free l = changed_limited w node (with_state key text) (newest_given key text) (last_entry (w.histories node)) free l
-action_limited w (Opening node) free l = opened_limited w node l
-action_limited w (Tick node) free l = opened_limited (changed w node beaten (last_entry (w.histories node))) node (changed_limited w node beaten newest_beaten (last_entry (w.histories node)) free l)
-action_limited w (Deliver number to) free l = delivered_limited w to (at_place w.sent number) l
+action_limited w action free l = action_kept IsWithinLimits limits_kept w action l (own_limited w action free l)
 
 actions_from_limited : (w : PlaceWorld) (actions : List PlaceAction) → AreDone w actions → IsWithinLimits w → IsWithinLimits (after_actions w actions)
 actions_from_limited w [] done l = l

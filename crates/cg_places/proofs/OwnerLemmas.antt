@@ -11,14 +11,14 @@ use Rattle.std.proofs.lemmas.Bool.Decides.{nat_tests}
 use Rattle.cg_types.specs.Rising.{rise_past}
 use Rattle.cg_types.proofs.RisingLemmas.{keys_of, first_of, second_of, rise_earlier, rise_sorted}
 use Rattle.cg_entry.specs.Values.{EntryValue}
-use Rattle.cg_entry.specs.Entry.{started, beaten, with_state}
-use Rattle.cg_entry.specs.History.{at_place}
+use Rattle.cg_entry.specs.Entry.{starting_entry}
 use Rattle.cg_entry.specs.Place.{Span}
 use Rattle.cg_entry.proofs.PlaceLemmas.{at_place_within}
 use Rattle.cg_table.specs.Values.{Entries}
 use Rattle.cg_table.specs.Spelling.{SpellsPlaces}
-use Rattle.cg_exchange.specs.PlaceMessages.{PlaceMessage, Syn, Ack, Ack2}
-use Rattle.cg_places.specs.PlaceWorld.{PlaceWorld, PlaceAction, Start, Beat, Set, Opening, Tick, Deliver, grown, nobody, runs, with_start, with_entry, with_message, with_spans, may_start, last_entry, changed, opened, received, delivered, after_action, after_actions, world_after}
+use Rattle.cg_exchange.specs.PlaceMessages.{PlaceMessage}
+use Rattle.cg_places.specs.PlaceWorld.{PlaceWorld, PlaceAction, grown, nobody, runs, with_start, with_entry, with_message, with_spans, last_entry, after_action, after_actions, world_after}
+use Rattle.cg_places.proofs.KeptLemmas.{IsKept, IsAfterOwn, own_part, action_kept}
 use Rattle.cg_places.proofs.PutLemmas.{put_at-each, test_same, test_other, same_number, length_push}
 
 -- ---- keys that rise
@@ -108,7 +108,7 @@ entry_knows w node entry running k = record {
 start_knows : (w : PlaceWorld) (node generation : ℕ) → KnowsOwners w → KnowsOwners (with_start w node generation)
 unfolding with_start
 start_knows w node generation k = record {
-  known = λ owner. known (runs w node) refl owner ∙ sym (grown_runs w node (started generation) owner);
+  known = λ owner. known (runs w node) refl owner ∙ sym (grown_runs w node (starting_entry generation) owner);
   once = once (runs w node) refl;
 }
   where
@@ -126,42 +126,17 @@ start_knows w node generation k = record {
 pub last_entry_runs : (w : PlaceWorld) (node : ℕ) (x : EntryValue) → last_entry (w.histories node) ≡ Some x → runs w node ≡ true
 last_entry_runs w node x e = let l = (at_place_within (w.histories node) (length (w.histories node)) x e).0 in grind (arith, nat_tests, l)
 
-changed_knows : (w : PlaceWorld) (node : ℕ) (change : EntryValue → EntryValue) → KnowsOwners w → (o : Option EntryValue) → last_entry (w.histories node) ≡ o → KnowsOwners (changed w node change o)
-changed_knows w node change k None e = k
-changed_knows w node change k (Some x) e = entry_knows w node (change x) (last_entry_runs w node x e) k
-
-opened_knows : (w : PlaceWorld) (node : ℕ) → KnowsOwners w → KnowsOwners (opened w node)
-opened_knows w node k = go (runs w node)
-  where
-    go : (b : Bool) → KnowsOwners (cond b (with_message w (Syn (w.places node))) w)
-    go true = message_knows w (Syn (w.places node)) k
-    go false = k
-
-received_knows : (w : PlaceWorld) (node : ℕ) (message : PlaceMessage) → KnowsOwners w → KnowsOwners (received w node message)
-received_knows w node (Syn theirs) k = message_knows w _ k
-received_knows w node (Ack asks spans) k = message_knows (with_spans w node spans) _ (spans_know w node spans k)
-received_knows w node (Ack2 spans) k = spans_know w node spans k
-
-delivered_knows : (w : PlaceWorld) (node : ℕ) (o : Option PlaceMessage) → KnowsOwners w → KnowsOwners (delivered w node o)
-delivered_knows w node None k = k
-delivered_knows w node (Some message) k = go (runs w node)
-  where
-    go : (b : Bool) → KnowsOwners (cond b (received w node message) w)
-    go true = received_knows w node message k
-    go false = k
+owners_kept : IsKept KnowsOwners
+owners_kept = record { message = message_knows; spans = spans_know }
 
 pub action_knows : (w : PlaceWorld) (action : PlaceAction) → KnowsOwners w → KnowsOwners (after_action w action)
-unfolding after_action
-action_knows w (Start node generation) k = go (may_start w node generation)
+action_knows w action k = action_kept KnowsOwners owners_kept w action k (own_part KnowsOwners w own action)
   where
-    go : (b : Bool) → KnowsOwners (cond b (with_start w node generation) w)
-    go true = start_knows w node generation k
-    go false = k
-action_knows w (Beat node) k = changed_knows w node beaten k _ refl
-action_knows w (Set node key text) k = changed_knows w node (with_state key text) k _ refl
-action_knows w (Opening node) k = opened_knows w node k
-action_knows w (Tick node) k = opened_knows _ node (changed_knows w node beaten k _ refl)
-action_knows w (Deliver number to) k = delivered_knows w to (at_place w.sent number) k
+    own : IsAfterOwn KnowsOwners w
+    own = record {
+      start = λ node generation may. start_knows w node generation k;
+      entry = λ node x y e. entry_knows w node y (last_entry_runs w node x e) k;
+    }
 
 pub actions_from_knows : (w : PlaceWorld) (actions : List PlaceAction) → KnowsOwners w → KnowsOwners (after_actions w actions)
 actions_from_knows w [] k = k

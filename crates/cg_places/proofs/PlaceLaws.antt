@@ -1,13 +1,12 @@
 -- The laws of places.
-use Rattle.std.proofs.Common.{◌≡◌, ℕ, zero, suc, ◌<◌, ◌≤◌, ◌⊎◌, inl, inr, List, [], ◌∷◌, length, get_or, refl, sym, ◌∙◌, subst, arith, true, max}
+use Rattle.std.proofs.Common.{◌≡◌, ℕ, zero, suc, ◌<◌, ◌≤◌, ◌⊎◌, inl, inr, List, [], ◌∷◌, length, get_or, refl, sym, ◌∙◌, subst, arith, max}
 use Rattle.std.specs.List.{Contains}
 use Rattle.std.specs.Cmp.{nat_eq_equiv}
-use Rattle.std.specs.Prelude.{nat_eq}
 use Rattle.std.proofs.lemmas.Map.Views.{Contains-from_any, list_any-from_Contains}
-use Rattle.std.proofs.lemmas.Bool.Decides.{nat_tests}
 use Rattle.cg_places.specs.PlaceWorld.{PlaceWorld, world_after}
 use Rattle.cg_places.specs.Join.{furthest, sources, SamePlaces}
 use Rattle.cg_places.specs.Laws.{IsWorld, ActionsMakeWorlds, PlacesAreJoins, EqualSourcesEqualPlaces, HistoriesContinue, JoinsAreLeast, ExchangesReachTheJoin, UndisturbedExchangesEqual, PlaceExchangesAreLists, ExchangesAreDone, DoneActionsKeepLimits}
+use Rattle.cg_places.proofs.PutLemmas.{same_number}
 use Rattle.cg_places.proofs.WorldLemmas.{IsSound, actions_sound, places_join}
 use Rattle.cg_places.proofs.OnwardLemmas.{actions_from_keeps}
 use Rattle.cg_places.proofs.OwnerLemmas.{KnowsOwners, actions_knows}
@@ -17,16 +16,13 @@ use Rattle.cg_places.proofs.ListLemmas.{after_actions_both, listed, done_neither
 use Rattle.cg_places.proofs.LimitLemmas.{actions_limited}
 use Rattle.cg_places.proofs.GrowthLemmas.{AllContinue}
 
-same_from_test : (x y : ℕ) → nat_eq x y ≡ true → x ≡ y
-same_from_test x y e = grind (arith, nat_tests)
-
 pub world_is : (w : PlaceWorld) → IsSound w → KnowsOwners w → IsWorld w
 world_is w s k = record {
   histories = s.histories;
   places = s.stands;
   own = s.own;
   messages = s.messages;
-  owners = λ owner. (λ c. sym (k.known owner) ∙ list_any-from_Contains nat_eq_equiv owner w.owners c, λ e. Contains-from_any same_from_test owner w.owners (k.known owner ∙ e));
+  owners = λ owner. (λ c. sym (k.known owner) ∙ list_any-from_Contains nat_eq_equiv owner w.owners c, λ e. Contains-from_any same_number owner w.owners (k.known owner ∙ e));
   once = k.once;
 }
 

@@ -10,7 +10,7 @@ use Rattle.std.proofs.lemmas.Bool.Decides.{nat_tests}
 use Rattle.cg_types.specs.Rising.{is_past, rise_past, Rises}
 use Rattle.cg_types.proofs.RisingLemmas.{first_of, second_of, rise_earlier, rise_sorted}
 use Rattle.cg_entry.specs.Values.{EntryValue}
-use Rattle.cg_entry.specs.Entry.{started}
+use Rattle.cg_entry.specs.Entry.{starting_entry}
 use Rattle.cg_entry.specs.Place.{Span, IsSpan}
 use Rattle.cg_entry.specs.Spelling.{delta_of}
 use Rattle.cg_table.specs.Values.{TableValue, Entries}
@@ -84,17 +84,17 @@ module _ {X : Type 0} (key : X → ℕ) (counts : X → Bool) where
   newcomers_fit owners m last [] held known h = omega (arith, few_keys m owners held)
   newcomers_fit owners m last (x ∷ xs) held known h = go (counts x && not (table.contains_key m (key x))) refl
       (newcomers_fit owners m (Some (key x)) xs held (known_rest owners (key x) (map key xs) known) rest)
-      (newcomers_fit owners (table.insert m (key x) (started 0)) (Some (key x)) xs (held_with owners m (key x) (started 0) (known_first owners (key x) (map key xs) known) held) (known_rest owners (key x) (map key xs) known) rest)
+      (newcomers_fit owners (table.insert m (key x) (starting_entry 0)) (Some (key x)) xs (held_with owners m (key x) (starting_entry 0) (known_first owners (key x) (map key xs) known) held) (known_rest owners (key x) (map key xs) known) rest)
     where
       rest : rise_past (Some (key x)) (map key xs) ≡ true
       rest = second_of (is_past last (key x)) (rise_past (Some (key x)) (map key xs)) h
 
-      one_more : (counts x && not (table.contains_key m (key x))) ≡ true → table.len (table.insert m (key x) (started 0)) ≡ table.len m + 1
-      one_more new = len-insert nat_cmp_total m (key x) (started 0) ∙ ap (λ b. cond b (table.len m) (table.len m + 1)) (new_by (counts x) (table.contains_key m (key x)) new)
+      one_more : (counts x && not (table.contains_key m (key x))) ≡ true → table.len (table.insert m (key x) (starting_entry 0)) ≡ table.len m + 1
+      one_more new = len-insert nat_cmp_total m (key x) (starting_entry 0) ∙ ap (λ b. cond b (table.len m) (table.len m + 1)) (new_by (counts x) (table.contains_key m (key x)) new)
 
       go : (b : Bool) → (counts x && not (table.contains_key m (key x))) ≡ b → table.len m + newcomers m xs ≤ length owners
-          → table.len (table.insert m (key x) (started 0)) + newcomers (table.insert m (key x) (started 0)) xs ≤ length owners → table.len m + newcomers m (x ∷ xs) ≤ length owners
-      go true e less more = omega (arith, newcomers-cons m x xs, ap (λ (b : Bool). cond {A = ℕ} b 1 0) e, one_more e, newcomers_past m (key x) (started 0) xs rest, more)
+          → table.len (table.insert m (key x) (starting_entry 0)) + newcomers (table.insert m (key x) (starting_entry 0)) xs ≤ length owners → table.len m + newcomers m (x ∷ xs) ≤ length owners
+      go true e less more = omega (arith, newcomers-cons m x xs, ap (λ (b : Bool). cond {A = ℕ} b 1 0) e, one_more e, newcomers_past m (key x) (starting_entry 0) xs rest, more)
       go false e less more = omega (arith, newcomers-cons m x xs, ap (λ (b : Bool). cond {A = ℕ} b 1 0) e, less)
 
   -- a member is found by its owner

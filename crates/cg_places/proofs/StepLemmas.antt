@@ -1,7 +1,7 @@
 -- What spans do to a place, and to what was taken.
 use Rattle.std.proofs.Common.{◌≡◌, ℕ, ◌<◌, ◌≤◌, ◌⊎◌, inl, inr, List, [], ◌∷◌, ◌++◌, refl, arith, Bool, true, false, Option, Some, None, max}
 use Rattle.std.proofs.lemmas.Bool.Decides.{nat_tests}
-use Rattle.cg_entry.specs.Place.{Span, Taken, Old, Gap, taking}
+use Rattle.cg_entry.specs.Place.{Span, Taken, Old, Gap, span_outcome}
 use Rattle.cg_exchange.specs.Places.{place_with}
 use Rattle.cg_places.specs.PlaceWorld.{taken_with}
 use Rattle.cg_places.specs.Join.{furthest, targets}
@@ -9,7 +9,7 @@ use Rattle.cg_places.specs.Join.{furthest, targets}
 -- which outcome comes when
 abbrev Outcomes : ℕ → Span → Type 0
 Outcomes place span =
-    ((taking place span ≡ Old) × (span.to ≤ place)) ⊎ ((taking place span ≡ Taken) × (span.from ≤ place) × (place < span.to)) ⊎ ((taking place span ≡ Gap) × (place < span.from) × (place < span.to))
+    ((span_outcome place span ≡ Old) × (span.to ≤ place)) ⊎ ((span_outcome place span ≡ Taken) × (span.from ≤ place) × (place < span.to)) ⊎ ((span_outcome place span ≡ Gap) × (place < span.from) × (place < span.to))
 
 outcomes : (place : ℕ) (span : Span) → Outcomes place span
 outcomes place span = grind (arith, nat_tests)

@@ -4,7 +4,7 @@ use Rattle.std.specs.Cmp.{nat_cmp_total}
 use Rattle.std.specs.FinMap.{same_map, nat_cmp-IsAntisymmetric}
 use Rattle.cg_entry.specs.History.{at_place}
 use Rattle.cg_table.specs.Values.{Entries}
-use Rattle.cg_table.specs.Merge.{merged}
+use Rattle.cg_table.specs.Merge.{merge_of}
 use Rattle.cg_table.specs.Spelling.{SpellsPlaces}
 use Rattle.cg_table.proofs.DigestLemmas.{equal_digests_equal_entries}
 use Rattle.cg_table.proofs.MergeLemmas.{merge_is_the_join}
@@ -43,7 +43,7 @@ equal_digests_equal_tables actions a b one other sa sb same =
 
 -- two merged tables spell the join of their places
 pub two_joined : (actions : List PlaceAction) (a b : ℕ) (one two : Entries) → SpellsNode (world_after actions) a one → SpellsNode (world_after actions) b two
-    → SpellsPlaces (world_after actions).histories (merged one two) (join ((world_after actions).places a) ((world_after actions).places b))
+    → SpellsPlaces (world_after actions).histories (merge_of one two) (join ((world_after actions).places a) ((world_after actions).places b))
 two_joined actions a b one two sa sb =
     let w : PlaceWorld = world_after actions in
     let sound = actions_sound actions in
@@ -53,9 +53,9 @@ pub merges_are_joined : MergesAreJoined
 merges_are_joined actions a b c one two three sa sb sc =
     let w : PlaceWorld = world_after actions in
     let sound = actions_sound actions in
-    let all : SpellsPlaces w.histories (merged (merged one two) three) (join (join (w.places a) (w.places b)) (w.places c)) =
-    merge_is_the_join w.histories sound.histories (merged one two) three (join (w.places a) (w.places b)) (w.places c) (two_joined actions a b one two sa sb) sc in
-    record { joined = all; small = spelled_small w (merged (merged one two) three) (join (join (w.places a) (w.places b)) (w.places c)) (actions_knows actions) all }
+    let all : SpellsPlaces w.histories (merge_of (merge_of one two) three) (join (join (w.places a) (w.places b)) (w.places c)) =
+    merge_is_the_join w.histories sound.histories (merge_of one two) three (join (w.places a) (w.places b)) (w.places c) (two_joined actions a b one two sa sb) sc in
+    record { joined = all; small = spelled_small w (merge_of (merge_of one two) three) (join (join (w.places a) (w.places b)) (w.places c)) (actions_knows actions) all }
 
 pub tables_find_room : TablesFindRoom
 tables_find_room actions = record { deliveries = room_for_deltas (world_after actions) (actions_knows actions); merges = room_for_merge (world_after actions) (actions_knows actions) }

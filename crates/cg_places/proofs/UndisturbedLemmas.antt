@@ -6,7 +6,7 @@ use Rattle.cg_entry.specs.Place.{Span}
 use Rattle.cg_exchange.specs.Places.{Ask}
 use Rattle.cg_exchange.specs.PlaceMessages.{PlaceMessage, Syn, Ack, Ack2}
 use Rattle.cg_places.specs.PlaceWorld.{PlaceWorld, Opening, Deliver, runs, with_message, with_spans, after_action}
-use Rattle.cg_places.specs.Exchange.{PlaceExchange, undisturbed, after_opening, after_syn, after_ack, exchanged, NoStartsOfEither}
+use Rattle.cg_places.specs.Exchange.{PlaceExchange, prompt_place_exchange, by_places, after_opening, after_syn, after_ack, after_exchange, NoStartsOfEither}
 use Rattle.cg_places.specs.Laws.{BothRun, EndsAtTheJoin}
 use Rattle.cg_places.proofs.PutLemmas.{put_at-each}
 use Rattle.cg_places.proofs.StepLemmas.{place_with_below}
@@ -44,49 +44,49 @@ end_below w number node spans e there owner bound to m l k = rw (receives w numb
 
 -- ---- the exchange
 
-module _ (w : PlaceWorld) (opener answerer : ℕ) (s : IsSound w) (both : BothRun w (undisturbed opener answerer)) where
+module _ (w : PlaceWorld) (opener answerer : ℕ) (s : IsSound w) (both : BothRun w (prompt_place_exchange opener answerer)) where
   abbrev x : PlaceExchange
-  x = undisturbed opener answerer
+  x = prompt_place_exchange opener answerer
 
-  neither : NoStartsOfEither (undisturbed opener answerer)
+  neither : NoStartsOfEither (prompt_place_exchange opener answerer)
   neither = record { opener = (tt, tt, tt); answerer = (tt, tt, tt) }
 
-  after_opening_places : (after_opening w x).places ≡ w.places
+  after_opening_places : (after_opening by_places w x).places ≡ w.places
   after_opening_places = opening_places w opener both.opener
 
-  after_syn_places : (after_syn w x).places ≡ w.places
-  after_syn_places = reply_places (after_opening w x) (length (after_opening w x).sent) answerer (w.places opener) (answerer_runs w x s both neither) (syn_stands w x s both neither) ∙ after_opening_places
+  after_syn_places : (after_syn by_places w x).places ≡ w.places
+  after_syn_places = reply_places (after_opening by_places w x) (length (after_opening by_places w x).sent) answerer (w.places opener) (answerer_runs w x s both neither) (syn_stands w x s both neither) ∙ after_opening_places
 
   module _ (owner : ℕ) where
     abbrev top : ℕ
     top = max (w.places answerer owner) (w.places opener owner)
 
-    at_after_opening : (m : ℕ) → (after_opening w x).places m owner ≡ w.places m owner
+    at_after_opening : (m : ℕ) → (after_opening by_places w x).places m owner ≡ w.places m owner
     at_after_opening m = ap (λ (rows : ℕ → ℕ → ℕ). rows m owner) after_opening_places
 
-    at_after_syn : (m : ℕ) → (after_syn w x).places m owner ≡ w.places m owner
+    at_after_syn : (m : ℕ) → (after_syn by_places w x).places m owner ≡ w.places m owner
     at_after_syn m = ap (λ (rows : ℕ → ℕ → ℕ). rows m owner) after_syn_places
 
     abbrev spans : ℕ → Option Span
-    spans = spans_of (after_opening w x) answerer (w.places opener)
+    spans = spans_of (after_opening by_places w x) answerer (w.places opener)
 
     abbrev asks : ℕ → Option Ask
-    asks = asks_of (after_opening w x) answerer (w.places opener)
+    asks = asks_of (after_opening by_places w x) answerer (w.places opener)
 
     sent_below : (span : Span) → spans owner ≡ Some span → span.to ≤ top
-    sent_below span e = omega (arith, span_for_to ((after_opening w x).histories owner) ((after_opening w x).places answerer owner) (w.places opener owner) span e, at_after_opening answerer)
+    sent_below span e = omega (arith, span_for_to ((after_opening by_places w x).histories owner) ((after_opening by_places w x).places answerer owner) (w.places opener owner) span e, at_after_opening answerer)
 
-    after_ack_below : (m : ℕ) → w.places m owner ≤ top → (after_ack w x).places m owner ≤ top
-    after_ack_below m l = close_below (after_syn w x) (length (after_syn w x).sent) opener asks spans (opener_runs w x s both neither) (ack_stands w x s both neither) owner top sent_below m (omega (arith, at_after_syn m, l)) (omega (arith, at_after_syn opener))
+    after_ack_below : (m : ℕ) → w.places m owner ≤ top → (after_ack by_places w x).places m owner ≤ top
+    after_ack_below m l = close_below (after_syn by_places w x) (length (after_syn by_places w x).sent) opener asks spans (opener_runs w x s both neither) (ack_stands w x s both neither) owner top sent_below m (omega (arith, at_after_syn m, l)) (omega (arith, at_after_syn opener))
 
-    reached_below : (with_spans (after_syn w x) opener spans).places opener owner ≤ top
-    reached_below = spans_below (after_syn w x) opener spans owner top sent_below opener (omega (arith, at_after_syn opener)) (omega (arith, at_after_syn opener))
+    reached_below : (with_spans (after_syn by_places w x) opener spans).places opener owner ≤ top
+    reached_below = spans_below (after_syn by_places w x) opener spans owner top sent_below opener (omega (arith, at_after_syn opener)) (omega (arith, at_after_syn opener))
 
-    back_below : (span : Span) → spans_back (after_syn w x) opener asks spans owner ≡ Some span → span.to ≤ top
-    back_below span e = omega (arith, grants_to ((after_syn w x).histories owner) ((with_spans (after_syn w x) opener spans).places opener owner) (asks owner) span e, reached_below)
+    back_below : (span : Span) → spans_back (after_syn by_places w x) opener asks spans owner ≡ Some span → span.to ≤ top
+    back_below span e = omega (arith, grants_to ((after_syn by_places w x).histories owner) ((with_spans (after_syn by_places w x) opener spans).places opener owner) (asks owner) span e, reached_below)
 
-    undisturbed_below : (m : ℕ) → w.places m owner ≤ top → (exchanged w x).places m owner ≤ top
-    undisturbed_below m l = end_below (after_ack w x) (length (after_ack w x).sent) answerer (spans_back (after_syn w x) opener asks spans) (answerer_runs_on w x s both neither) (ack2_stands w x s both neither) owner top back_below m (after_ack_below m l) (after_ack_below answerer (omega arith))
+    undisturbed_below : (m : ℕ) → w.places m owner ≤ top → (after_exchange by_places w x).places m owner ≤ top
+    undisturbed_below m l = end_below (after_ack by_places w x) (length (after_ack by_places w x).sent) answerer (spans_back (after_syn by_places w x) opener asks spans) (answerer_runs_on w x s both neither) (ack2_stands w x s both neither) owner top back_below m (after_ack_below m l) (after_ack_below answerer (omega arith))
 
   pub undisturbed_ends : EndsAtTheJoin w opener answerer
   undisturbed_ends = record {

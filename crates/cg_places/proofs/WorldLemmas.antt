@@ -3,14 +3,14 @@ use Rattle.std.proofs.Common.{◌≡◌, ◌≢◌, ℕ, zero, suc, ◌+◌, ◌
 use Rattle.std.specs.Prelude.{◌==◌, cond, if◌then◌else◌}
 use Rattle.std.proofs.lemmas.Bool.Decides.{nat_tests}
 use Rattle.cg_entry.specs.Values.{EntryValue}
-use Rattle.cg_entry.specs.Entry.{started, beaten, with_state}
+use Rattle.cg_entry.specs.Entry.{starting_entry, entry_after_beat, with_state}
 use Rattle.cg_entry.specs.History.{IsHistory, Follows, Beats, Sets, at_place}
 use Rattle.cg_entry.specs.Place.{Span, IsSpan}
 use Rattle.cg_exchange.specs.Places.{Ask, span_asked}
 use Rattle.cg_exchange.specs.PlaceMessages.{PlaceMessage, Syn, Ack, Ack2, grants_at, IsPlaceMessage, AreAsks, AreSpans}
 use Rattle.cg_exchange.proofs.PlaceRules.{rules_stand}
 use Rattle.std.specs.Option.{option_and_then}
-use Rattle.cg_places.specs.PlaceWorld.{PlaceWorld, PlaceAction, Start, Beat, Set, Opening, Tick, Deliver, grown, nobody, runs, with_start, with_entry, with_message, with_spans, may_start, last_entry, changed, opened, answered, received, delivered, after_action, after_actions, world_after}
+use Rattle.cg_places.specs.PlaceWorld.{PlaceWorld, PlaceAction, Start, Beat, Set, Opening, Tick, Deliver, grown, nobody, runs, with_start, with_entry, with_message, with_spans, may_start, last_entry, after_change, after_opening, after_answer, after_receipt, after_delivery, after_action, after_actions, world_after}
 use Rattle.cg_places.specs.Join.{furthest, targets, sources}
 use Rattle.cg_places.proofs.PutLemmas.{put_at-each, put_at_here, put_at_other, at_place_push, test_same, test_other, same_number}
 use Rattle.cg_places.proofs.GrowthLemmas.{AllContinue, grown_continue, grown_length, history_follows, history_starts, message_stays}
@@ -115,7 +115,7 @@ module _ (w : PlaceWorld) (node : ℕ) (entry : EntryValue) (s : IsSound w) (is 
 
 -- ---- a start
 
-module _ (w : PlaceWorld) (node generation : ℕ) (s : IsSound w) (is : IsHistory (w.histories node ++ started generation ∷ [])) where
+module _ (w : PlaceWorld) (node generation : ℕ) (s : IsSound w) (is : IsHistory (w.histories node ++ starting_entry generation ∷ [])) where
   start_histories : (owner : ℕ) → IsHistory ((with_start w node generation).histories owner)
   unfolding with_start
   start_histories = put_at-each (λ owner h. IsHistory h) w.histories node _ is (λ owner apart. s.histories owner)
@@ -123,9 +123,9 @@ module _ (w : PlaceWorld) (node generation : ℕ) (s : IsSound w) (is : IsHistor
   start_stands : (m owner : ℕ) → (with_start w node generation).places m owner ≤ length ((with_start w node generation).histories owner)
   unfolding with_start
   start_stands =
-      let new : ℕ → List EntryValue = grown w.histories node (started generation) in
-      let c : AllContinue w.histories new = grown_continue w.histories node (started generation) in
-      let size : length (new node) ≡ length (w.histories node) + 1 = grown_length w.histories node (started generation) in
+      let new : ℕ → List EntryValue = grown w.histories node (starting_entry generation) in
+      let c : AllContinue w.histories new = grown_continue w.histories node (starting_entry generation) in
+      let size : length (new node) ≡ length (w.histories node) + 1 = grown_length w.histories node (starting_entry generation) in
       put_at-each (λ m row. (owner : ℕ) → row owner ≤ length (new owner)) w.places node _
       (put_at-each (λ owner p. p ≤ length (new owner)) (λ owner. 0) node _ (omega (arith, size)) (λ owner apart. omega arith))
       (λ m apart owner. omega (arith, s.stands m owner, (c owner).longer))
@@ -133,16 +133,16 @@ module _ (w : PlaceWorld) (node generation : ℕ) (s : IsSound w) (is : IsHistor
   start_own : (m : ℕ) → (with_start w node generation).places m m ≡ length ((with_start w node generation).histories m)
   unfolding with_start
   start_own =
-      let new : ℕ → List EntryValue = grown w.histories node (started generation) in
+      let new : ℕ → List EntryValue = grown w.histories node (starting_entry generation) in
       put_at-each (λ m row. row m ≡ length (new m)) w.places node _
-      (put_at_here (λ owner. 0) node _ ∙ sym (grown_length w.histories node (started generation)))
+      (put_at_here (λ owner. 0) node _ ∙ sym (grown_length w.histories node (starting_entry generation)))
       (λ m apart. s.own m ∙ ap length (sym (put_at_other w.histories node _ m apart)))
 
   start_joined : (m owner : ℕ) → (with_start w node generation).places m owner ≡ max (own_place (with_start w node generation) m owner) (furthest (targets ((with_start w node generation).taken m owner)))
   unfolding with_start
   start_joined =
       let v : PlaceWorld = with_start w node generation in
-      let size : length (v.histories node) ≡ length (w.histories node) + 1 = grown_length w.histories node (started generation) in
+      let size : length (v.histories node) ≡ length (w.histories node) + 1 = grown_length w.histories node (starting_entry generation) in
       put_at-each (λ m row. (owner : ℕ) → row owner ≡ max (own_place v m owner) (furthest (targets (v.taken m owner)))) w.places node _
       (put_at-each (λ owner p. p ≡ max (own_place v node owner) (furthest (targets (v.taken node owner)))) (λ owner. 0) node _
       (rw (put_at_here w.taken node (λ owner. [])) (omega (arith, own_place_here v node, size)))
@@ -158,7 +158,7 @@ module _ (w : PlaceWorld) (node generation : ℕ) (s : IsSound w) (is : IsHistor
     stands = start_stands;
     own = start_own;
     joined = start_joined;
-    messages = λ k m e. message_stays w.histories _ (grown_continue w.histories node (started generation)) m (s.messages k m e);
+    messages = λ k m e. message_stays w.histories _ (grown_continue w.histories node (starting_entry generation)) m (s.messages k m e);
   }
 
 -- ---- spans that are taken
@@ -202,11 +202,11 @@ module _ (w : PlaceWorld) (node : ℕ) (spans : ℕ → Option Span) (s : IsSoun
 
 -- ---- an action
 
-pub changed_sound : (w : PlaceWorld) (node : ℕ) (change : EntryValue → EntryValue) → ((x : EntryValue) → Follows x (change x)) → IsSound w → (o : Option EntryValue) → last_entry (w.histories node) ≡ o → IsSound (changed w node change o)
+pub changed_sound : (w : PlaceWorld) (node : ℕ) (change : EntryValue → EntryValue) → ((x : EntryValue) → Follows x (change x)) → IsSound w → (o : Option EntryValue) → last_entry (w.histories node) ≡ o → IsSound (after_change w node change o)
 changed_sound w node change follows s None e = s
 changed_sound w node change follows s (Some x) e = entry_sound w node (change x) s (history_follows (w.histories node) x (change x) (s.histories node) e (follows x))
 
-opened_sound : (w : PlaceWorld) (node : ℕ) → IsSound w → IsSound (opened w node)
+opened_sound : (w : PlaceWorld) (node : ℕ) → IsSound w → IsSound (after_opening w node)
 opened_sound w node s = go (runs w node)
   where
     go : (b : Bool) → IsSound (cond b (with_message w (Syn (w.places node))) w)
@@ -221,14 +221,14 @@ granted_are w node asks s are owner = go (asks owner) refl
     go None is span e = cc
     go (Some ask) is span e = (rules_stand (w.histories owner) (w.places node owner) (s.stands node owner)).granted ask (are owner ask is) span e
 
-answered_sound : (w : PlaceWorld) (node : ℕ) (asks : ℕ → Option Ask) → IsSound w → AreAsks w.histories asks → IsSound (answered w node asks)
+answered_sound : (w : PlaceWorld) (node : ℕ) (asks : ℕ → Option Ask) → IsSound w → AreAsks w.histories asks → IsSound (after_answer w node asks)
 answered_sound w node asks s are = message_sound w _ s (granted_are w node asks s are)
 
 spans_asks : (w : PlaceWorld) (node : ℕ) (spans : ℕ → Option Span) (asks : ℕ → Option Ask) → AreAsks w.histories asks → AreAsks (with_spans w node spans).histories asks
 unfolding with_spans
 spans_asks w node spans asks are = are
 
-received_sound : (w : PlaceWorld) (node : ℕ) (message : PlaceMessage) → IsSound w → IsPlaceMessage w.histories message → IsSound (received w node message)
+received_sound : (w : PlaceWorld) (node : ℕ) (message : PlaceMessage) → IsSound w → IsPlaceMessage w.histories message → IsSound (after_receipt w node message)
 received_sound w node (Syn theirs) s is = message_sound w _ s (
   λ owner ask e. (rules_stand (w.histories owner) (w.places node owner) (s.stands node owner)).asks (theirs owner) ask e,
   λ owner span e. (rules_stand (w.histories owner) (w.places node owner) (s.stands node owner)).spans (theirs owner) span e,
@@ -236,11 +236,11 @@ received_sound w node (Syn theirs) s is = message_sound w _ s (
 received_sound w node (Ack asks spans) s is = answered_sound (with_spans w node spans) node asks (spans_sound w node spans s is.1) (spans_asks w node spans asks is.0)
 received_sound w node (Ack2 spans) s is = spans_sound w node spans s is
 
-delivered_sound : (w : PlaceWorld) (node : ℕ) (o : Option PlaceMessage) → IsSound w → ((message : PlaceMessage) → o ≡ Some message → IsPlaceMessage w.histories message) → IsSound (delivered w node o)
+delivered_sound : (w : PlaceWorld) (node : ℕ) (o : Option PlaceMessage) → IsSound w → ((message : PlaceMessage) → o ≡ Some message → IsPlaceMessage w.histories message) → IsSound (after_delivery w node o)
 delivered_sound w node None s is = s
 delivered_sound w node (Some message) s is = go (runs w node)
   where
-    go : (b : Bool) → IsSound (cond b (received w node message) w)
+    go : (b : Bool) → IsSound (cond b (after_receipt w node message) w)
     go true = received_sound w node message s (is message refl)
     go false = s
 
@@ -251,10 +251,10 @@ action_sound w (Start node generation) s = go (may_start w node generation) refl
     go : (b : Bool) → may_start w node generation ≡ b → IsSound (cond b (with_start w node generation) w)
     go true e = start_sound w node generation s (history_starts (w.histories node) generation (s.histories node) (grind (arith, nat_tests)))
     go false e = s
-action_sound w (Beat node) s = changed_sound w node beaten (λ x. Beats refl) s _ refl
+action_sound w (Beat node) s = changed_sound w node entry_after_beat (λ x. Beats refl) s _ refl
 action_sound w (Set node key text) s = changed_sound w node (with_state key text) (λ x. Sets key text refl) s _ refl
 action_sound w (Opening node) s = opened_sound w node s
-action_sound w (Tick node) s = opened_sound _ node (changed_sound w node beaten (λ x. Beats refl) s _ refl)
+action_sound w (Tick node) s = opened_sound _ node (changed_sound w node entry_after_beat (λ x. Beats refl) s _ refl)
 action_sound w (Deliver number to) s = delivered_sound w to (at_place w.sent number) s (λ message e. s.messages number message e)
 
 pub actions_from_sound : (w : PlaceWorld) (actions : List PlaceAction) → IsSound w → IsSound (after_actions w actions)

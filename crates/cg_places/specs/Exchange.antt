@@ -1,47 +1,103 @@
--- A whole exchange between two nodes, with other actions between its messages.
-use Rattle.std.specs.Prelude.{ℕ, ◌≢◌, ⊤, List, [], ◌∷◌, length}
+-- A whole exchange between two nodes, with other actions between its messages: in worlds of any kind, and by places.
+use Rattle.std.specs.Prelude.{ℕ, ◌≢◌, ⊤, List, [], ◌∷◌, ◌++◌, length}
 use Rattle.cg_places.specs.PlaceWorld.{PlaceAction, Start, Beat, Set, Opening, Tick, Deliver, PlaceWorld, after_action, after_actions}
 
--- who opens, who answers, and what is done before each of the three messages is handed to its addressee
-pub record PlaceExchange : Type 0 where
+-- who opens, who answers, what is done before each of the three messages is handed to its addressee, and at which
+-- moment that is
+pub record ExchangeOf (Action Moment : Type 0) : Type 0 where
   pub opener : ℕ
   pub answerer : ℕ
-  pub before_syn : List PlaceAction
-  pub before_ack : List PlaceAction
-  pub before_ack2 : List PlaceAction
+  pub before_syn : List Action
+  pub syn_at : Moment
+  pub before_ack : List Action
+  pub ack_at : Moment
+  pub before_ack2 : List Action
+  pub ack2_at : Moment
 
 -- an exchange with nothing between its messages
-abbrev pub undisturbed : ℕ → ℕ → PlaceExchange
-undisturbed opener answerer =
-    record { opener = opener; answerer = answerer; before_syn = []; before_ack = []; before_ack2 = [] }
+abbrev pub prompt_exchange : {Action Moment : Type 0} → ℕ → ℕ → Moment → Moment → Moment → ExchangeOf Action Moment
+prompt_exchange opener answerer syn_at ack_at ack2_at =
+    record {
+      opener = opener;
+      answerer = answerer;
+      before_syn = [];
+      syn_at = syn_at;
+      before_ack = [];
+      ack_at = ack_at;
+      before_ack2 = [];
+      ack2_at = ack2_at;
+    }
 
--- the opener has sent its SYN
-abbrev pub after_opening : PlaceWorld → PlaceExchange → PlaceWorld
-after_opening w x = after_action w (Opening x.opener)
+-- Something holds of both nodes and each list of what is done between the messages.
+pub record OfBothNodes {Action Moment : Type 0} (P : ℕ → List Action → Type 0) (x : ExchangeOf Action Moment)
+    : Type 0 where
+  pub opener : P x.opener x.before_syn × P x.opener x.before_ack × P x.opener x.before_ack2
+  pub answerer : P x.answerer x.before_syn × P x.answerer x.before_ack × P x.answerer x.before_ack2
 
--- the SYN is about to be handed to the answerer
-abbrev pub at_syn : PlaceWorld → PlaceExchange → PlaceWorld
-at_syn w x = after_actions (after_opening w x) x.before_syn
+-- ---- where its messages take a world
 
--- the answerer has sent its ACK
-abbrev pub after_syn : PlaceWorld → PlaceExchange → PlaceWorld
-after_syn w x = after_action (at_syn w x) (Deliver (length (after_opening w x).sent) x.answerer)
+-- What an exchange has to know of a kind of worlds: what actions leave, how many messages were sent, and which of the
+-- actions send a SYN and hand over the message of a number.
+pub record WorldKind (World Action Moment : Type 0) : Type 0 where
+  pub after : World → Action → World
+  pub after_all : World → List Action → World
+  pub count : World → ℕ
+  pub opening : (node : ℕ) → Action
+  pub delivery : (number to : ℕ) → Moment → Action
 
--- the ACK is about to be handed to the opener
-abbrev pub at_ack : PlaceWorld → PlaceExchange → PlaceWorld
-at_ack w x = after_actions (after_syn w x) x.before_ack
+module _ {World Action Moment : Type 0} (k : WorldKind World Action Moment) where
+  -- the opener has sent its SYN
+  abbrev pub after_opening : World → ExchangeOf Action Moment → World
+  after_opening w x = k.after w (k.opening x.opener)
 
--- the opener has sent its ACK2
-abbrev pub after_ack : PlaceWorld → PlaceExchange → PlaceWorld
-after_ack w x = after_action (at_ack w x) (Deliver (length (after_syn w x).sent) x.opener)
+  -- the SYN is about to be handed to the answerer
+  abbrev pub at_syn : World → ExchangeOf Action Moment → World
+  at_syn w x = k.after_all (after_opening w x) x.before_syn
 
--- the ACK2 is about to be handed to the answerer
-abbrev pub at_ack2 : PlaceWorld → PlaceExchange → PlaceWorld
-at_ack2 w x = after_actions (after_ack w x) x.before_ack2
+  -- the message that was sent last is handed to a node, after a list of actions
+  abbrev pub after_last_delivery : World → List Action → ℕ → Moment → World
+  after_last_delivery w between to now = k.after (k.after_all w between) (k.delivery (k.count w) to now)
 
--- the answerer has the ACK2
-abbrev pub exchanged : PlaceWorld → PlaceExchange → PlaceWorld
-exchanged w x = after_action (at_ack2 w x) (Deliver (length (after_ack w x).sent) x.answerer)
+  -- the answerer has sent its ACK
+  abbrev pub after_syn : World → ExchangeOf Action Moment → World
+  after_syn w x = after_last_delivery (after_opening w x) x.before_syn x.answerer x.syn_at
+
+  -- the opener has sent its ACK2
+  abbrev pub after_ack : World → ExchangeOf Action Moment → World
+  after_ack w x = after_last_delivery (after_syn w x) x.before_ack x.opener x.ack_at
+
+  -- the answerer has the ACK2
+  abbrev pub after_exchange : World → ExchangeOf Action Moment → World
+  after_exchange w x = after_last_delivery (after_ack w x) x.before_ack2 x.answerer x.ack2_at
+
+  -- the actions of an exchange that follow its opening, in their order
+  abbrev pub following : World → ExchangeOf Action Moment → List Action
+  following w x =
+      x.before_syn ++ (k.delivery (k.count (after_opening w x)) x.answerer x.syn_at
+      ∷ (x.before_ack ++ (k.delivery (k.count (after_syn w x)) x.opener x.ack_at
+      ∷ (x.before_ack2 ++ (k.delivery (k.count (after_ack w x)) x.answerer x.ack2_at ∷ [])))))
+
+  -- all actions of an exchange, in their order
+  abbrev pub actions_of : World → ExchangeOf Action Moment → List Action
+  actions_of w x = k.opening x.opener ∷ following w x
+
+-- ---- by places
+
+-- Deliveries by places have no moment.
+abbrev pub by_places : WorldKind PlaceWorld PlaceAction ⊤
+by_places = record {
+  after = after_action;
+  after_all = after_actions;
+  count = λ w. length w.sent;
+  opening = Opening;
+  delivery = λ number to now. Deliver number to;
+}
+
+abbrev pub PlaceExchange : Type 0
+PlaceExchange = ExchangeOf PlaceAction ⊤
+
+abbrev pub prompt_place_exchange : ℕ → ℕ → PlaceExchange
+prompt_place_exchange opener answerer = prompt_exchange opener answerer tt tt tt
 
 -- The action does not start the node.
 abbrev pub IsNoStartOf : ℕ → PlaceAction → Type 0
@@ -58,7 +114,5 @@ NoStartsOf node [] = ⊤
 NoStartsOf node (action ∷ actions) = IsNoStartOf node action × NoStartsOf node actions
 
 -- Neither node is started anew before the exchange is over.
-pub record NoStartsOfEither (x : PlaceExchange) : Type 0 where
-  pub opener : NoStartsOf x.opener x.before_syn × NoStartsOf x.opener x.before_ack × NoStartsOf x.opener x.before_ack2
-  pub answerer : NoStartsOf x.answerer x.before_syn × NoStartsOf x.answerer x.before_ack
-      × NoStartsOf x.answerer x.before_ack2
+abbrev pub NoStartsOfEither : PlaceExchange → Type 0
+NoStartsOfEither x = OfBothNodes NoStartsOf x

@@ -8,8 +8,8 @@ use Rattle.cg_entry.specs.History.{IsHistory, at_place}
 use Rattle.cg_exchange.specs.PlaceMessages.{PlaceMessage, Stand, IsPlaceMessage}
 use Rattle.cg_places.specs.PlaceWorld.{nobody, PlaceAction, PlaceWorld, runs, world_after}
 use Rattle.cg_places.specs.Join.{join, Within, furthest, sources, SamePlaces}
-use Rattle.cg_places.specs.Exchange.{PlaceExchange, undisturbed, at_syn, exchanged, NoStartsOfEither}
-use Rattle.cg_places.specs.Refusals.{AreDone, done_exchange, actions_of}
+use Rattle.cg_places.specs.Exchange.{PlaceExchange, prompt_place_exchange, by_places, at_syn, after_exchange, actions_of, NoStartsOfEither}
+use Rattle.cg_places.specs.Refusals.{AreDone, done_exchange}
 
 -- Histories, places and messages are as they should be.
 pub record IsWorld (w : PlaceWorld) : Type 0 where
@@ -72,7 +72,7 @@ JoinsAreLeast = (a b c : ℕ → ℕ) → IsLeastJoin a b c
 
 -- the join of what the opener held when it opened and the answerer when it answered
 abbrev pub exchange_join : PlaceWorld → PlaceExchange → ℕ → ℕ
-exchange_join w x = join ((at_syn w x).places x.answerer) (w.places x.opener)
+exchange_join w x = join ((at_syn by_places w x).places x.answerer) (w.places x.opener)
 
 -- both nodes run
 pub record BothRun (w : PlaceWorld) (x : PlaceExchange) : Type 0 where
@@ -81,8 +81,8 @@ pub record BothRun (w : PlaceWorld) (x : PlaceExchange) : Type 0 where
 
 -- Both nodes end at that join, or past it.
 pub record ReachesTheJoin (w : PlaceWorld) (x : PlaceExchange) : Type 0 where
-  pub opener : Within (exchange_join w x) ((exchanged w x).places x.opener)
-  pub answerer : Within (exchange_join w x) ((exchanged w x).places x.answerer)
+  pub opener : Within (exchange_join w x) ((after_exchange by_places w x).places x.opener)
+  pub answerer : Within (exchange_join w x) ((after_exchange by_places w x).places x.answerer)
 
 -- An exchange takes both of its nodes to the join, whatever is done between its messages but a start of the two.
 abbrev pub ExchangesReachTheJoin : Type 0
@@ -93,28 +93,30 @@ ExchangesReachTheJoin =
 -- Both nodes end at the join of what they held.
 pub record EndsAtTheJoin (w : PlaceWorld) (opener answerer : ℕ) : Type 0 where
   pub opened : (owner : ℕ)
-      → (exchanged w (undisturbed opener answerer)).places opener owner
+      → (after_exchange by_places w (prompt_place_exchange opener answerer)).places opener owner
       ≡ join (w.places answerer) (w.places opener) owner
   pub answered : (owner : ℕ)
-      → (exchanged w (undisturbed opener answerer)).places answerer owner
+      → (after_exchange by_places w (prompt_place_exchange opener answerer)).places answerer owner
       ≡ join (w.places answerer) (w.places opener) owner
 
 -- With nothing between its messages, an exchange leaves both nodes with the same places.
 abbrev pub UndisturbedExchangesEqual : Type 0
 UndisturbedExchangesEqual =
-    (actions : List PlaceAction) (opener answerer : ℕ) → BothRun (world_after actions) (undisturbed opener answerer)
+    (actions : List PlaceAction) (opener answerer : ℕ)
+    → BothRun (world_after actions) (prompt_place_exchange opener answerer)
     → EndsAtTheJoin (world_after actions) opener answerer
 
 -- An exchange is the list of its actions.
 abbrev pub PlaceExchangesAreLists : Type 0
 PlaceExchangesAreLists =
     (actions : List PlaceAction) (x : PlaceExchange)
-    → world_after (actions ++ actions_of (world_after actions) x) ≡ exchanged (world_after actions) x
+    → world_after (actions ++ actions_of by_places (world_after actions) x)
+    ≡ after_exchange by_places (world_after actions) x
 
 -- What is done of an exchange: it starts neither node, and none of its actions is refused.
 pub record IsDone (w : PlaceWorld) (x : PlaceExchange) : Type 0 where
   pub neither : NoStartsOfEither (done_exchange w x)
-  pub done : AreDone w (actions_of w (done_exchange w x))
+  pub done : AreDone w (actions_of by_places w (done_exchange w x))
 
 -- An exchange is done, where the refused actions are left out.
 abbrev pub ExchangesAreDone : Type 0

@@ -1,7 +1,7 @@
 -- All nodes, by the places that each holds, after a list of actions.
 use Rattle.std.specs.Prelude.{ℕ, ◌+◌, Bool, List, [], ◌∷◌, ◌++◌, length, Option, Some, None, ◌==◌, nat_lt, if◌then◌else◌}
 use Rattle.cg_entry.specs.Values.{EntryValue}
-use Rattle.cg_entry.specs.Entry.{started, beaten, with_state}
+use Rattle.cg_entry.specs.Entry.{starting_entry, entry_after_beat, with_state}
 use Rattle.cg_entry.specs.History.{at_place, generation_at}
 use Rattle.cg_entry.specs.Place.{Span}
 use Rattle.cg_table.specs.declared.took.Took.{Took}
@@ -54,7 +54,7 @@ grown histories owner entry = put_at histories owner (histories owner ++ entry �
 -- the node starts, and holds its own entry alone
 unfoldable pub with_start : PlaceWorld → ℕ → ℕ → PlaceWorld
 with_start w node generation = record {
-  histories = grown w.histories node (started generation);
+  histories = grown w.histories node (starting_entry generation);
   places = put_at w.places node (put_at (λ owner. 0) node (length (w.histories node) + 1));
   sent = w.sent;
   taken = put_at w.taken node (λ owner. []);
@@ -115,38 +115,38 @@ abbrev pub last_entry : List EntryValue → Option EntryValue
 last_entry history = at_place history (length history)
 
 -- the node's own entry is changed, if it has one
-abbrev pub changed : PlaceWorld → ℕ → (EntryValue → EntryValue) → Option EntryValue → PlaceWorld
-changed w node change None = w
-changed w node change (Some entry) = with_entry w node (change entry)
+abbrev pub after_change : PlaceWorld → ℕ → (EntryValue → EntryValue) → Option EntryValue → PlaceWorld
+after_change w node change None = w
+after_change w node change (Some entry) = with_entry w node (change entry)
 
 -- the node sends a SYN of its places
-abbrev pub opened : PlaceWorld → ℕ → PlaceWorld
-opened w node = if runs w node then with_message w (Syn (w.places node)) else w
+abbrev pub after_opening : PlaceWorld → ℕ → PlaceWorld
+after_opening w node = if runs w node then with_message w (Syn (w.places node)) else w
 
 -- the node answers asks
-abbrev pub answered : PlaceWorld → ℕ → (ℕ → Option Ask) → PlaceWorld
-answered w node asks = with_message w (Ack2 (λ owner. grants_at w.histories (w.places node) asks owner))
+abbrev pub after_answer : PlaceWorld → ℕ → (ℕ → Option Ask) → PlaceWorld
+after_answer w node asks = with_message w (Ack2 (λ owner. grants_at w.histories (w.places node) asks owner))
 
 -- A SYN is answered. The spans of an ACK are taken first, then its asks are answered. The spans of an ACK2 are taken.
-abbrev pub received : PlaceWorld → ℕ → PlaceMessage → PlaceWorld
-received w node (Syn theirs) = with_message w (answer_at w.histories (w.places node) theirs)
-received w node (Ack asks spans) = answered (with_spans w node spans) node asks
-received w node (Ack2 spans) = with_spans w node spans
+abbrev pub after_receipt : PlaceWorld → ℕ → PlaceMessage → PlaceWorld
+after_receipt w node (Syn theirs) = with_message w (answer_at w.histories (w.places node) theirs)
+after_receipt w node (Ack asks spans) = after_answer (with_spans w node spans) node asks
+after_receipt w node (Ack2 spans) = with_spans w node spans
 
 -- a message is handed to a node, if there are both
-abbrev pub delivered : PlaceWorld → ℕ → Option PlaceMessage → PlaceWorld
-delivered w node None = w
-delivered w node (Some message) = if runs w node then received w node message else w
+abbrev pub after_delivery : PlaceWorld → ℕ → Option PlaceMessage → PlaceWorld
+after_delivery w node None = w
+after_delivery w node (Some message) = if runs w node then after_receipt w node message else w
 
 -- The world after an action. A start whose generation does not rise, an action of a node that does not run, and the
 -- delivery of a message that was never sent change nothing.
 unfoldable pub after_action : PlaceWorld → PlaceAction → PlaceWorld
 after_action w (Start node generation) = if may_start w node generation then with_start w node generation else w
-after_action w (Beat node) = changed w node beaten (last_entry (w.histories node))
-after_action w (Set node key text) = changed w node (with_state key text) (last_entry (w.histories node))
-after_action w (Opening node) = opened w node
-after_action w (Tick node) = opened (changed w node beaten (last_entry (w.histories node))) node
-after_action w (Deliver number to) = delivered w to (at_place w.sent number)
+after_action w (Beat node) = after_change w node entry_after_beat (last_entry (w.histories node))
+after_action w (Set node key text) = after_change w node (with_state key text) (last_entry (w.histories node))
+after_action w (Opening node) = after_opening w node
+after_action w (Tick node) = after_opening (after_change w node entry_after_beat (last_entry (w.histories node))) node
+after_action w (Deliver number to) = after_delivery w to (at_place w.sent number)
 
 -- the world after actions, one after the other
 abbrev pub after_actions : PlaceWorld → List PlaceAction → PlaceWorld

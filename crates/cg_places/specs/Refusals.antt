@@ -1,6 +1,6 @@
 -- Why an action is refused where memory is ample, and what is done of a list. `act` itself knows no limit: what is
 -- refused is left out of the list.
-use Rattle.std.specs.Prelude.{◌≡◌, ⊤, ℕ, List, [], ◌∷◌, ◌++◌, length, Option, Some, None, Result, Ok, Err, nat_lt, if◌then◌else◌}
+use Rattle.std.specs.Prelude.{◌≡◌, ⊤, ℕ, List, [], ◌∷◌, length, Option, Some, None, Result, Ok, Err, nat_lt, if◌then◌else◌}
 use Rattle.cg_types.specs.declared.fault.Fault.{Fault}
 use Rattle.cg_types.specs.declared.fault.Fault.TheVariants.{TableFull, NotRising, NoSuchMessage, NoSuchNode}
 use Rattle.cg_types.specs.declared.limits.TheConstants.{MEMBER_LIMIT}
@@ -10,7 +10,7 @@ use Rattle.cg_entry.specs.Entry.{newest}
 use Rattle.cg_entry.specs.History.{at_place}
 use Rattle.cg_exchange.specs.PlaceMessages.{PlaceMessage}
 use Rattle.cg_places.specs.PlaceWorld.{PlaceAction, Start, Beat, Set, Opening, Tick, Deliver, PlaceWorld, runs, may_start, last_entry, after_action}
-use Rattle.cg_places.specs.Exchange.{PlaceExchange, after_opening, after_syn, after_ack}
+use Rattle.cg_places.specs.Exchange.{PlaceExchange, by_places, after_opening, after_syn, after_ack}
 
 -- a generation that does not rise; or an owner more than there can be
 abbrev pub start_refusal : PlaceWorld → ℕ → ℕ → Option Fault
@@ -63,42 +63,14 @@ AreDone w (action ∷ actions) = (refusal w action ≡ None) × AreDone (after_a
 -- ---- of an exchange
 
 abbrev pub done_before_syn : PlaceWorld → PlaceExchange → PlaceExchange
-done_before_syn w x =
-    record {
-      opener = x.opener;
-      answerer = x.answerer;
-      before_syn = done_from (after_opening w x) x.before_syn;
-      before_ack = x.before_ack;
-      before_ack2 = x.before_ack2;
-    }
+done_before_syn w x = record x { before_syn = done_from (after_opening by_places w x) x.before_syn }
 
 abbrev pub done_before_ack : PlaceWorld → PlaceExchange → PlaceExchange
-done_before_ack w x =
-    record {
-      opener = x.opener;
-      answerer = x.answerer;
-      before_syn = x.before_syn;
-      before_ack = done_from (after_syn w x) x.before_ack;
-      before_ack2 = x.before_ack2;
-    }
+done_before_ack w x = record x { before_ack = done_from (after_syn by_places w x) x.before_ack }
 
 abbrev pub done_before_ack2 : PlaceWorld → PlaceExchange → PlaceExchange
-done_before_ack2 w x =
-    record {
-      opener = x.opener;
-      answerer = x.answerer;
-      before_syn = x.before_syn;
-      before_ack = x.before_ack;
-      before_ack2 = done_from (after_ack w x) x.before_ack2;
-    }
+done_before_ack2 w x = record x { before_ack2 = done_from (after_ack by_places w x) x.before_ack2 }
 
 -- the exchange as it is done: refused actions are left out
 abbrev pub done_exchange : PlaceWorld → PlaceExchange → PlaceExchange
 done_exchange w x = done_before_ack2 w (done_before_ack w (done_before_syn w x))
-
--- the actions of an exchange, in their order
-abbrev pub actions_of : PlaceWorld → PlaceExchange → List PlaceAction
-actions_of w x =
-    Opening x.opener ∷ (x.before_syn ++ (Deliver (length (after_opening w x).sent) x.answerer
-    ∷ (x.before_ack ++ (Deliver (length (after_syn w x).sent) x.opener
-    ∷ (x.before_ack2 ++ (Deliver (length (after_ack w x).sent) x.answerer ∷ []))))))

@@ -2,7 +2,7 @@
 use Rattle.std.specs.Prelude.{ℕ, ◌≡◌, ◌≢◌, ◌==◌, true, Option, Some, is_some, List, if◌then◌else◌}
 use Rattle.std.specs.FinMap as table
 use Rattle.cg_entry.specs.Values.{EntryValue}
-use Rattle.cg_entry.specs.Entry.{started}
+use Rattle.cg_entry.specs.Entry.{starting_entry}
 use Rattle.cg_entry.specs.Place.{Span}
 use Rattle.cg_table.specs.declared.digest.Digest.{Digest}
 use Rattle.cg_table.specs.Values.{Entries}
@@ -55,7 +55,7 @@ pub record IsReplaced (earlier later : ℕ → Option Entries) (node : ℕ) (ent
 pub record Follow (tables : ℕ → Option Entries) (w : PlaceWorld) : Type 0 where
   -- after a start the started entry alone
   pub start : (node generation : ℕ) (later : ℕ → Option Entries)
-      → IsReplaced tables later node (alone node (started generation)).entries
+      → IsReplaced tables later node (alone node (starting_entry generation)).entries
       → SpellsNodes later (with_start w node generation)
   -- after a change of the own entry the table with that entry
   pub entry : (node : ℕ) (entries : Entries) (entry : EntryValue) (later : ℕ → Option Entries)

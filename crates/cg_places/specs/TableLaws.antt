@@ -7,7 +7,7 @@ use Rattle.cg_entry.specs.History.{at_place}
 use Rattle.cg_entry.specs.Place.{Span}
 use Rattle.cg_table.specs.Values.{TableValue, Entries}
 use Rattle.cg_table.specs.Table.{digests_of}
-use Rattle.cg_table.specs.Merge.{merged, owners_together}
+use Rattle.cg_table.specs.Merge.{merge_of, owners_together}
 use Rattle.cg_table.specs.Spelling.{SpellsPlaces}
 use Rattle.cg_exchange.specs.declared.owner_delta.OwnerDelta.{OwnerDelta}
 use Rattle.cg_exchange.specs.Members.{endpoints_of_deltas}
@@ -64,7 +64,7 @@ abbrev pub MergesAreJoined : Type 0
 MergesAreJoined =
     (actions : List PlaceAction) (a b c : ℕ) (one two three : Entries) → SpellsNode (world_after actions) a one
     → SpellsNode (world_after actions) b two → SpellsNode (world_after actions) c three
-    → IsMergedOf (world_after actions) a b c (merged (merged one two) three)
+    → IsMergedOf (world_after actions) a b c (merge_of (merge_of one two) three)
 
 -- No table that is made of tables and messages of a world holds more than owners have started.
 pub record FindRoom (w : PlaceWorld) : Type 0 where

@@ -45,6 +45,15 @@ outcome_line o = took_name o.took ++ (codes " " ++ (endpoint_text o.endpoint ++ 
 abbrev pub outcome_lines : List Outcome → List ℕ
 outcome_lines outcomes = flat_map outcome_line outcomes
 
+-- an item of a run: whose it is, in which generation, and its number there
+unfoldable pub item_line : ℕ → ℕ → ℕ → List ℕ
+item_line node generation number =
+    endpoint_text node ++ (codes " " ++ (decimal generation ++ (codes " " ++ (decimal number ++ codes "\n"))))
+
+-- an item that can't go
+unfoldable pub stuck_line : ℕ → ℕ → ℕ → List ℕ
+stuck_line node generation number = codes "stuck " ++ item_line node generation number
+
 -- ---- what is held
 
 -- a key's name, its version and its text

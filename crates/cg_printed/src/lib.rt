@@ -7,6 +7,8 @@
 
 mod done;
 mod held;
+mod runs;
 
 pub use done::{add_message, add_outcomes, add_round, add_started, add_version};
 pub use held::{add_digests, add_gossipinfo, add_replicas, add_ring};
+pub use runs::{add_item, add_stuck};

@@ -2,7 +2,7 @@
 
 ghost use Rattle.std.specs.Prelude.{◌≡◌, IfOk};
 ghost use Rattle.std.specs.FinMap as map;
-ghost use Rattle.cg_entry.specs.Entry.{started};
+ghost use Rattle.cg_entry.specs.Entry.{starting_entry};
 ghost use Rattle.cg_entry.specs.State.{pairs};
 ghost use Rattle.cg_samples.specs.Nearest.{nearest_number, nearest_key};
 
@@ -45,7 +45,7 @@ pub fn bare_delta(alloc: Global, of: (u32, u32, u32)) -> Result<Delta, Fail>
 
 /// The entry of an endpoint that has just started at a generation.
 pub fn entry_at_start(alloc: Global, at: u32) -> Entry
-    ensures { result ≡ started (nearest_number at) }
+    ensures { result ≡ starting_entry (nearest_number at) }
 {
     Entry::start(alloc, generation(at))
 }

@@ -15,66 +15,66 @@ abbrev pub behind : List ℕ → Option (List ℕ) → Option (List ℕ)
 behind read others = option_map (λ es. read ++ es) others
 
 -- so many may still come
-abbrev pub left : ℕ → List ℕ → Option (List ℕ)
-left count rest = endpoints_in (SEED_LIMIT - count) rest
+abbrev pub left : ℕ → ℕ → List ℕ → Option (List ℕ)
+left at count rest = endpoints_in at (SEED_LIMIT - count) rest
 
-one_less : (n : ℕ) (text : List ℕ) → endpoints_in (suc n) text ≡ endpoints_by (endpoints_in n) text (cut_at 32 text)
+one_less : (at n : ℕ) (text : List ℕ) → endpoints_in at (suc n) text ≡ endpoints_by (endpoints_in at n) text (cut_at at text)
 unfolding endpoints_in
-one_less n text = refl
+one_less at n text = refl
 
-left-step : (count : ℕ) (rest : List ℕ) → count < SEED_LIMIT → left count rest ≡ endpoints_by (left (count + 1)) rest (cut_at 32 rest)
-left-step count rest less =
+left-step : (at count : ℕ) (rest : List ℕ) → count < SEED_LIMIT → left at count rest ≡ endpoints_by (left at (count + 1)) rest (cut_at at rest)
+left-step at count rest less =
     let fewer : SEED_LIMIT - count ≡ suc (SEED_LIMIT - (count + 1)) = omega arith in
-    ap (λ (n : ℕ). endpoints_in n rest) fewer ∙ one_less (SEED_LIMIT - (count + 1)) rest
+    ap (λ (n : ℕ). endpoints_in at n rest) fewer ∙ one_less at (SEED_LIMIT - (count + 1)) rest
 
-pub begins : (text : List ℕ) → endpoints_in SEED_LIMIT text ≡ behind [] (left 0 text)
-begins text = nothing_before (endpoints_in SEED_LIMIT text)
+pub begins : (at : ℕ) (text : List ℕ) → endpoints_in at SEED_LIMIT text ≡ behind [] (left at 0 text)
+begins at text = nothing_before (endpoints_in at SEED_LIMIT text)
   where
     nothing_before : (o : Option (List ℕ)) → o ≡ behind [] o
     nothing_before None = refl
     nothing_before (Some es) = refl
 
 -- the rest is one word
-pub last_word : (count : ℕ) (all : Option (List ℕ)) (read rest : List ℕ) → count < SEED_LIMIT → all ≡ behind read (left count rest) → cut_at 32 rest ≡ None
+pub last_word : (at count : ℕ) (all : Option (List ℕ)) (read rest : List ℕ) → count < SEED_LIMIT → all ≡ behind read (left at count rest) → cut_at at rest ≡ None
     → all ≡ behind read (endpoint_in rest >>= (λ e. Some (e ∷ [])))
-last_word count all read rest less e cut =
-    e ∙ ap (behind read) (left-step count rest less ∙ ap (endpoints_by (left (count + 1)) rest) cut)
+last_word at count all read rest less e cut =
+    e ∙ ap (behind read) (left-step at count rest less ∙ ap (endpoints_by (left at (count + 1)) rest) cut)
 
-pub last_bad : (count : ℕ) (all : Option (List ℕ)) (read rest : List ℕ) → count < SEED_LIMIT → all ≡ behind read (left count rest) → cut_at 32 rest ≡ None
+pub last_bad : (at count : ℕ) (all : Option (List ℕ)) (read rest : List ℕ) → count < SEED_LIMIT → all ≡ behind read (left at count rest) → cut_at at rest ≡ None
     → endpoint_in rest ≡ None → None ≡ all
-last_bad count all read rest less e cut bad = sym (last_word count all read rest less e cut ∙ ap (λ (o : Option ℕ). behind read (o >>= (λ e. Some (e ∷ [])))) bad)
+last_bad at count all read rest less e cut bad = sym (last_word at count all read rest less e cut ∙ ap (λ (o : Option ℕ). behind read (o >>= (λ e. Some (e ∷ [])))) bad)
 
-pub last_good : (count : ℕ) (all : Option (List ℕ)) (read rest : List ℕ) (endpoint : ℕ) → count < SEED_LIMIT → all ≡ behind read (left count rest) → cut_at 32 rest ≡ None
+pub last_good : (at count : ℕ) (all : Option (List ℕ)) (read rest : List ℕ) (endpoint : ℕ) → count < SEED_LIMIT → all ≡ behind read (left at count rest) → cut_at at rest ≡ None
     → endpoint_in rest ≡ Some endpoint → Some (read ++ endpoint ∷ []) ≡ all
-last_good count all read rest endpoint less e cut good = sym (last_word count all read rest less e cut ∙ ap (λ (o : Option ℕ). behind read (o >>= (λ e. Some (e ∷ [])))) good)
+last_good at count all read rest endpoint less e cut good = sym (last_word at count all read rest less e cut ∙ ap (λ (o : Option ℕ). behind read (o >>= (λ e. Some (e ∷ [])))) good)
 
 -- a word and a rest
-next_word : (count : ℕ) (all : Option (List ℕ)) (read rest : List ℕ) (parts : List ℕ × List ℕ) → count < SEED_LIMIT → all ≡ behind read (left count rest) → cut_at 32 rest ≡ Some parts
-    → all ≡ behind read (endpoint_in parts.0 >>= (λ e. left (count + 1) parts.1 >>= (λ es. Some (e ∷ es))))
-next_word count all read rest parts less e cut =
-    e ∙ ap (behind read) (left-step count rest less ∙ ap (endpoints_by (left (count + 1)) rest) cut)
+next_word : (at count : ℕ) (all : Option (List ℕ)) (read rest : List ℕ) (parts : List ℕ × List ℕ) → count < SEED_LIMIT → all ≡ behind read (left at count rest) → cut_at at rest ≡ Some parts
+    → all ≡ behind read (endpoint_in parts.0 >>= (λ e. left at (count + 1) parts.1 >>= (λ es. Some (e ∷ es))))
+next_word at count all read rest parts less e cut =
+    e ∙ ap (behind read) (left-step at count rest less ∙ ap (endpoints_by (left at (count + 1)) rest) cut)
 
-pub next_bad : (count : ℕ) (all : Option (List ℕ)) (read rest : List ℕ) (parts : List ℕ × List ℕ) → count < SEED_LIMIT → all ≡ behind read (left count rest) → cut_at 32 rest ≡ Some parts
+pub next_bad : (at count : ℕ) (all : Option (List ℕ)) (read rest : List ℕ) (parts : List ℕ × List ℕ) → count < SEED_LIMIT → all ≡ behind read (left at count rest) → cut_at at rest ≡ Some parts
     → endpoint_in parts.0 ≡ None → None ≡ all
-next_bad count all read rest parts less e cut bad =
-    sym (next_word count all read rest parts less e cut ∙ ap (λ (o : Option ℕ). behind read (o >>= (λ e. left (count + 1) parts.1 >>= (λ es. Some (e ∷ es))))) bad)
+next_bad at count all read rest parts less e cut bad =
+    sym (next_word at count all read rest parts less e cut ∙ ap (λ (o : Option ℕ). behind read (o >>= (λ e. left at (count + 1) parts.1 >>= (λ es. Some (e ∷ es))))) bad)
 
 moved : (read : List ℕ) (endpoint : ℕ) (others : Option (List ℕ)) → behind read (others >>= (λ es. Some (endpoint ∷ es))) ≡ behind (read ++ endpoint ∷ []) others
 moved read endpoint None = refl
 moved read endpoint (Some es) = ap Some (sym (append_assoc read (endpoint ∷ []) es))
 
-pub next_good : (count : ℕ) (all : Option (List ℕ)) (read rest : List ℕ) (parts : List ℕ × List ℕ) (endpoint : ℕ) → count < SEED_LIMIT → all ≡ behind read (left count rest)
-    → cut_at 32 rest ≡ Some parts → endpoint_in parts.0 ≡ Some endpoint → all ≡ behind (read ++ endpoint ∷ []) (left (count + 1) parts.1)
-next_good count all read rest parts endpoint less e cut good =
-    next_word count all read rest parts less e cut
-    ∙ ap (λ (o : Option ℕ). behind read (o >>= (λ e. left (count + 1) parts.1 >>= (λ es. Some (e ∷ es))))) good
-    ∙ moved read endpoint (left (count + 1) parts.1)
+pub next_good : (at count : ℕ) (all : Option (List ℕ)) (read rest : List ℕ) (parts : List ℕ × List ℕ) (endpoint : ℕ) → count < SEED_LIMIT → all ≡ behind read (left at count rest)
+    → cut_at at rest ≡ Some parts → endpoint_in parts.0 ≡ Some endpoint → all ≡ behind (read ++ endpoint ∷ []) (left at (count + 1) parts.1)
+next_good at count all read rest parts endpoint less e cut good =
+    next_word at count all read rest parts less e cut
+    ∙ ap (λ (o : Option ℕ). behind read (o >>= (λ e. left at (count + 1) parts.1 >>= (λ es. Some (e ∷ es))))) good
+    ∙ moved read endpoint (left at (count + 1) parts.1)
 
-pub too_many : (count : ℕ) (all : Option (List ℕ)) (read rest : List ℕ) → SEED_LIMIT ≤ count → all ≡ behind read (left count rest) → None ≡ all
+pub too_many : (at count : ℕ) (all : Option (List ℕ)) (read rest : List ℕ) → SEED_LIMIT ≤ count → all ≡ behind read (left at count rest) → None ≡ all
 unfolding endpoints_in
-too_many count all read rest over e =
+too_many at count all read rest over e =
     let none : SEED_LIMIT - count ≡ 0 = omega arith in
-    sym (e ∙ ap (λ (n : ℕ). behind read (endpoints_in n rest)) none)
+    sym (e ∙ ap (λ (n : ℕ). behind read (endpoints_in at n rest)) none)
 
 -- ---- at most as many as there may be
 
@@ -92,17 +92,17 @@ few_behind n text (Some parts) others es few h = more (endpoint_in parts.0) (oth
     more (Some e) None is h = absurd cc
     more (Some e) (Some fs) is h = let same : e ∷ fs ≡ es = cc in let lengths = ap length same in let less = few parts.1 fs is in omega (arith, lengths, less)
 
-few : (n : ℕ) (text es : List ℕ) → endpoints_in n text ≡ Some es → length es ≤ n
+few : (at n : ℕ) (text es : List ℕ) → endpoints_in at n text ≡ Some es → length es ≤ n
 unfolding endpoints_in
-few zero text es h = absurd cc
-few (suc n) text es h = let less = few_behind n text (cut_at 32 text) (endpoints_in n) es (few n) h in omega (arith, less)
+few at zero text es h = absurd cc
+few at (suc n) text es h = let less = few_behind n text (cut_at at text) (endpoints_in at n) es (few at n) h in omega (arith, less)
 
 -- ---- settings with seeds
 
-pub are_settings : (text es : List ℕ) → endpoints_in SEED_LIMIT text ≡ Some es → rise_past None es ≡ true → IsSettings (settings_with es)
-are_settings text es h rise = record { in_use = refl; rise = rise; few = few SEED_LIMIT text es h }
+pub are_settings : (text es : List ℕ) → endpoints_in 32 SEED_LIMIT text ≡ Some es → rise_past None es ≡ true → IsSettings (settings_with es)
+are_settings text es h rise = record { in_use = refl; rise = rise; few = few 32 SEED_LIMIT text es h }
 
-pub no_seeds : (text es : List ℕ) → endpoints_in SEED_LIMIT text ≡ Some es → (IsSettings (settings_with es) → ⊥) → seeds_line text ≡ None
+pub no_seeds : (text es : List ℕ) → endpoints_in 32 SEED_LIMIT text ≡ Some es → (IsSettings (settings_with es) → ⊥) → seeds_line text ≡ None
 unfolding seeds_line seeds_in
 no_seeds text es h refused =
     rw h (elim (rise_past None es) as (λ b. rise_past None es ≡ b → (cond b (Some es) None >>= (λ seeds. Some (Seeds (settings_with seeds)))) ≡ None) [
@@ -110,10 +110,10 @@ no_seeds text es h refused =
       | false ↦ λ e. refl
     ] refl)
 
-pub some_seeds : (text es : List ℕ) → endpoints_in SEED_LIMIT text ≡ Some es → IsSettings (settings_with es) → seeds_line text ≡ Some (Seeds (settings_with es))
+pub some_seeds : (text es : List ℕ) → endpoints_in 32 SEED_LIMIT text ≡ Some es → IsSettings (settings_with es) → seeds_line text ≡ Some (Seeds (settings_with es))
 unfolding seeds_line seeds_in
 some_seeds text es h is = rw h (rw is.rise refl)
 
-pub no_endpoints : (text : List ℕ) → endpoints_in SEED_LIMIT text ≡ None → seeds_line text ≡ None
+pub no_endpoints : (text : List ℕ) → endpoints_in 32 SEED_LIMIT text ≡ None → seeds_line text ≡ None
 unfolding seeds_line seeds_in
 no_endpoints text h = rw h refl

@@ -66,7 +66,7 @@ state_text_of_utf8 (Some text) = state_text_of text
 unfoldable pub state_text_in : List ℕ → Result (List ℕ) Fault
 state_text_in text = state_text_of_utf8 (text_in text)
 
--- the endpoint that a text is alone, or the one before its first space and the others
+-- the endpoint that a text is alone, or the one before its first separator and the others
 abbrev pub endpoints_by : (List ℕ → Option (List ℕ)) → List ℕ → Option (List ℕ × List ℕ) → Option (List ℕ)
 endpoints_by others text None = do
   endpoint ← endpoint_in text
@@ -76,13 +76,13 @@ endpoints_by others text (Some parts) = do
   endpoints ← others parts.1
   Some (endpoint ∷ endpoints)
 
--- endpoints, at least one and at most so many
-unfoldable pub endpoints_in : ℕ → List ℕ → Option (List ℕ)
-endpoints_in zero text = None
-endpoints_in (suc most) text = endpoints_by (endpoints_in most) text (cut_at 32 text)
+-- endpoints with this byte between them, at least one and at most so many
+unfoldable pub endpoints_in : ℕ → ℕ → List ℕ → Option (List ℕ)
+endpoints_in at zero text = None
+endpoints_in at (suc most) text = endpoints_by (endpoints_in at most) text (cut_at at text)
 
 -- seeds: endpoints that rise strictly, at most as many as there may be
 unfoldable pub seeds_in : List ℕ → Option (List ℕ)
 seeds_in text = do
-  seeds ← endpoints_in SEED_LIMIT text
+  seeds ← endpoints_in 32 SEED_LIMIT text
   if rise_past None seeds then Some seeds else None

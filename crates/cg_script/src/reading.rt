@@ -19,16 +19,17 @@ use cg_types::{Endpoint, Fault, Generation, StateKey, StateText, cut, number};
 use cg_world::{Action, LocalEvent};
 use std::alloc::Global;
 
+/// A moment, a random word, or a number of replicas or of a message.
 #[tactic(auto, unfolding(crate::specs::Words::count_in))]
-fn count_in(text: &[u8]) -> Option<u64>
+pub fn count_in(text: &[u8]) -> Option<u64>
     ensures { result ≡ text_count_in text.now }
 {
     number(text, GREATEST)
 }
 
-// An endpoint, and what stands behind the space after it.
+/// An endpoint, and what stands behind the space after it.
 #[tactic(auto, unfolding(crate::specs::Words::endpoint_before))]
-fn endpoint_before(words: &[u8]) -> Option<(Endpoint, &[u8])>
+pub fn endpoint_before(words: &[u8]) -> Option<(Endpoint, &[u8])>
     ensures { option_map (λ p. (p.0, p.1.now)) result ≡ text_endpoint_before words.now }
 {
     let Some((word, rest)) = cut(words, b' ') else {
@@ -38,9 +39,9 @@ fn endpoint_before(words: &[u8]) -> Option<(Endpoint, &[u8])>
     Some((endpoint, rest))
 }
 
-// A number of at most `GREATEST`, and what stands behind the space after it.
+/// A number of at most `GREATEST`, and what stands behind the space after it.
 #[tactic(auto, unfolding(crate::specs::Words::count_before))]
-fn count_before(words: &[u8]) -> Option<(u64, &[u8])>
+pub fn count_before(words: &[u8]) -> Option<(u64, &[u8])>
     ensures { option_map (λ p. (p.0, p.1.now)) result ≡ text_count_before words.now }
 {
     let Some((word, rest)) = cut(words, b' ') else {
@@ -50,9 +51,9 @@ fn count_before(words: &[u8]) -> Option<(u64, &[u8])>
     Some((count, rest))
 }
 
-// A key, and what stands behind the space after it.
+/// A key, and what stands behind the space after it.
 #[tactic(auto, unfolding(crate::specs::Words::key_before))]
-fn key_before(words: &[u8]) -> Option<(StateKey, &[u8])>
+pub fn key_before(words: &[u8]) -> Option<(StateKey, &[u8])>
     ensures { option_map (λ p. (p.0, p.1.now)) result ≡ text_key_before words.now }
 {
     let Some((word, rest)) = cut(words, b' ') else {
@@ -72,8 +73,9 @@ fn text_in(text: &[u8]) -> Option<&str>
     }
 }
 
+/// The text of a state: UTF-8 first of all, then not too long, then with no control characters.
 #[tactic(auto, unfolding(crate::specs::Words::state_text_in))]
-fn state_text_in(alloc: Global, text: &[u8]) -> Result<StateText, Fault>
+pub fn state_text_in(alloc: Global, text: &[u8]) -> Result<StateText, Fault>
     ensures { Gives (λ t. t) result (text_state_text_in text.now) }
 {
     match text_in(text) {
@@ -109,8 +111,9 @@ fn open_line(words: &[u8]) -> Option<Line>
     Some(Line::Act(Action::Local(node, LocalEvent::Opening)))
 }
 
+/// Four numbers.
 #[tactic(auto, unfolding(crate::specs::Script::four_in))]
-fn four_in(words: &[u8]) -> Option<[u64; 4]>
+pub fn four_in(words: &[u8]) -> Option<[u64; 4]>
     ensures { result ≡ four_of words.now }
 {
     let (a, rest) = count_before(words)?;
@@ -200,7 +203,7 @@ fn set_line(alloc: Global, words: &[u8]) -> Result<Line, Fault>
 fn seeds_line(alloc: Global, words: &[u8]) -> Result<Line, Fault>
     ensures { Gives (λ l. l) result (read_or_refused (seeds_of words.now)) }
 {
-    let Some(seeds) = endpoints_in(alloc, words)? else {
+    let Some(seeds) = endpoints_in(alloc, b' ', words)? else {
         return Err(Fault::BadText);
     };
     match settings_with(alloc, seeds)? {

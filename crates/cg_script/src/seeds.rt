@@ -8,14 +8,15 @@ use cg_core::SEED_LIMIT;
 use cg_types::{Endpoint, cut};
 use std::alloc::{AllocError, Global};
 
-/// The endpoints that the words are, if each is one: at least one, and at most `SEED_LIMIT`.
-pub(crate) fn endpoints_in(alloc: Global, text: &[u8]) -> Result<Option<Vec<Endpoint>>, AllocError>
-    ensures { IfOk result (λ endpoints. option_map (λ v. v.items) endpoints ≡ endpoints_of SEED_LIMIT text.now) }
+/// The endpoints that the words are, if each is one: at least one, and at most `SEED_LIMIT`, with the byte `at` between
+/// them.
+pub fn endpoints_in(alloc: Global, at: u8, text: &[u8]) -> Result<Option<Vec<Endpoint>>, AllocError>
+    ensures { IfOk result (λ endpoints. option_map (λ v. v.items) endpoints ≡ endpoints_of at SEED_LIMIT text.now) }
 {
     let mut endpoints = Vec::new(alloc);
     let mut rest = text;
     for _ in 0..SEED_LIMIT {
-        let Some((word, behind)) = cut(rest, b' ') else {
+        let Some((word, behind)) = cut(rest, at) else {
             let Some(endpoint) = Endpoint::from_bytes(rest) else {
                 return Ok(None);
             };

@@ -19,8 +19,8 @@ pub(crate) enum Word {
     Replicas,
 }
 
-// Whether the letters are those of a word.
-fn is(name: &[u8], word: &str) -> bool
+/// Whether the letters are those of a word.
+pub fn is_word(name: &[u8], word: &str) -> bool
     ensures { result ≡ bytes_eq name.now word.now }
 {
     name == word.as_bytes()
@@ -31,37 +31,37 @@ fn is(name: &[u8], word: &str) -> bool
 pub(crate) fn word_named(name: &[u8]) -> Option<Word>
     ensures { result ≡ named name.now }
 {
-    if is(name, "seeds") {
+    if is_word(name, "seeds") {
         return Some(Word::Seeds);
     }
-    if is(name, "start") {
+    if is_word(name, "start") {
         return Some(Word::Start);
     }
-    if is(name, "beat") {
+    if is_word(name, "beat") {
         return Some(Word::Beat);
     }
-    if is(name, "set") {
+    if is_word(name, "set") {
         return Some(Word::Set);
     }
-    if is(name, "open") {
+    if is_word(name, "open") {
         return Some(Word::Open);
     }
-    if is(name, "tick") {
+    if is_word(name, "tick") {
         return Some(Word::Tick);
     }
-    if is(name, "deliver") {
+    if is_word(name, "deliver") {
         return Some(Word::Deliver);
     }
-    if is(name, "gossipinfo") {
+    if is_word(name, "gossipinfo") {
         return Some(Word::Gossipinfo);
     }
-    if is(name, "ring") {
+    if is_word(name, "ring") {
         return Some(Word::Ring);
     }
-    if is(name, "digests") {
+    if is_word(name, "digests") {
         return Some(Word::Digests);
     }
-    if is(name, "replicas") {
+    if is_word(name, "replicas") {
         return Some(Word::Replicas);
     }
     None

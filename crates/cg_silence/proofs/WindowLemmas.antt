@@ -8,7 +8,7 @@ use Rattle.std.proofs.lemmas.Nat.{mul-le}
 use Rattle.circular_buffer.specs.Buffer.{keep_last}
 use Rattle.cg_silence.specs.declared.limits.TheConstants.{WINDOW_LIMIT, GAP_LIMIT}
 use Rattle.cg_silence.specs.Values.{SilenceValue, Shown, WindowValue, IsWindow}
-use Rattle.cg_silence.specs.Silence.{gap, latest, greatest_arrival, gaps_of, is_recorded, shown, heard, Shows}
+use Rattle.cg_silence.specs.Silence.{gap, latest, greatest_arrival, gaps_of, is_recorded, window_of_all, after_arrival, Shows}
 
 -- the last of a list's last, with one more behind
 keep_last-push : (n : ℕ) (xs : List ℕ) (x : ℕ) → keep_last n (keep_last n xs ++ x ∷ []) ≡ keep_last n (xs ++ x ∷ [])
@@ -32,13 +32,13 @@ recorded-push true n xs g = sym (keep_last-push n xs g)
 recorded-push false n xs g = ap (keep_last n) (append-nil xs)
 
 -- one more arrival, by the definition
-pub shown-push : (s : SilenceValue) (arrivals : List ℕ) (now : ℕ) → shown s (arrivals ++ now ∷ []) ≡ heard s (Some (shown s arrivals)) now
+pub shown-push : (s : SilenceValue) (arrivals : List ℕ) (now : ℕ) → window_of_all s (arrivals ++ now ∷ []) ≡ after_arrival s (Some (window_of_all s arrivals)) now
 shown-push s arrivals now =
     rw (gaps_of-push s None arrivals now, greatest_arrival-push None arrivals now, filter-append (is_recorded s) (gaps_of s None arrivals) (gap s (greatest_arrival None arrivals) now ∷ []))
     (ap (λ (gaps : List ℕ). let w : Shown = record { gaps = gaps; last = Some (latest (greatest_arrival None arrivals) now) } in w) (recorded-push (is_recorded s (gap s (greatest_arrival None arrivals) now)) s.window (filter (is_recorded s) (gaps_of s None arrivals)) (gap s (greatest_arrival None arrivals) now)))
 
 -- a window that has heard of one more arrival shows it too
-pub Shows-heard : (w v : WindowValue) (now : ℕ) → v ≡ record w { shown = heard w.silence (Some w.shown) now } → (arrivals : List ℕ) → Shows w arrivals → Shows v (arrivals ++ now ∷ [])
+pub Shows-heard : (w v : WindowValue) (now : ℕ) → v ≡ record w { shown = after_arrival w.silence (Some w.shown) now } → (arrivals : List ℕ) → Shows w arrivals → Shows v (arrivals ++ now ∷ [])
 Shows-heard w v now step arrivals is = rw step (rw is (sym (shown-push w.silence arrivals now)))
 
 -- The sum of the gaps kept is far below 2 ^ 64.

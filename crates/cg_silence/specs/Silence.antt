@@ -31,15 +31,15 @@ abbrev pub is_recorded : SilenceValue → ℕ → Bool
 is_recorded s g = nat_le g s.max_gap
 
 -- of these arrivals: the last of the recorded gaps, and the greatest arrival
-abbrev pub shown : SilenceValue → List ℕ → Shown
-shown s arrivals = record {
+abbrev pub window_of_all : SilenceValue → List ℕ → Shown
+window_of_all s arrivals = record {
   gaps = keep_last s.window (filter (is_recorded s) (gaps_of s None arrivals));
   last = greatest_arrival None arrivals;
 }
 
 -- the window shows what is to be shown of these arrivals
 abbrev pub Shows : WindowValue → List ℕ → Type 0
-Shows w arrivals = w.shown ≡ shown w.silence arrivals
+Shows w arrivals = w.shown ≡ window_of_all w.silence arrivals
 
 -- the gaps kept after one more
 abbrev pub with_gap : SilenceValue → List ℕ → ℕ → List ℕ
@@ -50,9 +50,9 @@ abbrev pub heard_after : SilenceValue → Shown → ℕ → Shown
 heard_after s w now = record { gaps = with_gap s w.gaps (gap s w.last now); last = Some (latest w.last now) }
 
 -- what a window shows after one more arrival; where there is none yet, a new one is taken
-abbrev pub heard : SilenceValue → Option Shown → ℕ → Shown
-heard s None now = heard_after s (shown s []) now
-heard s (Some w) now = heard_after s w now
+abbrev pub after_arrival : SilenceValue → Option Shown → ℕ → Shown
+after_arrival s None now = heard_after s (window_of_all s []) now
+after_arrival s (Some w) now = heard_after s w now
 
 -- whether the time without an arrival is more than threshold thousandths of the mean gap
 abbrev pub is_over : ℕ → ℕ → ℕ → ℕ → Bool

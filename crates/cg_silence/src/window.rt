@@ -2,7 +2,7 @@
 
 ghost use Rattle.std.specs.Prelude.{◌≡◌, ◌+◌, ◌*◌, ◌<◌, ◌≤◌, ◌^◌, ℕ, List, [], ◌∷◌, ◌++◌, length, sum, IfOk, Some};
 ghost use Rattle.circular_buffer.specs.Buffer.{buffer, keep_last};
-ghost use Rattle.cg_silence.specs.Silence.{Shows, heard, gap as gap_of, latest as latest_of, verdict, is_over as is_over_of};
+ghost use Rattle.cg_silence.specs.Silence.{Shows, after_arrival, gap as gap_of, latest as latest_of, verdict, is_over as is_over_of};
 
 use crate::limits::THRESHOLD_UNIT;
 use crate::silence::Silence;
@@ -95,7 +95,7 @@ impl Window {
     /// Something of the endpoint arrived. A moment before the last arrival counts as no elapsed time. It takes no
     /// memory.
     pub fn arrived(&mut self, now: u64)
-        ensures step { self.new ≡ record self.old { shown = heard self.old.silence (Some self.old.shown) now } }
+        ensures step { self.new ≡ record self.old { shown = after_arrival self.old.silence (Some self.old.shown) now } }
         // Whatever the arrivals so far, it now shows what is to be shown of them and this one.
         ensures every { (arrivals : List ℕ) → Shows self.old arrivals → Shows self.new (arrivals ++ now ∷ []) }
     {

@@ -1,4 +1,3 @@
-pub mod LineLemmas
 pub mod TextLemmas
 pub mod ToldLemmas
 pub mod TellingLemmas

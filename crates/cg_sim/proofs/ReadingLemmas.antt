@@ -11,11 +11,11 @@ use Rattle.cg_links.specs.Counted.{calls_of, KeepsCounts, CountsCalls, CountsFai
 use Rattle.cg_links.specs.declared.transfer.TheConstants.{MOST_READS}
 use Rattle.cg_links.proofs.Counts.{KeepsCounts-trans}
 use Rattle.cg_sim.specs.declared.play.Play.{Play}
-use Rattle.cg_sim.specs.Lines.{ended_lines, open_line, last_line}
+use Rattle.cg_lines.specs.Lines.{ended_lines, open_line, last_line}
 use Rattle.cg_sim.specs.Script.{first_play, lines_text, script_text}
 use Rattle.cg_sim.specs.Told.{AreTold, IsUntold, RunsOut, BreaksOff}
 use Rattle.cg_sim.specs.Simulated.{IsPlayed, Stops, BreaksLast, IsUnread, Fails}
-use Rattle.cg_sim.proofs.LineLemmas.{ended_lines-append, open_line-append}
+use Rattle.cg_lines.proofs.LineLemmas.{ended_lines-append, open_line-append}
 use Rattle.cg_sim.proofs.ToldLemmas.{told_none, told_on, runs_out_on, breaks_off_on, untold}
 
 -- so many calls were made

@@ -7,9 +7,9 @@ use Rattle.cg_types.specs.declared.fault.Fault.TheVariants.{OutOfMemory}
 use Rattle.cg_types.specs.Words.{cut_at}
 use Rattle.cg_links.specs.declared.counted.Counted.{Counted}
 use Rattle.cg_sim.specs.declared.play.Play.{Play}
-use Rattle.cg_sim.specs.Lines.{ended_lines, open_line}
+use Rattle.cg_lines.specs.Lines.{ended_lines, open_line}
 use Rattle.cg_sim.specs.Told.{AreTold, IsUntold, RunsOut, BreaksOff}
-use Rattle.cg_sim.proofs.LineLemmas.{ended_some, open_some, ended_none, open_none}
+use Rattle.cg_lines.proofs.LineLemmas.{ended_some, open_some, ended_none, open_none}
 use Rattle.cg_sim.proofs.ToldLemmas.{told_none, told_on, runs_out_on, breaks_off_on, untold, breaks_off_wider}
 
 -- some lines of the piece are told, and the others stand in the rest

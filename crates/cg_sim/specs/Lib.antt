@@ -1,4 +1,3 @@
-pub mod Lines
 pub mod Script
 pub mod Told
 pub mod Simulated

@@ -4,7 +4,7 @@ ghost use Rattle.std.specs.Prelude.{◌≡◌, ◌<◌, ◌⊎◌, [], MatchResu
 ghost use Rattle.cg_links.specs.Counted.{link_of, calls_of, failed_of, idle_of};
 ghost use Rattle.cg_types.specs.declared.fault.Fault.TheVariants as fault;
 ghost use Rattle.cg_types.specs.Fault.{fault_text};
-ghost use Rattle.cg_sim.specs.Lines.{last_line};
+ghost use Rattle.cg_lines.specs.Lines.{last_line};
 ghost use Rattle.cg_sim.specs.Script.{first_play};
 ghost use Rattle.cg_sim.specs.Told.{AreTold, IsUntold, BreaksOff};
 ghost use Rattle.cg_sim.specs.Simulated.{IsPlayed, Fails, WritesLine, Simulates, PlaysAll, SaysOutOfMemory};

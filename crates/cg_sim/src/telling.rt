@@ -4,7 +4,7 @@ ghost use Rattle.std.specs.Prelude.{◌≡◌, ◌⊎◌, ℕ, List, [], ◌∷�
 ghost use Rattle.std.specs.Io.KnownBytes.{Appends};
 ghost use Rattle.cg_types.specs.declared.fault.Fault.TheVariants as fault;
 ghost use Rattle.cg_links.specs.Counted.{link_of, KeepsCounts, CountsFailed, CountsIdle};
-ghost use Rattle.cg_sim.specs.Lines.{ended_lines, open_line};
+ghost use Rattle.cg_lines.specs.Lines.{ended_lines, open_line};
 ghost use Rattle.cg_sim.specs.Told.{AreTold, IsUntold, RunsOut, BreaksOff};
 
 use crate::play::Play;

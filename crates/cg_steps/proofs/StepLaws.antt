@@ -7,7 +7,7 @@ use Rattle.std.proofs.lemmas.Bool.Decides.{nat_tests}
 use Rattle.cg_types.specs.declared.fault.Fault.{Fault}
 use Rattle.cg_types.specs.declared.fault.Fault.TheVariants.{OtherCluster}
 use Rattle.cg_entry.specs.Values.{EntryValue}
-use Rattle.cg_entry.specs.Entry.{started, beaten, with_state}
+use Rattle.cg_entry.specs.Entry.{starting_entry, entry_after_beat, with_state}
 use Rattle.cg_entry.specs.History.{at_place}
 use Rattle.cg_entry.specs.Place.{Span}
 use Rattle.cg_entry.proofs.PlaceLemmas.{at_place_none}
@@ -32,7 +32,7 @@ use Rattle.cg_core.specs.declared.reply.Reply.TheVariants as reply
 use Rattle.cg_core.specs.Values.{NodeValue}
 use Rattle.cg_core.specs.Arrivals.{outcomes_in}
 use Rattle.cg_core.specs.Step.{Step, then, with_table, next_of, beating, setting, opening, round_of, after_taking, arrival_of, node_step}
-use Rattle.cg_places.specs.PlaceWorld.{PlaceWorld, Deliver, runs, with_entry, with_message, with_spans, last_entry, changed, opened, received, delivered, after_action}
+use Rattle.cg_places.specs.PlaceWorld.{PlaceWorld, Deliver, runs, with_entry, with_message, with_spans, last_entry, after_change, after_opening, after_receipt, after_delivery, after_action}
 use Rattle.cg_places.specs.Laws.{IsWorld}
 use Rattle.cg_places.specs.Spelling.{SpellsNode, IsChangedAt}
 use Rattle.cg_places.proofs.PutLemmas.{put_at_here}
@@ -55,16 +55,16 @@ done_then (Err fault) go x P so e = absurd cc
 module _ (w : PlaceWorld) (is : IsWorld w) (node : ℕ) (n : NodeValue) (p : IsPlaced w node n) where
   -- ---- the own entry
 
-  own_by : own_entry n.table ≡ unwrap_or (last_entry (w.histories node)) (started 0)
-  own_by = ap (λ k. unwrap_or (map.get n.table.entries k) (started 0)) p.own
-      ∙ ap (λ o. unwrap_or o (started 0)) (p.spells.at node ∙ ap (at_place (w.histories node)) (is.own node))
+  own_by : own_entry n.table ≡ unwrap_or (last_entry (w.histories node)) (starting_entry 0)
+  own_by = ap (λ k. unwrap_or (map.get n.table.entries k) (starting_entry 0)) p.own
+      ∙ ap (λ o. unwrap_or o (starting_entry 0)) (p.spells.at node ∙ ap (at_place (w.histories node)) (is.own node))
 
   pub own_held : last_entry (w.histories node) ≡ Some (own_entry n.table)
   own_held = go (last_entry (w.histories node)) refl
     where
       go : (o : Option EntryValue) → last_entry (w.histories node) ≡ o → last_entry (w.histories node) ≡ Some (own_entry n.table)
       go None none = absurd (let z = none_at_end (w.histories node) none in let r = p.runs_here in grind (arith, nat_tests))
-      go (Some x) some = some ∙ ap Some (sym (own_by ∙ ap (λ o. unwrap_or o (started 0)) some))
+      go (Some x) some = some ∙ ap Some (sym (own_by ∙ ap (λ o. unwrap_or o (starting_entry 0)) some))
 
   -- the node with another own entry, after that entry by places
   entry_at : (y : EntryValue) → IsChangedAt w (with_entry w node y) node (with_own y n.table).entries
@@ -74,11 +74,11 @@ module _ (w : PlaceWorld) (is : IsWorld w) (node : ℕ) (n : NodeValue) (p : IsP
   unfolding with_entry
   entry_step y answer silent quiet = record { settings = refl; own = refl; changed = entry_at y; sends = rw silent refl; told = λ owner. ap (outcome_about owner) quiet; owners = refl }
 
-  beat_step : (x : NodeValue × Reply) → node_step n event.Beat ≡ Ok x → IsStepAt w (changed w node beaten (last_entry (w.histories node))) no_spans node n x
-  beat_step x e = rw own_held (done_then (next_of n) (λ v. (beating n, reply.Done v)) x (IsStepAt w (with_entry w node (beaten (own_entry n.table))) no_spans node n)
-      (λ v due. entry_step (beaten (own_entry n.table)) (reply.Done v) refl refl) e)
+  beat_step : (x : NodeValue × Reply) → node_step n event.Beat ≡ Ok x → IsStepAt w (after_change w node entry_after_beat (last_entry (w.histories node))) no_spans node n x
+  beat_step x e = rw own_held (done_then (next_of n) (λ v. (beating n, reply.Done v)) x (IsStepAt w (with_entry w node (entry_after_beat (own_entry n.table))) no_spans node n)
+      (λ v due. entry_step (entry_after_beat (own_entry n.table)) (reply.Done v) refl refl) e)
 
-  set_step : (key : ℕ) (text : List ℕ) (x : NodeValue × Reply) → node_step n (event.Set key text) ≡ Ok x → IsStepAt w (changed w node (with_state key text) (last_entry (w.histories node))) no_spans node n x
+  set_step : (key : ℕ) (text : List ℕ) (x : NodeValue × Reply) → node_step n (event.Set key text) ≡ Ok x → IsStepAt w (after_change w node (with_state key text) (last_entry (w.histories node))) no_spans node n x
   set_step key text x e = rw own_held (done_then (next_of n) (λ v. (setting key text n, reply.Done v)) x (IsStepAt w (with_entry w node (with_state key text (own_entry n.table))) no_spans node n)
       (λ v due. entry_step (with_state key text (own_entry n.table)) (reply.Done v) refl refl) e)
 
@@ -99,21 +99,21 @@ module _ (w : PlaceWorld) (is : IsWorld w) (node : ℕ) (n : NodeValue) (p : IsP
   syn_sent : IsSent n.settings.cluster w.histories (message.Syn (opening n)) (Syn (w.places node))
   syn_sent = record { says = syn_says_places w.histories n.table n.settings.cluster (w.places node) p.spells; names = refl }
 
-  opening_step : (x : NodeValue × Reply) → node_step n event.Opening ≡ Ok x → IsStepAt w (opened w node) no_spans node n x
+  opening_step : (x : NodeValue × Reply) → node_step n event.Opening ≡ Ok x → IsStepAt w (after_opening w node) no_spans node n x
   opening_step x e =
       let same : (n, reply.Sent (message.Syn (opening n))) ≡ x = cc in
       rw p.runs_here (subst (IsStepAt w (with_message w (Syn (w.places node))) no_spans node n) same (message_step (message.Syn (opening n)) (Syn (w.places node)) syn_sent))
 
-  syn_step : (number : ℕ) (syn : SynValue) (theirs : ℕ → ℕ) → Says w.histories (message.Syn syn) (Syn theirs) → (x : NodeValue × Reply) → node_step n (event.Syn syn) ≡ Ok x → IsStepAt w (received w node (Syn theirs)) no_spans node n x
+  syn_step : (number : ℕ) (syn : SynValue) (theirs : ℕ → ℕ) → Says w.histories (message.Syn syn) (Syn theirs) → (x : NodeValue × Reply) → node_step n (event.Syn syn) ≡ Ok x → IsStepAt w (after_receipt w node (Syn theirs)) no_spans node n x
   syn_step number syn theirs says x e = go (same_cluster n.settings.cluster syn.cluster) refl
     where
-      go : (b : Bool) → same_cluster n.settings.cluster syn.cluster ≡ b → IsStepAt w (received w node (Syn theirs)) no_spans node n x
+      go : (b : Bool) → same_cluster n.settings.cluster syn.cluster ≡ b → IsStepAt w (after_receipt w node (Syn theirs)) no_spans node n x
       go true same =
           let a : IsAnswered w.histories n.table n.settings.cluster syn (w.places node) theirs =
           syn_is_answered w.histories is.histories n.table n.settings.cluster syn (w.places node) theirs p.spells says same in
           let due : then {A = AckValue} (Ok a.ack) (λ ack. (n, reply.Sent (message.Ack ack))) ≡ Ok x = subst (λ (due : Result AckValue Fault). then due (λ ack. (n, reply.Sent (message.Ack ack))) ≡ Ok x) a.answer e in
           let gives : (n, reply.Sent (message.Ack a.ack)) ≡ x = cc in
-          subst (IsStepAt w (received w node (Syn theirs)) no_spans node n) gives (message_step (message.Ack a.ack) (answer_at w.histories (w.places node) theirs) (record { says = a.says; names = tt }))
+          subst (IsStepAt w (after_receipt w node (Syn theirs)) no_spans node n) gives (message_step (message.Ack a.ack) (answer_at w.histories (w.places node) theirs) (record { says = a.says; names = tt }))
       go false same = absurd (let none = rw same at e in cc)
 
   -- ---- deltas
@@ -132,7 +132,7 @@ module _ (w : PlaceWorld) (is : IsWorld w) (node : ℕ) (n : NodeValue) (p : IsP
     took_step = record { settings = refl; own = moved.own; changed = spans_at; sends = refl; told = told_here; owners = refl }
 
     both_step : (asks : ℕ → Option Ask) (ack2 : Ack2Value) → Says w.histories (message.Ack2 ack2) (Ack2 (grants_at w.histories (places_after n.table.own (w.places node) spans) asks))
-        → IsStepAt w (received w node (Ack asks spans)) spans node n (after_taking n now after outcomes, reply.Both outcomes ack2)
+        → IsStepAt w (after_receipt w node (Ack asks spans)) spans node n (after_taking n now after outcomes, reply.Both outcomes ack2)
     unfolding with_spans with_message
     both_step asks ack2 says = record {
       settings = refl;
@@ -152,19 +152,19 @@ module _ (w : PlaceWorld) (is : IsWorld w) (node : ℕ) (n : NodeValue) (p : IsP
     }
 
   ack_step : (now : ℕ) (ack : AckValue) (asks : ℕ → Option Ask) (spans : ℕ → Option Span) → Says w.histories (message.Ack ack) (Ack asks spans) → (x : NodeValue × Reply)
-      → node_step n (event.Ack now ack) ≡ Ok x → IsStepAt w (received w node (Ack asks spans)) spans node n x
-  ack_step now ack asks spans says x e = done_then (taking_ack n.table ack) (λ t. (after_taking n now t.0 t.2, reply.Both t.2 t.1)) x (IsStepAt w (received w node (Ack asks spans)) spans node n)
+      → node_step n (event.Ack now ack) ≡ Ok x → IsStepAt w (after_receipt w node (Ack asks spans)) spans node n x
+  ack_step now ack asks spans says x e = done_then (taking_ack n.table ack) (λ t. (after_taking n now t.0 t.2, reply.Both t.2 t.1)) x (IsStepAt w (after_receipt w node (Ack asks spans)) spans node n)
       (λ t due. let moves : AckMoves w.histories n.table (w.places node) asks spans t.0 t.1 t.2 =
       ack_is_taken w.histories is.histories n.table ack (w.places node) asks spans p.spells says t.0 t.1 t.2 due in
       both_step spans now t.0 t.2 moves.moved asks t.1 moves.says) e
 
   ack2_step : (now : ℕ) (ack2 : Ack2Value) (spans : ℕ → Option Span) → Says w.histories (message.Ack2 ack2) (Ack2 spans) → (x : NodeValue × Reply)
-      → node_step n (event.Ack2 now ack2) ≡ Ok x → IsStepAt w (received w node (Ack2 spans)) spans node n x
-  ack2_step now ack2 spans says x e = done_then (taking_ack2 n.table ack2) (λ t. (after_taking n now t.0 t.1, reply.Took t.1)) x (IsStepAt w (received w node (Ack2 spans)) spans node n)
+      → node_step n (event.Ack2 now ack2) ≡ Ok x → IsStepAt w (after_receipt w node (Ack2 spans)) spans node n x
+  ack2_step now ack2 spans says x e = done_then (taking_ack2 n.table ack2) (λ t. (after_taking n now t.0 t.1, reply.Took t.1)) x (IsStepAt w (after_receipt w node (Ack2 spans)) spans node n)
       (λ t due. took_step spans now t.0 t.1 (ack2_is_taken w.histories is.histories n.table ack2 (w.places node) spans p.spells says t.0 t.1 due)) e
 
   -- a message that is handed over
-  handed_step : (now : ℕ) (m : Message) (said : PlaceMessage) → Says w.histories m said → (x : NodeValue × Reply) → node_step n (arrival_of now m) ≡ Ok x → IsStepAt w (received w node said) (spans_in said) node n x
+  handed_step : (now : ℕ) (m : Message) (said : PlaceMessage) → Says w.histories m said → (x : NodeValue × Reply) → node_step n (arrival_of now m) ≡ Ok x → IsStepAt w (after_receipt w node said) (spans_in said) node n x
   handed_step now (message.Syn syn) (Syn theirs) says x e = syn_step now syn theirs says x e
   handed_step now (message.Ack ack) (Ack asks spans) says x e = ack_step now ack asks spans says x e
   handed_step now (message.Ack2 ack2) (Ack2 spans) says x e = ack2_step now ack2 spans says x e
@@ -175,19 +175,19 @@ module _ (w : PlaceWorld) (is : IsWorld w) (node : ℕ) (n : NodeValue) (p : IsP
   handed_step now (message.Ack2 ack2) (Syn places) says x e = absurd says.spells
   handed_step now (message.Ack2 ack2) (Ack asks spans) says x e = absurd says.spells
 
-  delivered_step : (number now : ℕ) (m : Message) → SaysSent w number m → (x : NodeValue × Reply) → node_step n (arrival_of now m) ≡ Ok x → IsStepAt w (delivered w node (at_place w.sent number)) (span_handed w (Deliver number node)) node n x
+  delivered_step : (number now : ℕ) (m : Message) → SaysSent w number m → (x : NodeValue × Reply) → node_step n (arrival_of now m) ≡ Ok x → IsStepAt w (after_delivery w node (at_place w.sent number)) (span_handed w (Deliver number node)) node n x
   delivered_step number now m s x e =
-      subst (λ (o : Option PlaceMessage). IsStepAt w (delivered w node o) (λ owner. option_and_then (λ said. spans_in said owner) o) node n x) (sym s.is_said)
+      subst (λ (o : Option PlaceMessage). IsStepAt w (after_delivery w node o) (λ owner. option_and_then (λ said. spans_in said owner) o) node n x) (sym s.is_said)
       (rw p.runs_here (handed_step now m s.said s.says x e))
 
 -- ---- a tick
 
 module _ (w : PlaceWorld) (is : IsWorld w) (node : ℕ) (n : NodeValue) (p : IsPlaced w node n) where
   abbrev v : PlaceWorld
-  v = with_entry w node (beaten (own_entry n.table))
+  v = with_entry w node (entry_after_beat (own_entry n.table))
 
   beaten_at : IsChangedAt w v node (beating n).table.entries
-  beaten_at = entry_at w is node n p (beaten (own_entry n.table))
+  beaten_at = entry_at w is node n p (entry_after_beat (own_entry n.table))
 
   v_runs : runs v node ≡ true
   v_runs = running_here w v node (beating n).table.entries beaten_at
@@ -207,7 +207,7 @@ module _ (w : PlaceWorld) (is : IsWorld w) (node : ℕ) (n : NodeValue) (p : IsP
     owners = refl;
   }
 
-  tick_step : (now : ℕ) (words : List ℕ) (x : NodeValue × Reply) → node_step n (event.Tick now words) ≡ Ok x → IsStepAt w (opened (changed w node beaten (last_entry (w.histories node))) node) no_spans node n x
+  tick_step : (now : ℕ) (words : List ℕ) (x : NodeValue × Reply) → node_step n (event.Tick now words) ≡ Ok x → IsStepAt w (after_opening (after_change w node entry_after_beat (last_entry (w.histories node))) node) no_spans node n x
   tick_step now words x e = rw (own_held w is node n p) (rw v_runs (done_then (next_of n) (λ version. (beating n, reply.Round (round_of (beating n) now words) (opening (beating n)))) x
       (IsStepAt w (with_message v (Syn (v.places node))) no_spans node n) (λ version due. tick_at (reply.Round (round_of (beating n) now words) (opening (beating n))) refl refl) e))
 

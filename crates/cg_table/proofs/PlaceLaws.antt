@@ -9,9 +9,9 @@ use Rattle.cg_types.specs.declared.fault.Fault.TheVariants.{TableFull}
 use Rattle.cg_entry.specs.declared.entry.Absorbed.{Absorbed}
 use Rattle.cg_entry.specs.declared.entry.Absorbed.TheVariants as absorbed
 use Rattle.cg_entry.specs.Values.{EntryValue, DeltaValue}
-use Rattle.cg_entry.specs.Taking.{met, entry_after}
+use Rattle.cg_entry.specs.Taking.{meeting, entry_after}
 use Rattle.cg_entry.specs.History.{IsHistory, at_place}
-use Rattle.cg_entry.specs.Place.{Span, IsSpan, SpanOutcome, taking, place_after}
+use Rattle.cg_entry.specs.Place.{Span, IsSpan, SpanOutcome, span_outcome, place_after}
 use Rattle.cg_entry.specs.Place as place
 use Rattle.cg_entry.specs.Spelling.{delta_of, absorbed_of}
 use Rattle.cg_entry.proofs.PlaceLemmas.{at_place_some}
@@ -47,18 +47,18 @@ module _ (t : TableValue) (q : ℕ) (h : List EntryValue) (is : IsHistory h) (p 
   took_by y ey place.Old = refl
   took_by y ey place.Gap = refl
 
-  changed_by : (own : Bool) → held_with (cond own (None, took.Own) (change_by q (met (get t.entries q) d))).0 (get t.entries q) ≡ at_place h (cond own p (place_after (taking p span) p span))
+  changed_by : (own : Bool) → held_with (cond own (None, took.Own) (change_by q (meeting (get t.entries q) d))).0 (get t.entries q) ≡ at_place h (cond own p (place_after (span_outcome p span) p span))
   changed_by true = held
   changed_by false =
-      held_by q (met (get t.entries q) d) (get t.entries q) ∙ ap (λ (o : Option EntryValue). entry_after o (met o d)) held
+      held_by q (meeting (get t.entries q) d) (get t.entries q) ∙ ap (λ (o : Option EntryValue). entry_after o (meeting o d)) held
       ∙ (spelled_deltas_are_taken h is span stands p lp d spells).held
 
-  outcome_by : (own : Bool) → (cond own (None, took.Own) (change_by q (met (get t.entries q) d))).1 ≡ cond own took.Own (took_of_span (taking p span))
+  outcome_by : (own : Bool) → (cond own (None, took.Own) (change_by q (meeting (get t.entries q) d))).1 ≡ cond own took.Own (took_of_span (span_outcome p span))
   outcome_by true = refl
   outcome_by false =
       let y = at_place_some h span.to (omega (arith, stands.rises)) stands.stands in
-      ap (λ (o : Option EntryValue). (change_by q (met o d)).1) held ∙ ap (λ (a : Absorbed). (change_by q a).1) (spelled_deltas_are_taken h is span stands p lp d spells).outcome
-      ∙ took_by y.0 y.1 (taking p span)
+      ap (λ (o : Option EntryValue). (change_by q (meeting o d)).1) held ∙ ap (λ (a : Absorbed). (change_by q a).1) (spelled_deltas_are_taken h is span stands p lp d spells).outcome
+      ∙ took_by y.0 y.1 (span_outcome p span)
 
   pub changed_as_its_span : IsChangedAsItsSpan t q h p span d
   changed_as_its_span = record { held = changed_by (q == t.own); outcome = outcome_by (q == t.own) }
@@ -73,7 +73,7 @@ place_stands n p span place.Gap l s = l
 pub place_with_stands : (h : List EntryValue) (own : Bool) (p : ℕ) (o : Option Span) → p ≤ length h → ((span : Span) → o ≡ Some span → IsSpan h span) → place_with own p o ≤ length h
 place_with_stands h own p None l is = l
 place_with_stands h true p (Some span) l is = l
-place_with_stands h false p (Some span) l is = place_stands (length h) p span (taking p span) l (is span refl).stands
+place_with_stands h false p (Some span) l is = place_stands (length h) p span (span_outcome p span) l (is span refl).stands
 
 -- ---- a row that a delta changes
 
@@ -85,7 +85,7 @@ row_key_by false owner absorbed.Gap r is = absurd cc
 
 -- it is about the delta's owner
 pub row_key : (t : TableValue) (owner : ℕ) (d : DeltaValue) (r : ℕ × EntryValue) → (change_of t owner d).0 ≡ Some r → r.0 ≡ owner
-row_key t owner d r is = row_key_by (owner == t.own) owner (met (get t.entries owner) d) r is
+row_key t owner d r is = row_key_by (owner == t.own) owner (meeting (get t.entries owner) d) r is
 
 tests_same : (x k : ℕ) → eq_by_cmp nat_cmp x k ≡ (x == k)
 tests_same x k = grind (arith, nat_tests)

@@ -1,6 +1,6 @@
 -- What becomes of spans at a table, by places in owners' histories.
 use Rattle.std.specs.Prelude.{ℕ, Bool, Option, Some, None, if◌then◌else◌}
-use Rattle.cg_entry.specs.Place.{Span, SpanOutcome, taking, place_after}
+use Rattle.cg_entry.specs.Place.{Span, SpanOutcome, span_outcome, place_after}
 use Rattle.cg_entry.specs.Place as place
 use Rattle.cg_table.specs.declared.took.Took.{Took}
 use Rattle.cg_table.specs.declared.took.Took.TheVariants as took
@@ -13,9 +13,9 @@ took_of_span place.Gap = took.Gap
 
 -- what becomes of a span about an owner, which may be the holder itself
 abbrev pub took_for : Bool → ℕ → Span → Took
-took_for own place span = if own then took.Own else took_of_span (taking place span)
+took_for own place span = if own then took.Own else took_of_span (span_outcome place span)
 
 -- where a holder is after a span about an owner, if it got one; about itself none moves it
 abbrev pub place_with : Bool → ℕ → Option Span → ℕ
 place_with own place None = place
-place_with own place (Some span) = if own then place else place_after (taking place span) place span
+place_with own place (Some span) = if own then place else place_after (span_outcome place span) place span

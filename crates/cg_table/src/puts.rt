@@ -1,11 +1,11 @@
 //! Owners with whole new entries, which lead from a table to a later one.
 
-ghost use Rattle.std.specs.Prelude.{◌≡◌, ◌∷◌, [], IfOk, option_copied};
+ghost use Rattle.std.specs.Prelude.{◌≡◌, ◌↔◌, ◌∷◌, [], IsTrue, IfOk, option_copied};
 ghost use Rattle.cg_types.specs.Rising.{Rises};
 ghost use Rattle.cg_map.specs.Rows.{keys_of};
 ghost use Rattle.cg_table.specs.Puts.{rows_at};
 
-use crate::table::Table;
+use crate::table::{Table, are_same_rows};
 use cg_entry::Entry;
 use cg_map::{Row, push_some};
 use cg_types::Endpoint;
@@ -32,6 +32,29 @@ impl Model for Puts {
     ghost view = { λ p. p.rows.items };
 
     ghost invariant = { λ p. Rises (keys_of p.rows.items) };
+}
+
+impl PartialEq for Puts {
+    ghost use Rattle.cg_table.specs.Puts.{puts_code};
+    ghost use Rattle.cg_types.specs.Equality.{same_by, same_by-partial};
+
+    ghost eq = { same_by puts_code };
+
+    ghost laws = { same_by-partial puts_code };
+
+    /// Whether both put the same entries for the same owners, shared or not.
+    fn eq(&self, other: &Puts) -> bool
+        ensures { IsTrue result ↔ (self.now ≡ other.now) }
+    {
+        are_same_rows(self.rows(), other.rows())
+    }
+}
+
+impl Eq for Puts {
+    ghost use Rattle.cg_table.specs.Puts.{puts_code};
+    ghost use Rattle.cg_types.specs.Equality.{same_by-laws};
+
+    ghost laws = { same_by-laws puts_code };
 }
 
 // A row, if there is one, with no copy of its entry.

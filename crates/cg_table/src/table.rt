@@ -62,7 +62,7 @@ fn is_ahead(held: Option<&Entry>, theirs: &Entry) -> bool
 }
 
 // Whether both are the same rows.
-fn are_same_rows(ours: &[Row<Entry>], theirs: &[Row<Entry>]) -> bool
+pub(crate) fn are_same_rows(ours: &[Row<Entry>], theirs: &[Row<Entry>]) -> bool
     ensures { IsTrue result ↔ (ours.now ≡ theirs.now) }
 {
     if ours.len() != theirs.len() {

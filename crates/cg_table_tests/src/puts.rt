@@ -37,3 +37,32 @@ fn one_put_is_shown_and_copied(rt: HostRuntime) -> Result<(), Fail> {
 fn no_puts_have_no_rows(rt: HostRuntime) {
     assert_eq!(rt; seen(&Puts::none(rt.alloc())), (0, None));
 }
+
+// Whether two puts of one owner are the same, whose entries stand apart in memory: with these generations and
+// heartbeats, and for these owners.
+fn are_same(alloc: Global, one: (u16, u32, u32), other: (u16, u32, u32)) -> Result<bool, Fail> {
+    let ours = Puts::one(alloc, endpoint(one.0), bare_entry(alloc, one.1, one.2)?)?;
+    let theirs = Puts::one(
+        alloc,
+        endpoint(other.0),
+        bare_entry(alloc, other.1, other.2)?,
+    )?;
+    Ok(ours == theirs)
+}
+
+#[test]
+fn puts_of_equal_entries_are_the_same(rt: HostRuntime) -> Result<(), Fail> {
+    assert_eq!(rt; are_same(rt.alloc(), (1, 9, 3), (1, 9, 3))?, true);
+    Ok(())
+}
+
+#[test]
+fn puts_of_another_owner_or_entry_are_not_the_same(rt: HostRuntime) -> Result<(), Fail> {
+    let alloc = rt.alloc();
+    let put = (1, 9, 3);
+    let owner = are_same(alloc, put, (2, 9, 3))?;
+    let generation = are_same(alloc, put, (1, 8, 3))?;
+    let heartbeat = are_same(alloc, put, (1, 9, 4))?;
+    assert_eq!(rt; (owner, generation, heartbeat), (false, false, false));
+    Ok(())
+}

@@ -19,7 +19,7 @@ use Rattle.cg_types.specs.Rising.{Rises, rise_past, is_past}
 use Rattle.cg_types.proofs.RisingLemmas.{both, get_rising, same_tied}
 use Rattle.cg_map.specs.Rows.{keys_of}
 use Rattle.cg_tokens.specs.declared.claims.Claim.{Claim}
-use Rattle.cg_tokens.specs.Claims.{beats, wins, position, rank, is_last, heads}
+use Rattle.cg_tokens.specs.Claims.{beats, wins, position, rank, is_last, first_claims}
 
 -- ---- ranks
 
@@ -90,11 +90,11 @@ heads_rise_by : (b : Bool) (last : Option ℕ) (c : Claim) (same next : List (�
 heads_rise_by true last c same next e le h g = h
 heads_rise_by false last c same next e le h g = both (is_past last c.token) (rise_past (Some c.token) (keys_of next)) (past_by last c le e) g
 
-heads_rise : (last : Option ℕ) (cs : List Claim) → InOrder cs → All (IsAtLeast last) cs → rise_past last (keys_of (heads last cs)) ≡ true
+heads_rise : (last : Option ℕ) (cs : List Claim) → InOrder cs → All (IsAtLeast last) cs → rise_past last (keys_of (first_claims last cs)) ≡ true
 heads_rise last [] h le = refl
 heads_rise last (c ∷ cs) h le =
     let rest = in_order-tail c cs h in
-    heads_rise_by (is_last last c.token) last c (heads last cs) (heads (Some c.token) cs) refl (All-head (IsAtLeast last) c cs le)
+    heads_rise_by (is_last last c.token) last c (first_claims last cs) (first_claims (Some c.token) cs) refl (All-head (IsAtLeast last) c cs le)
     (heads_rise last cs rest (All-tail (IsAtLeast last) c cs le)) (heads_rise (Some c.token) cs rest (tokens_after c cs h))
 
 -- ---- what the heads have at a token
@@ -118,10 +118,10 @@ found_by : (b : Bool) (last : Option ℕ) (t : ℕ) (c : Claim) (same next rest 
 found_by true last t c same next rest e other h g = rw (at_last last t c.token e other) h
 found_by false last t c same next rest e other h g = other_found (eq_by_cmp nat_cmp t c.token) t c next rest refl g
 
-found-heads : (last : Option ℕ) (t : ℕ) (cs : List Claim) → is_last last t ≡ false → found t (heads last cs) ≡ found t (map position cs)
+found-heads : (last : Option ℕ) (t : ℕ) (cs : List Claim) → is_last last t ≡ false → found t (first_claims last cs) ≡ found t (map position cs)
 found-heads last t [] other = refl
 found-heads last t (c ∷ cs) other =
-    found_by (is_last last c.token) last t c (heads last cs) (heads (Some c.token) cs) (map position cs) refl other (found-heads last t cs other) (found-heads (Some c.token) t cs)
+    found_by (is_last last c.token) last t c (first_claims last cs) (first_claims (Some c.token) cs) (map position cs) refl other (found-heads last t cs other) (found-heads (Some c.token) t cs)
 
 -- ---- who wins
 
@@ -248,12 +248,12 @@ module _ (cs sorted : List Claim) (moved : IsPermutation cs sorted) (h : InOrder
       ap Some (sym g.endpoint ∙ one_endpoint g.claim k.claim over under ∙ k.endpoint)
 
 module _ (cs sorted : List Claim) (moved : IsPermutation cs sorted) (up : IsSorted rank sorted) where
-  pub heads_valid : Rises (keys_of (heads None sorted))
+  pub heads_valid : Rises (keys_of (first_claims None sorted))
   heads_valid = heads_rise None sorted (in_order sorted up) (λ k d lt. tt)
 
   -- the heads of sorted claims are the winners
-  pub heads_winners : from_sorted {R = nat_cmp} (heads None sorted) ≡ from_entries {R = nat_cmp} (map position (filter (wins cs) cs))
+  pub heads_winners : from_sorted {R = nat_cmp} (first_claims None sorted) ≡ from_entries {R = nat_cmp} (map position (filter (wins cs) cs))
   heads_winners = same_map nat_cmp_total nat_cmp-IsAntisymmetric _ _ (λ t.
-      get_rising (heads None sorted) t heads_valid ∙ found-heads None t sorted refl
+      get_rising (first_claims None sorted) t heads_valid ∙ found-heads None t sorted refl
       ∙ agree cs sorted moved (in_order sorted up) t (found t (map position sorted)) (found t (map position (filter (wins cs) cs))) refl refl
       ∙ sym (get-from_entries nat_cmp_total (map position (filter (wins cs) cs)) t))

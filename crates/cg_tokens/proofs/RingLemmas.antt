@@ -12,7 +12,7 @@ use Rattle.std.proofs.lemmas.Bool.Decides.{nat_tests}
 use Rattle.cg_types.specs.Rising.{Rises, is_among}
 use Rattle.cg_map.specs.Rows.{keys_of}
 use Rattle.cg_map.proofs.RowLemmas.{keys_lt, filter_none, filter_every}
-use Rattle.cg_tokens.specs.Ring.{taking, with_one, firsts, endpoints, walk, replicas}
+use Rattle.cg_tokens.specs.Ring.{firsts_until, with_one, firsts, endpoints, walk, replicas}
 
 -- ---- around a token
 
@@ -47,15 +47,15 @@ not_before token n = grind (arith, nat_tests)
 
 -- ---- replicas
 
-taking_full : (rf : ℕ) (taken es : List ℕ) → nat_le rf (length taken) ≡ true → taking rf taken es ≡ taken
+taking_full : (rf : ℕ) (taken es : List ℕ) → nat_le rf (length taken) ≡ true → firsts_until rf taken es ≡ taken
 taking_full rf taken [] full = refl
 taking_full rf taken (e ∷ es) full = rw full refl
 
-appended : (b : Bool) (rf : ℕ) (taken more xs ys : List ℕ) → nat_le rf (length taken) ≡ b → taking rf (taking rf more xs) ys ≡ taking rf more (xs ++ ys) → taking rf (cond b taken (taking rf more xs)) ys ≡ cond b taken (taking rf more (xs ++ ys))
+appended : (b : Bool) (rf : ℕ) (taken more xs ys : List ℕ) → nat_le rf (length taken) ≡ b → firsts_until rf (firsts_until rf more xs) ys ≡ firsts_until rf more (xs ++ ys) → firsts_until rf (cond b taken (firsts_until rf more xs)) ys ≡ cond b taken (firsts_until rf more (xs ++ ys))
 appended true rf taken more xs ys full h = taking_full rf taken ys full
 appended false rf taken more xs ys room h = h
 
-pub taking-append : (rf : ℕ) (taken xs ys : List ℕ) → taking rf (taking rf taken xs) ys ≡ taking rf taken (xs ++ ys)
+pub taking-append : (rf : ℕ) (taken xs ys : List ℕ) → firsts_until rf (firsts_until rf taken xs) ys ≡ firsts_until rf taken (xs ++ ys)
 taking-append rf taken [] ys = refl
 taking-append rf taken (x ∷ xs) ys = appended (nat_le rf (length taken)) rf taken (with_one taken x) xs ys refl (taking-append rf (with_one taken x) xs ys)
 
@@ -118,16 +118,16 @@ taking_by : (b : Bool) (rf e : ℕ) (taken es rest : List ℕ) → nat_le rf (le
 taking_by true rf e taken es rest full h = nothing_further rf taken (e ∷ es) (leb-true rf (length taken) full)
 taking_by false rf e taken es rest room h = h ∙ step_by (is_among taken e) rf e taken es (leb-false rf (length taken) room) refl
 
-taking-further : (rf : ℕ) (taken es : List ℕ) → taking rf taken es ≡ further rf taken es
+taking-further : (rf : ℕ) (taken es : List ℕ) → firsts_until rf taken es ≡ further rf taken es
 taking-further rf taken [] = rw (take-nil (rf - length taken)) (sym (append-nil taken))
-taking-further rf taken (e ∷ es) = taking_by (nat_le rf (length taken)) rf e taken es (taking rf (with_one taken e) es) refl (taking-further rf (with_one taken e) es)
+taking-further rf taken (e ∷ es) = taking_by (nat_le rf (length taken)) rf e taken es (firsts_until rf (with_one taken e) es) refl (taking-further rf (with_one taken e) es)
 
 -- what is taken, from nothing on, is the first of each
-pub taking-firsts : (rf : ℕ) (es : List ℕ) → taking rf [] es ≡ take rf (firsts es)
+pub taking-firsts : (rf : ℕ) (es : List ℕ) → firsts_until rf [] es ≡ take rf (firsts es)
 taking-firsts rf es = let whole : rf - 0 ≡ rf = omega arith in taking-further rf [] es ∙ rw (whole, filter-all) refl
 
 -- what is taken from a token on, and then from before it
 pub taken_around : (rf token : ℕ) (positions from before : List (ℕ × ℕ)) → from ≡ filter (λ p. nat_le token p.0) positions → before ≡ filter (λ p. nat_lt p.0 token) positions
-    → taking rf (taking rf [] (endpoints from)) (endpoints before) ≡ replicas positions token rf
+    → firsts_until rf (firsts_until rf [] (endpoints from)) (endpoints before) ≡ replicas positions token rf
 taken_around rf token positions from before later earlier =
     rw (later, earlier) (taking-append rf [] (endpoints (filter (λ p. nat_le token p.0) positions)) (endpoints (filter (λ p. nat_lt p.0 token) positions)) ∙ taking-firsts rf (walk positions token))

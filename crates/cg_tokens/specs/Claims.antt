@@ -77,6 +77,7 @@ is_last None t = false
 is_last (Some u) t = u == t
 
 -- the first claim of each run of claims to one token
-abbrev pub heads : Option ℕ → List Claim → List (ℕ × ℕ)
-heads last [] = []
-heads last (c ∷ cs) = if is_last last c.token then heads last cs else position c ∷ heads (Some c.token) cs
+abbrev pub first_claims : Option ℕ → List Claim → List (ℕ × ℕ)
+first_claims last [] = []
+first_claims last (c ∷ cs) =
+    if is_last last c.token then first_claims last cs else position c ∷ first_claims (Some c.token) cs

@@ -39,6 +39,6 @@ abbrev pub with_one : List ℕ → ℕ → List ℕ
 with_one taken e = if is_among taken e then taken else taken ++ e ∷ []
 
 -- what is taken after some more endpoints, where rf are enough
-abbrev pub taking : ℕ → List ℕ → List ℕ → List ℕ
-taking rf taken [] = taken
-taking rf taken (e ∷ es) = if nat_le rf (length taken) then taken else taking rf (with_one taken e) es
+abbrev pub firsts_until : ℕ → List ℕ → List ℕ → List ℕ
+firsts_until rf taken [] = taken
+firsts_until rf taken (e ∷ es) = if nat_le rf (length taken) then taken else firsts_until rf (with_one taken e) es

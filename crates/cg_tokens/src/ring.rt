@@ -4,8 +4,8 @@ ghost use Rattle.std.specs.Prelude.{◌≡◌, ◌≤◌, IfOk, OnOk, None, filt
 ghost use Rattle.std.specs.FinMap as map;
 ghost use Rattle.cg_types.specs.Rising.{Rises};
 ghost use Rattle.cg_map.specs.Rows.{keys_of};
-ghost use Rattle.cg_tokens.specs.Claims.{heads};
-ghost use Rattle.cg_tokens.specs.Ring.{ring, replicas, taking, with_one, endpoints};
+ghost use Rattle.cg_tokens.specs.Claims.{first_claims};
+ghost use Rattle.cg_tokens.specs.Ring.{ring, replicas, firsts_until, with_one, endpoints};
 
 use crate::claims::{Claim, all_claims, ranked};
 use crate::token::Token;
@@ -41,7 +41,7 @@ impl Model for Ring {
 
 // The first claim of each token, where the claims are in the order of their tokens.
 fn heads(alloc: Global, claims: &[Claim]) -> Result<Vec<(Token, Endpoint)>, AllocError>
-    ensures { IfOk result (λ positions. positions.items ≡ heads None claims.now) }
+    ensures { IfOk result (λ positions. positions.items ≡ first_claims None claims.now) }
 {
     let mut positions = Vec::with_capacity(alloc, claims.len())?;
     let mut last: Option<Token> = None;
@@ -80,7 +80,7 @@ fn take_endpoints(
     positions: &[(Token, Endpoint)],
     rf: usize,
 ) -> Result<(), AllocError>
-    ensures { OnOk result (taken.new.items ≡ taking rf taken.old.items (endpoints positions.now)) }
+    ensures { OnOk result (taken.new.items ≡ firsts_until rf taken.old.items (endpoints positions.now)) }
 {
     for (_, endpoint) in positions {
         if taken.len() >= rf {

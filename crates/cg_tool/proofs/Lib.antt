@@ -1,2 +1,1 @@
-pub mod ClusterLemmas
 pub mod Honest

@@ -1,19 +1,13 @@
 -- What the input of `answer` asks: a line with the node, and a line with a frame in hexadecimal digits.
-use Rattle.std.specs.Prelude.{◌≡◌, ℕ, ◌⊎◌, ◌==◌, if◌then◌else◌, List, length, Option, Some, None, Result, Ok, Err, MatchResult}
+use Rattle.std.specs.Prelude.{ℕ, ◌==◌, if◌then◌else◌, List, length, Option, Some, None}
 use Rattle.hex.specs.Hex.{decode_of}
-use Rattle.cg_types.specs.declared.fault.Fault.{Fault}
-use Rattle.cg_types.specs.declared.fault.Fault.TheVariants as fault
 use Rattle.cg_types.specs.declared.limits.TheConstants.{PARTITIONER}
 use Rattle.cg_types.specs.Words.{cut_at, generation_in}
 use Rattle.cg_types.specs.OptionSteps.{◌>>=◌}
 use Rattle.cg_types.specs.EndpointText.{endpoint_in}
 use Rattle.cg_types.specs.Text.{cluster_of}
+use Rattle.cg_script.specs.Gives.{readable}
 use Rattle.cg_tool.specs.declared.request.Header.{Header}
-
--- a value, or nothing where it is refused
-abbrev pub readable : {A E : Type 0} → Result A E → Option A
-readable (Ok x) = Some x
-readable (Err e) = None
 
 -- a node's endpoint, its generation and the name of its cluster, with single spaces
 unfoldable pub header_in : List ℕ → Option Header
@@ -42,8 +36,3 @@ request_in input = do
   digits ← last_line lines.1
   frame ← readable (decode_of digits)
   Some (header, frame)
-
--- It is read where it can be, and else refused as BadText; memory may run out before that.
-abbrev pub Finds : {X Y : Type 0} → (X → Y) → Result X Fault → Option Y → Type 0
-Finds view r due =
-    MatchResult r (λ x. due ≡ Some (view x)) (λ f. (f ≡ fault.OutOfMemory) ⊎ ((f ≡ fault.BadText) × (due ≡ None)))

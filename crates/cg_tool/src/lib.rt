@@ -7,6 +7,7 @@ mod request;
 mod running;
 
 pub use answering::answer;
-pub use cg_command::{Job, job_of};
+pub use cg_auditing::audit_files;
+pub use cg_command::{Job, Subcommand, job_of};
 pub use cg_sim::sim;
 pub use running::run;

@@ -1,12 +1,15 @@
 //! A run of the program: its words, its streams and its status.
 
 use crate::answering::answer;
-use cg_command::{Error, ErrorKind, Job, job_of};
+use cg_auditing::{Journals, Unread, write_report, write_unread};
+use cg_command::{Error, ErrorKind, Job, Subcommand, job_of};
 use cg_links::Counted;
 use cg_sim::sim;
+use cg_types::Fault;
 use std::alloc::{AllocError, Global};
-use std::io;
 use std::io::{Eprint, Input, Print};
+use std::rt::Files;
+use std::{fs, io};
 
 // The status after a fault that ended the work, and after one of the command line.
 const FAILED: u8 = 1;
@@ -36,13 +39,55 @@ fn told<R: Print + Eprint>(rt: &R, error: &Error) -> u8 {
     if error.use_stderr() { MISUSED } else { 0 }
 }
 
-// Does a job over the standard streams.
-fn done<R: Input + Print>(rt: &R, alloc: Global, job: Job) -> u8 {
+// Reads the journal of a file, if it can be opened.
+fn read<R: Files>(
+    rt: &R,
+    alloc: Global,
+    journals: &mut Journals,
+    file: &str,
+) -> Result<(), Unread> {
+    match fs::open(rt, file) {
+        Ok(link) => journals.read(alloc, &mut Counted::new(link)),
+        Err(_) => Err(Unread {
+            line: 0,
+            fault: Fault::ReadFault,
+        }),
+    }
+}
+
+// Tells on standard error where a journal can't be read.
+fn tell_place<R: Eprint>(rt: &R, file: &str, unread: Unread) {
+    let Unread { line, fault } = unread;
+    let _ = match line {
+        0 => eprintln!(rt; "cg audit: {file}: {fault}"),
+        _ => eprintln!(rt; "cg audit: {file}: journal line {line}: {fault}"),
+    };
+}
+
+// Reads one journal from each file, and writes whether they are one run.
+fn audit<R: Print + Eprint + Files>(rt: &R, alloc: Global, files: &[&str]) -> u8 {
+    let mut writer = Counted::new(io::writer(rt));
+    let mut journals = Journals::new(alloc);
+    for file in files {
+        match read(rt, alloc, &mut journals, file) {
+            Ok(()) => {}
+            Err(unread) => {
+                tell_place(rt, file, unread);
+                return write_unread(alloc, unread.fault, &mut writer);
+            }
+        }
+    }
+    write_report(alloc, journals, &mut writer)
+}
+
+// Does a job over the standard streams, and over files.
+fn done<R: Input + Print + Eprint + Files>(rt: &R, alloc: Global, job: &Job) -> u8 {
     let mut reader = Counted::new(rt.reader());
     let mut writer = Counted::new(io::writer(rt));
-    match job {
-        Job::Answer => answer(alloc, &mut reader, &mut writer),
-        Job::Sim => sim(alloc, &mut reader, &mut writer),
+    match job.subcommand {
+        Subcommand::Answer => answer(alloc, &mut reader, &mut writer),
+        Subcommand::Sim => sim(alloc, &mut reader, &mut writer),
+        Subcommand::Audit => audit(rt, alloc, job.files.as_slice()),
     }
 }
 
@@ -56,21 +101,25 @@ fn unread<R: Print + Eprint>(rt: &R, error: &io::Error) -> u8 {
 }
 
 // Does what the words ask for, and tells the status.
-fn ran<R: Input + Print + Eprint>(rt: &R, alloc: Global, words: &[String]) -> u8 {
+fn ran<R: Input + Print + Eprint + Files>(rt: &R, alloc: Global, words: &[String]) -> u8 {
     let Ok(words) = texts(alloc, words) else {
         return out_of_memory(rt);
     };
     match job_of(alloc, words.as_slice()) {
-        Ok(job) => done(rt, alloc, job),
+        Ok(job) => done(rt, alloc, &job),
         Err(error) => told(rt, &error),
     }
 }
 
-/// Does what the words ask for, of which the first is the program's name, over the standard streams, and answers the
-/// exit status. With no further words that is `answer`. Help and the version go to standard output, with status 0; a
+/// Does what the words ask for, of which the first is the program's name, over the standard streams and the files that
+/// are named, and answers the exit status. With no further words that is `answer`. Help and the version go to standard output, with status 0; a
 /// fault of the command line goes to standard error, with status 2, as does a word that is not UTF-8. Want of memory
 /// before the work begins is the line `fault 1 OutOfMemory`, with status 1.
-pub fn run<R: Input + Print + Eprint>(rt: &R, alloc: Global, words: io::Result<Vec<String>>) -> u8 {
+pub fn run<R: Input + Print + Eprint + Files>(
+    rt: &R,
+    alloc: Global,
+    words: io::Result<Vec<String>>,
+) -> u8 {
     match words {
         Ok(words) => ran(rt, alloc, words.as_slice()),
         Err(error) => unread(rt, &error),

@@ -8,7 +8,7 @@ use Rattle.std.proofs.lemmas.Grind.{common_steps}
 use Rattle.std.proofs.lemmas.Option.{same_Some}
 use Rattle.cg_types.specs.Words.{cut_at, with_first, number_of}
 use Rattle.cg_types.specs.Numbers.{IsEndpoint, address_of, port_of}
-use Rattle.cg_types.specs.EndpointText.{dotted, joined, endpoint_text, endpoint_in, octet_before, port_in}
+use Rattle.cg_types.specs.EndpointText.{text_of_parts, endpoint_of_parts, endpoint_text, endpoint_in, octet_before, port_in}
 use Rattle.cg_types.specs.OptionSteps.{◌>>=◌}
 use Rattle.cg_types.proofs.WordLemmas.{number_of-some, number_of-decimal, digits_of_decimal}
 
@@ -91,21 +91,21 @@ pub record Parted (a b c d port : ℕ) (e : ℕ) : Type 0 where
   pub fourth : address_of e % 256 ≡ d
   pub last : port_of e ≡ port
 
-joined_parted : (a b c d port : ℕ) → a < 256 → b < 256 → c < 256 → d < 256 → port < 65536 → Parted a b c d port (joined a b c d port)
+joined_parted : (a b c d port : ℕ) → a < 256 → b < 256 → c < 256 → d < 256 → port < 65536 → Parted a b c d port (endpoint_of_parts a b c d port)
 joined_parted a b c d port ha hb hc hd hp =
-    let address : address_of (joined a b c d port) ≡ ((a * 256 + b) * 256 + c) * 256 + d = omega arith in
+    let address : address_of (endpoint_of_parts a b c d port) ≡ ((a * 256 + b) * 256 + c) * 256 + d = omega arith in
     record { first = omega arith; second = omega arith; third = omega arith; fourth = omega arith; last = omega arith }
 
-text_of_parted : (a b c d port e : ℕ) → Parted a b c d port e → endpoint_text e ≡ dotted a b c d port
+text_of_parted : (a b c d port e : ℕ) → Parted a b c d port e → endpoint_text e ≡ text_of_parts a b c d port
 unfolding endpoint_text
 text_of_parted a b c d port e p = rw (p.first, p.second, p.third, p.fourth, p.last) refl
 
 -- what four bytes and a port make is an endpoint
-joined_valid : (a b c d port : ℕ) → a < 256 → b < 256 → c < 256 → d < 256 → 1 ≤ port → port < 65536 → IsEndpoint (joined a b c d port)
+joined_valid : (a b c d port : ℕ) → a < 256 → b < 256 → c < 256 → d < 256 → 1 ≤ port → port < 65536 → IsEndpoint (endpoint_of_parts a b c d port)
 joined_valid a b c d port ha hb hc hd low hp = (omega arith, omega arith)
 
 -- what is read of a dotted text
-dotted_read : (a b c d port : ℕ) → a < 256 → b < 256 → c < 256 → d < 256 → 1 ≤ port → port ≤ 65535 → endpoint_in (dotted a b c d port) ≡ Some (joined a b c d port)
+dotted_read : (a b c d port : ℕ) → a < 256 → b < 256 → c < 256 → d < 256 → 1 ≤ port → port ≤ 65535 → endpoint_in (text_of_parts a b c d port) ≡ Some (endpoint_of_parts a b c d port)
 unfolding endpoint_in
 dotted_read a b c d port ha hb hc hd low high =
     rw (octet_before-text 46 a _ refl ha, octet_before-text 46 b _ refl hb, octet_before-text 46 c _ refl hc, octet_before-text 58 d _ refl hd, port_in-text port low high) refl
@@ -115,7 +115,7 @@ pub endpoint_in-text : (e : ℕ) → IsEndpoint e → endpoint_in (endpoint_text
 unfolding endpoint_text
 endpoint_in-text e is =
     let a = address_of e / 16777216 in
-    let whole : joined a (address_of e / 65536 % 256) (address_of e / 256 % 256) (address_of e % 256) (port_of e) ≡ e = omega arith in
+    let whole : endpoint_of_parts a (address_of e / 65536 % 256) (address_of e / 256 % 256) (address_of e % 256) (port_of e) ≡ e = omega arith in
     dotted_read a (address_of e / 65536 % 256) (address_of e / 256 % 256) (address_of e % 256) (port_of e) (omega (arith, is.0)) (omega arith) (omega arith) (omega arith) (omega (arith, is.1)) (omega arith)
     ∙ ap (λ (n : ℕ). Some n) whole
 
@@ -133,8 +133,8 @@ endpoint_in-some text e found =
     let pc = octet_before-some 46 b.0.1 c.0 c.1 in
     let pd = octet_before-some 58 c.0.1 d.0 d.1 in
     let pp = port_in-some d.0.1 p.0 p.1 in
-    let same : joined a.0.0 b.0.0 c.0.0 d.0.0 p.0 ≡ e = same_Some (joined a.0.0 b.0.0 c.0.0 d.0.0 p.0) e p.2 in
-    let whole : text ≡ dotted a.0.0 b.0.0 c.0.0 d.0.0 p.0 =
+    let same : endpoint_of_parts a.0.0 b.0.0 c.0.0 d.0.0 p.0 ≡ e = same_Some (endpoint_of_parts a.0.0 b.0.0 c.0.0 d.0.0 p.0) e p.2 in
+    let whole : text ≡ text_of_parts a.0.0 b.0.0 c.0.0 d.0.0 p.0 =
     pa.0 ∙ ap (λ (l : List ℕ). decimal a.0.0 ++ (46 ∷ l)) (pb.0 ∙ ap (λ (l : List ℕ). decimal b.0.0 ++ (46 ∷ l)) (pc.0 ∙ ap (λ (l : List ℕ). decimal c.0.0 ++ (46 ∷ l))
     (pd.0 ∙ ap (λ (l : List ℕ). decimal d.0.0 ++ (58 ∷ l)) pp.0))) in
     let parted = joined_parted a.0.0 b.0.0 c.0.0 d.0.0 p.0 pa.1 pb.1 pc.1 pd.1 (omega (arith, pp.2)) in

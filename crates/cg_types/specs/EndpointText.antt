@@ -5,19 +5,19 @@ use Rattle.cg_types.specs.OptionSteps.{◌>>=◌}
 use Rattle.cg_types.specs.Words.{cut_at, number_of}
 
 -- four numbers with dots, a colon and a port
-abbrev pub dotted : ℕ → ℕ → ℕ → ℕ → ℕ → List ℕ
-dotted a b c d port =
+abbrev pub text_of_parts : ℕ → ℕ → ℕ → ℕ → ℕ → List ℕ
+text_of_parts a b c d port =
     decimal a ++ (46 ∷ (decimal b ++ (46 ∷ (decimal c ++ (46 ∷ (decimal d ++ (58 ∷ decimal port)))))))
 
 -- the one text of an endpoint
 unfoldable pub endpoint_text : ℕ → List ℕ
 endpoint_text e =
-    dotted (address_of e / 16777216) (address_of e / 65536 % 256) (address_of e / 256 % 256) (address_of e % 256)
+    text_of_parts (address_of e / 16777216) (address_of e / 65536 % 256) (address_of e / 256 % 256) (address_of e % 256)
     (port_of e)
 
 -- the endpoint of an address's four bytes and a port
-abbrev pub joined : ℕ → ℕ → ℕ → ℕ → ℕ → ℕ
-joined a b c d port = endpoint_of (((a * 256 + b) * 256 + c) * 256 + d) port
+abbrev pub endpoint_of_parts : ℕ → ℕ → ℕ → ℕ → ℕ → ℕ
+endpoint_of_parts a b c d port = endpoint_of (((a * 256 + b) * 256 + c) * 256 + d) port
 
 -- a number of at most 255 before the first byte c, and what stands behind that
 unfoldable pub octet_before : ℕ → List ℕ → Option (ℕ × List ℕ)
@@ -40,4 +40,4 @@ endpoint_in text = do
   c ← octet_before 46 b.1
   d ← octet_before 58 c.1
   port ← port_in d.1
-  Some (joined a.0 b.0 c.0 d.0 port)
+  Some (endpoint_of_parts a.0 b.0 c.0 d.0 port)

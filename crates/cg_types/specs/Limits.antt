@@ -1,7 +1,7 @@
 -- The values of the limits, and of what is numbered.
 use Rattle.std.specs.Prelude.{◌≡◌}
 use Rattle.cg_types.specs.declared.limits.TheConstants.{MEMBER_LIMIT, TEXT_LIMIT, NAME_LIMIT, STATE_LIMIT, STATUS_KEY}
-use Rattle.cg_types.specs.declared.limits.TheConstants.{TOKENS_KEY, NUMBER_LIMIT, LENGTH_LIMIT, PARTITIONER}
+use Rattle.cg_types.specs.declared.limits.TheConstants.{TOKENS_KEY, NUMBER_LIMIT, PARTITIONER}
 
 pub record LimitValues : Type 0 where
   pub members : MEMBER_LIMIT ≡ 256
@@ -11,5 +11,4 @@ pub record LimitValues : Type 0 where
   pub status : STATUS_KEY ≡ 1
   pub tokens : TOKENS_KEY ≡ 2
   pub numbers : NUMBER_LIMIT ≡ 2147483648
-  pub frame_bytes : LENGTH_LIMIT ≡ 5000000
   pub partitioner : PARTITIONER ≡ 1

@@ -15,8 +15,8 @@ pub use endpoint::Endpoint;
 pub use fault::{Cause, Fault};
 pub use generation::Generation;
 pub use limits::{
-    LENGTH_LIMIT, MEMBER_LIMIT, NAME_LIMIT, NUMBER_LIMIT, PARTITIONER, STATE_LIMIT, STATUS_KEY,
-    TEXT_LIMIT, TOKENS_KEY,
+    MEMBER_LIMIT, NAME_LIMIT, NUMBER_LIMIT, PARTITIONER, STATE_LIMIT, STATUS_KEY, TEXT_LIMIT,
+    TOKENS_KEY,
 };
 pub use state_key::StateKey;
 pub use text::{Cluster, StateText, is_plain};

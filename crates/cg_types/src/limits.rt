@@ -21,8 +21,5 @@ pub const TOKENS_KEY: u8 = 2;
 /// Generations and versions are below this.
 pub const NUMBER_LIMIT: u32 = 2147483648;
 
-/// Bytes of a frame after its length.
-pub const LENGTH_LIMIT: usize = 5000000;
-
 /// The only partitioner in use: MD5 tokens, as Cassandra's RandomPartitioner has them.
 pub const PARTITIONER: u8 = 1;

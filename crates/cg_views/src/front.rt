@@ -66,12 +66,12 @@ pub trait Naming {
 }
 
 impl Naming for Brand {
-    ghost use Rattle.cg_entry.specs.Entry.{started};
+    ghost use Rattle.cg_entry.specs.Entry.{starting_entry};
     ghost use Rattle.cg_table.specs.Table.{alone};
 
     ghost book = { record { number = 0; log_name = 0; cells_name = 0 } };
 
-    ghost opening = { alone 0 (started 0) };
+    ghost opening = { alone 0 (starting_entry 0) };
 }
 
 /// An empty book. Contracts see which book it is.

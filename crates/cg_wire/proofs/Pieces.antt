@@ -14,7 +14,7 @@ use Rattle.cg_frames.specs.declared.layout.Layout.{Layout}
 use Rattle.cg_frames.specs.declared.layout.TheConstants.{LAYOUT_1, LAYOUTS}
 use Rattle.cg_frames.specs.Choosing.{due, frame_among}
 use Rattle.cg_frames.specs.Reading.{size_of, frame_at, with_size}
-use Rattle.cg_frames.specs.Feeding.{Standing, SplitsFrom, HasAtMostOne, IsSpellable, fault_of, lack_of, spelling, wanted}
+use Rattle.cg_frames.specs.Feeding.{Standing, SplitsFrom, HasAtMostOne, IsSpellable, fault_of, lack_of, spelling, wants_of}
 use Rattle.cg_frames.proofs.ChoosingLemmas.{due_all}
 use Rattle.cg_frames.proofs.FrontLemmas.{over_is, whole_is}
 use Rattle.cg_wire.specs.declared.receiving.TheConstants.{MOST_TURNS, PIECE_LIMIT}
@@ -118,11 +118,11 @@ pub partial_is_short : (bytes : List ℕ) → NeedsMore bytes → length bytes <
 partial_is_short bytes partial = omega (arith, partial_in (due LAYOUTS bytes) bytes partial, due_is_short bytes)
 
 -- what a read gave is the next piece
-pub next_piece : (s : Standing) (n : ℕ) (came rest : List ℕ) → s ≡ Ok (held_of s) → NeedsMore (held_of s) → 0 < n → n ≤ length came → length came ≤ wanted s → length came ≤ PIECE_LIMIT
+pub next_piece : (s : Standing) (n : ℕ) (came rest : List ℕ) → s ≡ Ok (held_of s) → NeedsMore (held_of s) → 0 < n → n ≤ length came → length came ≤ wants_of s → length came ≤ PIECE_LIMIT
     → IsNextPiece (held_of s) (take n (came ++ rest))
 next_piece s n came rest sound partial some within fits few =
     let long : length (take n (came ++ rest)) ≡ n = length-take-le n (came ++ rest) (omega (arith, within, length-append came rest)) in
-    let lacks : wanted s ≡ lack_of (held_of s) = ap wanted sound in
+    let lacks : wants_of s ≡ lack_of (held_of s) = ap wants_of sound in
     record {
       partial = partial;
       some = omega (arith, long, some);

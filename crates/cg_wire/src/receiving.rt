@@ -5,7 +5,7 @@ ghost use Rattle.cg_types.specs.declared.fault.Fault.TheVariants as faults;
 ghost use Rattle.cg_frames.specs.declared.layout.TheConstants.{LAYOUTS};
 ghost use Rattle.cg_frames.specs.Choosing.{frame_among};
 ghost use Rattle.cg_frames.specs.Faults.{IsBadFrame};
-ghost use Rattle.cg_frames.specs.Feeding.{wanted};
+ghost use Rattle.cg_frames.specs.Feeding.{wants_of};
 ghost use Rattle.cg_links.specs.Counted.{calls_of, link_of};
 ghost use Rattle.cg_wire.specs.Received.{IsSpelledBy, NeedsMore, Receives, held_of};
 
@@ -27,7 +27,7 @@ pub const MOST_TURNS: usize = LAYOUT_1.length + 10;
 // nothing.
 fn take_piece(feed: &mut Feed, piece: &[u8]) -> Result<Option<Message>, Fault>
     requires sound { IsOk feed.old }
-    requires fits { length piece.now ≤ wanted feed.old }
+    requires fits { length piece.now ≤ wants_of feed.old }
     ensures more { IfOk result (λ o. IfNone o ((feed.new ≡ Ok (held_of feed.old ++ piece.now))
         × NeedsMore (held_of feed.old ++ piece.now))) }
     ensures whole { IfOk result (λ o. IfSome o (IsSpelledBy (held_of feed.old ++ piece.now))) }

@@ -10,7 +10,7 @@ use Rattle.cg_types.specs.declared.fault.Fault.TheVariants.{TableFull, NotRising
 use Rattle.cg_types.specs.declared.limits.TheConstants.{MEMBER_LIMIT}
 use Rattle.cg_types.specs.Rising.{Rises}
 use Rattle.cg_types.specs.Text.{ClusterValue}
-use Rattle.cg_entry.specs.Entry.{started}
+use Rattle.cg_entry.specs.Entry.{starting_entry}
 use Rattle.cg_entry.specs.History.{at_place, generation_of, generation_at}
 use Rattle.cg_entry.specs.Place.{Span}
 use Rattle.cg_table.specs.Values.{TableValue}
@@ -32,8 +32,8 @@ use Rattle.cg_core.specs.declared.event.Event.{Event}
 use Rattle.cg_core.specs.declared.event.Event.TheVariants as event
 use Rattle.cg_core.specs.declared.reply.Reply.{Reply}
 use Rattle.cg_core.specs.Values.{NodeValue}
-use Rattle.cg_core.specs.Step.{Step, then, begun, next_of, node_step}
-use Rattle.cg_places.specs.PlaceWorld.{PlaceWorld, runs, with_start, may_start, last_entry, delivered, after_action}
+use Rattle.cg_core.specs.Step.{Step, then, starting_node, next_of, node_step}
+use Rattle.cg_places.specs.PlaceWorld.{PlaceWorld, runs, with_start, may_start, last_entry, after_delivery, after_action}
 use Rattle.cg_places.specs.PlaceWorld as places
 use Rattle.cg_places.specs.Refusals.{fault_of, change_refusal, node_refusal, deliver_refusal, refusal}
 use Rattle.cg_places.specs.Spelling.{SpellsNode, SpellsNodes}
@@ -43,7 +43,7 @@ use Rattle.cg_places.proofs.RoomLemmas.{room_for_deltas}
 use Rattle.cg_places.proofs.FollowLemmas.{follow, replaced_spells}
 use Rattle.cg_steps.specs.Step.{message_in, message_of, action_at, span_handed, IsPlaced, IsSentBefore, IsSent, Sends, IsStepAt}
 use Rattle.cg_steps.proofs.StepLaws.{own_held as own_is_held, steps_are_by_places}
-use Rattle.cg_world.specs.World.{LocalEvent, Beat, Set, Opening, Tick, Action, Start, Local, Deliver, WorldValue, tables_of, with_node, with_sent, after_step, handed, generation_held, event_of, arrival_of, delivering, acting, plain_local, plain}
+use Rattle.cg_world.specs.World.{LocalEvent, Beat, Set, Opening, Tick, Action, Start, Local, Deliver, WorldValue, tables_of, with_node, with_sent, after_step, step_of, step_at, generation_held, event_of, arrival_of, acting, plain_local, plain}
 use Rattle.cg_world.specs.WorldLaws.{AllSent, IsNodeAt, SpellsWorld}
 use Rattle.cg_world.proofs.SpellingLemmas.{Tied, Bounded, BothSent, both_at, all_stay, all_push, nodes_with, replaced, len_with, entries_in, node_spells}
 
@@ -114,23 +114,23 @@ start_with : (d : WorldValue) (v w : PlaceWorld) → SpellsWorld d v → (may ma
 start_with d v w p may may_here held held_here small small_here a b c = rw (a, b, c) (start_by d v w p may_here held_here small_here)
 
 module _ (c : WorldValue) (w : PlaceWorld) (t : Tied c w) (node generation : ℕ) where
-  many_started : map.len (map.insert c.nodes node (begun node generation c.settings)) ≡ length (with_start w node generation).owners
+  many_started : map.len (map.insert c.nodes node (starting_node node generation c.settings)) ≡ length (with_start w node generation).owners
   unfolding with_start
-  many_started = len_with c node (begun node generation c.settings) (runs w node) (running c w t node) ∙ go (runs w node)
+  many_started = len_with c node (starting_node node generation c.settings) (runs w node) (running c w t node) ∙ go (runs w node)
     where
       go : (b : Bool) → cond b (map.len c.nodes) (map.len c.nodes + 1) ≡ length (cond b w.owners (node ∷ w.owners))
       go true = t.is.as_many
       go false = omega (arith, t.is.as_many)
 
-  start_spells : SpellsWorld (with_node c node (begun node generation c.settings)) (with_start w node generation)
+  start_spells : SpellsWorld (with_node c node (starting_node node generation c.settings)) (with_start w node generation)
   unfolding with_start
-  start_spells = node_spells c w (with_start w node generation) node (begun node generation c.settings) t.is
-      ((follow (tables_of c) w t.sound t.is.tables).start node generation (tables_of (with_node c node (begun node generation c.settings))) (replaced c node (begun node generation c.settings)))
-      (grown_continue w.histories node (started generation)) refl (record { its_settings = refl; its_endpoint = refl }) many_started
+  start_spells = node_spells c w (with_start w node generation) node (starting_node node generation c.settings) t.is
+      ((follow (tables_of c) w t.sound t.is.tables).start node generation (tables_of (with_node c node (starting_node node generation c.settings))) (replaced c node (starting_node node generation c.settings)))
+      (grown_continue w.histories node (starting_entry generation)) refl (record { its_settings = refl; its_endpoint = refl }) many_started
 
   start_agrees : AgreesBy (refusal w (plain (Start node generation))) (after_action w (plain (Start node generation))) (acting c (Start node generation))
   unfolding after_action
-  start_agrees = start_with (with_node c node (begun node generation c.settings)) (with_start w node generation) w start_spells
+  start_agrees = start_with (with_node c node (starting_node node generation c.settings)) (with_start w node generation) w start_spells
       (nat_lt (generation_held (map.get c.nodes node)) generation) (may_start w node generation) (map.contains_key c.nodes node) (runs w node) (nat_lt (map.len c.nodes) MEMBER_LIMIT) (nat_lt (length w.owners) MEMBER_LIMIT)
       (ap (λ g. nat_lt g generation) (generation_by c w t node (map.get c.nodes node) refl)) (running c w t node) (ap (λ k. nat_lt k MEMBER_LIMIT) t.is.as_many)
 
@@ -273,7 +273,7 @@ module _ (c : WorldValue) (w : PlaceWorld) (t : Tied c w) (b : Bounded w) where
   no_delivery : (node : ℕ) → map.get c.nodes node ≡ None → node_refusal w node ≡ Some NoSuchNode
   no_delivery node none = ap (λ b. cond b None (Some NoSuchNode)) (not_running c w t node none)
 
-  local_agrees : (node : ℕ) (change : LocalEvent) (o : Option NodeValue) → map.get c.nodes node ≡ o → AgreesBy (refusal w (plain_local node change)) (after_action w (plain_local node change)) (handed c node o (event_of change))
+  local_agrees : (node : ℕ) (change : LocalEvent) (o : Option NodeValue) → map.get c.nodes node ≡ o → AgreesBy (refusal w (plain_local node change)) (after_action w (plain_local node change)) (after_step c node (step_of o (event_of change)))
   local_agrees node Beat None e = no_change node e
   local_agrees node (Set key text) None e = no_change node e
   local_agrees node Opening None e = no_delivery node e
@@ -284,7 +284,7 @@ module _ (c : WorldValue) (w : PlaceWorld) (t : Tied c w) (b : Bounded w) where
   local_agrees node (Tick now words) (Some n) e = step_agrees c w t node n e 0 (event.Tick now words) tt (change_alike c w t node n e _ _)
 
   deliver_agrees : (number now node : ℕ) (o : Option Message) (said : Option PlaceMessage) → at_place w.sent number ≡ said → BothSent c.settings.cluster w.histories o said
-      → (held : Option NodeValue) → map.get c.nodes node ≡ held → AgreesBy (refusal w (places.Deliver number node)) (after_action w (places.Deliver number node)) (delivering c node now o)
+      → (held : Option NodeValue) → map.get c.nodes node ≡ held → AgreesBy (refusal w (places.Deliver number node)) (after_action w (places.Deliver number node)) (after_step c node (step_at c node now o))
   deliver_agrees number now node None None is s held e = ap (deliver_refusal w node) is
   deliver_agrees number now node None (Some said) is s held e = absurd s
   deliver_agrees number now node (Some m) None is s held e = absurd s

@@ -1,5 +1,5 @@
 -- Which deltas are left out: those that lie past what is held.
-use Rattle.std.proofs.Common.{◌≡◌, ℕ, zero, suc, ◌<◌, ◌≤◌, ◌⊎◌, inl, inr, List, [], ◌∷◌, ◌++◌, length, refl, sym, ◌∙◌, ap, subst, arith, Bool, true, false, Option, Some, None}
+use Rattle.std.proofs.Common.{◌≡◌, ℕ, ◌<◌, ◌≤◌, ◌⊎◌, inl, inr, List, [], ◌∷◌, ◌++◌, length, refl, sym, ◌∙◌, ap, subst, arith, Bool, true, false, Option, Some, None}
 use Rattle.std.specs.Prelude.{◌↔◌, ◌==◌, IsTrue, nat_le, cond}
 use Rattle.std.specs.Option.{option_map, option_and_then}
 use Rattle.std.specs.FinMap as map
@@ -21,7 +21,7 @@ use Rattle.cg_core.specs.declared.reply.Reply.{Reply}
 use Rattle.cg_core.specs.Values.{SettingsValue, NodeValue}
 use Rattle.cg_places.specs.PlaceWorld.{PlaceWorld}
 use Rattle.cg_places.proofs.PutLemmas.{same_number}
-use Rattle.cg_world.specs.World.{Action, Deliver, WorldValue, reply_to, run, placed}
+use Rattle.cg_world.specs.World.{Action, Deliver, WorldValue, reply_to, run, place_world}
 use Rattle.cg_world.specs.WorldLaws.{Runs}
 use Rattle.cg_world.specs.SingleActions.{outcomes_in, outcomes_shown}
 use Rattle.cg_world.specs.Taken.{deltas_in, deltas_sent, delta_sent, outcome_told, is_gap, spans_in, AreCounted}
@@ -99,7 +99,7 @@ module _ (settings : SettingsValue) (earlier : List Action) (number node now own
   c = run settings earlier
 
   abbrev w : PlaceWorld
-  w = placed earlier
+  w = place_world earlier
 
   abbrev h : List EntryValue
   h = w.histories owner
@@ -142,7 +142,7 @@ module _ (settings : SettingsValue) (earlier : List Action) (number node now own
         → IsTrue (is_gap outcome.took) ↔ LiesPast d.delta (map.get n.table.entries owner)
     reply_told None none eo ed = absurd cc
     reply_told (Some answer) is eo ed =
-        let a : AreCounted c w (placed (earlier ++ Deliver number node now ∷ [])) number node (outcomes_in answer) = (outcomes_tell_what_is_taken settings earlier).deliveries number node now answer is in
+        let a : AreCounted c w (place_world (earlier ++ Deliver number node now ∷ [])) number node (outcomes_in answer) = (outcomes_tell_what_is_taken settings earlier).deliveries number node now answer is in
         let are : AreSpans w.histories (spans_in a.said) = spans_are w.histories a.said (j.tied.sound.messages number a.said a.is_said) in
         let sent : deltas_sent c number ≡ deltas_in a.message = rw a.is_message refl in
         span_told (spans_in a.said owner) (are owner) (sym (a.each owner) ∙ eo) (sym (a.spelled.at owner) ∙ sym (ap (delta_about owner) sent) ∙ ed)

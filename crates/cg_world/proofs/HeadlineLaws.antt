@@ -1,6 +1,6 @@
 -- The headline, by the places of the actions.
 use Rattle.std.proofs.Common.{◌≡◌, ◌≢◌, ℕ, zero, suc, ◌<◌, ◌≤◌, ◌⊎◌, inl, inr, List, [], ◌∷◌, ◌++◌, length, get_or, refl, sym, ◌∙◌, ap, subst, arith, append_assoc, append-nil, Bool, true, false, Option, Some, None, Result, Ok, Err}
-use Rattle.std.specs.Prelude.{⊤, ◌==◌, ◌&&◌, ◌↔◌, cond, is_ok, is_some, nat_lt, All, map as map_list}
+use Rattle.std.specs.Prelude.{⊤, ◌==◌, ◌&&◌, ◌↔◌, cond, is_ok, is_some, All, map as map_list}
 use Rattle.std.specs.Option.{option_map, option_and_then}
 use Rattle.std.specs.List.{Contains}
 use Rattle.std.specs.Cmp.{nat_cmp_total}
@@ -12,7 +12,7 @@ use Rattle.cg_entry.specs.Values.{EntryValue}
 use Rattle.cg_entry.specs.History.{IsHistory, at_place}
 use Rattle.cg_entry.specs.Place.{Span, IsSpan}
 use Rattle.cg_entry.specs.Spelling.{delta_of}
-use Rattle.cg_entry.proofs.PlaceLemmas.{at_place_within, at_place_some}
+use Rattle.cg_entry.proofs.PlaceLemmas.{at_place_some}
 use Rattle.cg_entry.proofs.HistoryLaws.{versions_name_entries}
 use Rattle.cg_table.specs.declared.took.Took.{Took}
 use Rattle.cg_table.specs.declared.took.Took.TheVariants as took
@@ -27,18 +27,17 @@ use Rattle.cg_exchange.specs.Places.{took_for}
 use Rattle.cg_exchange.specs.Spelling.{delta_about, outcome_about}
 use Rattle.cg_core.specs.declared.reply.Reply.{Reply}
 use Rattle.cg_core.specs.Values.{SettingsValue, NodeValue}
-use Rattle.cg_places.specs.PlaceWorld.{PlaceWorld, nobody, runs, last_entry}
+use Rattle.cg_places.specs.PlaceWorld.{PlaceWorld, nobody}
 use Rattle.cg_places.specs.Join.{furthest, targets, sources}
 use Rattle.cg_places.specs.Laws.{Continues}
-use Rattle.cg_places.specs.TableLaws.{AreEqual, IsJoined}
+use Rattle.cg_places.specs.TableLaws.{IsJoined}
 use Rattle.cg_places.proofs.PutLemmas.{same_number, test_same}
-use Rattle.cg_places.proofs.PlaceLaws.{furthest_bounds, furthest_stands}
-use Rattle.cg_places.proofs.WorldLemmas.{IsSound}
+use Rattle.cg_places.proofs.PlaceLaws.{furthest_stands}
 use Rattle.cg_places.proofs.OnwardLemmas.{Keeps, actions_from_keeps}
-use Rattle.cg_world.specs.World.{Action, Start, Local, LocalEvent, Deliver, WorldValue, new_world, acting, act, reply_to, run, run_from, placed}
-use Rattle.cg_world.specs.WorldLaws.{Runs, WasOwn}
+use Rattle.cg_world.specs.World.{Action, Start, Local, Deliver, WorldValue, new_world, acting, act, reply_to, run, place_world}
+use Rattle.cg_world.specs.WorldLaws.{Runs}
 use Rattle.cg_world.specs.SingleActions.{AreReplies, outcomes_in, outcomes_shown}
-use Rattle.cg_world.specs.Taken.{deltas_in, deltas_sent, is_gap, spans_in, counted, taker, AreCounted, IsTold}
+use Rattle.cg_world.specs.Taken.{deltas_in, deltas_sent, spans_in, with_outcome, taker, AreCounted, IsTold}
 use Rattle.cg_world.specs.Headline.{Mark, mark_of, mark_led_to, IsWithin, HasGreatest, with_delta, with_action, took_from, marks_of, Was, IsMarked, Headline}
 use Rattle.cg_world.proofs.MarkLemmas.{mark_at, mark_here, IsDeltaTo, span_delta, mark_rises, AllSpans, marks_at, all_push, marks_push, all_stay, marks_stay}
 use Rattle.cg_world.proofs.ActionLemmas.{own_held, runs_here}
@@ -55,8 +54,8 @@ abbrev Marked : PlaceWorld → ℕ → ℕ → List Mark → Type 0
 Marked w node owner marks = (marks ≡ marks_at (w.histories owner) (w.taken node owner)) × AllSpans (w.histories owner) (w.taken node owner)
 
 -- the histories after more actions
-placed_goes_on : (earlier later : List Action) → Keeps (placed earlier) (placed (earlier ++ later))
-placed_goes_on earlier later = subst (Keeps (placed earlier)) (sym (all_more nobody earlier later)) (actions_from_keeps (placed earlier) (done_by_places (placed earlier) later))
+placed_goes_on : (earlier later : List Action) → Keeps (place_world earlier) (place_world (earlier ++ later))
+placed_goes_on earlier later = subst (Keeps (place_world earlier)) (sym (all_more nobody earlier later)) (actions_from_keeps (place_world earlier) (done_by_places (place_world earlier) later))
 
 -- where the same was taken, or one span more
 marked_still : (w v : PlaceWorld) (node owner : ℕ) (marks : List Mark) → Continues (w.histories owner) (v.histories owner) → v.taken node owner ≡ w.taken node owner → Marked w node owner marks → Marked v node owner marks
@@ -79,10 +78,10 @@ module _ (settings : SettingsValue) (earlier : List Action) (owner : ℕ) where
   c = run settings earlier
 
   abbrev w : PlaceWorld
-  w = placed earlier
+  w = place_world earlier
 
   abbrev after : Action → PlaceWorld
-  after action = placed (earlier ++ action ∷ [])
+  after action = place_world (earlier ++ action ∷ [])
 
   j : Joined c w
   j = joined settings earlier
@@ -122,7 +121,7 @@ module _ (settings : SettingsValue) (earlier : List Action) (owner : ℕ) where
 
     -- one delta, by its outcome
     taken_marked : (span : Span) (took : Took) (d : OwnerDelta) → IsSpan (w.histories owner) span → mark_led_to d.delta ≡ mark_at (w.histories owner) span.to
-        → v.taken node owner ≡ counted (w.taken node owner) (Some (record { endpoint = owner; took = took })) (Some span)
+        → v.taken node owner ≡ with_outcome (w.taken node owner) (Some (record { endpoint = owner; took = took })) (Some span)
         → Marked v node owner (with_delta marks (Some (record { endpoint = owner; took = took })) (Some d))
     taken_marked span took.Gap d is leads e = marked_still w v node owner marks (on (Deliver number node now)) e m
     taken_marked span took.Taken d is leads e = subst (λ mark. Marked v node owner (marks ++ mark ∷ [])) (sym leads) (marked_more w v node owner marks span (on (Deliver number node now)) e is m)
@@ -132,14 +131,14 @@ module _ (settings : SettingsValue) (earlier : List Action) (owner : ℕ) where
     delta_marked : (o : Option Span) → ((span : Span) → o ≡ Some span → IsSpan (w.histories owner) span) → (outcome : Option Outcome)
         → outcome ≡ option_map (λ span. record { endpoint = owner; took = took_for (owner == node) (w.places node owner) span }) o
         → (d : Option OwnerDelta) → d ≡ option_map (about owner) (option_and_then (delta_of (w.histories owner)) o)
-        → v.taken node owner ≡ counted (w.taken node owner) outcome o → Marked v node owner (with_delta marks outcome d)
+        → v.taken node owner ≡ with_outcome (w.taken node owner) outcome o → Marked v node owner (with_delta marks outcome d)
     delta_marked None are outcome eo d ed e =
-        rw eo (marked_still w v node owner marks (on (Deliver number node now)) (e ∙ ap (λ outcome. counted (w.taken node owner) outcome None) eo) m)
+        rw eo (marked_still w v node owner marks (on (Deliver number node now)) (e ∙ ap (λ outcome. with_outcome (w.taken node owner) outcome None) eo) m)
     delta_marked (Some span) are outcome eo d ed e =
         let is : IsSpan (w.histories owner) span = are span refl in
         let to : IsDeltaTo (w.histories owner) span = span_delta (w.histories owner) (j.tied.sound.histories owner) span is in
         let some : d ≡ Some (about owner to.delta) = ed ∙ ap (option_map (about owner)) to.is in
-        rw (eo, some) (taken_marked span (took_for (owner == node) (w.places node owner) span) (about owner to.delta) is to.leads (e ∙ ap (λ outcome. counted (w.taken node owner) outcome (Some span)) eo))
+        rw (eo, some) (taken_marked span (took_for (owner == node) (w.places node owner) span) (about owner to.delta) is to.leads (e ∙ ap (λ outcome. with_outcome (w.taken node owner) outcome (Some span)) eo))
 
     sent_here : (message : Message) → at_place c.sent number ≡ Some message → deltas_sent c number ≡ deltas_in message
     sent_here message is = rw is refl
@@ -171,15 +170,15 @@ module _ (settings : SettingsValue) (earlier : List Action) (owner : ℕ) where
   action_marked node marks (Deliver number to now) m = deliver_marked node marks number to now m (to == node) refl
 
 -- and so after all actions
-took_marked : (settings : SettingsValue) (node owner : ℕ) (earlier later : List Action) (marks : List Mark) → Marked (placed earlier) node owner marks
-    → Marked (placed (earlier ++ later)) node owner (took_from (run settings earlier) node owner marks later)
-took_marked settings node owner earlier [] marks m = subst (λ (xs : List Action). Marked (placed xs) node owner marks) (sym (append-nil earlier)) m
+took_marked : (settings : SettingsValue) (node owner : ℕ) (earlier later : List Action) (marks : List Mark) → Marked (place_world earlier) node owner marks
+    → Marked (place_world (earlier ++ later)) node owner (took_from (run settings earlier) node owner marks later)
+took_marked settings node owner earlier [] marks m = subst (λ (xs : List Action). Marked (place_world xs) node owner marks) (sym (append-nil earlier)) m
 took_marked settings node owner earlier (action ∷ later) marks m =
     let c : WorldValue = run settings earlier in
-    let next : Marked (placed (earlier ++ action ∷ [])) node owner (with_action c node owner marks action) = action_marked settings earlier owner node marks action m in
+    let next : Marked (place_world (earlier ++ action ∷ [])) node owner (with_action c node owner marks action) = action_marked settings earlier owner node marks action m in
     let rest = took_marked settings node owner (earlier ++ action ∷ []) later (with_action c node owner marks action) next in
-    subst (λ (xs : List Action). Marked (placed xs) node owner (took_from (act c action) node owner (with_action c node owner marks action) later)) (append_assoc earlier (action ∷ []) later)
-    (subst (λ (d : WorldValue). Marked (placed ((earlier ++ action ∷ []) ++ later)) node owner (took_from d node owner (with_action c node owner marks action) later)) (actions_one_by_one settings earlier action) rest)
+    subst (λ (xs : List Action). Marked (place_world xs) node owner (took_from (act c action) node owner (with_action c node owner marks action) later)) (append_assoc earlier (action ∷ []) later)
+    (subst (λ (d : WorldValue). Marked (place_world ((earlier ++ action ∷ []) ++ later)) node owner (took_from d node owner (with_action c node owner marks action) later)) (actions_one_by_one settings earlier action) rest)
 
 nothing_marked : (node owner : ℕ) → Marked nobody node owner []
 unfolding nobody
@@ -267,7 +266,7 @@ module _ (settings : SettingsValue) (actions : List Action) where
   d = run settings actions
 
   abbrev u : PlaceWorld
-  u = placed actions
+  u = place_world actions
 
   k : Joined d u
   k = joined settings actions
@@ -326,14 +325,14 @@ module _ (settings : SettingsValue) (actions : List Action) where
 
   -- an entry that was its owner's own stands in the history
   was_placed : (owner : ℕ) (entry : EntryValue) → Was settings actions owner entry → (p : ℕ) × (at_place (u.histories owner) p ≡ Some entry)
-  was_placed owner entry was = subst (λ (xs : List Action). (p : ℕ) × (at_place ((placed xs).histories owner) p ≡ Some entry)) was.in_order (length ((placed was.earlier).histories owner), there)
+  was_placed owner entry was = subst (λ (xs : List Action). (p : ℕ) × (at_place ((place_world xs).histories owner) p ≡ Some entry)) was.in_order (length ((place_world was.earlier).histories owner), there)
     where
-      then_joined : Joined (run settings was.earlier) (placed was.earlier)
+      then_joined : Joined (run settings was.earlier) (place_world was.earlier)
       then_joined = joined settings was.earlier
 
-      there : at_place ((placed (was.earlier ++ was.later)).histories owner) (length ((placed was.earlier).histories owner)) ≡ Some entry
-      there = ((placed_goes_on was.earlier was.later).histories owner).same (length ((placed was.earlier).histories owner)) (omega arith)
-          ∙ own_held (run settings was.earlier) (placed was.earlier) then_joined.tied owner was.node was.ran ∙ ap Some was.own
+      there : at_place ((place_world (was.earlier ++ was.later)).histories owner) (length ((place_world was.earlier).histories owner)) ≡ Some entry
+      there = ((placed_goes_on was.earlier was.later).histories owner).same (length ((place_world was.earlier).histories owner)) (omega arith)
+          ∙ own_held (run settings was.earlier) (place_world was.earlier) then_joined.tied owner was.node was.ran ∙ ap Some was.own
 
   marks_name : (owner : ℕ) (x y : EntryValue) → Was settings actions owner x → Was settings actions owner y → mark_of x ≡ mark_of y → x ≡ y
   marks_name owner x y wx wy same =

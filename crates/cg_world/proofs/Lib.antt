@@ -2,13 +2,10 @@ pub mod SpellingLemmas
 pub mod ActionLemmas
 pub mod WorldLaws
 pub mod SingleActions
-pub mod ExchangeLaws
 pub mod TakenLaws
 pub mod WholeEntries
 pub mod WorkedRuns
 pub mod ActingLemmas
-pub mod MergingLemmas
-pub mod ExchangeCalls
 pub mod MarkLemmas
 pub mod GapLaws
 pub mod HeadlineLaws

@@ -1,5 +1,5 @@
 -- What deltas and places of a history are called by: a generation, and the newest version in it.
-use Rattle.std.proofs.Common.{◌≡◌, ℕ, zero, suc, ◌<◌, ◌≤◌, ◌⊎◌, inl, inr, List, [], ◌∷◌, ◌++◌, length, refl, sym, ◌∙◌, ap, subst, arith, Bool, true, false, Option, Some, None, max, ltb-false}
+use Rattle.std.proofs.Common.{◌≡◌, ℕ, ◌<◌, ◌≤◌, ◌⊎◌, inl, inr, List, [], ◌∷◌, ◌++◌, length, refl, sym, ◌∙◌, ap, subst, arith, Bool, true, false, Option, Some, None, max, ltb-false}
 use Rattle.std.specs.Prelude.{⊤, cond, IsSome, nat_lt, nat_le, map as map_list}
 use Rattle.std.specs.List.{filter}
 use Rattle.std.specs.FinMap.{entries}

@@ -19,12 +19,12 @@ use Rattle.cg_core.specs.declared.reply.Reply.{Reply}
 use Rattle.cg_core.specs.declared.reply.Reply.TheVariants as reply
 use Rattle.cg_core.specs.Values.{Heard, NodeValue}
 use Rattle.cg_core.specs.Windows.{arrivals}
-use Rattle.cg_core.specs.Step.{Step, then, begun, next_of, beating, setting, opening, round_of, after_taking, node_step}
-use Rattle.cg_world.specs.World.{LocalEvent, Beat, Set, Opening, Tick, Action, Start, Local, Deliver, WorldValue, new_world, with_node, with_sent, message_of, after_step, handed, generation_held, has_room, event_of, arrival_of, delivering, reply_of, reply_by, reply_on, reply_to, acting, or_unchanged, act, run_from}
+use Rattle.cg_core.specs.Step.{Step, then, starting_node, next_of, beating, setting, opening, round_of, after_taking, node_step}
+use Rattle.cg_world.specs.World.{LocalEvent, Beat, Set, Opening, Tick, Action, Start, Deliver, WorldValue, new_world, with_node, with_sent, message_of, after_step, generation_held, has_room, event_of, arrival_of, reply_of, reply_to, acting, or_unchanged, act, run_from, step_of, step_at, message_to}
 use Rattle.cg_world.specs.WorldLaws.{Runs}
-use Rattle.cg_world.specs.SingleActions.{SettingsStay, OneNodeChanges, RepliesAreOfSteps, outcomes_in, outcomes_shown, NodesHearByDeliveries}
+use Rattle.cg_world.specs.SingleActions.{node_of, SettingsStay, OneNodeChanges, RepliesAreOfSteps, outcomes_in, outcomes_shown, NodesHearByDeliveries}
 use Rattle.cg_world.proofs.SpellingLemmas.{node_here, node_elsewhere}
-use Rattle.cg_world.proofs.WorldLaws.{nodes_spell_places, same_settings}
+use Rattle.cg_world.proofs.WorldLaws.{LeftBy, AsItWas, MadeAnew, left_by, nodes_spell_places, same_settings}
 
 -- ---- settings
 
@@ -42,42 +42,18 @@ module _ (c : WorldValue) (node other : ℕ) (apart : other ≢ node) where
   sent_elsewhere n None = node_elsewhere c.nodes node n other apart
   sent_elsewhere n (Some m) = node_elsewhere c.nodes node n other apart
 
-  stepped_elsewhere : (s : Step) → map.get (or_unchanged c (after_step c node s)).nodes other ≡ map.get c.nodes other
-  stepped_elsewhere (Ok x) = sent_elsewhere x.0 (message_of x.1)
-  stepped_elsewhere (Err fault) = refl
-
-  handed_elsewhere : (o : Option NodeValue) (e : Event) → map.get (or_unchanged c (handed c node o e)).nodes other ≡ map.get c.nodes other
-  handed_elsewhere None e = refl
-  handed_elsewhere (Some n) e = stepped_elsewhere (node_step n e)
-
-  delivered_elsewhere : (now : ℕ) (o : Option Message) → map.get (or_unchanged c (delivering c node now o)).nodes other ≡ map.get c.nodes other
-  delivered_elsewhere now None = refl
-  delivered_elsewhere now (Some m) = handed_elsewhere (map.get c.nodes node) (arrival_of now m)
-
-  started_elsewhere : (n : NodeValue) (may room : Bool) → map.get (or_unchanged c (cond may (cond room (Ok (with_node c node n)) (Err TableFull)) (Err NotRising))).nodes other ≡ map.get c.nodes other
-  started_elsewhere n true true = node_elsewhere c.nodes node n other apart
-  started_elsewhere n true false = refl
-  started_elsewhere n false room = refl
+  elsewhere_left : (o : Option Message) (d : WorldValue) → LeftBy c node o d → map.get d.nodes other ≡ map.get c.nodes other
+  elsewhere_left o d (AsItWas same none) = ap (λ (d : WorldValue). map.get d.nodes other) same
+  elsewhere_left o d (MadeAnew n is) = ap (λ (d : WorldValue). map.get d.nodes other) is ∙ sent_elsewhere n o
 
 pub one_node_changes : OneNodeChanges
-one_node_changes c (Start node generation) other apart =
-    started_elsewhere c node other apart (begun node generation c.settings) (nat_lt (generation_held (map.get c.nodes node)) generation) (has_room c node)
-one_node_changes c (Local node change) other apart = handed_elsewhere c node other apart (map.get c.nodes node) (event_of change)
-one_node_changes c (Deliver number to now) other apart = delivered_elsewhere c to other apart now (at_place c.sent number)
+one_node_changes c action other apart = elsewhere_left c (node_of action) other apart (message_to c action) (act c action) (left_by c action)
 
 -- ---- replies
 
 stepped_replies : (c : WorldValue) (node : ℕ) (s : Step) → is_some (reply_of s) ≡ is_ok (after_step c node s)
 stepped_replies c node (Ok x) = refl
 stepped_replies c node (Err fault) = refl
-
-handed_replies : (c : WorldValue) (node : ℕ) (o : Option NodeValue) (e : Event) → is_some (reply_by o e) ≡ is_ok (handed c node o e)
-handed_replies c node None e = refl
-handed_replies c node (Some n) e = stepped_replies c node (node_step n e)
-
-delivered_replies : (c : WorldValue) (to now : ℕ) (o : Option Message) → is_some (reply_on c to now o) ≡ is_ok (delivering c to now o)
-delivered_replies c to now None = refl
-delivered_replies c to now (Some m) = handed_replies c to (map.get c.nodes to) (arrival_of now m)
 
 -- what a change of the own entry tells
 told_by : (n : NodeValue) (answer : ℕ → Reply) (version : ℕ) (due : Result ℕ Fault) → due ≡ Ok version → reply_of (then due (λ v. (n, answer v))) ≡ Some (answer version)
@@ -95,16 +71,16 @@ ack2_tells n now after outcomes r false e = let same : r ≡ reply.Took outcomes
 
 -- the reply of a node that runs, to a message that was sent
 reply_here : (c : WorldValue) (number to now : ℕ) (n : NodeValue) (m : Message) → Runs c to n → at_place c.sent number ≡ Some m → reply_of (node_step n (arrival_of now m)) ≡ reply_to c (Deliver number to now)
-reply_here c number to now n m runs sent = sym (ap (λ o. reply_on c to now o) sent ∙ ap (λ o. reply_by o (arrival_of now m)) runs)
+reply_here c number to now n m runs sent = sym (ap (λ o. reply_of (step_at c to now o)) sent ∙ ap (λ o. reply_of (step_of o (arrival_of now m))) runs)
 
 pub replies_are_of_steps : RepliesAreOfSteps
 replies_are_of_steps c = record {
   start = λ node generation. refl;
-  local = λ node change. handed_replies c node (map.get c.nodes node) (event_of change);
-  delivery = λ number to now. delivered_replies c to now (at_place c.sent number);
-  beat = λ node n version runs due. ap (λ o. reply_by o event.Beat) runs ∙ told_by (beating n) reply.Done version (next_of n) due;
-  set = λ node key text n version runs due. ap (λ o. reply_by o (event.Set key text)) runs ∙ told_by (setting key text n) reply.Done version (next_of n) due;
-  tick = λ node now words n version runs due. ap (λ o. reply_by o (event.Tick now words)) runs ∙ told_by (beating n) (λ v. reply.Round (round_of (beating n) now words) (opening (beating n))) version (next_of n) due;
+  local = λ node change. stepped_replies c node (step_of (map.get c.nodes node) (event_of change));
+  delivery = λ number to now. stepped_replies c to (step_at c to now (at_place c.sent number));
+  beat = λ node n version runs due. ap (λ o. reply_of (step_of o event.Beat)) runs ∙ told_by (beating n) reply.Done version (next_of n) due;
+  set = λ node key text n version runs due. ap (λ o. reply_of (step_of o (event.Set key text))) runs ∙ told_by (setting key text n) reply.Done version (next_of n) due;
+  tick = λ node now words n version runs due. ap (λ o. reply_of (step_of o (event.Tick now words))) runs ∙ told_by (beating n) (λ v. reply.Round (round_of (beating n) now words) (opening (beating n))) version (next_of n) due;
   ack = λ number to now n ack r runs sent e.
       let after : TableValue = table_after n.table ack.deltas in
       ack_tells n now after (record { deltas = deltas_granted after.entries ack.requests }) (outcomes_of n.table ack.deltas) r (nat_lt MEMBER_LIMIT (held_after n.table ack.deltas)) (reply_here c number to now n (message.Ack ack) runs sent ∙ e);
@@ -131,11 +107,11 @@ stepped_windows : (c : WorldValue) (node : ℕ) (s : Step) (n m : NodeValue) →
 stepped_windows c node (Ok x) n m e r = same_windows (map.get (with_sent (with_node c node x.0) (message_of x.1)).nodes node) x.0 m (sent_here c node x.0 (message_of x.1)) r
 stepped_windows c node (Err fault) n m e r = same_windows (map.get c.nodes node) n m e r
 
-handed_windows : (c : WorldValue) (node : ℕ) (e : Event) (n m : NodeValue) → Runs c node n → (o : Option NodeValue) → o ≡ Some n → Runs (or_unchanged c (handed c node o e)) node m → m.windows ≡ windows_left n (node_step n e)
+handed_windows : (c : WorldValue) (node : ℕ) (e : Event) (n m : NodeValue) → Runs c node n → (o : Option NodeValue) → o ≡ Some n → Runs (or_unchanged c (after_step c node (step_of o e))) node m → m.windows ≡ windows_left n (node_step n e)
 handed_windows c node e n m runs None is r = absurd cc
 handed_windows c node e n m runs (Some k) is r =
     let same : k ≡ n = cc in
-    stepped_windows c node (node_step n e) n m runs (subst (λ (k : NodeValue). Runs (or_unchanged c (handed c node (Some k) e)) node m) same r)
+    stepped_windows c node (node_step n e) n m runs (subst (λ (k : NodeValue). Runs (or_unchanged c (after_step c node (node_step k e))) node m) same r)
 
 -- a change of the own entry leaves them
 changed_windows : (n after : NodeValue) (answer : ℕ → Reply) → after.windows ≡ n.windows → (due : Result ℕ Fault) → windows_left n (then due (λ v. (after, answer v))) ≡ n.windows
@@ -169,18 +145,18 @@ message_hears now n (message.Syn syn) = syn_hears now n (answer_to_syn n.table n
 message_hears now n (message.Ack ack) = ack_hears now n (taking_ack n.table ack)
 message_hears now n (message.Ack2 ack2) = ack2_hears now n (taking_ack2 n.table ack2)
 
-delivered_windows : (c : WorldValue) (to now : ℕ) (n m : NodeValue) → Runs c to n → (o : Option Message) → Runs (or_unchanged c (delivering c to now o)) to m
-    → m.windows ≡ arrivals n.settings.silence now n.windows (outcomes_shown (reply_on c to now o))
+delivered_windows : (c : WorldValue) (to now : ℕ) (n m : NodeValue) → Runs c to n → (o : Option Message) → Runs (or_unchanged c (after_step c to (step_at c to now o))) to m
+    → m.windows ≡ arrivals n.settings.silence now n.windows (outcomes_shown (reply_of (step_at c to now o)))
 delivered_windows c to now n m e None r = same_windows (map.get c.nodes to) n m e r
 delivered_windows c to now n m e (Some sent) r =
     handed_windows c to (arrival_of now sent) n m e (map.get c.nodes to) e r ∙ message_hears now n sent
-    ∙ ap (λ o. arrivals n.settings.silence now n.windows (outcomes_shown (reply_by o (arrival_of now sent)))) (sym e)
+    ∙ ap (λ o. arrivals n.settings.silence now n.windows (outcomes_shown (reply_of (step_of o (arrival_of now sent))))) (sym e)
 
 -- a start that is done
-started_windows : (c : WorldValue) (node generation : ℕ) (m : NodeValue) (may room : Bool) (left : Result WorldValue Fault) → left ≡ cond may (cond room (Ok (with_node c node (begun node generation c.settings))) (Err TableFull)) (Err NotRising)
+started_windows : (c : WorldValue) (node generation : ℕ) (m : NodeValue) (may room : Bool) (left : Result WorldValue Fault) → left ≡ cond may (cond room (Ok (with_node c node (starting_node node generation c.settings))) (Err TableFull)) (Err NotRising)
     → IsOk left → Runs (or_unchanged c left) node m → m.windows ≡ map.empty
 started_windows c node generation m true true left is ok r =
-    let n : NodeValue = begun node generation c.settings in
+    let n : NodeValue = starting_node node generation c.settings in
     same_windows (map.get (with_node c node n).nodes node) n m (node_here c.nodes node n) (subst (λ (left : Result WorldValue Fault). Runs (or_unchanged c left) node m) is r)
 started_windows c node generation m true false left is ok r = absurd cc
 started_windows c node generation m false room left is ok r = absurd cc

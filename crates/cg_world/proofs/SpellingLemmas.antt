@@ -20,7 +20,7 @@ use Rattle.cg_steps.specs.Step.{IsSent}
 use Rattle.cg_places.specs.PlaceWorld.{PlaceWorld, nobody}
 use Rattle.cg_places.specs.Spelling.{SpellsNodes, StaySpelled, IsReplaced}
 use Rattle.cg_places.specs.Laws.{IsWorld, IsWithinLimits}
-use Rattle.cg_world.specs.World.{WorldValue, new_world, tables_of, with_node, with_sent}
+use Rattle.cg_world.specs.World.{WorldValue, new_world, tables_of, with_node}
 use Rattle.cg_world.specs.WorldLaws.{AllSent, IsNodeAt, SpellsWorld}
 use Rattle.cg_places.proofs.PutLemmas.{same_number, test_same, test_other}
 use Rattle.cg_places.proofs.GrowthLemmas.{AllContinue, message_stays}

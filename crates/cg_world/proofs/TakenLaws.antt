@@ -8,15 +8,13 @@ use Rattle.cg_types.specs.declared.fault.Fault.TheVariants.{TableFull, NotRising
 use Rattle.cg_types.specs.declared.limits.TheConstants.{MEMBER_LIMIT}
 use Rattle.cg_types.specs.Rising.{Rises}
 use Rattle.cg_entry.specs.Values.{EntryValue}
-use Rattle.cg_entry.specs.Entry.{beaten, with_state}
+use Rattle.cg_entry.specs.Entry.{entry_after_beat, with_state}
 use Rattle.cg_entry.specs.History.{at_place}
 use Rattle.cg_entry.specs.Place.{Span}
 use Rattle.cg_table.specs.Values.{TableValue}
-use Rattle.cg_table.specs.Taking.{take_one}
 use Rattle.cg_exchange.specs.declared.message.Message.{Message}
 use Rattle.cg_exchange.specs.declared.message.Message.TheVariants as kinds
 use Rattle.cg_exchange.specs.declared.outcome.Outcome.{Outcome}
-use Rattle.cg_exchange.specs.declared.owner_delta.OwnerDelta.{OwnerDelta}
 use Rattle.cg_exchange.specs.Values.{SynValue, AckValue, Ack2Value}
 use Rattle.cg_exchange.specs.Members.{endpoints_of_deltas}
 use Rattle.cg_exchange.specs.Changes.{endpoints_of_outcomes}
@@ -25,20 +23,20 @@ use Rattle.cg_exchange.specs.Places.{Ask, took_for}
 use Rattle.cg_exchange.specs.PlaceMessages.{PlaceMessage, Syn, Ack, Ack2}
 use Rattle.cg_exchange.specs.Spelling.{SpellsSpans, outcome_about}
 use Rattle.cg_exchange.specs.Laws.{IsMoved}
-use Rattle.cg_exchange.proofs.TakingLemmas.{outcomes_rise}
+use Rattle.cg_exchange.proofs.TakingLemmas.{outcomes_about, outcomes_rise}
 use Rattle.cg_core.specs.declared.event.Event.TheVariants as event
 use Rattle.cg_core.specs.declared.reply.Reply.{Reply}
 use Rattle.cg_core.specs.declared.reply.Reply.TheVariants as reply
 use Rattle.cg_core.specs.Step.{then, node_step}
 use Rattle.cg_core.specs.Values.{SettingsValue, NodeValue}
 use Rattle.cg_exchange.specs.Answering.{answer_to_syn}
-use Rattle.cg_places.specs.PlaceWorld.{PlaceWorld, nobody, runs, with_start, with_entry, with_message, with_spans, taken_with, may_start, last_entry, changed, received, delivered, after_action, after_actions}
+use Rattle.cg_places.specs.PlaceWorld.{PlaceWorld, nobody, runs, with_start, with_entry, with_message, with_spans, taken_with, may_start, last_entry, after_change, after_receipt, after_delivery, after_action, after_actions}
 use Rattle.cg_places.specs.PlaceWorld as places
 use Rattle.cg_places.specs.Refusals.{fault_of, start_refusal, refusal, unless_refused}
-use Rattle.cg_world.specs.World.{LocalEvent, Beat, Set, Opening, Tick, Action, Start, Local, Deliver, WorldValue, arrival_of, reply_of, reply_by, reply_on, reply_to, acting, run, plain, placed}
+use Rattle.cg_world.specs.World.{LocalEvent, Beat, Set, Opening, Tick, Action, Start, Local, Deliver, WorldValue, arrival_of, reply_of, step_of, step_at, reply_to, acting, run, plain, place_world}
 use Rattle.cg_steps.specs.Step.{IsSent}
 use Rattle.cg_world.specs.SingleActions.{outcomes_in}
-use Rattle.cg_world.specs.Taken.{deltas_in, spans_in, counted, taker, AreCounted, OutcomesTellWhatIsTaken}
+use Rattle.cg_world.specs.Taken.{deltas_in, spans_in, with_outcome, taker, AreCounted, OutcomesTellWhatIsTaken}
 use Rattle.cg_places.proofs.PutLemmas.{put_at_here, put_at_other}
 use Rattle.cg_world.proofs.SpellingLemmas.{Tied, Bounded, BothSent, both_at}
 use Rattle.cg_world.proofs.ActionLemmas.{runs_here, at_node, ack_fits, ack_moves, ack2_fits, ack2_moves}
@@ -46,21 +44,16 @@ use Rattle.cg_world.proofs.WorldLaws.{done_by_places, Joined, joined, refusals_a
 
 -- ---- one message
 
--- each delta has its outcome
-outcomes_in_order : (t : TableValue) (ds : List OwnerDelta) → endpoints_of_outcomes (outcomes_of t ds) ≡ endpoints_of_deltas ds
-outcomes_in_order t [] = refl
-outcomes_in_order t (d ∷ ds) = ap (λ (ks : List ℕ). d.endpoint ∷ ks) (outcomes_in_order (take_one t d.endpoint d.delta).0 ds)
-
 -- the outcome of a span about an owner, at the places of a node
 abbrev outcome_at : PlaceWorld → ℕ → ℕ → Option Span → Option Outcome
 outcome_at w node owner o = option_map (λ span. record { endpoint = owner; took = took_for (owner == node) (w.places node owner) span }) o
 
-counted_so : (w : PlaceWorld) (node owner : ℕ) (o : Option Span) → taken_with (owner == node) (w.places node owner) (w.taken node owner) o ≡ counted (w.taken node owner) (outcome_at w node owner o) o
+counted_so : (w : PlaceWorld) (node owner : ℕ) (o : Option Span) → taken_with (owner == node) (w.places node owner) (w.taken node owner) o ≡ with_outcome (w.taken node owner) (outcome_at w node owner o) o
 counted_so w node owner None = refl
 counted_so w node owner (Some span) = refl
 
 spans_counted : (w : PlaceWorld) (node : ℕ) (spans : ℕ → Option Span) (outcomes : List Outcome) → ((owner : ℕ) → outcome_about owner outcomes ≡ outcome_at w node owner (spans owner))
-    → (owner : ℕ) → (with_spans w node spans).taken node owner ≡ counted (w.taken node owner) (outcome_about owner outcomes) (spans owner)
+    → (owner : ℕ) → (with_spans w node spans).taken node owner ≡ with_outcome (w.taken node owner) (outcome_about owner outcomes) (spans owner)
 unfolding with_spans
 spans_counted w node spans outcomes each owner =
     ap (λ (row : ℕ → List Span). row owner) (put_at_here w.taken node (λ owner. taken_with (owner == node) (w.places node owner) (w.taken node owner) (spans owner)))
@@ -76,7 +69,7 @@ record AreCountedBy (w v : PlaceWorld) (node : ℕ) (m : Message) (said : PlaceM
   in_order : endpoints_of_outcomes outcomes ≡ endpoints_of_deltas (deltas_in m)
   rise : Rises (endpoints_of_outcomes outcomes)
   each : (owner : ℕ) → outcome_about owner outcomes ≡ outcome_at w node owner (spans_in said owner)
-  taken : (owner : ℕ) → v.taken node owner ≡ counted (w.taken node owner) (outcome_about owner outcomes) (spans_in said owner)
+  taken : (owner : ℕ) → v.taken node owner ≡ with_outcome (w.taken node owner) (outcome_about owner outcomes) (spans_in said owner)
 
 module _ (c : WorldValue) (w : PlaceWorld) (t : Tied c w) (b : Bounded w) (node : ℕ) (n : NodeValue) (e : map.get c.nodes node ≡ Some n) where
   each_here : (spans : ℕ → Option Span) (after : TableValue) (outcomes : List Outcome) → IsMoved w.histories n.table (w.places node) spans after outcomes
@@ -91,29 +84,29 @@ module _ (c : WorldValue) (w : PlaceWorld) (t : Tied c w) (b : Bounded w) (node 
   counted_as v m said due left is counts answer e = let same : due ≡ answer = cc in subst (λ r. AreCountedBy w v node m said (outcomes_in r)) same counts
 
   ack_counted : (now : ℕ) (ack : AckValue) (asks : ℕ → Option Ask) (spans : ℕ → Option Span) → IsSent c.settings.cluster w.histories (kinds.Ack ack) (Ack asks spans) → (answer : Reply)
-      → reply_of (node_step n (event.Ack now ack)) ≡ Some answer → AreCountedBy w (received w node (Ack asks spans)) node (kinds.Ack ack) (Ack asks spans) (outcomes_in answer)
+      → reply_of (node_step n (event.Ack now ack)) ≡ Some answer → AreCountedBy w (after_receipt w node (Ack asks spans)) node (kinds.Ack ack) (Ack asks spans) (outcomes_in answer)
   ack_counted now ack asks spans s =
       let outcomes : List Outcome = outcomes_of n.table ack.deltas in
       let each : (owner : ℕ) → outcome_about owner outcomes ≡ outcome_at w node owner (spans owner) = each_here spans (table_after n.table ack.deltas) outcomes (ack_moves c w t b node n e ack asks spans s).moved in
-      counted_as (received w node (Ack asks spans)) (kinds.Ack ack) (Ack asks spans) (reply.Both outcomes (record { deltas = deltas_granted (table_after n.table ack.deltas).entries ack.requests }))
+      counted_as (after_receipt w node (Ack asks spans)) (kinds.Ack ack) (Ack asks spans) (reply.Both outcomes (record { deltas = deltas_granted (table_after n.table ack.deltas).entries ack.requests }))
       (reply_of (node_step n (event.Ack now ack))) (rw (ack_fits c w t b node n e ack asks spans s) refl)
       (record {
         spelled = record { at = s.says.spells.deltas.at };
-        in_order = outcomes_in_order n.table ack.deltas;
+        in_order = outcomes_about n.table ack.deltas;
         rise = outcomes_rise n.table ack.deltas s.says.spells.deltas_rise;
         each = each;
         taken = λ owner. message_takes_nothing (with_spans w node spans) _ node owner ∙ spans_counted w node spans outcomes each owner;
       })
 
   ack2_counted : (now : ℕ) (ack2 : Ack2Value) (spans : ℕ → Option Span) → IsSent c.settings.cluster w.histories (kinds.Ack2 ack2) (Ack2 spans) → (answer : Reply)
-      → reply_of (node_step n (event.Ack2 now ack2)) ≡ Some answer → AreCountedBy w (received w node (Ack2 spans)) node (kinds.Ack2 ack2) (Ack2 spans) (outcomes_in answer)
+      → reply_of (node_step n (event.Ack2 now ack2)) ≡ Some answer → AreCountedBy w (after_receipt w node (Ack2 spans)) node (kinds.Ack2 ack2) (Ack2 spans) (outcomes_in answer)
   ack2_counted now ack2 spans s =
       let outcomes : List Outcome = outcomes_of n.table ack2.deltas in
       let each : (owner : ℕ) → outcome_about owner outcomes ≡ outcome_at w node owner (spans owner) = each_here spans (table_after n.table ack2.deltas) outcomes (ack2_moves c w t b node n e ack2 spans s) in
-      counted_as (received w node (Ack2 spans)) (kinds.Ack2 ack2) (Ack2 spans) (reply.Took outcomes) (reply_of (node_step n (event.Ack2 now ack2))) (rw (ack2_fits c w t b node n e ack2 spans s) refl)
+      counted_as (after_receipt w node (Ack2 spans)) (kinds.Ack2 ack2) (Ack2 spans) (reply.Took outcomes) (reply_of (node_step n (event.Ack2 now ack2))) (rw (ack2_fits c w t b node n e ack2 spans s) refl)
       (record {
         spelled = record { at = s.says.spells.deltas.at };
-        in_order = outcomes_in_order n.table ack2.deltas;
+        in_order = outcomes_about n.table ack2.deltas;
         rise = outcomes_rise n.table ack2.deltas s.says.spells.rise;
         each = each;
         taken = λ owner. spans_counted w node spans outcomes each owner;
@@ -121,14 +114,14 @@ module _ (c : WorldValue) (w : PlaceWorld) (t : Tied c w) (b : Bounded w) (node 
 
   -- a SYN has no deltas
   syn_counted : (syn : SynValue) (theirs : ℕ → ℕ) (due : Result AckValue Fault) (answer : Reply) → reply_of (then due (λ ack. (n, reply.Sent (kinds.Ack ack)))) ≡ Some answer
-      → AreCountedBy w (received w node (Syn theirs)) node (kinds.Syn syn) (Syn theirs) (outcomes_in answer)
+      → AreCountedBy w (after_receipt w node (Syn theirs)) node (kinds.Syn syn) (Syn theirs) (outcomes_in answer)
   syn_counted syn theirs (Ok ack) answer is =
-      counted_as (received w node (Syn theirs)) (kinds.Syn syn) (Syn theirs) (reply.Sent (kinds.Ack ack)) _ refl
+      counted_as (after_receipt w node (Syn theirs)) (kinds.Syn syn) (Syn theirs) (reply.Sent (kinds.Ack ack)) _ refl
       (record { spelled = record { at = λ owner. refl }; in_order = refl; rise = refl; each = λ owner. refl; taken = λ owner. message_takes_nothing w _ node owner }) answer is
   syn_counted syn theirs (Err fault) answer is = absurd cc
 
   message_counted : (now : ℕ) (m : Message) (said : PlaceMessage) → IsSent c.settings.cluster w.histories m said → (answer : Reply)
-      → reply_of (node_step n (arrival_of now m)) ≡ Some answer → AreCountedBy w (received w node said) node m said (outcomes_in answer)
+      → reply_of (node_step n (arrival_of now m)) ≡ Some answer → AreCountedBy w (after_receipt w node said) node m said (outcomes_in answer)
   message_counted now (kinds.Syn syn) (Syn theirs) s answer is = syn_counted syn theirs (answer_to_syn n.table n.settings.cluster syn) answer is
   message_counted now (kinds.Ack ack) (Ack asks spans) s answer is = ack_counted now ack asks spans s answer is
   message_counted now (kinds.Ack2 ack2) (Ack2 spans) s answer is = ack2_counted now ack2 spans s answer is
@@ -159,7 +152,7 @@ one_more w actions action = all_more w actions (action ∷ [])
 
 -- ---- what an action leaves as it was
 
-changed_takes_nothing : (w : PlaceWorld) (node : ℕ) (change : EntryValue → EntryValue) (o : Option EntryValue) → (changed w node change o).taken ≡ w.taken
+changed_takes_nothing : (w : PlaceWorld) (node : ℕ) (change : EntryValue → EntryValue) (o : Option EntryValue) → (after_change w node change o).taken ≡ w.taken
 unfolding with_entry
 changed_takes_nothing w node change None = refl
 changed_takes_nothing w node change (Some entry) = refl
@@ -171,12 +164,12 @@ opened_takes_nothing w node false = refl
 
 local_takes_nothing : (w : PlaceWorld) (node : ℕ) (change : LocalEvent) → (after_action w (plain (Local node change))).taken ≡ w.taken
 unfolding after_action
-local_takes_nothing w node Beat = changed_takes_nothing w node beaten (last_entry (w.histories node))
+local_takes_nothing w node Beat = changed_takes_nothing w node entry_after_beat (last_entry (w.histories node))
 local_takes_nothing w node (Set key text) = changed_takes_nothing w node (with_state key text) (last_entry (w.histories node))
 local_takes_nothing w node Opening = opened_takes_nothing w node (runs w node)
 local_takes_nothing w node (Tick now words) =
-    let v : PlaceWorld = changed w node beaten (last_entry (w.histories node)) in
-    opened_takes_nothing v node (runs v node) ∙ changed_takes_nothing w node beaten (last_entry (w.histories node))
+    let v : PlaceWorld = after_change w node entry_after_beat (last_entry (w.histories node)) in
+    opened_takes_nothing v node (runs v node) ∙ changed_takes_nothing w node entry_after_beat (last_entry (w.histories node))
 
 start_forgets : (w : PlaceWorld) (node generation owner : ℕ) → (with_start w node generation).taken node owner ≡ []
 unfolding with_start
@@ -191,13 +184,13 @@ spans_leave : (w : PlaceWorld) (node : ℕ) (spans : ℕ → Option Span) (other
 unfolding with_spans
 spans_leave w node spans other apart = put_at_other w.taken node (λ owner. taken_with (owner == node) (w.places node owner) (w.taken node owner) (spans owner)) other apart
 
-received_leaves : (w : PlaceWorld) (node : ℕ) (said : PlaceMessage) (other : ℕ) → other ≢ node → (received w node said).taken other ≡ w.taken other
+received_leaves : (w : PlaceWorld) (node : ℕ) (said : PlaceMessage) (other : ℕ) → other ≢ node → (after_receipt w node said).taken other ≡ w.taken other
 unfolding with_message
 received_leaves w node (Syn theirs) other apart = refl
 received_leaves w node (Ack asks spans) other apart = spans_leave w node spans other apart
 received_leaves w node (Ack2 spans) other apart = spans_leave w node spans other apart
 
-delivered_leaves : (w : PlaceWorld) (node : ℕ) (said : Option PlaceMessage) (there : Bool) → runs w node ≡ there → (other : ℕ) → other ≢ node → (delivered w node said).taken other ≡ w.taken other
+delivered_leaves : (w : PlaceWorld) (node : ℕ) (said : Option PlaceMessage) (there : Bool) → runs w node ≡ there → (other : ℕ) → other ≢ node → (after_delivery w node said).taken other ≡ w.taken other
 delivered_leaves w node None there is other apart = refl
 delivered_leaves w node (Some said) true is other apart = rw is (received_leaves w node said other apart)
 delivered_leaves w node (Some said) false is other apart = rw is refl
@@ -215,25 +208,25 @@ module _ (settings : SettingsValue) (actions : List Action) (number to now : ℕ
   c = run settings actions
 
   abbrev w : PlaceWorld
-  w = placed actions
+  w = place_world actions
 
   j : Joined c w
   j = joined settings actions
 
   -- the world by places after the delivery
-  world_after : (said : PlaceMessage) → at_place w.sent number ≡ Some said → runs w to ≡ true → placed (actions ++ Deliver number to now ∷ []) ≡ received w to said
+  world_after : (said : PlaceMessage) → at_place w.sent number ≡ Some said → runs w to ≡ true → place_world (actions ++ Deliver number to now ∷ []) ≡ after_receipt w to said
   unfolding after_action
   world_after said is there = one_more nobody actions (Deliver number to now) ∙ rw is (rw there (rw is (rw there refl)))
 
   delivery_counted : (o : Option Message) (p : Option PlaceMessage) → at_place c.sent number ≡ o → at_place w.sent number ≡ p → BothSent c.settings.cluster w.histories o p
-      → (held : Option NodeValue) → map.get c.nodes to ≡ held → reply_on c to now o ≡ Some answer → AreCounted c w (placed (actions ++ Deliver number to now ∷ [])) number to (outcomes_in answer)
+      → (held : Option NodeValue) → map.get c.nodes to ≡ held → reply_of (step_at c to now o) ≡ Some answer → AreCounted c w (place_world (actions ++ Deliver number to now ∷ [])) number to (outcomes_in answer)
   delivery_counted None p om pm both held e is = absurd cc
   delivery_counted (Some m) None om pm both held e is = absurd both
   delivery_counted (Some m) (Some said) om pm both None e is = absurd (let none = e in cc)
   delivery_counted (Some m) (Some said) om pm both (Some n) e is =
-      let replied : reply_by (Some n) (arrival_of now m) ≡ Some answer = ap (λ held. reply_by held (arrival_of now m)) (sym e) ∙ is in
-      let counts : AreCountedBy w (received w to said) to m said (outcomes_in answer) = message_counted c w j.tied j.bounded to n e now m said both answer replied in
-      let after : placed (actions ++ Deliver number to now ∷ []) ≡ received w to said = world_after said pm (runs_here c w j.tied to n e) in
+      let replied : reply_of (node_step n (arrival_of now m)) ≡ Some answer = ap (λ held. reply_of (step_of held (arrival_of now m))) (sym e) ∙ is in
+      let counts : AreCountedBy w (after_receipt w to said) to m said (outcomes_in answer) = message_counted c w j.tied j.bounded to n e now m said both answer replied in
+      let after : place_world (actions ++ Deliver number to now ∷ []) ≡ after_receipt w to said = world_after said pm (runs_here c w j.tied to n e) in
       record {
         message = m;
         is_message = om;
@@ -261,31 +254,31 @@ module _ (settings : SettingsValue) (actions : List Action) where
   d = run settings actions
 
   abbrev v : PlaceWorld
-  v = placed actions
+  v = place_world actions
 
-  delivery_told : (number to now : ℕ) (answer : Reply) → reply_to d (Deliver number to now) ≡ Some answer → AreCounted d v (placed (actions ++ Deliver number to now ∷ [])) number to (outcomes_in answer)
+  delivery_told : (number to now : ℕ) (answer : Reply) → reply_to d (Deliver number to now) ≡ Some answer → AreCounted d v (place_world (actions ++ Deliver number to now ∷ [])) number to (outcomes_in answer)
   delivery_told number to now answer is =
       delivery_counted settings actions number to now answer (at_place d.sent number) (at_place v.sent number) refl refl
       (both_at d.settings.cluster v.histories d.sent v.sent (joined settings actions).tied.is.messages number) (map.get d.nodes to) refl is
 
   -- where an action is refused, and where it is not
-  after_refusal : (action : Action) (fault : Fault) → refusal v (plain action) ≡ Some fault → placed (actions ++ action ∷ []) ≡ v
+  after_refusal : (action : Action) (fault : Fault) → refusal v (plain action) ≡ Some fault → place_world (actions ++ action ∷ []) ≡ v
   after_refusal action fault due = one_more nobody actions action ∙ rw due refl
 
-  after_done : (action : Action) → refusal v (plain action) ≡ None → placed (actions ++ action ∷ []) ≡ after_action v (plain action)
+  after_done : (action : Action) → refusal v (plain action) ≡ None → place_world (actions ++ action ∷ []) ≡ after_action v (plain action)
   after_done action free = one_more nobody actions action ∙ rw free refl
 
-  start_told : (node generation owner : ℕ) → IsOk (acting d (Start node generation)) → (placed (actions ++ Start node generation ∷ [])).taken node owner ≡ []
+  start_told : (node generation owner : ℕ) → IsOk (acting d (Start node generation)) → (place_world (actions ++ Start node generation ∷ [])).taken node owner ≡ []
   unfolding after_action
   start_told node generation owner ok =
       let free : refusal v (places.Start node generation) ≡ None = sym (refusals_agree settings actions (Start node generation)) ∙ no_fault (acting d (Start node generation)) ok in
       let may : may_start v node generation ≡ true = started_by v node generation (may_start v node generation) refl free in
       ap (λ (w : PlaceWorld). w.taken node owner) (after_done (Start node generation) free) ∙ rw may (start_forgets v node generation owner)
 
-  others_told : (action : Action) (node owner : ℕ) → taker action ≢ Some node → (placed (actions ++ action ∷ [])).taken node owner ≡ v.taken node owner
+  others_told : (action : Action) (node owner : ℕ) → taker action ≢ Some node → (place_world (actions ++ action ∷ [])).taken node owner ≡ v.taken node owner
   others_told action node owner apart = go (refusal v (plain action)) refl
     where
-      go : (due : Option Fault) → refusal v (plain action) ≡ due → (placed (actions ++ action ∷ [])).taken node owner ≡ v.taken node owner
+      go : (due : Option Fault) → refusal v (plain action) ≡ due → (place_world (actions ++ action ∷ [])).taken node owner ≡ v.taken node owner
       go None free = ap (λ (w : PlaceWorld). w.taken node owner) (after_done action free) ∙ ap (λ (row : ℕ → List Span). row owner) (action_leaves v action node apart)
       go (Some fault) due = ap (λ (w : PlaceWorld). w.taken node owner) (after_refusal action fault due)
 

@@ -1,24 +1,23 @@
 -- Each entry of a history was its owner's own.
-use Rattle.std.proofs.Common.{◌≡◌, ◌⊎◌, inl, inr, ℕ, zero, suc, List, [], ◌∷◌, ◌++◌, refl, sym, ◌∙◌, ap, subst, Bool, true, false, Option, Some, None, Result, Ok, Err}
-use Rattle.std.specs.Prelude.{cond}
+use Rattle.std.proofs.Common.{◌≡◌, ◌⊎◌, inl, inr, ℕ, zero, suc, List, [], ◌∷◌, ◌++◌, refl, sym, ◌∙◌, ap, subst, Option, Some, Result, Ok, Err}
 use Rattle.cg_types.specs.declared.fault.Fault.{Fault}
 use Rattle.cg_entry.specs.Values.{EntryValue}
-use Rattle.cg_entry.specs.Entry.{started, beaten, with_state}
+use Rattle.cg_entry.specs.Entry.{starting_entry}
 use Rattle.cg_entry.specs.History.{at_place}
-use Rattle.cg_exchange.specs.PlaceMessages.{PlaceMessage, Syn, Ack, Ack2}
+use Rattle.cg_exchange.specs.PlaceMessages.{PlaceMessage}
 use Rattle.cg_core.specs.Values.{SettingsValue, NodeValue}
-use Rattle.cg_places.specs.PlaceWorld.{PlaceWorld, PlaceAction, Start, Beat, Set, Opening, Tick, Deliver, nobody, grown, runs, with_start, with_entry, with_message, with_spans, may_start, last_entry, changed, opened, received, delivered, after_action, after_actions}
+use Rattle.cg_places.specs.PlaceWorld.{PlaceWorld, PlaceAction, nobody, grown, with_start, with_entry, with_message, with_spans, last_entry, after_action, after_actions}
 use Rattle.cg_places.specs.Refusals.{refusal, unless_refused}
-use Rattle.cg_world.specs.World.{Action, WorldValue, new_world, acting, or_unchanged, act, run_from, plain, placed}
+use Rattle.cg_world.specs.World.{Action, WorldValue, new_world, acting, or_unchanged, act, run_from, plain, place_world}
 use Rattle.cg_table.specs.Own.{own_entry}
 use Rattle.cg_entry.specs.Place.{Span}
 use Rattle.cg_world.specs.WorldLaws.{Runs, WasOwn, EntriesAreWhole}
+use Rattle.cg_places.proofs.KeptLemmas.{IsKept, IsAfterOwn, own_part, action_kept}
 use Rattle.cg_places.proofs.PutLemmas.{put_at-each, at_place_push}
 use Rattle.cg_places.proofs.OwnerLemmas.{last_entry_runs}
 use Rattle.cg_places.proofs.ExchangeLemmas.{sent_last}
 use Rattle.cg_world.proofs.ActionLemmas.{AgreesBy, action_agrees, own_held}
-use Rattle.cg_world.proofs.WorldLaws.{Joined, done_by_places, done_joined, joined, spelled}
-use Rattle.cg_world.proofs.ExchangeLaws.{node_of}
+use Rattle.cg_world.proofs.WorldLaws.{Joined, done_by_places, done_joined, joined, spelled, running_node}
 
 -- ---- what an action adds to histories
 
@@ -39,7 +38,7 @@ grown_old histories node y = put_at-each (λ owner h. (place : ℕ) (entry : Ent
 
 start_old : (w : PlaceWorld) (node generation : ℕ) → OldOrLast w (with_start w node generation)
 unfolding with_start
-start_old w node generation = grown_old w.histories node (started generation)
+start_old w node generation = grown_old w.histories node (starting_entry generation)
 
 entry_old : (w : PlaceWorld) (node : ℕ) (y : EntryValue) → OldOrLast w (with_entry w node y)
 unfolding with_entry
@@ -49,46 +48,18 @@ message_old : (w v : PlaceWorld) (message : PlaceMessage) → OldOrLast w v → 
 unfolding with_message
 message_old w v message old = old
 
-spans_old : (w : PlaceWorld) (node : ℕ) (spans : ℕ → Option Span) → OldOrLast w (with_spans w node spans)
+spans_old : (w v : PlaceWorld) (node : ℕ) (spans : ℕ → Option Span) → OldOrLast w v → OldOrLast w (with_spans v node spans)
 unfolding with_spans
-spans_old w node spans owner place entry e = inl e
+spans_old w v node spans old = old
 
-changed_old : (w : PlaceWorld) (node : ℕ) (change : EntryValue → EntryValue) (o : Option EntryValue) → OldOrLast w (changed w node change o)
-changed_old w node change None = same_old w
-changed_old w node change (Some x) = entry_old w node (change x)
-
-opened_old : (w v : PlaceWorld) (node : ℕ) → OldOrLast w v → OldOrLast w (opened v node)
-opened_old w v node old = go (runs v node)
-  where
-    go : (b : Bool) → OldOrLast w (cond b (with_message v (Syn (v.places node))) v)
-    go true = message_old w v (Syn (v.places node)) old
-    go false = old
-
-received_old : (w : PlaceWorld) (node : ℕ) (message : PlaceMessage) → OldOrLast w (received w node message)
-received_old w node (Syn theirs) = message_old w w _ (same_old w)
-received_old w node (Ack asks spans) = message_old w (with_spans w node spans) _ (spans_old w node spans)
-received_old w node (Ack2 spans) = spans_old w node spans
-
-delivered_old : (w : PlaceWorld) (node : ℕ) (o : Option PlaceMessage) → OldOrLast w (delivered w node o)
-delivered_old w node None = same_old w
-delivered_old w node (Some message) = go (runs w node)
-  where
-    go : (b : Bool) → OldOrLast w (cond b (received w node message) w)
-    go true = received_old w node message
-    go false = same_old w
+old_kept : (w : PlaceWorld) → IsKept (OldOrLast w)
+old_kept w = record { message = message_old w; spans = spans_old w }
 
 action_old : (w : PlaceWorld) (action : PlaceAction) → OldOrLast w (after_action w action)
-unfolding after_action
-action_old w (Start node generation) = go (may_start w node generation)
+action_old w action = action_kept (OldOrLast w) (old_kept w) w action (same_old w) (own_part (OldOrLast w) w own action)
   where
-    go : (b : Bool) → OldOrLast w (cond b (with_start w node generation) w)
-    go true = start_old w node generation
-    go false = same_old w
-action_old w (Beat node) = changed_old w node beaten (last_entry (w.histories node))
-action_old w (Set node key text) = changed_old w node (with_state key text) (last_entry (w.histories node))
-action_old w (Opening node) = opened_old w w node (same_old w)
-action_old w (Tick node) = opened_old w (changed w node beaten (last_entry (w.histories node))) node (changed_old w node beaten (last_entry (w.histories node)))
-action_old w (Deliver number to) = delivered_old w to (at_place w.sent number)
+    own : IsAfterOwn (OldOrLast w) w
+    own = record { start = λ node generation may. start_old w node generation; entry = λ node x y e. entry_old w node y }
 
 -- ---- in the order of the actions
 
@@ -99,7 +70,7 @@ Stood c w actions v = (owner place : ℕ) (entry : EntryValue) → at_place (v.h
 -- the owner of a last entry has it
 own_now : (c : WorldValue) (w : PlaceWorld) → Joined c w → (owner : ℕ) (entry : EntryValue) → last_entry (w.histories owner) ≡ Some entry → (n : NodeValue) × Runs c owner n × (own_entry n.table ≡ entry)
 own_now c w j owner entry e =
-    let n = node_of c w j owner (last_entry_runs w owner entry e) in
+    let n = running_node c w j owner (last_entry_runs w owner entry e) in
     let held : last_entry (w.histories owner) ≡ Some (own_entry n.0.table) = own_held c w j.tied owner n.0 n.1 in
     (n.0, n.1, cc)
 
@@ -145,7 +116,7 @@ stood_from c w [] j = λ owner place entry e. inl e
 stood_from c w (action ∷ actions) j = next_stood c w j action actions (λ d v k. stood_from d v actions k) (acting c action) refl (action_agrees c w j.tied j.bounded action)
 
 -- each entry of a history was its owner's own
-pub places_were_own : (settings : SettingsValue) (actions : List Action) (owner place : ℕ) (entry : EntryValue) → at_place ((placed actions).histories owner) place ≡ Some entry → WasOwn (new_world settings) actions owner entry
+pub places_were_own : (settings : SettingsValue) (actions : List Action) (owner place : ℕ) (entry : EntryValue) → at_place ((place_world actions).histories owner) place ≡ Some entry → WasOwn (new_world settings) actions owner entry
 unfolding nobody
 places_were_own settings actions owner place entry e = go (stood_from (new_world settings) nobody actions (joined settings []) owner place entry e)
   where
@@ -158,4 +129,4 @@ places_were_own settings actions owner place entry e = go (stood_from (new_world
     go (inr was) = was
 
 pub entries_are_whole : EntriesAreWhole
-entries_are_whole settings actions node n e owner entry held = places_were_own settings actions owner ((placed actions).places node owner) entry (sym ((spelled settings actions node n e).at owner) ∙ held)
+entries_are_whole settings actions node n e owner entry held = places_were_own settings actions owner ((place_world actions).places node owner) entry (sym ((spelled settings actions node n e).at owner) ∙ held)

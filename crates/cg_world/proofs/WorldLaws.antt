@@ -6,21 +6,22 @@ use Rattle.std.specs.FinMap as map
 use Rattle.cg_types.specs.declared.fault.Fault.{Fault}
 use Rattle.cg_types.specs.declared.fault.Fault.TheVariants.{TableFull, NotRising, NoSuchMessage, NoSuchNode}
 use Rattle.cg_types.specs.Text.{ClusterValue}
+use Rattle.cg_entry.specs.Values.{EntryValue}
 use Rattle.cg_entry.specs.History.{at_place}
 use Rattle.cg_entry.proofs.PlaceLemmas.{at_place_last}
 use Rattle.cg_exchange.specs.declared.message.Message.{Message}
 use Rattle.cg_exchange.specs.declared.message.Message.TheVariants as message
 use Rattle.cg_exchange.specs.PlaceMessages.{PlaceMessage}
-use Rattle.cg_core.specs.declared.event.Event.{Event}
 use Rattle.cg_core.specs.declared.event.Event.TheVariants as event
 use Rattle.cg_core.specs.declared.reply.Reply.TheVariants as reply
-use Rattle.cg_core.specs.Step.{Step, then, next_of, begun, beating, opening, round_of, node_step}
+use Rattle.cg_core.specs.Step.{Step, then, next_of, starting_node, beating, opening, round_of}
 use Rattle.cg_core.specs.Values.{SettingsValue, NodeValue}
 use Rattle.cg_places.specs.PlaceWorld.{PlaceWorld, PlaceAction, nobody, runs, after_action, after_actions}
 use Rattle.cg_places.specs.Refusals.{fault_of, deliver_refusal, refusal, unless_refused, done_from}
 use Rattle.cg_places.specs.Spelling.{SpellsNode}
-use Rattle.cg_world.specs.World.{Action, Start, Local, Opening, Deliver, WorldValue, with_node, with_sent, message_of, after_step, handed, generation_held, has_room, event_of, arrival_of, delivering, reply_of, reply_by, reply_on, message_to, acting, or_unchanged, act, run_from, run, new_world, plain, placed}
-use Rattle.cg_world.specs.WorldLaws.{Runs, ActionsOneByOne, MessagesAreNumbered, IsBeatAndOpening, TicksAreBeatsAndOpenings, NodesSpellPlaces, RefusalsAgree, DeliveriesFindRoom, DeliveriesAreDone, ReachedWorlds, TablesAreTheJoin, EqualSetsGiveEqualTables, EqualDigestsGiveEqualTables, MergesOfNodesAreTheJoin}
+use Rattle.cg_world.specs.World.{Action, Start, Local, Opening, Deliver, WorldValue, with_node, with_sent, message_of, after_step, generation_held, has_room, event_of, reply_of, message_to, acting, or_unchanged, act, run_from, run, new_world, plain, place_world, step_of, step_at}
+use Rattle.cg_world.specs.WorldLaws.{AllSent, Runs, ActionsOneByOne, MessagesAreNumbered, IsBeatAndOpening, TicksAreBeatsAndOpenings, NodesSpellPlaces, RefusalsAgree, DeliveriesFindRoom, DeliveriesAreDone, ReachedWorlds, TablesAreTheJoin, EqualSetsGiveEqualTables, EqualDigestsGiveEqualTables, MergesOfNodesAreTheJoin}
+use Rattle.cg_world.specs.SingleActions.{node_of}
 use Rattle.cg_places.proofs.PlaceLaws.{world_is}
 use Rattle.cg_places.proofs.WorldLemmas.{action_sound}
 use Rattle.cg_places.proofs.OwnerLemmas.{action_knows}
@@ -61,8 +62,27 @@ pub joined_from : (c : WorldValue) (w : PlaceWorld) (actions : List Action) → 
 joined_from c w [] j = j
 joined_from c w (action ∷ actions) j = next_joined c w j action actions (λ d v k. joined_from d v actions k) (acting c action) (action_agrees c w j.tied j.bounded action)
 
-pub joined : (settings : SettingsValue) (actions : List Action) → Joined (run settings actions) (placed actions)
+pub joined : (settings : SettingsValue) (actions : List Action) → Joined (run settings actions) (place_world actions)
 joined settings actions = joined_from (new_world settings) nobody actions (record { tied = new_world_tied settings; bounded = nobody_bounded })
+
+-- ---- nodes and messages of joined worlds
+
+as_many : (cluster : ClusterValue) (histories : ℕ → List EntryValue) (ms : List Message) (more : List PlaceMessage) → AllSent cluster histories ms more → length ms ≡ length more
+as_many cluster histories [] [] a = refl
+as_many cluster histories [] (said ∷ more) a = absurd a
+as_many cluster histories (m ∷ ms) [] a = absurd a
+as_many cluster histories (m ∷ ms) (said ∷ more) a = omega (arith, as_many cluster histories ms more a.1)
+
+pub same_number_sent : {c : WorldValue} {w : PlaceWorld} → Joined c w → length c.sent ≡ length w.sent
+same_number_sent {c} {w} j = as_many c.settings.cluster w.histories c.sent w.sent j.tied.is.messages
+
+found : (o : Option NodeValue) → is_some o ≡ true → (n : NodeValue) × (o ≡ Some n)
+found None e = absurd cc
+found (Some n) e = (n, refl)
+
+-- a node that runs by places
+pub running_node : (c : WorldValue) (w : PlaceWorld) → Joined c w → (node : ℕ) → runs w node ≡ true → (n : NodeValue) × Runs c node n
+running_node c w j node e = found (map.get c.nodes node) (running c w j.tied node ∙ e)
 
 -- ---- the laws
 
@@ -78,28 +98,32 @@ sent_by : (c : WorldValue) (node : ℕ) (n : NodeValue) (o : Option Message) →
 sent_by c node n None = sym (append-nil c.sent)
 sent_by c node n (Some m) = refl
 
-stepped_sent : (c : WorldValue) (node : ℕ) (s : Step) → (or_unchanged c (after_step c node s)).sent ≡ c.sent ++ option_to_list (option_and_then message_of (reply_of s))
-stepped_sent c node (Ok x) = sent_by c node x.0 (message_of x.1)
-stepped_sent c node (Err fault) = sym (append-nil c.sent)
+-- What an action leaves: the world as it was, and then nothing is sent, or its node made anew, and what it sends.
+pub data LeftBy (c : WorldValue) (node : ℕ) (sent : Option Message) (d : WorldValue) : Type 0 where
+  AsItWas : d ≡ c → sent ≡ None → LeftBy c node sent d
+  MadeAnew : (n : NodeValue) → d ≡ with_sent (with_node c node n) sent → LeftBy c node sent d
 
-handed_sent : (c : WorldValue) (node : ℕ) (o : Option NodeValue) (e : Event) → (or_unchanged c (handed c node o e)).sent ≡ c.sent ++ option_to_list (option_and_then message_of (reply_by o e))
-handed_sent c node None e = sym (append-nil c.sent)
-handed_sent c node (Some n) e = stepped_sent c node (node_step n e)
+stepped_leaves : (c : WorldValue) (node : ℕ) (s : Step) → LeftBy c node (option_and_then message_of (reply_of s)) (or_unchanged c (after_step c node s))
+stepped_leaves c node (Ok x) = MadeAnew x.0 refl
+stepped_leaves c node (Err fault) = AsItWas refl refl
 
-delivered_sent : (c : WorldValue) (to now : ℕ) (o : Option Message) → (or_unchanged c (delivering c to now o)).sent ≡ c.sent ++ option_to_list (option_and_then message_of (reply_on c to now o))
-delivered_sent c to now None = sym (append-nil c.sent)
-delivered_sent c to now (Some m) = handed_sent c to (map.get c.nodes to) (arrival_of now m)
+started_leaves : (c : WorldValue) (node generation : ℕ) (may room : Bool)
+    → LeftBy c node None (or_unchanged c (cond may (cond room (Ok (with_node c node (starting_node node generation c.settings))) (Err TableFull)) (Err NotRising)))
+started_leaves c node generation true true = MadeAnew (starting_node node generation c.settings) refl
+started_leaves c node generation true false = AsItWas refl refl
+started_leaves c node generation false room = AsItWas refl refl
 
--- a start sends nothing
-started_sent : (c : WorldValue) (node generation : ℕ) (may room : Bool) → (or_unchanged c (cond may (cond room (Ok (with_node c node (begun node generation c.settings))) (Err TableFull)) (Err NotRising))).sent ≡ c.sent
-started_sent c node generation true true = refl
-started_sent c node generation true false = refl
-started_sent c node generation false room = refl
+pub left_by : (c : WorldValue) (action : Action) → LeftBy c (node_of action) (message_to c action) (act c action)
+left_by c (Start node generation) = started_leaves c node generation (nat_lt (generation_held (map.get c.nodes node)) generation) (has_room c node)
+left_by c (Local node change) = stepped_leaves c node (step_of (map.get c.nodes node) (event_of change))
+left_by c (Deliver number to now) = stepped_leaves c to (step_at c to now (at_place c.sent number))
+
+sent_left : (c : WorldValue) (node : ℕ) (o : Option Message) (d : WorldValue) → LeftBy c node o d → d.sent ≡ c.sent ++ option_to_list o
+sent_left c node o d (AsItWas same none) = ap (λ (d : WorldValue). d.sent) same ∙ sym (append-nil c.sent) ∙ ap (λ (o : Option Message). c.sent ++ option_to_list o) (sym none)
+sent_left c node o d (MadeAnew n is) = ap (λ (d : WorldValue). d.sent) is ∙ sent_by c node n o
 
 all_sent : (c : WorldValue) (action : Action) → (act c action).sent ≡ c.sent ++ option_to_list (message_to c action)
-all_sent c (Start node generation) = started_sent c node generation (nat_lt (generation_held (map.get c.nodes node)) generation) (has_room c node) ∙ sym (append-nil c.sent)
-all_sent c (Local node change) = handed_sent c node (map.get c.nodes node) (event_of change)
-all_sent c (Deliver number to now) = delivered_sent c to now (at_place c.sent number)
+all_sent c action = sent_left c (node_of action) (message_to c action) (act c action) (left_by c action)
 
 -- what is added stands at the number after the last one
 last_number : (ms : List Message) (o : Option Message) → option_and_then (at_place (ms ++ option_to_list o)) (option_map (λ m. length ms + 1) o) ≡ o
@@ -120,7 +144,7 @@ opened_after c node n =
     let here : map.get (with_node c node n).nodes node ≡ Some n = node_here c.nodes node n in
     rw here (ap (λ (d : WorldValue). Ok (with_sent d (Some (message.Syn (opening n))))) (node_itself (with_node c node n) node n here))
 
-ticked_by : (c : WorldValue) (node now : ℕ) (words : List ℕ) (o : Option NodeValue) → IsBeatAndOpening node (handed c node o event.Beat) (handed c node o (event.Tick now words))
+ticked_by : (c : WorldValue) (node now : ℕ) (words : List ℕ) (o : Option NodeValue) → IsBeatAndOpening node (after_step c node (step_of o event.Beat)) (after_step c node (step_of o (event.Tick now words)))
 ticked_by c node now words None = record { refused = refl; done = λ d e. absurd cc }
 ticked_by c node now words (Some n) = due_by (next_of n)
   where
@@ -141,8 +165,8 @@ same_refusal due v (Err fault) a = sym a
 
 pub refusals_agree : RefusalsAgree
 refusals_agree settings actions action =
-    let j : Joined (run settings actions) (placed actions) = joined settings actions in
-    same_refusal (refusal (placed actions) (plain action)) (after_action (placed actions) (plain action)) (acting (run settings actions) action) (action_agrees (run settings actions) (placed actions) j.tied j.bounded action)
+    let j : Joined (run settings actions) (place_world actions) = joined settings actions in
+    same_refusal (refusal (place_world actions) (plain action)) (after_action (place_world actions) (plain action)) (acting (run settings actions) action) (action_agrees (run settings actions) (place_world actions) j.tied j.bounded action)
 
 runs_or_not : (b : Bool) (fault : Fault) → cond b None (Some NoSuchNode) ≡ Some fault → fault ≡ NoSuchNode
 runs_or_not true fault e = absurd cc
@@ -154,7 +178,7 @@ refused_by w to (Some message) fault e = inr (runs_or_not (runs w to) fault e)
 
 pub deliveries_find_room : DeliveriesFindRoom
 deliveries_find_room settings actions number to now fault e =
-    refused_by (placed actions) to (at_place (placed actions).sent number) fault (sym (refusals_agree settings actions (Deliver number to now)) ∙ ap fault_of e)
+    refused_by (place_world actions) to (at_place (place_world actions).sent number) fault (sym (refusals_agree settings actions (Deliver number to now)) ∙ ap fault_of e)
 
 -- what is not refused is done
 done_by : (left : Result WorldValue Fault) → fault_of left ≡ None → IsOk left
@@ -170,7 +194,7 @@ sent_refusal cluster w to (Some m) (Some said) both some e = rw e refl
 pub deliveries_are_done : DeliveriesAreDone
 deliveries_are_done settings actions number to now some there =
     let c : WorldValue = run settings actions in
-    let w : PlaceWorld = placed actions in
+    let w : PlaceWorld = place_world actions in
     let j : Joined c w = joined settings actions in
     done_by (acting c (Deliver number to now)) (refusals_agree settings actions (Deliver number to now)
     ∙ sent_refusal c.settings.cluster w to (at_place c.sent number) (at_place w.sent number) (both_at c.settings.cluster w.histories c.sent w.sent j.tied.is.messages number) some (sym (running c w j.tied to) ∙ there))
@@ -181,27 +205,12 @@ sent_settings : (c : WorldValue) (node : ℕ) (n : NodeValue) (o : Option Messag
 sent_settings c node n None = refl
 sent_settings c node n (Some m) = refl
 
-stepped_settings : (c : WorldValue) (node : ℕ) (s : Step) → (or_unchanged c (after_step c node s)).settings ≡ c.settings
-stepped_settings c node (Ok x) = sent_settings c node x.0 (message_of x.1)
-stepped_settings c node (Err fault) = refl
-
-handed_settings : (c : WorldValue) (node : ℕ) (o : Option NodeValue) (e : Event) → (or_unchanged c (handed c node o e)).settings ≡ c.settings
-handed_settings c node None e = refl
-handed_settings c node (Some n) e = stepped_settings c node (node_step n e)
-
-delivered_settings : (c : WorldValue) (to now : ℕ) (o : Option Message) → (or_unchanged c (delivering c to now o)).settings ≡ c.settings
-delivered_settings c to now None = refl
-delivered_settings c to now (Some m) = handed_settings c to (map.get c.nodes to) (arrival_of now m)
-
-started_settings : (c : WorldValue) (node generation : ℕ) (may room : Bool) → (or_unchanged c (cond may (cond room (Ok (with_node c node (begun node generation c.settings))) (Err TableFull)) (Err NotRising))).settings ≡ c.settings
-started_settings c node generation true true = refl
-started_settings c node generation true false = refl
-started_settings c node generation false room = refl
+settings_left : (c : WorldValue) (node : ℕ) (o : Option Message) (d : WorldValue) → LeftBy c node o d → d.settings ≡ c.settings
+settings_left c node o d (AsItWas same none) = ap (λ (d : WorldValue). d.settings) same
+settings_left c node o d (MadeAnew n is) = ap (λ (d : WorldValue). d.settings) is ∙ sent_settings c node n o
 
 pub same_settings : (c : WorldValue) (action : Action) → (act c action).settings ≡ c.settings
-same_settings c (Start node generation) = started_settings c node generation (nat_lt (generation_held (map.get c.nodes node)) generation) (has_room c node)
-same_settings c (Local node change) = handed_settings c node (map.get c.nodes node) (event_of change)
-same_settings c (Deliver number to now) = delivered_settings c to now (at_place c.sent number)
+same_settings c action = settings_left c (node_of action) (message_to c action) (act c action) (left_by c action)
 
 pub reached_worlds : ReachedWorlds
 reached_worlds = record {
@@ -213,7 +222,7 @@ reached_worlds = record {
 }
 
 -- a node's table spells its places
-pub spelled : (settings : SettingsValue) (actions : List Action) (node : ℕ) (n : NodeValue) → Runs (run settings actions) node n → SpellsNode (placed actions) node n.table.entries
+pub spelled : (settings : SettingsValue) (actions : List Action) (node : ℕ) (n : NodeValue) → Runs (run settings actions) node n → SpellsNode (place_world actions) node n.table.entries
 spelled settings actions node n e = (nodes_spell_places settings actions).tables.spelled node n.table.entries (ap (option_map entries_in) e)
 
 pub tables_are_the_join : TablesAreTheJoin

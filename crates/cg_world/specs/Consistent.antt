@@ -3,7 +3,7 @@ use Rattle.std.specs.Prelude.{ℕ, ◌≡◌, ◌++◌, List}
 use Rattle.cg_core.specs.Values.{SettingsValue, NodeValue}
 use Rattle.cg_places.specs.Join.{sources, SamePlaces}
 use Rattle.cg_places.specs.TableLaws.{IsJoined, AreEqual}
-use Rattle.cg_world.specs.World.{Action, WorldValue, run, placed}
+use Rattle.cg_world.specs.World.{Action, WorldValue, run, place_world}
 use Rattle.cg_world.specs.WorldLaws.{IsReached, Runs, SpellsWorld}
 use Rattle.cg_world.specs.Taken.{IsTold}
 use Rattle.cg_world.specs.Headline.{Headline}
@@ -14,14 +14,14 @@ pub record IsConsistent (settings : SettingsValue) (actions : List Action) (c : 
   -- the headline, over nodes, replies and messages; what follows ties it to the places of the actions
   pub headline : Headline settings actions c
   -- the nodes hold and have sent what the places of the actions say
-  pub spelled : SpellsWorld c (placed actions)
+  pub spelled : SpellsWorld c (place_world actions)
   -- each change of what the places say that a node took is what the node's reply told
   pub told : (earlier later : List Action) → earlier ++ later ≡ actions → IsTold settings earlier
   -- each node's table is the join of its own newest entry and of those to which the deltas led that it took
-  pub joined : (node : ℕ) (n : NodeValue) → Runs c node n → IsJoined (placed actions) node n.table.entries
+  pub joined : (node : ℕ) (n : NodeValue) → Runs c node n → IsJoined (place_world actions) node n.table.entries
   -- nodes that took the same have equal tables and rings
   pub equal_sets : (a b : ℕ) (one other : NodeValue) → Runs c a one → Runs c b other
-      → ((owner : ℕ) → SamePlaces (sources (placed actions) a owner) (sources (placed actions) b owner))
+      → ((owner : ℕ) → SamePlaces (sources (place_world actions) a owner) (sources (place_world actions) b owner))
       → AreEqual one.table.entries other.table.entries
 
 -- A world is where some actions led, and consistent after whatever list of actions leads to it.

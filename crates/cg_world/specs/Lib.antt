@@ -1,11 +1,9 @@
 pub mod World
 pub mod Acting
 pub mod Consistent
-pub mod Merging
 pub mod WorldLaws
 pub mod SingleActions
 pub mod Taken
-pub mod Exchange
 pub mod WorkedRuns
 pub mod Mark
 pub mod Headline

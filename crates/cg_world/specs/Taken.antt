@@ -20,7 +20,7 @@ use Rattle.cg_core.specs.declared.reply.Reply.{Reply}
 use Rattle.cg_core.specs.Values.{SettingsValue}
 pub use Rattle.cg_steps.specs.Step.{spans_in}
 use Rattle.cg_places.specs.PlaceWorld.{PlaceWorld, unless_gap}
-use Rattle.cg_world.specs.World.{Action, Start, Local, Deliver, WorldValue, reply_to, acting, run, placed}
+use Rattle.cg_world.specs.World.{Action, Start, Local, Deliver, WorldValue, reply_to, acting, run, place_world}
 use Rattle.cg_world.specs.SingleActions.{outcomes_in, outcomes_shown}
 
 -- the deltas that a message has
@@ -48,10 +48,10 @@ is_gap took.Old = false
 is_gap took.Own = false
 
 -- what was taken of an owner, with one more span where its outcome is Taken, Old or Own
-abbrev pub counted : List Span → Option Outcome → Option Span → List Span
-counted spans (Some outcome) (Some span) = unless_gap outcome.took spans span
-counted spans (Some outcome) None = spans
-counted spans None span = spans
+abbrev pub with_outcome : List Span → Option Outcome → Option Span → List Span
+with_outcome spans (Some outcome) (Some span) = unless_gap outcome.took spans span
+with_outcome spans (Some outcome) None = spans
+with_outcome spans None span = spans
 
 -- The outcomes of a delivery to a node are those of its spans at the places of w, and tell what the node took, as v
 -- has it.
@@ -72,7 +72,7 @@ pub record AreCounted (c : WorldValue) (w v : PlaceWorld) (number node : ℕ) (o
       (spans_in said owner)
   -- what the node took since its start is now one span more about each owner whose outcome is no gap
   pub taken : (owner : ℕ)
-      → v.taken node owner ≡ counted (w.taken node owner) (outcome_about owner outcomes) (spans_in said owner)
+      → v.taken node owner ≡ with_outcome (w.taken node owner) (outcome_about owner outcomes) (spans_in said owner)
 
 -- the node whose taken spans an action may change
 abbrev pub taker : Action → Option ℕ
@@ -85,17 +85,18 @@ pub record IsTold (settings : SettingsValue) (actions : List Action) : Type 0 wh
   -- a delivery that is done adds what the outcomes in the node's reply tell
   pub deliveries : (number to now : ℕ) (answer : Reply)
       → reply_to (run settings actions) (Deliver number to now) ≡ Some answer
-      → AreCounted (run settings actions) (placed actions) (placed (actions ++ Deliver number to now ∷ [])) number to
+      → AreCounted (run settings actions) (place_world actions)
+      (place_world (actions ++ Deliver number to now ∷ [])) number to
       (outcomes_in answer)
   -- a start that is done forgets all that its node took
   pub starts : (node generation owner : ℕ) → IsOk (acting (run settings actions) (Start node generation))
-      → (placed (actions ++ Start node generation ∷ [])).taken node owner ≡ []
+      → (place_world (actions ++ Start node generation ∷ [])).taken node owner ≡ []
   -- what the other nodes took stays, as does what any took where a node does something by itself
   pub others : (action : Action) (node owner : ℕ) → taker action ≢ Some node
-      → (placed (actions ++ action ∷ [])).taken node owner ≡ (placed actions).taken node owner
+      → (place_world (actions ++ action ∷ [])).taken node owner ≡ (place_world actions).taken node owner
   -- a refused action changes nothing
   pub refused : (action : Action) (fault : Fault) → acting (run settings actions) action ≡ Err fault
-      → placed (actions ++ action ∷ []) ≡ placed actions
+      → place_world (actions ++ action ∷ []) ≡ place_world actions
 
 -- What a node took since its start is what the outcomes in its replies tell.
 abbrev pub OutcomesTellWhatIsTaken : Type 0

@@ -1,15 +1,15 @@
 -- A run worked by hand.
-use Rattle.std.specs.Prelude.{ℕ, ◌≡◌, true, List, [], ◌∷◌, length, Some, is_some, Ok, Err}
+use Rattle.std.specs.Prelude.{◌≡◌, true, List, [], ◌∷◌, length, Some, is_some, Ok, Err}
 use Rattle.std.specs.FinMap as map
 use Rattle.cg_types.specs.declared.fault.Fault.TheVariants.{OutOfMemory, NotRising, NoSuchMessage, NoSuchNode}
-use Rattle.cg_entry.specs.Entry.{started}
+use Rattle.cg_entry.specs.Entry.{starting_entry}
 use Rattle.cg_core.specs.Values.{SettingsValue, NodeValue}
 use Rattle.cg_places.specs.PlaceWorld.{world_after}
 use Rattle.cg_places.specs.Refusals.{fault_of}
 use Rattle.cg_places.specs.WorkedPlaces.{first_exchange}
 use Rattle.cg_world.specs.declared.world.Shown.{Shown}
 use Rattle.cg_world.specs.Acting.{Ran}
-use Rattle.cg_world.specs.World.{Action, Start, Local, Opening, Deliver, WorldValue, new_world, run, acting, placed}
+use Rattle.cg_world.specs.World.{Action, Start, Local, Opening, Deliver, WorldValue, new_world, run, acting, place_world}
 use Rattle.cg_world.specs.WorldLaws.{Runs}
 
 -- the first exchange, on nodes that run
@@ -18,14 +18,15 @@ worked_exchange = Start 1 9 ∷ Start 2 5 ∷ Local 1 Opening ∷ Deliver 1 2 10
 
 pub record WorkedRun (settings : SettingsValue) : Type 0 where
   -- none of its actions is refused
-  pub all_done : placed worked_exchange ≡ world_after first_exchange
+  pub all_done : place_world worked_exchange ≡ world_after first_exchange
   pub three_messages : length (run settings worked_exchange).sent ≡ 3
   -- both nodes run, and each holds the other's entry
   pub opener_runs : is_some (map.get (run settings worked_exchange).nodes 1) ≡ true
   pub answerer_runs : is_some (map.get (run settings worked_exchange).nodes 2) ≡ true
-  pub opener : (n : NodeValue) → Runs (run settings worked_exchange) 1 n → map.get n.table.entries 2 ≡ Some (started 5)
+  pub opener : (n : NodeValue)
+      → Runs (run settings worked_exchange) 1 n → map.get n.table.entries 2 ≡ Some (starting_entry 5)
   pub answerer : (n : NodeValue) → Runs (run settings worked_exchange) 2 n
-      → map.get n.table.entries 1 ≡ Some (started 9)
+      → map.get n.table.entries 1 ≡ Some (starting_entry 9)
   -- a start that does not rise, a message that was never sent, and a node that does not run
   pub not_rising : fault_of (acting (run settings worked_exchange) (Start 2 5)) ≡ Some NotRising
   pub no_message : fault_of (acting (run settings worked_exchange) (Deliver 99 7 400)) ≡ Some NoSuchMessage

@@ -1,5 +1,5 @@
 -- The nodes of a cluster as they run, and what they sent, after a list of actions.
-use Rattle.std.specs.Prelude.{ℕ, ◌+◌, ◌||◌, Bool, List, [], ◌∷◌, ◌++◌, length, Option, Some, None, Result, Ok, Err, nat_lt, map as map_list, if◌then◌else◌, refl}
+use Rattle.std.specs.Prelude.{◌==◌, false, ℕ, ◌+◌, ◌||◌, Bool, List, [], ◌∷◌, ◌++◌, length, Option, Some, None, Result, Ok, Err, nat_lt, map as map_list, if◌then◌else◌, refl}
 use Rattle.std.specs.Coded.{Coded, code_by, coded×, coded_ℕ, coded_list}
 use Rattle.std.specs.Option.{option_map, option_and_then}
 use Rattle.std.specs.Ordering.{nat_cmp}
@@ -12,13 +12,11 @@ use Rattle.cg_table.specs.Values.{Entries}
 use Rattle.cg_table.specs.Own.{own_entry}
 use Rattle.cg_exchange.specs.declared.message.Message.{Message}
 use Rattle.cg_exchange.specs.MessageCode.{message_code}
-use Rattle.cg_exchange.specs.declared.message.Message.TheVariants as message
 use Rattle.cg_core.specs.declared.event.Event.{Event}
 use Rattle.cg_core.specs.declared.event.Event.TheVariants as event
 use Rattle.cg_core.specs.declared.reply.Reply.{Reply}
-use Rattle.cg_core.specs.declared.reply.Reply.TheVariants as reply
 use Rattle.cg_core.specs.Values.{SettingsValue, NodeValue, settings_code, node_code}
-use Rattle.cg_core.specs.Step.{Step, begun, node_step}
+use Rattle.cg_core.specs.Step.{Step, starting_node, node_step}
 pub use Rattle.cg_core.specs.Step.{arrival_of}
 pub use Rattle.cg_steps.specs.Step.{message_of}
 pub use Rattle.cg_world.specs.declared.action.Action.{Action}
@@ -68,13 +66,15 @@ abbrev pub after_step : WorldValue → ℕ → Step → Result WorldValue Fault
 after_step c node (Ok x) = Ok (with_sent (with_node c node x.0) (message_of x.1))
 after_step c node (Err fault) = Err fault
 
--- a node is handed an event, if it runs
-abbrev pub handed : WorldValue → ℕ → Option NodeValue → Event → Result WorldValue Fault
-handed c node None e = Err NoSuchNode
-handed c node (Some n) e = after_step c node (node_step n e)
+-- the step of a node at an event, if it runs
+abbrev pub step_of : Option NodeValue → Event → Step
+step_of None e = Err NoSuchNode
+step_of (Some n) e = node_step n e
 
-abbrev pub handing : WorldValue → ℕ → Event → Result WorldValue Fault
-handing c node e = handed c node (map.get c.nodes node) e
+-- and at a message, if it was sent
+abbrev pub step_at : WorldValue → ℕ → ℕ → Option Message → Step
+step_at c to now None = Err NoSuchMessage
+step_at c to now (Some m) = step_of (map.get c.nodes to) (arrival_of now m)
 
 -- ---- actions
 
@@ -91,7 +91,7 @@ has_room c node = map.contains_key c.nodes node || nat_lt (map.len c.nodes) MEMB
 abbrev pub starting : WorldValue → ℕ → ℕ → Result WorldValue Fault
 starting c node generation =
     if nat_lt (generation_held (map.get c.nodes node)) generation
-    then if has_room c node then Ok (with_node c node (begun node generation c.settings)) else Err TableFull
+    then if has_room c node then Ok (with_node c node (starting_node node generation c.settings)) else Err TableFull
     else Err NotRising
 
 abbrev pub event_of : LocalEvent → Event
@@ -100,15 +100,11 @@ event_of (Set key text) = event.Set key text
 event_of Opening = event.Opening
 event_of (Tick now words) = event.Tick now words
 
-abbrev pub delivering : WorldValue → ℕ → ℕ → Option Message → Result WorldValue Fault
-delivering c to now None = Err NoSuchMessage
-delivering c to now (Some m) = handing c to (arrival_of now m)
-
 -- the world after an action, or why the action is refused
 abbrev pub acting : WorldValue → Action → Result WorldValue Fault
 acting c (Start node generation) = starting c node generation
-acting c (Local node change) = handing c node (event_of change)
-acting c (Deliver number to now) = delivering c to now (at_place c.sent number)
+acting c (Local node change) = after_step c node (step_of (map.get c.nodes node) (event_of change))
+acting c (Deliver number to now) = after_step c to (step_at c to now (at_place c.sent number))
 
 -- A refused action changes nothing.
 abbrev pub or_unchanged : WorldValue → Result WorldValue Fault → WorldValue
@@ -133,19 +129,11 @@ abbrev pub reply_of : Step → Option Reply
 reply_of (Ok x) = Some x.1
 reply_of (Err fault) = None
 
-abbrev pub reply_by : Option NodeValue → Event → Option Reply
-reply_by None e = None
-reply_by (Some n) e = reply_of (node_step n e)
-
-abbrev pub reply_on : WorldValue → ℕ → ℕ → Option Message → Option Reply
-reply_on c to now None = None
-reply_on c to now (Some m) = reply_by (map.get c.nodes to) (arrival_of now m)
-
 -- the node's reply, if a node makes a step
 abbrev pub reply_to : WorldValue → Action → Option Reply
 reply_to c (Start node generation) = None
-reply_to c (Local node change) = reply_by (map.get c.nodes node) (event_of change)
-reply_to c (Deliver number to now) = reply_on c to now (at_place c.sent number)
+reply_to c (Local node change) = reply_of (step_of (map.get c.nodes node) (event_of change))
+reply_to c (Deliver number to now) = reply_of (step_at c to now (at_place c.sent number))
 
 -- the message that an action sends, if it sends one
 abbrev pub message_to : WorldValue → Action → Option Message
@@ -154,6 +142,12 @@ message_to c action = option_and_then message_of (reply_to c action)
 -- and its number
 abbrev pub number_to : WorldValue → Action → Option ℕ
 number_to c action = option_map (λ m. length c.sent + 1) (message_to c action)
+
+-- whether an action starts a node
+abbrev pub starts : ℕ → Action → Bool
+starts node (Start other generation) = other == node
+starts node (Local other change) = false
+starts node (Deliver number to now) = false
 
 -- ---- the same by places
 
@@ -170,5 +164,5 @@ plain (Local node change) = plain_local node change
 plain (Deliver number to now) = places.Deliver number to
 
 -- the world of places after actions, of which the refused ones are left out
-abbrev pub placed : List Action → PlaceWorld
-placed actions = world_after (done_from nobody (map_list plain actions))
+abbrev pub place_world : List Action → PlaceWorld
+place_world actions = world_after (done_from nobody (map_list plain actions))

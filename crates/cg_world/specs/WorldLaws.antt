@@ -10,9 +10,8 @@ use Rattle.cg_entry.specs.Values.{EntryValue}
 use Rattle.cg_entry.specs.History.{at_place}
 use Rattle.cg_table.specs.Table.{digests_of}
 use Rattle.cg_table.specs.Own.{own_entry}
-use Rattle.cg_table.specs.Merge.{merged}
+use Rattle.cg_table.specs.Merge.{merge_of}
 use Rattle.cg_exchange.specs.declared.message.Message.{Message}
-use Rattle.cg_exchange.specs.declared.message.Message.TheVariants as message
 use Rattle.cg_exchange.specs.PlaceMessages.{PlaceMessage}
 use Rattle.cg_steps.specs.Step.{IsSent}
 use Rattle.cg_core.specs.Values.{SettingsValue, NodeValue}
@@ -21,7 +20,7 @@ use Rattle.cg_places.specs.Join.{sources, SamePlaces}
 use Rattle.cg_places.specs.Refusals.{fault_of, refusal}
 use Rattle.cg_places.specs.Spelling.{SpellsNodes}
 use Rattle.cg_places.specs.TableLaws.{IsJoined, AreEqual, IsMergedOf}
-use Rattle.cg_world.specs.World.{Action, Local, Beat, Opening, Tick, Deliver, WorldValue, new_world, tables_of, message_to, number_to, acting, act, run_from, run, plain, placed}
+use Rattle.cg_world.specs.World.{Action, Local, Beat, Opening, Tick, Deliver, WorldValue, new_world, tables_of, message_to, number_to, acting, act, run_from, run, plain, place_world}
 
 -- One more action is done after all others.
 abbrev pub ActionsOneByOne : Type 0
@@ -86,13 +85,13 @@ pub record SpellsWorld (c : WorldValue) (w : PlaceWorld) : Type 0 where
 -- What runs is what the places of the actions say, of which the refused ones are left out.
 abbrev pub NodesSpellPlaces : Type 0
 NodesSpellPlaces =
-    (settings : SettingsValue) (actions : List Action) → SpellsWorld (run settings actions) (placed actions)
+    (settings : SettingsValue) (actions : List Action) → SpellsWorld (run settings actions) (place_world actions)
 
 -- The nodes refuse what the places refuse.
 abbrev pub RefusalsAgree : Type 0
 RefusalsAgree =
     (settings : SettingsValue) (actions : List Action) (action : Action)
-    → fault_of (acting (run settings actions) action) ≡ refusal (placed actions) (plain action)
+    → fault_of (acting (run settings actions) action) ≡ refusal (place_world actions) (plain action)
 
 -- A delivery is refused where there is no such message, or no such node, and never for want of room or for another
 -- cluster.
@@ -120,7 +119,7 @@ Runs c node n = map.get c.nodes node ≡ Some n
 abbrev pub TablesAreTheJoin : Type 0
 TablesAreTheJoin =
     (settings : SettingsValue) (actions : List Action) (node : ℕ) (n : NodeValue)
-    → Runs (run settings actions) node n → IsJoined (placed actions) node n.table.entries
+    → Runs (run settings actions) node n → IsJoined (place_world actions) node n.table.entries
 
 -- After some of the first actions the owner ran, and this was its own entry.
 pub record WasOwn (c : WorldValue) (actions : List Action) (owner : ℕ) (entry : EntryValue) : Type 0 where
@@ -143,7 +142,7 @@ abbrev pub EqualSetsGiveEqualTables : Type 0
 EqualSetsGiveEqualTables =
     (settings : SettingsValue) (actions : List Action) (a b : ℕ) (one other : NodeValue)
     → Runs (run settings actions) a one → Runs (run settings actions) b other
-    → ((owner : ℕ) → SamePlaces (sources (placed actions) a owner) (sources (placed actions) b owner))
+    → ((owner : ℕ) → SamePlaces (sources (place_world actions) a owner) (sources (place_world actions) b owner))
     → AreEqual one.table.entries other.table.entries
 
 -- Nodes with equal digests have equal tables and rings.
@@ -158,4 +157,5 @@ abbrev pub MergesOfNodesAreTheJoin : Type 0
 MergesOfNodesAreTheJoin =
     (settings : SettingsValue) (actions : List Action) (a b c : ℕ) (one two three : NodeValue)
     → Runs (run settings actions) a one → Runs (run settings actions) b two → Runs (run settings actions) c three
-    → IsMergedOf (placed actions) a b c (merged (merged one.table.entries two.table.entries) three.table.entries)
+    → IsMergedOf (place_world actions) a b c
+    (merge_of (merge_of one.table.entries two.table.entries) three.table.entries)

@@ -1,7 +1,7 @@
 //! What is done to the nodes of a cluster.
 
 ghost use Rattle.std.specs.Prelude.{◌≡◌, IfOk};
-ghost use Rattle.cg_world.specs.Exchange.{starts};
+ghost use Rattle.cg_world.specs.World.{starts};
 
 use cg_types::{Endpoint, Generation, StateKey, StateText};
 use std::alloc::AllocError;

@@ -1,13 +1,6 @@
-//! Laws of every list of actions: what holds of the nodes as they run. Each is the contract of an empty function, but
-//! for three calls on a world in hand, `merge_is_join`, `equal_digests` and `exchange_reaches_join`. Laws of the same
-//! actions by places stand in `cg_places`.
+//! Laws of every list of actions: what holds of the nodes as they run. Each is the contract of an empty function. Laws
+//! of the same actions by places stand in `cg_places`, those of exchanges and merges in `cg_world_laws`.
 
-ghost use Rattle.cg_world.specs.Exchange.{
-  ExchangesEndAtTheJoin,
-  ExchangesAreLists,
-  TickedExchangesFollowBeats,
-  UndisturbedExchangesMerge,
-};
 ghost use Rattle.cg_world.specs.Headline.{HeadlineHolds};
 ghost use Rattle.cg_world.specs.WorldLaws.{
   DeliveriesAreDone,
@@ -32,12 +25,6 @@ ghost use Rattle.cg_world.specs.SingleActions.{
 };
 ghost use Rattle.cg_world.specs.Taken.{OutcomesTellWhatIsTaken};
 ghost use Rattle.cg_world.specs.WorkedRuns.{WorkedRuns};
-
-mod exchanges;
-mod worlds;
-
-pub use exchanges::exchange_reaches_join;
-pub use worlds::{equal_digests, merge_is_join};
 
 // ---- the headline
 
@@ -69,34 +56,11 @@ pub fn equal_digests_give_equal_tables()
     ensures { EqualDigestsGiveEqualTables }
 {}
 
-// ---- exchanges and merges
-
-/// An exchange between two nodes that run takes both tables to the merge of what the opener held when it opened and
-/// the answerer when it answered, or past it: one more merge with that changes neither. Other actions may stand between
-/// its messages, but no start of the two.
-pub fn exchanges_end_at_the_join()
-    ensures { ExchangesEndAtTheJoin }
-{}
-
-/// With nothing between its messages, an exchange between two nodes that run leaves both with equal tables and rings,
-/// and their table is the merge of the two that they held.
-pub fn undisturbed_exchanges_merge()
-    ensures { UndisturbedExchangesMerge }
-{}
+// ---- merges
 
 /// The merged tables of three nodes spell the join of their places, and hold no more than owners started.
 pub fn merges_of_nodes_are_the_join()
     ensures { MergesOfNodesAreTheJoin }
-{}
-
-/// An exchange between nodes that run is the list of its actions.
-pub fn exchanges_are_lists()
-    ensures { ExchangesAreLists }
-{}
-
-/// An exchange whose SYN a tick sent is the exchange after a beat.
-pub fn ticked_exchanges_follow_beats()
-    ensures { TickedExchangesFollowBeats }
 {}
 
 // ---- single actions, and what all of them leave

@@ -13,4 +13,4 @@ mod nodes;
 mod world;
 
 pub use action::{Action, LocalEvent};
-pub use world::{Shown, World};
+pub use world::{Shown, World, is_out_of_memory};

@@ -63,7 +63,7 @@ impl Model for World {
 }
 
 /// Whether an action found no memory.
-pub(crate) fn is_short(answer: &Result<Shown, Fault>) -> bool
+pub fn is_out_of_memory(answer: &Result<Shown, Fault>) -> bool
     ensures { result ≡ found_no_memory answer.now }
 {
     matches!(answer, Err(Fault::OutOfMemory))
@@ -173,7 +173,7 @@ impl World {
         answers.clear();
         for action in actions {
             let answer = world.act(alloc, action);
-            let ends = is_short(&answer);
+            let ends = is_out_of_memory(&answer);
             answers.push_reserved(answer);
             if ends {
                 return (world, answers);

@@ -2,13 +2,14 @@
 
 ghost use Rattle.std.specs.Prelude.{◌≡◌, IsTrue};
 ghost use Rattle.std.specs.List.{list_any};
-ghost use Rattle.cg_world.specs.Exchange.{starts, NeverStarts};
+ghost use Rattle.cg_world.specs.World.{starts};
+ghost use Rattle.cg_world_laws.specs.Exchange.{NeverStarts};
 
 use crate::scripts::{deliver, held_by, local, settings, start};
 use cg_samples::{A, B, endpoint};
 use cg_types::{Endpoint, Fault};
-use cg_world::laws::exchange_reaches_join;
 use cg_world::{Action, LocalEvent, World};
+use cg_world_laws::exchange_reaches_join;
 use std::alloc::Global;
 use std::test::Fail;
 

@@ -8,6 +8,8 @@ mod exchanges;
 #[cfg(test)]
 mod limits;
 #[cfg(test)]
+mod rows;
+#[cfg(test)]
 mod runs;
 #[cfg(test)]
 mod scripts;

@@ -1,10 +1,9 @@
 //! The greatest number of nodes, and runs that memory may end.
 
-use crate::scripts::{deliver, held_by, local, settings, start};
+use crate::scripts::{settings, start};
 use cg_samples::{A, B, C, endpoint};
-use cg_table::Took;
 use cg_types::{Fault, MEMBER_LIMIT};
-use cg_world::{Action, LocalEvent, Shown, World};
+use cg_world::{Shown, World, is_out_of_memory};
 use std::alloc::Global;
 use std::test::Fail;
 
@@ -69,4 +68,13 @@ fn a_run_of_nothing_runs_nobody(rt: HostRuntime) -> Result<(), Fail> {
     let (world, answers) = World::run(rt.alloc(), settings(rt.alloc())?, &[])?;
     assert_eq!(rt; (running(&world), answers.len()), (0, 0));
     Ok(())
+}
+
+#[test]
+fn want_of_memory_is_told(rt: HostRuntime) {
+    let (none, short) = (Err(Fault::NotRising), Err(Fault::OutOfMemory));
+    assert_eq!(rt;
+        (is_out_of_memory(&none), is_out_of_memory(&short)),
+        (false, true)
+    );
 }

@@ -1,13 +1,13 @@
 //! A worked run of two nodes, in which one restarts and stale messages come.
 
-use crate::scripts::{deliver, held_by, local, run, settings, start, three_nodes};
-use cg_core::Reply;
-use cg_exchange::Message;
+use crate::scripts::{
+    deliver, held_by, local, outcome, run, sent_above, settings, start, three_nodes,
+};
 use cg_samples::{A, B, C, endpoint};
 use cg_table::{Table, Took};
 use cg_types::Fault;
-use cg_world::laws::{equal_digests, merge_is_join};
 use cg_world::{Action, LocalEvent, Shown, World};
+use cg_world_laws::{equal_digests, merge_is_join};
 use std::alloc::Global;
 use std::test::Fail;
 
@@ -43,23 +43,6 @@ fn messages_are_numbered(rt: HostRuntime) -> Result<(), Fail> {
     ];
     assert_eq!(rt; numbers.as_slice(), expected.as_slice());
     Ok(())
-}
-
-fn first_took(reply: &Reply) -> Option<Took> {
-    match reply {
-        Reply::Both { outcomes, .. } | Reply::Took(outcomes) => {
-            Some(outcomes.as_slice().first()?.took)
-        }
-        _ => None,
-    }
-}
-
-// What became of the first delta, if one came.
-fn outcome(shown: &Result<Shown, Fault>) -> Option<Took> {
-    match shown {
-        Ok(shown) => first_took(shown.reply.as_ref()?),
-        Err(_) => None,
-    }
 }
 
 #[test]
@@ -183,20 +166,6 @@ fn digests_of_two_nodes(rt: HostRuntime) -> Result<(), Fail> {
     Ok(())
 }
 
-// What the message of a number sends: the deltas of an ACK2, by their endpoint and the version that each lies above.
-fn sent_above(world: &World, number: u64) -> Option<(usize, Option<u32>)> {
-    let deltas = match world.message(number)? {
-        Message::Syn(_) => return None,
-        Message::Ack(ack) => ack.deltas(),
-        Message::Ack2(ack2) => ack2.deltas(),
-    };
-    let above = match deltas.first() {
-        Some(delta) => Some(delta.delta.above()),
-        None => None,
-    };
-    Some((deltas.len(), above))
-}
-
 #[test]
 fn what_finds_nothing_to_grant_is_empty(rt: HostRuntime) -> Result<(), Fail> {
     let world = three_nodes(rt.alloc())?;
@@ -211,50 +180,5 @@ fn what_finds_nothing_to_grant_is_empty(rt: HostRuntime) -> Result<(), Fail> {
 fn an_answer_brings_what_is_above(rt: HostRuntime) -> Result<(), Fail> {
     let (world, _shown) = run(rt.alloc())?;
     assert_eq!(rt; sent_above(&world, 5), Some((1, Some(2))));
-    Ok(())
-}
-
-// B, which holds A at 2, asks for what lies above it in generation 9: message 5.
-fn asking(actions: &mut Vec<Action>) -> Result<(), Fail> {
-    actions.push(start(A, 9))?;
-    actions.push(local(A, LocalEvent::Beat))?;
-    actions.push(start(B, 5))?;
-    actions.push(local(A, LocalEvent::Opening))?;
-    actions.push(deliver(1, B, 1000))?;
-    actions.push(deliver(2, A, 1000))?;
-    actions.push(deliver(3, B, 1000))?;
-    actions.push(local(A, LocalEvent::Beat))?;
-    actions.push(local(A, LocalEvent::Opening))?;
-    actions.push(deliver(4, B, 2000))?;
-    Ok(())
-}
-
-// C is asked before it holds anything of A, and answers by message 6; and by 10 once it holds A at its next start.
-fn asked_elsewhere(actions: &mut Vec<Action>) -> Result<(), Fail> {
-    actions.push(start(C, 4))?;
-    actions.push(deliver(5, C, 3000))?;
-    actions.push(start(A, 10))?;
-    actions.push(local(A, LocalEvent::Opening))?;
-    actions.push(deliver(7, C, 4000))?;
-    actions.push(deliver(8, A, 4000))?;
-    actions.push(deliver(9, C, 4000))?;
-    actions.push(deliver(5, C, 5000))?;
-    Ok(())
-}
-
-#[test]
-fn a_request_of_an_ended_generation_gets_the_next_one_whole(rt: HostRuntime) -> Result<(), Fail> {
-    let mut actions = Vec::new(rt.alloc());
-    asking(&mut actions)?;
-    asked_elsewhere(&mut actions)?;
-    let (world, _shown) = World::run(rt.alloc(), settings(rt.alloc())?, &actions)?;
-    assert_eq!(rt;
-        (
-            sent_above(&world, 6),
-            sent_above(&world, 10),
-            held_by(&world, C, A)
-        ),
-        (Some((0, None)), Some((1, Some(0))), Some((10, 1)))
-    );
     Ok(())
 }

@@ -1,12 +1,13 @@
 //! Lists of actions, and what a world shows of the nodes after them.
 
-use cg_core::{Node, Settings};
+use cg_core::{Node, Reply, Settings};
+use cg_exchange::Message;
 use cg_samples::{A, B, C, cluster, endpoint, generation, key};
 use cg_silence::Silence;
-use cg_table::Table;
+use cg_table::Took;
 use cg_types::{Fault, StateText};
 use cg_world::{Action, LocalEvent, Shown, World};
-use std::alloc::{AllocError, Global};
+use std::alloc::Global;
 use std::test::Fail;
 
 pub fn settings(alloc: Global) -> Result<Settings, Fail> {
@@ -18,9 +19,14 @@ pub fn start(node: u16, number: u32) -> Action {
     Action::Start(endpoint(node), generation(number))
 }
 
+pub fn set(alloc: Global, node: u16, number: u8, text: &str) -> Result<Action, Fail> {
+    let text = StateText::new(alloc, text)?;
+    let key = key(number);
+    Ok(Action::Local(endpoint(node), LocalEvent::Set { key, text }))
+}
+
 pub fn set_status(alloc: Global, node: u16) -> Result<Action, Fail> {
-    let text = StateText::new(alloc, "NORMAL")?;
-    Ok(Action::Local(endpoint(node), LocalEvent::Set { key: key(1), text }))
+    set(alloc, node, 1, "NORMAL")
 }
 
 pub fn local(node: u16, event: LocalEvent) -> Action {
@@ -111,4 +117,35 @@ fn held(node: &Node, of: u16) -> Option<(u32, u32)> {
 
 pub fn held_by(world: &World, node: u16, of: u16) -> Option<(u32, u32)> {
     held(world.node(endpoint(node))?, of)
+}
+
+fn first_took(reply: &Reply) -> Option<Took> {
+    match reply {
+        Reply::Both { outcomes, .. } | Reply::Took(outcomes) => {
+            Some(outcomes.as_slice().first()?.took)
+        }
+        _ => None,
+    }
+}
+
+// What became of the first delta, if one came.
+pub fn outcome(shown: &Result<Shown, Fault>) -> Option<Took> {
+    match shown {
+        Ok(shown) => first_took(shown.reply.as_ref()?),
+        Err(_) => None,
+    }
+}
+
+// What the message of a number sends: the deltas of an ACK2, by their endpoint and the version that each lies above.
+pub fn sent_above(world: &World, number: u64) -> Option<(usize, Option<u32>)> {
+    let deltas = match world.message(number)? {
+        Message::Syn(_) => return None,
+        Message::Ack(ack) => ack.deltas(),
+        Message::Ack2(ack2) => ack2.deltas(),
+    };
+    let above = match deltas.first() {
+        Some(delta) => Some(delta.delta.above()),
+        None => None,
+    };
+    Some((deltas.len(), above))
 }

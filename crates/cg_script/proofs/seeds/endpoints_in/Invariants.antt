@@ -5,4 +5,4 @@ use Rattle.cg_script.proofs.SeedLemmas.{behind, left}
 use Rattle.cg_script.proofs.seeds.endpoints_in.Given as goal
 
 abbrev pub invariant-loop : goal.invariant-loop
-invariant-loop l = endpoints_in SEED_LIMIT l.text ≡ behind l.endpoints.items (left l.counter l.rest)
+invariant-loop l = endpoints_in l.at SEED_LIMIT l.text ≡ behind l.endpoints.items (left l.at l.counter l.rest)

@@ -1,5 +1,5 @@
 use Rattle.std.proofs.Common.{inl, sym, arith}
-use Rattle.cg_sim.proofs.LineLemmas.{cut_shorter}
+use Rattle.cg_lines.proofs.LineLemmas.{cut_shorter}
 use Rattle.cg_sim.proofs.TellingLemmas.{telling_none, telling_more, telling_rest, telling_kept, telling_short, telling_stops}
 use Rattle.cg_sim.proofs.telling.tell_piece.Goals as goal
 

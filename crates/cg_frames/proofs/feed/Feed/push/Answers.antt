@@ -1,5 +1,5 @@
 use Rattle.std.proofs.Common.{◌≡◌, ◌++◌, ◌≤◌, length, None, Ok, sym, subst}
-use Rattle.cg_frames.specs.Feeding.{Cut, IsPartial, Splits, SplitsFrom, HasAtMostOne, standing_of, wanted}
+use Rattle.cg_frames.specs.Feeding.{Cut, IsPartial, Splits, SplitsFrom, HasAtMostOne, standing_of, wants_of}
 use Rattle.cg_frames.specs.Feeding.{lack_of}
 use Rattle.cg_frames.proofs.FeedingLemmas.{frames_partial, at_most_one}
 use Rattle.cg_frames.proofs.FaultLemmas.{bad_standing}
@@ -28,7 +28,7 @@ returns-clause-one c fits =
     let held = c.self.inside.held.items in
     let partial : IsPartial LAYOUTS (Ok held) = subst (λ f. IsPartial LAYOUTS (standing_of held f)) none c.self.invariant in
     let whole : c.args.self.now ≡ Ok held = sym (subst (λ f. standing_of held f ≡ c.args.self.now) none c.self.view_is) in
-    let short : length c.args.piece.now ≤ lack_of held = subst (λ s. length c.args.piece.now ≤ wanted s) whole fits in
+    let short : length c.args.piece.now ≤ lack_of held = subst (λ s. length c.args.piece.now ≤ wants_of s) whole fits in
     subst (λ (k : Cut). HasAtMostOne k.messages k.rest) (c.in_ok-fed.ensures.ok) (at_most_one LAYOUTS held c.args.piece.now partial short)
 
 pub returns-clause-bad : goal.returns-clause-bad

@@ -14,7 +14,7 @@ loop-action-preserved c =
     let actions = c.args.actions.now in
     let action = c.action-item.result in
     let next = c.act-answer.new.self in
-    let found : found_no_memory c.act-answer.result ≡ false = sym c.is_short-ends.ensures ∙ c.if-ends.false in
+    let found : found_no_memory c.act-answer.result ≡ false = sym c.is_out_of_memory-ends.ensures ∙ c.if-ends.false in
     let runs = runs_next begin c.loop-action.world next actions (drop at actions) (drop (at + 1) actions) action c.loop-action.answers.items c.act-answer.result c.loop-action.invariant.0
     (split_at actions at action c.loop-action-test.true c.action-item.is) c.act-answer.ensures.shown found c.act-answer.ensures.done c.act-answer.ensures.err in (
       subst (λ (items : List (Result Shown Fault)). RunsOn begin actions next (drop (at + 1) actions) items) (sym c.push_reserved.ensures.items) runs,
@@ -29,7 +29,7 @@ ran_short c =
     let actions = c.args.actions.now in
     let action = c.action-item.result in
     let next = c.act-answer.new.self in
-    let short : found_no_memory c.act-answer.result ≡ true = sym c.is_short-ends.ensures ∙ c.if-ends.true in
+    let short : found_no_memory c.act-answer.result ≡ true = sym c.is_out_of_memory-ends.ensures ∙ c.if-ends.true in
     let ran = runs_out begin c.loop-action.world next actions (drop at actions) (drop (at + 1) actions) action c.loop-action.answers.items c.act-answer.result c.loop-action.invariant.0
     (split_at actions at action c.loop-action-test.true c.action-item.is) c.act-answer.ensures.shown short c.act-answer.ensures.err in
     subst (λ (items : List (Result Shown Fault)). Ran begin actions items next) (sym c.push_reserved.ensures.items) ran

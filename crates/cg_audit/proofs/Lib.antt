@@ -1,0 +1,7 @@
+pub mod PlaceLemmas
+pub mod CursorLemmas
+pub mod TrackLemmas
+pub mod StateLemmas
+pub mod NextLemmas
+pub mod LivesLemmas
+pub mod AuditLemmas

@@ -1,0 +1,15 @@
+-- Items as they are kept.
+use Rattle.std.specs.Option.{option_map}
+use Rattle.cg_exchange.specs.Lent.{lent_message}
+use Rattle.cg_one_run.specs.Items.{RunItem}
+use Rattle.cg_audit.specs.declared.step.Step.{Step}
+
+-- the item that a step is
+abbrev pub run_item : Step → RunItem
+run_item s = record {
+  endpoint = s.item.endpoint;
+  generation = s.item.generation;
+  number = s.item.number;
+  handled = option_map lent_message s.handled;
+  sent = option_map lent_message s.sent;
+}

@@ -1,0 +1,7 @@
+-- What is left of an endpoint's items.
+use Rattle.std.specs.Prelude.{ℕ, List}
+use Rattle.cg_one_run.specs.Items.{RunItem}
+
+pub record Track : Type 0 where
+  pub endpoint : ℕ
+  pub left : List RunItem

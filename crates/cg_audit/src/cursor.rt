@@ -1,0 +1,112 @@
+//! How far the lives of an endpoint have come.
+
+ghost use Rattle.std.specs.Prelude.{◌≡◌, ◌+◌, ◌≤◌, ℕ, IfOk, length, option_copied, slice_get};
+ghost use Rattle.std.specs.Option.{option_map, option_to_list};
+ghost use Rattle.cg_one_run.specs.Turns.{rest, first as first_of};
+ghost use Rattle.cg_audit.specs.Steps.{run_item};
+ghost use Rattle.cg_audit.specs.Tracks.{IsHere, advanced as advanced_of, first_cursors, item_here, left_at, track_at};
+
+use crate::lives::Lives;
+use crate::step::{Step, item_in};
+use cg_history::{History, Item};
+use cg_types::Endpoint;
+use std::alloc::{AllocError, Global};
+
+/// The life whose turn it is, counted from 0, and the number of its next item, which stands in the life after it where
+/// it has none of this number.
+#[derive(Clone, Copy, Debug)]
+pub(crate) struct Cursor {
+    life: usize,
+    number: usize,
+}
+
+fn history_at(histories: &[History], place: usize) -> Option<&History>
+    ensures { option_copied result ≡ slice_get histories.now place }
+{
+    histories.get(place)
+}
+
+// The same with a life that has an item of the number, if any item is left.
+fn settled(histories: &[History], cursor: Cursor) -> Cursor
+    ensures same { (e : ℕ) → left_at e histories.now result ≡ left_at e histories.now cursor }
+    ensures here { IsHere histories.now result }
+{
+    match history_at(histories, cursor.life) {
+        Some(history) if cursor.number > history.records().len() => Cursor {
+            life: cursor.life + 1,
+            number: 0,
+        },
+        _ => cursor,
+    }
+}
+
+fn item_at(endpoint: Endpoint, histories: &[History], cursor: Cursor) -> Option<Step<'_>>
+    ensures { option_map run_item result ≡ item_here endpoint histories.now cursor }
+{
+    match history_at(histories, cursor.life) {
+        None => None,
+        Some(history) => item_in(endpoint, history, cursor.number),
+    }
+}
+
+fn first_in(endpoint: Endpoint, histories: &[History], cursor: Cursor) -> Option<Step<'_>>
+    ensures { option_to_list (option_map run_item result) ≡ first_of (left_at endpoint histories.now cursor) }
+{
+    let at = settled(histories, cursor);
+    item_at(endpoint, histories, at)
+}
+
+/// The next item of some lives, if one is left.
+pub(crate) fn first(lives: &Lives, cursor: Cursor) -> Option<Step<'_>>
+    ensures { option_to_list (option_map run_item result) ≡ first_of (track_at lives.now cursor).left }
+{
+    first_in(lives.endpoint(), lives.histories(), cursor)
+}
+
+fn past(records: &[Item], number: usize) -> usize
+    requires { number ≤ length records.now }
+    ensures { result ≡ number + 1 }
+{
+    let _count = records.len();
+    number + 1
+}
+
+// One item further, if the life has an item of the number.
+fn after(histories: &[History], cursor: Cursor) -> Cursor
+    requires { IsHere histories.now cursor }
+    ensures { (e : ℕ) → left_at e histories.now result ≡ rest (left_at e histories.now cursor) }
+{
+    match history_at(histories, cursor.life) {
+        None => cursor,
+        Some(history) => Cursor {
+            life: cursor.life,
+            number: past(history.records(), cursor.number),
+        },
+    }
+}
+
+fn advanced_in(histories: &[History], cursor: Cursor) -> Cursor
+    ensures { (e : ℕ) → left_at e histories.now result ≡ rest (left_at e histories.now cursor) }
+{
+    let at = settled(histories, cursor);
+    after(histories, at)
+}
+
+/// The next item of some lives goes, if one is left.
+pub(crate) fn advanced(lives: &Lives, cursor: Cursor) -> Cursor
+    ensures { track_at lives.now result ≡ advanced_of (track_at lives.now cursor) }
+{
+    advanced_in(lives.histories(), cursor)
+}
+
+/// No item of any lives has gone.
+pub(crate) fn cursors(alloc: Global, lives: &[Lives]) -> Result<Vec<Cursor>, AllocError>
+    ensures { IfOk result (λ v. v.items ≡ first_cursors lives.now) }
+{
+    let mut cursors = Vec::with_capacity(alloc, lives.len())?;
+    for one in lives {
+        let _one = one;
+        cursors.push(Cursor { life: 0, number: 0 })?;
+    }
+    Ok(cursors)
+}

@@ -1,0 +1,118 @@
+//! All lives of an endpoint.
+
+ghost use Rattle.std.specs.Prelude.{◌≡◌, ◌↔◌, ◌==◌, map, None, IsTrue, IfSome, IsSome};
+ghost use Rattle.cg_types.specs.Rising.{rise_past};
+ghost use Rattle.std.specs.List.{list_any};
+ghost use Rattle.cg_one_run.specs.Items.{LivesValue, generation_of};
+ghost use Rattle.cg_audit.specs.LivesCode.{are_of as are_of_lem};
+ghost use Rattle.cg_audit.specs.Lives.{differ, all_rise as all_rise_lem};
+
+use cg_history::History;
+use cg_types::{Endpoint, Generation};
+use std::marker::Model;
+
+/// All lives of an endpoint, the first one first.
+#[derive(Drop)]
+pub struct Lives {
+    endpoint: Endpoint,
+    histories: Vec<History>,
+}
+
+/// A contract sees the endpoint and the histories, each of which began with a node of that endpoint.
+impl Model for Lives {
+    ghost use Rattle.std.specs.Prelude.{IsTrue};
+    ghost use Rattle.cg_one_run.specs.Items.{LivesValue};
+    ghost use Rattle.cg_audit.specs.LivesCode.{lives_code, are_of};
+
+    ghost Value = { LivesValue };
+
+    ghost coded = { lives_code };
+
+    ghost view = { λ l. record { endpoint = l.endpoint; histories = l.histories.items } };
+
+    ghost invariant = { λ l. IsTrue (are_of l.endpoint l.histories.items) };
+}
+
+fn is_of(endpoint: Endpoint, history: &History) -> bool
+    ensures { result ≡ (history.now.base.table.own == endpoint) }
+{
+    history.base().table().own() == endpoint
+}
+
+fn are_of(endpoint: Endpoint, histories: &[History]) -> bool
+    ensures { result ≡ are_of_lem endpoint histories.now }
+{
+    histories.iter().all(|history| is_of(endpoint, history))
+}
+
+/// The generation of a life.
+pub(crate) fn generation(history: &History) -> Generation
+    ensures { result ≡ generation_of history.now }
+{
+    history.base().table().own_entry().generation()
+}
+
+// Whether each life has a greater generation than the one before it.
+fn rise(histories: &[History]) -> bool
+    ensures { result ≡ rise_past None (map generation_of histories.now) }
+{
+    histories.is_sorted_by(|one, next| generation(one).get() < generation(next).get())
+}
+
+/// Whether the generations of each endpoint rise.
+pub(crate) fn all_rise(lives: &[Lives]) -> bool
+    ensures { result ≡ all_rise_lem lives.now }
+{
+    lives.iter().all(|one| rise(one.histories()))
+}
+
+// Whether some lives are of an endpoint.
+fn is_here(endpoint: Endpoint, lives: &[Lives]) -> bool
+    ensures { result ≡ list_any (λ (l : LivesValue). l.endpoint == endpoint) lives.now }
+{
+    lives.iter().any(|one| one.endpoint() == endpoint)
+}
+
+/// Whether no two of these are of one endpoint.
+pub fn endpoints_differ(lives: &[Lives]) -> bool
+    ensures { result ≡ differ lives.now }
+{
+    let mut rest = lives;
+    while let Some((first, others)) = rest.split_first() {
+        if is_here(first.endpoint(), others) {
+            return false;
+        }
+        rest = others;
+    }
+    true
+}
+
+impl Lives {
+    /// `None` where a history did not begin with a node of the endpoint.
+    pub fn new(endpoint: Endpoint, histories: Vec<History>) -> Option<Lives>
+        ensures when { IsSome result ↔ IsTrue (are_of_lem endpoint histories.items) }
+        ensures value { IfSome result (λ l. l ≡ record { endpoint = endpoint; histories = histories.items }) }
+    {
+        if !are_of(endpoint, &histories) {
+            return None;
+        }
+        Some(Lives {
+            endpoint,
+            histories,
+        })
+    }
+
+    /// Whose lives these are.
+    pub fn endpoint(&self) -> Endpoint
+        ensures { result ≡ self.now.endpoint }
+    {
+        self.endpoint
+    }
+
+    /// The histories of the lives, the first one first.
+    pub fn histories(&self) -> &[History]
+        ensures { result.now ≡ self.now.histories }
+    {
+        &self.histories
+    }
+}

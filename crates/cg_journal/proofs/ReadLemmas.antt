@@ -1,0 +1,203 @@
+-- Lines that are taken are read, one after the other.
+use Rattle.std.proofs.Common.{◌≡◌, ℕ, ◌+◌, ◌≤◌, ◌⊎◌, inl, inr, suc, List, [], ◌∷◌, ◌++◌, length, Option, Some, None, Result, Ok, Err, refl, sym, ap, ◌∙◌, append_assoc, append-nil, arith}
+use Rattle.std.specs.Prelude.{◌-◌, ◌^◌, min, MatchResult}
+use Rattle.std.specs.Io.KnownBytes.{Consumes}
+use Rattle.cg_types.specs.declared.fault.Fault.{Fault}
+use Rattle.cg_types.specs.declared.fault.Fault.TheVariants.{OutOfMemory, BadText}
+use Rattle.cg_links.specs.declared.counted.Counted.{Counted}
+use Rattle.cg_links.specs.Counts.{one_more}
+use Rattle.cg_links.specs.Counted.{KeepsCounts}
+use Rattle.cg_history.specs.History.{HistoryValue}
+use Rattle.cg_lines.specs.Lines.{ended_lines, open_line, last_line, lines_of}
+use Rattle.cg_lines.specs.Taken.{Takes, TakesAll, Stops, StopsLast, IsUnread, Fails}
+use Rattle.cg_lines.proofs.LineLemmas.{ended_lines-append}
+use Rattle.cg_journal.specs.declared.reading.Progress.{Progress}
+use Rattle.cg_journal.specs.declared.unread.Unread.{Unread}
+use Rattle.cg_journal.specs.Reading.{event_in, history_after, begun_or, after_line, on_line, after_lines, journal_in, told_number}
+use Rattle.cg_journal.specs.Read.{TakesLine, RefusesLine, NoneBefore, ReadsHistory, LacksMemory, MeetsReadFault, FailsToRead}
+
+-- a line behind the first
+pub read_behind : {T : Type 0} (o : Option HistoryValue) (h k : HistoryValue) (line : List ℕ) (r : Result T Fault) → o ≡ Some h
+    → MatchResult r (λ _. history_after h (event_in line) ≡ Some k) (λ f. (f ≡ OutOfMemory) ⊎ ((f ≡ BadText) × (history_after h (event_in line) ≡ None)))
+    → MatchResult r (λ _. (x : HistoryValue) × (after_line o line ≡ Some x) × (Some k ≡ Some x)) (λ f. (f ≡ OutOfMemory) ⊎ ((f ≡ BadText) × (after_line o line ≡ None)))
+read_behind o h k line (Ok x) is read = (k, ap (λ (p : Option HistoryValue). after_line p line) is ∙ read, refl)
+read_behind o h k line (Err f) is (inl short) = inl short
+read_behind o h k line (Err f) is (inr bad) = inr (bad.0, ap (λ (p : Option HistoryValue). after_line p line) is ∙ bad.1)
+
+-- no line was read
+abbrev pub nothing : Progress
+nothing = record { history = None; lines = 0 }
+
+-- lines are taken from here to there
+abbrev Taken : Progress → List (List ℕ) → Progress → Type 0
+Taken = Takes TakesLine RefusesLine
+
+-- ---- what lines that are taken read as
+
+lines_taken : (n : ℕ) (p q : Progress) (xs ys : List (List ℕ)) → Taken p xs q → after_lines n p.history (xs ++ ys) ≡ after_lines (n + length xs) q.history ys
+lines_taken n p q [] ys e =
+    let same : n ≡ n + length {A = List ℕ} [] = omega arith in
+    ap (λ (s : Progress). after_lines n s.history ys) e ∙ ap (λ (k : ℕ). after_lines k q.history ys) same
+lines_taken n p q (x ∷ xs) ys t =
+    let (m, one, more) = t in
+    let same : suc n + length xs ≡ n + length (x ∷ xs) = omega arith in
+    ap (λ (o : Option HistoryValue). on_line n o (λ h. after_lines (suc n) (Some h) (xs ++ ys))) one.1
+    ∙ ap (λ (o : Option HistoryValue). after_lines (suc n) o (xs ++ ys)) (sym one.2)
+    ∙ lines_taken (suc n) m q xs ys more
+    ∙ ap (λ (k : ℕ). after_lines k q.history ys) same
+
+lines_counted : (n : ℕ) (p q : Progress) (xs : List (List ℕ)) → Taken p xs q → p.lines ≡ min n (2 ^ 64 - 1) → q.lines ≡ min (n + length xs) (2 ^ 64 - 1)
+lines_counted n p q [] e is =
+    let same : p.lines ≡ q.lines = ap (λ (s : Progress). s.lines) e in
+    let count : n + length {A = List ℕ} [] ≡ n = omega arith in
+    sym same ∙ is ∙ ap (λ (k : ℕ). min k (2 ^ 64 - 1)) (sym count)
+lines_counted n p q (x ∷ xs) t is =
+    let (m, one, more) = t in
+    let next : m.lines ≡ min (suc n) (2 ^ 64 - 1) = (let e = one.3 in omega (arith, e, is)) in
+    let same : suc n + length xs ≡ n + length (x ∷ xs) = omega arith in
+    lines_counted (suc n) m q xs more next ∙ ap (λ (k : ℕ). min k (2 ^ 64 - 1)) same
+
+-- how a line that follows is told
+line_told : (q : Progress) (xs : List (List ℕ)) (line : ℕ) → Taken nothing xs q → line ≡ one_more q.lines → line ≡ told_number (1 + length xs)
+line_told q xs line taken is =
+    let none : 0 ≡ min 0 (2 ^ 64 - 1) = refl in
+    let counted = lines_counted 0 nothing q xs taken none in
+    omega (arith, is, counted)
+
+behind : (n k : ℕ) (xs : List (List ℕ)) (r : Option HistoryValue) → ((h : HistoryValue) → after_lines (suc n) (Some h) xs ≡ Err k → suc n ≤ k)
+    → on_line n r (λ h. after_lines (suc n) (Some h) xs) ≡ Err k → n ≤ k
+behind n k xs None next e = let same : n ≡ k = cc in omega (arith, same)
+behind n k xs (Some h) next e = let less = next h e in omega (arith, less)
+
+not_before : (n k : ℕ) (o : Option HistoryValue) (lines : List (List ℕ)) → after_lines n o lines ≡ Err k → n ≤ k
+not_before n k None [] e = let same : n ≡ k = cc in omega (arith, same)
+not_before n k (Some h) [] e = absurd cc
+not_before n k o (x ∷ xs) e = behind n k xs (after_line o x) (λ h. not_before (suc n) k (Some h) xs) e
+
+-- ---- the lines of a text
+
+-- a line behind some that are taken can't be read
+unreadable_at : (lines front rest : List (List ℕ)) (line : List ℕ) (m : Progress) → lines ≡ front ++ line ∷ rest → Taken nothing front m
+    → after_line m.history line ≡ None → after_lines 1 None lines ≡ Err (1 + length front)
+unreadable_at lines front rest line m are taken none =
+    ap (after_lines 1 None) are
+    ∙ lines_taken 1 nothing m front (line ∷ rest) taken
+    ∙ ap (λ (o : Option HistoryValue). on_line (1 + length front) o (λ h. after_lines (suc (1 + length front)) (Some h) rest)) none
+
+-- no line of those that are taken is unreadable
+none_before : (text : List ℕ) (front rest : List (List ℕ)) (m : Progress) → lines_of text ≡ front ++ rest → Taken nothing front m → NoneBefore text (1 + length front)
+unfolding journal_in
+none_before text front rest m are taken n e =
+    not_before (1 + length front) n m.history rest (sym (ap (after_lines 1 None) are ∙ lines_taken 1 nothing m front rest taken) ∙ e)
+
+-- what ends in a text is what its lines begin with
+more_lines : (text : List ℕ) (front rest : List (List ℕ)) → ended_lines [] text ≡ front ++ rest
+    → lines_of text ≡ front ++ (rest ++ last_line (open_line [] text))
+more_lines text front rest are = ap (λ (ls : List (List ℕ)). ls ++ last_line (open_line [] text)) are ∙ append_assoc front rest (last_line (open_line [] text))
+
+-- and so whatever follows
+later_lines : (text more : List ℕ) (front rest : List (List ℕ)) → ended_lines [] text ≡ front ++ rest
+    → lines_of (text ++ more) ≡ front ++ (rest ++ (ended_lines (open_line [] text) more ++ last_line (open_line [] (text ++ more))))
+later_lines text more front rest are =
+    let last = last_line (open_line [] (text ++ more)) in
+    let ended = ended_lines (open_line [] text) more in
+    ap (λ (ls : List (List ℕ)). ls ++ last) (ended_lines-append [] text more ∙ ap (λ (ls : List (List ℕ)). ls ++ ended) are)
+    ∙ append_assoc (front ++ rest) ended last ∙ append_assoc front rest (ended ++ last)
+
+-- ---- how reading ends
+
+module _ {R : Type 0} (before after : Option (List ℕ)) (old new : Counted R) (q : Progress) where
+  pub history_read : (h : HistoryValue) → TakesAll TakesLine RefusesLine before after old new nothing q → q.history ≡ Some h → ReadsHistory before after old new h
+  unfolding journal_in
+  history_read h t is = record {
+    text = t.text;
+    read = t.read;
+    end = t.end;
+    kept = t.kept;
+    history = ap (after_lines 1 None) (sym (append-nil (lines_of t.text)))
+        ∙ lines_taken 1 nothing q (lines_of t.text) [] t.taken
+        ∙ ap (begun_or (1 + length (lines_of t.text))) is;
+  }
+
+  -- there is no line
+  pub no_history : (u : Unread) → TakesAll TakesLine RefusesLine before after old new nothing q → q.history ≡ None → u.line ≡ one_more q.lines → u.fault ≡ BadText
+      → FailsToRead before after old new u
+  unfolding journal_in
+  no_history u t is line fault = inl (record {
+    fault = fault;
+    text = t.text;
+    read = t.read;
+    kept = t.kept;
+    number = 1 + length (lines_of t.text);
+    told = line_told q (lines_of t.text) u.line t.taken line;
+    first = inr (
+      t.end,
+      ap (after_lines 1 None) (sym (append-nil (lines_of t.text)))
+          ∙ lines_taken 1 nothing q (lines_of t.text) [] t.taken
+          ∙ ap (begun_or (1 + length (lines_of t.text))) is,
+    );
+  })
+
+  module _ (u : Unread) (f : Fault) (line : u.line ≡ one_more q.lines) (fault : u.fault ≡ f) where
+    lacks : (text : List ℕ) (front rest : List (List ℕ)) (m : Progress) → Consumes before after text → KeepsCounts old new → lines_of text ≡ front ++ rest
+        → Taken nothing front m → q.lines ≡ m.lines → f ≡ OutOfMemory → LacksMemory before after old new u
+    lacks text front rest m read kept are taken same short = record {
+      fault = fault ∙ short;
+      text = text;
+      read = read;
+      kept = kept;
+      number = 1 + length front;
+      told = line_told m front u.line taken (line ∙ ap one_more same);
+      unhidden = none_before text front rest m are taken;
+    }
+
+    pub stopped : Stops TakesLine RefusesLine before after old new nothing q f → FailsToRead before after old new u
+    unfolding journal_in
+    stopped s = elim s.stops [
+      | inl r ↦ elim r.refused.0 [
+        | inl short ↦ inr (inl (lacks s.text r.front _ r.middle s.read s.kept (more_lines s.text r.front (r.line ∷ r.rest) r.are) r.taken r.refused.1 short))
+        | inr bad ↦ inl (record {
+          fault = fault ∙ bad.0;
+          text = s.text;
+          read = s.read;
+          kept = s.kept;
+          number = 1 + length r.front;
+          told = line_told r.middle r.front u.line r.taken (line ∙ ap one_more r.refused.1);
+          first = inl (λ more. unreadable_at _ r.front _ r.line r.middle (later_lines s.text more r.front (r.line ∷ r.rest) r.are) r.taken bad.1);
+        })
+      ]
+      | inr l ↦ inr (inl (lacks s.text l.front _ q s.read s.kept (more_lines s.text l.front l.rest l.are) l.taken refl l.fault))
+    ]
+
+    pub stopped_last : StopsLast TakesLine RefusesLine before after old new nothing q f → FailsToRead before after old new u
+    unfolding journal_in
+    stopped_last s =
+        let r = s.stops in
+        elim r.refused.0 [
+          | inl short ↦ inr (inl (lacks s.text r.front (r.line ∷ r.rest) r.middle s.read s.kept r.are r.taken r.refused.1 short))
+          | inr bad ↦ inl (record {
+            fault = fault ∙ bad.0;
+            text = s.text;
+            read = s.read;
+            kept = s.kept;
+            number = 1 + length r.front;
+            told = line_told r.middle r.front u.line r.taken (line ∙ ap one_more r.refused.1);
+            first = inr (s.end, unreadable_at (lines_of s.text) r.front r.rest r.line r.middle r.are r.taken bad.1);
+          })
+        ]
+
+    unread : IsUnread TakesLine RefusesLine before after old new nothing q f → MeetsReadFault before after old new u
+    unread s = record {
+      fault = fault ∙ s.fault;
+      text = s.text;
+      read = s.read;
+      caused = s.caused;
+      number = 1 + length (ended_lines [] s.text);
+      told = line_told q (ended_lines [] s.text) u.line s.taken line;
+      unhidden = none_before s.text (ended_lines [] s.text) (last_line (open_line [] s.text)) q refl s.taken;
+    }
+
+    pub failed : Fails TakesLine RefusesLine before after old new nothing q f → FailsToRead before after old new u
+    failed (inl s) = stopped s
+    failed (inr (inl s)) = stopped_last s
+    failed (inr (inr s)) = inr (inr (unread s))

@@ -1,0 +1,77 @@
+-- How reading a journal ends.
+use Rattle.std.specs.Prelude.{◌≡◌, ℕ, ◌≤◌, ◌⊎◌, List, ◌++◌, Option, Some, None, Result, Ok, Err, MatchResult}
+use Rattle.std.specs.Io.KnownBytes.{Consumes, IsAtEnd}
+use Rattle.cg_types.specs.declared.fault.Fault.{Fault}
+use Rattle.cg_types.specs.declared.fault.Fault.TheVariants.{OutOfMemory, BadText, ReadFault}
+use Rattle.cg_links.specs.declared.counted.Counted.{Counted}
+use Rattle.cg_links.specs.Counts.{one_more}
+use Rattle.cg_links.specs.Counted.{KeepsCounts, CountsCalls, CountsFailed}
+use Rattle.cg_links.specs.declared.transfer.TheConstants.{MOST_READS}
+use Rattle.cg_history.specs.History.{HistoryValue}
+use Rattle.cg_journal.specs.declared.reading.Progress.{Progress}
+use Rattle.cg_journal.specs.declared.unread.Unread.{Unread}
+use Rattle.cg_journal.specs.Reading.{after_line, journal_in, told_number}
+
+-- ---- a line
+
+-- It was read, and is counted.
+abbrev pub TakesLine : Progress → List ℕ → Progress → Type 0
+TakesLine p line q =
+    (h : HistoryValue) × (after_line p.history line ≡ Some h) × (q.history ≡ Some h) × (q.lines ≡ one_more p.lines)
+
+-- It can't be read, or memory ran out on the way; it is not counted.
+abbrev pub RefusesLine : Progress → List ℕ → Progress → Fault → Type 0
+RefusesLine p line q f =
+    ((f ≡ OutOfMemory) ⊎ ((f ≡ BadText) × (after_line p.history line ≡ None))) × (q.lines ≡ p.lines)
+
+-- ---- a journal, by what is left of the reader before and after, and its counts
+
+-- No line of the text before the one of this number is unreadable.
+abbrev pub NoneBefore : List ℕ → ℕ → Type 0
+NoneBefore text number = (n : ℕ) → journal_in text ≡ Err n → number ≤ n
+
+module _ {R : Type 0} (before after : Option (List ℕ)) (old new : Counted R) where
+  -- all of it was read
+  pub record ReadsHistory (h : HistoryValue) : Type 0 where
+    pub text : List ℕ
+    pub read : Consumes before after text
+    pub end : IsAtEnd after
+    pub kept : KeepsCounts old new
+    pub history : journal_in text ≡ Ok h
+
+  -- The line of this number is the first that can't be read, whatever follows what was read; or that was all.
+  pub record MeetsUnreadable (u : Unread) : Type 0 where
+    pub fault : u.fault ≡ BadText
+    pub text : List ℕ
+    pub read : Consumes before after text
+    pub kept : KeepsCounts old new
+    pub number : ℕ
+    pub told : u.line ≡ told_number number
+    pub first : ((rest : List ℕ) → journal_in (text ++ rest) ≡ Err number)
+        ⊎ (IsAtEnd after × (journal_in text ≡ Err number))
+
+  -- memory ran out in the line of this number, and no line before is unreadable
+  pub record LacksMemory (u : Unread) : Type 0 where
+    pub fault : u.fault ≡ OutOfMemory
+    pub text : List ℕ
+    pub read : Consumes before after text
+    pub kept : KeepsCounts old new
+    pub number : ℕ
+    pub told : u.line ≡ told_number number
+    pub unhidden : NoneBefore text number
+
+  -- A read failed, or as many were made as may be, in the line of this number, and no line before is unreadable.
+  pub record MeetsReadFault (u : Unread) : Type 0 where
+    pub fault : u.fault ≡ ReadFault
+    pub text : List ℕ
+    pub read : Consumes before after text
+    pub caused : CountsFailed old new ⊎ CountsCalls old new MOST_READS
+    pub number : ℕ
+    pub told : u.line ≡ told_number number
+    pub unhidden : NoneBefore text number
+
+  abbrev pub FailsToRead : Unread → Type 0
+  FailsToRead u = MeetsUnreadable u ⊎ (LacksMemory u ⊎ MeetsReadFault u)
+
+  abbrev pub Reads : Result HistoryValue Unread → Type 0
+  Reads result = MatchResult result ReadsHistory FailsToRead

@@ -1,0 +1,36 @@
+-- What is said of journals that are read.
+use Rattle.std.specs.Prelude.{◌≡◌, ℕ, List, [], ◌∷◌, ◌++◌, map, Some, Ok}
+use Rattle.std.specs.List.{AllByRecursion}
+use Rattle.cg_history.specs.declared.item.Item.{Item}
+use Rattle.cg_history.specs.Items.{events_of}
+use Rattle.cg_history.specs.History.{HistoryValue}
+use Rattle.cg_lines.specs.Lines.{lines_of}
+use Rattle.cg_journal.specs.Reading.{life_in, event_in, journal_in}
+
+-- The history began as the first of the lines says, and has a record for each other line, with the line's event, for
+-- caller 0.
+pub record IsOfItsLines (lines : List (List ℕ)) (h : HistoryValue) : Type 0 where
+  pub first : List ℕ
+  pub others : List (List ℕ)
+  pub are : lines ≡ first ∷ others
+  pub start : HistoryValue
+  pub begins : life_in first ≡ Some start
+  pub base : h.base ≡ start.base
+  pub events : map event_in others ≡ map Some (events_of h.records)
+  pub callers : AllByRecursion (λ r. r.caller ≡ 0) h.records
+
+abbrev pub ReadHistoriesAreOfTheirLines : Type 0
+ReadHistoriesAreOfTheirLines =
+    (text : List ℕ) (h : HistoryValue) → journal_in text ≡ Ok h → IsOfItsLines (lines_of text) h
+
+-- The history goes on from another one: it began alike, and has its records first.
+pub record Continues (g h : HistoryValue) : Type 0 where
+  pub base : h.base ≡ g.base
+  pub more : List Item
+  pub records : h.records ≡ g.records ++ more
+
+-- What stands before a line feed, with it, is read as a history that the whole one goes on from.
+abbrev pub FrontsAreRead : Type 0
+FrontsAreRead =
+    (front rest : List ℕ) (h : HistoryValue) → journal_in (front ++ 10 ∷ rest) ≡ Ok h
+    → (g : HistoryValue) × (journal_in (front ++ 10 ∷ []) ≡ Ok g) × Continues g h

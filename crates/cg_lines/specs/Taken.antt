@@ -1,0 +1,75 @@
+-- Lines that are handed over one after the other, and what becomes of them.
+use Rattle.std.specs.Prelude.{◌≡◌, ℕ, ◌⊎◌, List, [], ◌∷◌, ◌++◌, Option, Result, MatchResult}
+use Rattle.std.specs.Io.KnownBytes.{Consumes, IsAtEnd}
+use Rattle.cg_types.specs.declared.fault.Fault.{Fault}
+use Rattle.cg_types.specs.declared.fault.Fault.TheVariants.{OutOfMemory, ReadFault}
+use Rattle.cg_links.specs.declared.counted.Counted.{Counted}
+use Rattle.cg_links.specs.Counted.{KeepsCounts, CountsCalls, CountsFailed}
+use Rattle.cg_links.specs.declared.transfer.TheConstants.{MOST_READS}
+use Rattle.cg_lines.specs.Lines.{ended_lines, lines_of}
+
+-- What takes lines, by its ghost members: a state, a line and the state that it leads to; a state, a line that is
+-- refused, the state that is left, and why.
+module _ {S : Type 0} (takes : S → List ℕ → S → Type 0) (refuses : S → List ℕ → S → Fault → Type 0) where
+  -- The lines were taken, one after the other.
+  abbrev pub Takes : S → List (List ℕ) → S → Type 0
+  Takes s [] t = s ≡ t
+  Takes s (line ∷ lines) t = (m : S) × takes s line m × Takes m lines t
+
+  -- The first of these lines were taken, and the next one was refused.
+  pub record Refuses (s : S) (lines : List (List ℕ)) (t : S) (f : Fault) : Type 0 where
+    pub front : List (List ℕ)
+    pub line : List ℕ
+    pub rest : List (List ℕ)
+    pub are : lines ≡ front ++ line ∷ rest
+    pub middle : S
+    pub taken : Takes s front middle
+    pub refused : refuses middle line t f
+
+  -- The first of these lines were taken, and memory ran out for the bytes of a later one.
+  pub record Lacks (s : S) (lines : List (List ℕ)) (t : S) (f : Fault) : Type 0 where
+    pub fault : f ≡ OutOfMemory
+    pub front : List (List ℕ)
+    pub rest : List (List ℕ)
+    pub are : lines ≡ front ++ rest
+    pub taken : Takes s front t
+
+  -- ---- how reading a text ends, by what is left of the reader before and after, and its counts
+
+  module _ {R : Type 0} (before after : Option (List ℕ)) (old new : Counted R) (s t : S) where
+    -- all of the text was read, and its lines were taken
+    pub record TakesAll : Type 0 where
+      pub text : List ℕ
+      pub read : Consumes before after text
+      pub end : IsAtEnd after
+      pub kept : KeepsCounts old new
+      pub taken : Takes s (lines_of text) t
+
+    -- it stopped in a line that a line feed ends, or for want of memory
+    pub record Stops (f : Fault) : Type 0 where
+      pub text : List ℕ
+      pub read : Consumes before after text
+      pub kept : KeepsCounts old new
+      pub stops : Refuses s (ended_lines [] text) t f ⊎ Lacks s (ended_lines [] text) t f
+
+    -- all of the text was read, and its last line, which no line feed ends, was refused
+    pub record StopsLast (f : Fault) : Type 0 where
+      pub text : List ℕ
+      pub read : Consumes before after text
+      pub end : IsAtEnd after
+      pub kept : KeepsCounts old new
+      pub stops : Refuses s (lines_of text) t f
+
+    -- A read failed, or as many were made as may be: the lines that were read whole were taken.
+    pub record IsUnread (f : Fault) : Type 0 where
+      pub text : List ℕ
+      pub read : Consumes before after text
+      pub fault : f ≡ ReadFault
+      pub caused : CountsFailed old new ⊎ CountsCalls old new MOST_READS
+      pub taken : Takes s (ended_lines [] text) t
+
+    abbrev pub Fails : Fault → Type 0
+    Fails f = Stops f ⊎ (StopsLast f ⊎ IsUnread f)
+
+    abbrev pub TakesLines : {T : Type 0} → Result T Fault → Type 0
+    TakesLines result = MatchResult result (λ _. TakesAll) Fails

@@ -1,0 +1,127 @@
+//! Lines, one after the other, from a reader.
+
+ghost use Rattle.std.specs.Prelude.{◌≡◌, ◌⊎◌, ℕ, List, [], ◌++◌, MatchResult, OnOk, IfErr};
+ghost use Rattle.cg_types.specs.declared.fault.Fault.{Fault as FaultValue};
+ghost use Rattle.cg_types.specs.declared.fault.Fault.TheVariants as fault;
+ghost use Rattle.cg_links.specs.Counted.{link_of};
+ghost use Rattle.cg_lines.specs.Lines.{ended_lines, open_line, last_line};
+ghost use Rattle.cg_lines.specs.Taken.{Takes, Refuses, Lacks, TakesLines};
+
+use cg_links::{Counted, MOST_READS};
+use cg_types::{Fault, cut};
+use std::alloc::Global;
+use std::io::Read;
+
+/// What lines are handed to.
+pub trait TakeLine {
+    // a state, a line, and the state that it leads to
+    ghost takes: { Self → List ℕ → Self → Type 0 };
+
+    // a state, a line that is refused, the state that is left, and why
+    ghost refuses: { Self → List ℕ → Self → FaultValue → Type 0 };
+
+    /// Takes the next line, which has no line feed.
+    fn take_line(&mut self, alloc: Global, line: &[u8]) -> Result<(), Fault>
+        ensures { MatchResult result
+            (λ _. takes self.old line.now self.new) (λ f. refuses self.old line.now self.new f) };
+}
+
+// Keeps bytes of a line that has not ended.
+fn hold(front: &mut Vec<u8>, part: &[u8]) -> Result<(), Fault>
+    ensures ok { OnOk result (front.new.items ≡ front.old.items ++ part.now) }
+    ensures err { IfErr result (λ f. f ≡ fault.OutOfMemory) }
+{
+    match front.extend_from_slice(part) {
+        Ok(()) => Ok(()),
+        Err(_) => Err(Fault::OutOfMemory),
+    }
+}
+
+// Hands over each line that ends in a piece of a text. `front` is what stands before the piece in its line, and then
+// what stands behind the last line feed.
+fn take_piece<T: TakeLine>(
+    alloc: Global,
+    taker: &mut T,
+    front: &mut Vec<u8>,
+    piece: &[u8],
+) -> Result<(), Fault>
+    ensures taken { MatchResult result
+        (λ _. Takes T.takes T.refuses taker.old (ended_lines front.old.items piece.now) taker.new)
+        (λ f. Refuses T.takes T.refuses taker.old (ended_lines front.old.items piece.now) taker.new f
+        ⊎ Lacks T.takes T.refuses taker.old (ended_lines front.old.items piece.now) taker.new f) }
+    ensures unended { OnOk result (front.new.items ≡ open_line front.old.items piece.now) }
+{
+    let mut rest = piece;
+    while let Some((part, behind)) = cut(rest, b'\n') {
+        match hold(front, part) {
+            Ok(()) => {}
+            Err(fault) => return Err(fault),
+        }
+        match taker.take_line(alloc, front) {
+            Ok(()) => {}
+            Err(fault) => return Err(fault),
+        }
+        front.clear();
+        rest = behind;
+    }
+    hold(front, rest)
+}
+
+// Hands over the last line, where it does not end with a line feed.
+fn take_last<T: TakeLine>(alloc: Global, taker: &mut T, line: &[u8]) -> Result<(), Fault>
+    ensures { MatchResult result
+        (λ _. Takes T.takes T.refuses taker.old (last_line line.now) taker.new)
+        (λ f. Refuses T.takes T.refuses taker.old (last_line line.now) taker.new f) }
+{
+    if line.is_empty() {
+        return Ok(());
+    }
+    match taker.take_line(alloc, line) {
+        Ok(()) => Ok(()),
+        Err(fault) => Err(fault),
+    }
+}
+
+// Hands over each line of a text, of which nothing was read.
+fn take_pieces<T: TakeLine, R: Read>(
+    alloc: Global,
+    taker: &mut T,
+    front: &mut Vec<u8>,
+    reader: &mut Counted<R>,
+) -> Result<(), Fault>
+    requires none { front.old.items ≡ [] }
+    ensures { TakesLines T.takes T.refuses
+        (R.remaining (link_of reader.old)) (R.remaining (link_of reader.new)) reader.old reader.new
+        taker.old taker.new result }
+{
+    let mut piece = [0u8; 4096];
+    for _ in 0..MOST_READS {
+        match reader.read(&mut piece) {
+            Ok(0) => return take_last(alloc, taker, front),
+            Ok(n) => match take_piece(alloc, taker, front, &piece[..n]) {
+                Ok(()) => {}
+                Err(fault) => return Err(fault),
+            },
+            Err(_) => return Err(Fault::ReadFault),
+        }
+    }
+    Err(Fault::ReadFault)
+}
+
+/// Hands over each line of what the reader has left, without its line feed; the last line feed may be missing. It stops
+/// at the first line that is refused, with the fault of that.
+///
+/// `ReadFault` where a read fails or 4,294,967,295 reads were made, `OutOfMemory` where a line finds no room: then the
+/// lines were taken that were whole before.
+pub fn take_lines<T: TakeLine, R: Read>(
+    alloc: Global,
+    taker: &mut T,
+    reader: &mut Counted<R>,
+) -> Result<(), Fault>
+    ensures { TakesLines T.takes T.refuses
+        (R.remaining (link_of reader.old)) (R.remaining (link_of reader.new)) reader.old reader.new
+        taker.old taker.new result }
+{
+    let mut front = Vec::new(alloc);
+    take_pieces(alloc, taker, &mut front, reader)
+}

@@ -1,0 +1,71 @@
+//! A number that equal messages have in common.
+
+ghost use Rattle.std.specs.Prelude.{◌≡◌, fold};
+ghost use Rattle.cg_exchange.specs.Lent.{lent_message};
+ghost use Rattle.cg_sent.specs.Hash.{mixed as mixed_of, endpoint_number as endpoint_number_of, with_digest, with_request, with_delta, hash_of as hash_of_lem};
+
+use cg_exchange::{Ack, Ack2, Lent, OwnerDelta, Request, Syn};
+use cg_table::Digest;
+use cg_types::Endpoint;
+
+/// What a hash is multiplied by before a number is added: odd, and with its bits spread out.
+const FACTOR: u64 = 0x9e37_79b9_7f4a_7c15;
+
+fn mixed(hash: u64, number: u32) -> u64
+    ensures { result ≡ mixed_of hash number }
+{
+    hash.wrapping_mul(FACTOR).wrapping_add(u64::from(number))
+}
+
+fn endpoint_number(endpoint: Endpoint) -> u32
+    ensures { result ≡ endpoint_number_of endpoint }
+{
+    u32::from_be_bytes(endpoint.address()).wrapping_add(u32::from(endpoint.port()))
+}
+
+fn digests_in(mut hash: u64, digests: &[Digest]) -> u64
+    ensures { result ≡ fold with_digest hash digests.now }
+{
+    for digest in digests {
+        hash = mixed(
+            mixed(hash, endpoint_number(digest.endpoint)),
+            digest.newest.get(),
+        );
+    }
+    hash
+}
+
+fn requests_in(mut hash: u64, requests: &[Request]) -> u64
+    ensures { result ≡ fold with_request hash requests.now }
+{
+    for request in requests {
+        hash = mixed(
+            mixed(hash, endpoint_number(request.endpoint())),
+            request.version(),
+        );
+    }
+    hash
+}
+
+fn deltas_in(mut hash: u64, deltas: &[OwnerDelta]) -> u64
+    ensures { result ≡ fold with_delta hash deltas.now }
+{
+    for sent in deltas {
+        hash = mixed(
+            mixed(hash, endpoint_number(sent.endpoint)),
+            sent.delta.newest().get(),
+        );
+    }
+    hash
+}
+
+/// The hash of what a message says.
+pub(crate) fn hash_of(message: Lent<'_>) -> u64
+    ensures { result ≡ hash_of_lem (lent_message message.entry) }
+{
+    match message {
+        Lent::Syn(syn) => digests_in(1, syn.digests()),
+        Lent::Ack(ack) => deltas_in(requests_in(2, ack.requests()), ack.deltas()),
+        Lent::Ack2(ack2) => deltas_in(3, ack2.deltas()),
+    }
+}

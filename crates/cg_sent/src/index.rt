@@ -1,0 +1,154 @@
+//! The messages that were sent, in buckets by their hashes.
+
+ghost use Rattle.std.specs.Prelude.{◌≡◌, ◌<◌, ◌+◌, ◌%◌, ◌↔◌, ◌∷◌, ◌++◌, [], IsTrue, IfOk, Contains, Some, length, map, slice_get};
+ghost use Rattle.cg_exchange.specs.Lent.{lent_message};
+ghost use Rattle.cg_sent.specs.Hash.{hash_of as hash_of_lem};
+ghost use Rattle.cg_sent.specs.Index.{IsIndex, HaveTheSame};
+
+use crate::hash::hash_of;
+use crate::same::is_same;
+use cg_exchange::Lent;
+use std::alloc::{AllocError, Global};
+use std::marker::Model;
+
+/// Messages that were sent. Each stands in the bucket of its hash, and knows the one before it there, so that a message
+/// is looked for among those of its bucket alone. Messages are numbered from 1, and 0 is none.
+#[derive(Drop)]
+pub struct Sent<'a> {
+    messages: Vec<Lent<'a>>,
+    hashes: Vec<u64>,
+    // the last message of each bucket
+    last: Vec<usize>,
+    // of each message, the one before it in its bucket
+    before: Vec<usize>,
+}
+
+/// A contract sees the list of messages.
+impl<'a> Model for Sent<'a> {
+    ghost use Rattle.std.specs.Prelude.{List, map};
+    ghost use Rattle.std.specs.Coded.{coded_list};
+    ghost use Rattle.cg_exchange.specs.declared.message.Message.{Message};
+    ghost use Rattle.cg_exchange.specs.MessageCode.{message_code};
+    ghost use Rattle.cg_exchange.specs.Lent.{lent_message};
+    ghost use Rattle.cg_sent.specs.Index.{IsIndex};
+
+    ghost Value = { List Message };
+
+    ghost coded = { coded_list message_code };
+
+    ghost view = { λ s. map lent_message s.messages.items };
+
+    ghost invariant = { λ s.
+        IsIndex (map lent_message s.messages.items) s.hashes.items s.last.items s.before.items };
+}
+
+// The bucket of a hash.
+fn bucket_of(hash: u64, last: &[usize]) -> usize
+    requires { 0 < length last.now }
+    ensures { result ≡ hash % length last.now }
+{
+    (hash % last.len() as u64) as usize
+}
+
+fn count_of(hashes: &[u64]) -> usize
+    ensures { result ≡ length hashes.now }
+{
+    hashes.len()
+}
+
+// Whether a message stands at a place.
+fn is_at(messages: &[Lent<'_>], hashes: &[u64], place: usize, wanted: Lent<'_>, hash: u64) -> bool
+    requires place { place < length hashes.now }
+    requires wanted { hash ≡ hash_of_lem (lent_message wanted) }
+    requires hashed { map hash_of_lem (map lent_message messages.now) ≡ hashes.now }
+    ensures { IsTrue result
+        ↔ (slice_get (map lent_message messages.now) place ≡ Some (lent_message wanted.entry)) }
+{
+    hashes[place] == hash && is_same(messages[place], wanted)
+}
+
+// Whether a message is among these, which is to say, in its bucket.
+fn is_among(
+    messages: &[Lent<'_>],
+    hashes: &[u64],
+    last: &[usize],
+    before: &[usize],
+    wanted: Lent<'_>,
+) -> bool
+    requires { IsIndex (map lent_message messages.now) hashes.now last.now before.now }
+    ensures { IsTrue result
+        ↔ Contains (map lent_message messages.now) (lent_message wanted.entry) }
+{
+    let hash = hash_of(wanted);
+    let mut number = last[bucket_of(hash, last)];
+    while number > 0 {
+        let place = number - 1;
+        if is_at(messages, hashes, place, wanted, hash) {
+            return true;
+        }
+        number = before[place];
+    }
+    false
+}
+
+impl<'a> Sent<'a> {
+    /// No messages, with room for so many. More find room as well, in fuller buckets.
+    pub fn none(alloc: Global, room: usize) -> Result<Sent<'a>, AllocError>
+        ensures { IfOk result (λ s. s ≡ []) }
+    {
+        Ok(Sent {
+            messages: Vec::with_capacity(alloc, room)?,
+            hashes: Vec::with_capacity(alloc, room)?,
+            last: vec![in alloc; 0; room.max(1)]?,
+            before: Vec::with_capacity(alloc, room)?,
+        })
+    }
+
+    /// Whether a message is among them.
+    pub fn contains(&self, message: Lent<'_>) -> bool
+        ensures { IsTrue result ↔ Contains self.now (lent_message message.entry) }
+    {
+        is_among(
+            &self.messages,
+            &self.hashes,
+            &self.last,
+            &self.before,
+            message,
+        )
+    }
+
+    // These and one more, at the end.
+    fn pushed(self, message: Lent<'a>) -> Result<Sent<'a>, AllocError>
+        ensures { IfOk result (λ s. s ≡ self.entry ++ lent_message message.entry ∷ []) }
+    {
+        let Sent {
+            mut messages,
+            mut hashes,
+            mut last,
+            mut before,
+        } = self;
+        let hash = hash_of(message);
+        let bucket = bucket_of(hash, &last);
+        before.push(last[bucket])?;
+        messages.push(message)?;
+        hashes.push(hash)?;
+        last[bucket] = count_of(&hashes);
+        Ok(Sent {
+            messages,
+            hashes,
+            last,
+            before,
+        })
+    }
+
+    /// These and one more. One that is among them already is not kept again.
+    pub fn with(self, message: Lent<'a>) -> Result<Sent<'a>, AllocError>
+        ensures { IfOk result (λ s.
+            HaveTheSame s (self.entry ++ lent_message message.entry ∷ [])) }
+    {
+        if self.contains(message) {
+            return Ok(self);
+        }
+        self.pushed(message)
+    }
+}

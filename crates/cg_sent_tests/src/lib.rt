@@ -1,0 +1,5 @@
+//! Each call of `cg_sent` with ample memory.
+#![tactic(auto)]
+
+#[cfg(test)]
+mod index;

@@ -1,0 +1,3 @@
+mod ExchangeLaws
+mod MergingLemmas
+mod ExchangeCalls

@@ -1,0 +1,41 @@
+//! Where exchanges and merges lead nodes that run: laws of every list of actions, and three calls on a world in hand
+//! whose contracts are laws.
+//!
+//! They rest on the laws of `cg_world` and, by places, of `cg_places`; no other crate rests on them.
+#![tactic(auto)]
+
+ghost use Rattle.cg_world_laws.specs.Exchange.{
+  ExchangesEndAtTheJoin,
+  ExchangesAreLists,
+  TickedExchangesFollowBeats,
+  UndisturbedExchangesMerge,
+};
+
+mod exchanges;
+mod merging;
+
+pub use exchanges::exchange_reaches_join;
+pub use merging::{equal_digests, merge_is_join};
+
+/// An exchange between two nodes that run takes both tables to the merge of what the opener held when it opened and
+/// the answerer when it answered, or past it: one more merge with that changes neither. Other actions may stand between
+/// its messages, but no start of the two.
+pub fn exchanges_end_at_the_join()
+    ensures { ExchangesEndAtTheJoin }
+{}
+
+/// With nothing between its messages, an exchange between two nodes that run leaves both with equal tables and rings,
+/// and their table is the merge of the two that they held.
+pub fn undisturbed_exchanges_merge()
+    ensures { UndisturbedExchangesMerge }
+{}
+
+/// An exchange between nodes that run is the list of its actions.
+pub fn exchanges_are_lists()
+    ensures { ExchangesAreLists }
+{}
+
+/// An exchange whose SYN a tick sent is the exchange after a beat.
+pub fn ticked_exchanges_follow_beats()
+    ensures { TickedExchangesFollowBeats }
+{}
