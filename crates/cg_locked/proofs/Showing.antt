@@ -1,0 +1,108 @@
+-- What is appended, and what is told.
+use Rattle.std.proofs.Common.{arith, length-append, zero, suc, ◌≤◌, ◌≡◌, ℕ, ◌+◌, List, [], ◌∷◌, ◌++◌, length, take, refl, sym, ap, ◌∙◌, subst}
+use Rattle.std.specs.Prelude.{Result, Ok, Err, IfOk, IfSome, Option, Some, None}
+use Rattle.std.specs.FinMap as map
+use Rattle.std.proofs.lemmas.List.{append-nil}
+use Rattle.cg_types.specs.declared.fault.Fault.{Fault}
+use Rattle.cg_types.specs.Answer.{IsRefusal}
+use Rattle.cg_types.specs.declared.limits.TheConstants.{MEMBER_LIMIT}
+use Rattle.cg_table.specs.Values.{TableValue}
+use Rattle.cg_table.specs.Puts.{Put, puts, with_puts, keep_order}
+use Rattle.cg_table.proofs.PutsLemmas.{with_puts-append, keep_order-rest}
+use Rattle.cg_core.specs.declared.event.Event.{Event}
+use Rattle.cg_core.specs.declared.event.Event.TheVariants as event
+use Rattle.cg_core.specs.declared.reply.Reply.{Reply}
+use Rattle.cg_core.specs.Values.{NodeValue}
+use Rattle.cg_core.specs.Step.{node_step}
+use Rattle.cg_core.specs.Laws.{IsSmall, PutsIts}
+use Rattle.cg_core.proofs.NodeLaws.{sets_put_their_text}
+use Rattle.cg_history.specs.declared.item.Item.{Item}
+use Rattle.cg_history.specs.declared.item.Receipt.{Receipt}
+use Rattle.cg_history.specs.Items.{puts_of}
+use Rattle.cg_history.specs.History.{HistoryValue, IsReplayed, apply}
+use Rattle.cg_history_laws.proofs.OneMore.{each_event_makes_one_record}
+use Rattle.cg_history_laws.proofs.PutsOfRecords.{puts_of-append, front_fits, own_stays, node_small}
+use Rattle.cg_views.specs.Lists.{MayFollow}
+use Rattle.cg_views.specs.Reading.{Has}
+use Rattle.cg_locked.specs.Entry.{Answer, ShowsSet, IsEntry}
+
+-- ---- what may be appended
+
+-- the puts of the next record may follow those of the records before it
+pub next_may_follow : (h : HistoryValue) (k : ℕ) (all ps : List Put) → IsReplayed h → all ≡ puts_of (take k h.records) → puts_of (take (k + 1) h.records) ≡ puts_of (take k h.records) ++ ps → MayFollow (with_puts h.base.table all) ps
+next_may_follow h k all ps i is next =
+    let fits = front_fits (k + 1) h i in
+    let both : puts_of (take (k + 1) h.records) ≡ all ++ ps = next ∙ ap (λ qs. qs ++ ps) (sym is) in
+    record {
+      order = keep_order-rest h.base.table all ps (ap (keep_order h.base.table) (sym both) ∙ fits.order);
+      room = subst (λ (t : TableValue). map.len t.entries ≤ MEMBER_LIMIT) (ap (with_puts h.base.table) both ∙ with_puts-append h.base.table all ps) fits.room;
+    }
+
+-- ---- what a record more keeps
+
+-- the base, and the front of the records that was appended; there is one record more
+pub record IsKept (h after : HistoryValue) (appended : ℕ) : Type 0 where
+  pub base : after.base ≡ h.base
+  pub long : length after.records ≡ length h.records + 1
+  pub front : take appended after.records ≡ take appended h.records
+
+take_front : (xs ys : List Item) (k : ℕ) → k ≤ length xs → take k (xs ++ ys) ≡ take k xs
+take_front xs ys zero le = refl
+take_front [] ys (suc k) le = absurd (omega arith)
+take_front (x ∷ xs) ys (suc k) le = ap (λ zs. x ∷ zs) (take_front xs ys k (omega arith))
+
+pub kept : (h : HistoryValue) (caller : ℕ) (e : Event) (after : HistoryValue) (q : Receipt) (appended : ℕ) → appended ≤ length h.records → apply h caller e ≡ Ok (after, q) → IsKept h after appended
+kept h caller e after q appended few is =
+    let one = each_event_makes_one_record h caller e after q is in
+    let r : Item = record { caller = caller; event = e; reply = one.answer; puts = puts h.node.table one.node.table } in record {
+      base = one.base;
+      long = ap length one.records ∙ length-append h.records (r ∷ []);
+      front = ap (take appended) one.records ∙ take_front h.records (r ∷ []) appended few;
+    }
+
+-- ---- what is told of a Set
+
+-- the puts of the last record stand among those of all
+last_stands : (rs : List Item) (r : Item) (p : Put) → r.puts ≡ p ∷ [] → Has (puts_of (rs ++ r ∷ [])) p
+last_stands rs r p is = (puts_of rs, [], puts_of-append rs (r ∷ []) ∙ ap (λ ps. puts_of rs ++ ps) (append-nil r.puts ∙ is))
+
+-- where the last record is of a Set, all puts show it
+set_shown : (n : NodeValue) (e : Event) (x : NodeValue × Reply) (rs : List Item) (r : Item) → IsSmall n → node_step n e ≡ Ok x → r.puts ≡ puts n.table x.0.table → ShowsSet (puts_of (rs ++ r ∷ [])) n.table.own e x.1
+set_shown n (event.Set key text) x rs r small step is =
+    let its : PutsIts key text n x.0 x.1 = sets_put_their_text n key text x.0 x.1 small step in
+    (its.version, its.told, record { entry = _; stands = last_stands rs r _ (is ∙ its.only); given = its.given })
+set_shown n event.Beat x rs r small step is = tt
+set_shown n (event.Tick now words) x rs r small step is = tt
+set_shown n event.Opening x rs r small step is = tt
+set_shown n (event.Syn m) x rs r small step is = tt
+set_shown n (event.Ack now m) x rs r small step is = tt
+set_shown n (event.Ack2 now m) x rs r small step is = tt
+
+-- the puts of all records show the Set of the last one
+puts_show : (h : HistoryValue) (caller : ℕ) (e : Event) (after : HistoryValue) (q : Receipt) → IsReplayed h → apply h caller e ≡ Ok (after, q) → ShowsSet (puts_of after.records) h.base.table.own e q.reply
+puts_show h caller e after q i is =
+    let one = each_event_makes_one_record h caller e after q is in
+    let r : Item = record { caller = caller; event = e; reply = one.answer; puts = puts h.node.table one.node.table } in
+    let shown = set_shown h.node e (one.node, one.answer) h.records r (node_small h i) one.step refl in
+    let at_base : ShowsSet (puts_of (h.records ++ r ∷ [])) h.base.table.own e one.answer = subst (λ own. ShowsSet (puts_of (h.records ++ r ∷ [])) own e one.answer) (own_stays h i) shown in
+    let replied : one.answer ≡ q.reply = sym (ap (λ (p : Receipt). p.reply) one.receipt) in
+    subst (λ a. ShowsSet (puts_of after.records) h.base.table.own e a) replied (subst (λ rs. ShowsSet (puts_of rs) h.base.table.own e one.answer) (sym one.records) at_base)
+
+-- ---- entries
+
+module _ (start : NodeValue) (count caller : ℕ) (e : Event) (h : HistoryValue) (starts : h.base ≡ start) (replayed : IsReplayed h) (long : count ≤ length h.records) where
+  -- an event that was entered, with what is told of it
+  pub entry_done : (after : HistoryValue) (q : Receipt) (told : Option (List Put)) → apply h caller e ≡ Ok (after, q) → IfSome told (λ t. t ≡ puts_of after.records) → IsEntry start count caller e (Ok (q, told))
+  entry_done after q told is all = record { before = h; after = after; starts = starts; replayed = replayed; long = long; entered = is; told = all }
+
+  -- an event that was refused
+  pub entry_refused : (fault : Fault) → IsRefusal fault (apply h caller e) → IsEntry start count caller e (Err fault)
+  entry_refused fault is = record { before = h; after = h; starts = starts; replayed = replayed; long = long; entered = is; told = tt }
+
+-- what is told of an entry shows its Set
+pub entry_shows : (start : NodeValue) (count caller : ℕ) (e : Event) (result : Result Answer Fault) → IsEntry start count caller e result → IfOk result (λ r. IfSome r.1 (λ t. ShowsSet t start.table.own e r.0.reply))
+entry_shows start count caller e (Err fault) entry = tt
+entry_shows start count caller e (Ok (q, None)) entry = tt
+entry_shows start count caller e (Ok (q, Some t)) entry =
+    let shown = puts_show entry.before caller e entry.after q entry.replayed entry.entered in
+    subst (λ ps. ShowsSet ps start.table.own e q.reply) (sym entry.told) (subst (λ (n : NodeValue). ShowsSet (puts_of entry.after.records) n.table.own e q.reply) entry.starts shown)

@@ -1,0 +1,187 @@
+//! What lies under the lock.
+
+ghost use Rattle.std.specs.Prelude.{◌≡◌, ◌+◌, ◌++◌, ◌<◌, ◌≤◌, [], length, take, IfOk, IfSome, OnOk, OnErr};
+ghost use Rattle.std.specs.Coded.{Coded-set};
+ghost use Rattle.cg_table.specs.Values.{table_code};
+ghost use Rattle.cg_table.specs.Puts.{puts_code};
+ghost use Rattle.cg_core.specs.Values.{node_code};
+ghost use Rattle.cg_types.specs.Answer.{Answers};
+ghost use Rattle.cg_history.specs.Items.{puts_of};
+ghost use Rattle.cg_history.specs.History.{apply};
+ghost use Rattle.cg_views.specs.Lists.{opened_with, are_all};
+ghost use Rattle.cg_locked.specs.Board.{shows_all};
+ghost use Rattle.cg_locked.specs.Entry.{IsEntry, ShowsSet};
+
+use crate::name::Name;
+use crate::seat::Seat;
+use cg_core::Event;
+use cg_history::{History, Receipt};
+use cg_table::Puts;
+use cg_types::Fault;
+use cg_views::{Publisher, Told};
+use std::alloc::{AllocError, Global};
+use std::sync::Wait;
+use std::sync::ledger::Book;
+
+/// What lies under the lock. The records replay from the node that the name's history began with (`History` keeps
+/// that). The first `appended` of them are with the publisher, and the first `published` were there when all was
+/// published last. The book counts the records.
+pub struct Board<N: Name> {
+    pub(crate) history: History,
+    pub(crate) publisher: Publisher<N>,
+    pub(crate) appended: usize,
+    pub(crate) published: usize,
+    pub(crate) book: Book<N>,
+    ghost counted: { book.total ≡ length history.records },
+    ghost within: { (published ≤ appended) × (appended ≤ length history.records) },
+    ghost shown: { are_all publisher ≡ puts_of (take appended history.records) } by { Coded-set puts_code _ _ },
+    ghost start: { history.base ≡ N.start } by { Coded-set node_code _ _ },
+    ghost opening: { publisher.opening ≡ history.base.table } by { Coded-set table_code _ _ },
+}
+
+impl<N: Name> Board<N> {
+    pub(crate) fn new(history: History, publisher: Publisher<N>, book: Book<N>) -> Board<N>
+        requires history { (history.records ≡ []) × (history.base ≡ N.start) }
+        requires publisher { publisher ≡ opened_with history.base.table }
+        requires book { book.total ≡ 0 }
+    {
+        Board {
+            history,
+            publisher,
+            appended: 0,
+            published: 0,
+            book,
+        }
+    }
+
+    /// The history.
+    pub fn history(&self) -> &History
+        ensures value { result.now ≡ self.now.history }
+        ensures start { result.now.base ≡ N.start }
+    {
+        &self.history
+    }
+
+    /// How many records were kept since `catch_up` last published all. It takes no memory.
+    pub fn unpublished(&self) -> u64
+        ensures { result + self.now.published ≡ length self.now.history.records }
+    {
+        (self.history.records().len() - self.published) as u64
+    }
+
+    /// Has an event done for the seat's caller, and keeps its record: `History::apply`, which adds one to the seat's
+    /// share. Refused, it changes nothing.
+    pub fn enter(
+        &mut self,
+        alloc: Global,
+        seat: &mut Seat<N>,
+        event: Event,
+    ) -> Result<Receipt, Fault>
+        ensures due { Answers (λ receipt. (self.new.history, receipt))
+            (apply self.old.history seat.old.caller event) result }
+        ensures share { OnOk result (seat.new.share.amount ≡ seat.old.share.amount + 1) }
+        ensures views { (self.new.publisher ≡ self.old.publisher) × (self.new.appended ≡ self.old.appended)
+            × (self.new.published ≡ self.old.published) }
+        ensures err { OnErr result ((self.new.history ≡ self.old.history) × (self.new.book ≡ self.old.book)
+            × (seat.new.share.amount ≡ seat.old.share.amount)) }
+        ensures seat { (seat.new.caller ≡ seat.old.caller) × (seat.new.share.parts ≡ seat.old.share.parts) }
+    {
+        let Board { history, book, .. } = self;
+        let receipt = history.apply(alloc, seat.caller, event)?;
+        book.add(&mut seat.share, 1);
+        Ok(receipt)
+    }
+
+    // The puts of the next record that is not appended.
+    fn next_puts(&self, alloc: Global) -> Result<Puts, AllocError>
+        requires { self.now.appended < length self.now.history.records }
+        ensures { IfOk result (λ ps. puts_of (take (self.now.appended + 1) self.now.history.records)
+            ≡ puts_of (take self.now.appended self.now.history.records) ++ ps) }
+    {
+        let item = &self.history.records()[self.appended];
+        let puts = item.puts.copy(alloc)?;
+        Ok(puts)
+    }
+
+    // Appends the puts of the next record. Refused, it changes nothing.
+    fn append_next(&mut self, alloc: Global) -> Result<(), AllocError>
+        requires { self.old.appended < length self.old.history.records }
+        ensures same { (self.new.history ≡ self.old.history) × (self.new.book ≡ self.old.book)
+            × (self.new.published ≡ self.old.published) }
+        ensures opening { self.new.publisher.opening ≡ self.old.publisher.opening }
+        ensures ok { OnOk result (self.new.appended ≡ self.old.appended + 1) }
+        ensures err { OnErr result (self.new.appended ≡ self.old.appended) }
+    {
+        let puts = self.next_puts(alloc)?;
+        let _records = self.history.records();
+        let Board {
+            publisher,
+            appended,
+            ..
+        } = self;
+        publisher.append_all(alloc, puts)?;
+        *appended += 1;
+        Ok(())
+    }
+
+    /// Appends the puts of all records that are not appended, record by record, and publishes them. Where memory is
+    /// refused, the records appended so far stay appended, and the next call goes on there.
+    pub fn catch_up<R: Wait>(&mut self, rt: &R, alloc: Global) -> Result<Told<N>, AllocError>
+        ensures same { (self.new.history ≡ self.old.history) × (self.new.book ≡ self.old.book) }
+        ensures told { IfOk result (λ t. t ≡ puts_of self.new.history.records) }
+        ensures published { OnOk result (
+            (self.new.publisher ≡ shows_all self.new.history.base.table (puts_of self.new.history.records))
+            × (self.new.published ≡ length self.new.history.records)) }
+        ensures err { OnErr result ((self.new.published ≡ self.old.published)
+            × (self.old.appended ≤ self.new.appended)) }
+    {
+        while self.appended < self.history.records().len() {
+            self.append_next(alloc)?;
+        }
+        self.publisher.publish(rt)?;
+        self.published = self.appended;
+        Ok(self.publisher.tell())
+    }
+
+    /// Enters, and then catches up; no `Told` where catching up found no memory, and the record stands. Refused, as
+    /// `enter` is.
+    pub fn enter_and_tell<R: Wait>(
+        &mut self,
+        rt: &R,
+        alloc: Global,
+        seat: &mut Seat<N>,
+        event: Event,
+    ) -> Result<(Receipt, Option<Told<N>>), Fault>
+        ensures entered { Answers (λ r. (self.new.history, r.0))
+            (apply self.old.history seat.old.caller event) result }
+        ensures told { IfOk result (λ r. IfSome r.1 (λ t. t ≡ puts_of self.new.history.records)) }
+        ensures entry { IsEntry N.start seat.old.share.amount seat.old.caller event result }
+        ensures shown { IfOk result (λ r. IfSome r.1 (λ t. ShowsSet t N.start.table.own event r.0.reply)) }
+        ensures share { OnOk result (seat.new.share.amount ≡ seat.old.share.amount + 1) }
+        ensures err { OnErr result ((self.new.history ≡ self.old.history)
+            × (seat.new.share.amount ≡ seat.old.share.amount)) }
+        ensures seat { (seat.new.caller ≡ seat.old.caller) × (seat.new.share.parts ≡ seat.old.share.parts) }
+    {
+        let _records = self.history.records();
+        self.book.audit(&mut seat.share);
+        let receipt = self.enter(alloc, seat, event)?;
+        match self.catch_up(rt, alloc) {
+            Ok(told) => Ok((receipt, Some(told))),
+            Err(_) => Ok((receipt, None)),
+        }
+    }
+
+    /// The history, the publisher and the book.
+    pub(crate) fn apart(self) -> (History, Publisher<N>, Book<N>)
+        ensures { (result.0.base ≡ N.start) × (result.2.total ≡ length result.0.records) }
+    {
+        let Board {
+            history,
+            publisher,
+            appended: _,
+            published: _,
+            book,
+        } = self;
+        (history, publisher, book)
+    }
+}

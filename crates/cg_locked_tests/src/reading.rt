@@ -1,0 +1,52 @@
+//! A Set that is told, and read back.
+
+ghost use Rattle.std.specs.Prelude.{◌≡◌, IfOk, IfSome};
+ghost use Rattle.cg_views.specs.Reading.{OwnHasFrom};
+
+use cg_core::{Event, Reply};
+use cg_history::Receipt;
+use cg_locked::{Name, Seat, Shared};
+use cg_types::{Fault, StateKey, StateText, Version};
+use cg_views::{Pass, Snapshot};
+use std::alloc::Global;
+use std::sync::Wait;
+
+/// What was read after a Set that was told.
+#[derive(Drop)]
+pub(crate) struct Read {
+    pub(crate) receipt: Receipt,
+    pub(crate) version: Version,
+    pub(crate) snapshot: Snapshot,
+}
+
+/// Sets a key, learns what is told, and reads: the own entry then has the key at the version of the reply or a later
+/// one. `None` where no memory was found to publish.
+pub(crate) fn set_and_read<N: Name, R: Wait>(
+    rt: &R,
+    alloc: Global,
+    shared: &Shared<N>,
+    seat: &mut Seat<N>,
+    pass: &mut Pass<N>,
+    key: StateKey,
+    text: StateText,
+) -> Result<Option<Read>, Fault>
+    requires { N.start.table ≡ N.opening }
+    ensures read { IfOk result (λ r. IfSome r (λ x. OwnHasFrom x.snapshot key x.version)) }
+    ensures seat { (seat.new.caller ≡ seat.old.caller) × (seat.new.share.parts ≡ seat.old.share.parts) }
+{
+    let (receipt, told) = shared.submit(rt, alloc, seat, Event::Set { key, text })?;
+    let Reply::Done(version) = &receipt.reply else {
+        return Ok(None);
+    };
+    let version = *version;
+    let Some(told) = told else {
+        return Ok(None);
+    };
+    pass.learn(told);
+    let snapshot = pass.read()?;
+    Ok(Some(Read {
+        receipt,
+        version,
+        snapshot,
+    }))
+}

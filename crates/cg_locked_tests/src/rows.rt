@@ -1,0 +1,425 @@
+//! One thread's work on all seats of a board, one after the other, and what is confirmed in the end.
+
+ghost use Rattle.std.specs.Prelude.{◌≡◌, ◌<◌, ◌≤◌, [], vec_len, vec_capacity};
+ghost use Rattle.std.specs.List.{sum_by};
+
+use crate::history::new_history;
+use crate::reading::{Read, set_and_read};
+use cg_core::Event;
+use cg_history::{History, Receipt};
+use cg_locked::{Board, Name, Seat, Shared};
+use cg_samples::key;
+use cg_table::Table;
+use cg_types::{Fault, StateText};
+use cg_views::{Opened, Pass, Told, views};
+use std::alloc::Global;
+use std::marker::Brand;
+use std::sync::ledger::Blank;
+use std::sync::{MutexGuard, Wait};
+use std::test::Fail;
+
+// What is done on each seat.
+#[derive(Clone, Copy)]
+enum Work {
+    // Sets key 3 to `x`, and reads it back.
+    Set,
+    // The same, and the receipt's number is raised by one.
+    SetAndForge,
+    // Reads while the board is lent.
+    ReadLent,
+    // Enters two Sets, reads, catches up and reads again.
+    EnterTwo,
+    // Sets twice, each at the second try where memory is refused, and catches up.
+    SetAnyway,
+    // Beats.
+    Beat,
+}
+
+// What came of it: numbers in their order, the receipts, and the last fault.
+#[derive(Drop)]
+struct Notes {
+    numbers: Vec<u64>,
+    receipts: Vec<Receipt>,
+    fault: Option<Fault>,
+}
+
+impl Notes {
+    fn note(&mut self, number: u64) {
+        if self.numbers.push(number).is_err() {
+            self.fault = Some(Fault::OutOfMemory);
+        }
+    }
+
+    fn keep(&mut self, receipt: Receipt) {
+        if self.receipts.push(receipt).is_err() {
+            self.fault = Some(Fault::OutOfMemory);
+        }
+    }
+
+    fn refused(&mut self, fault: Fault) {
+        self.fault = Some(fault);
+    }
+}
+
+// ---- on one seat
+
+// The version of A's key 3, 0 for none.
+fn read<N: Name>(pass: &mut Pass<N>) -> Result<u64, Fault> {
+    let snapshot = pass.read()?;
+    Ok(match snapshot.table().own_entry().get(key(3)) {
+        Some((_text, version)) => u64::from(version.get()),
+        None => 0,
+    })
+}
+
+fn note_read<N: Name>(pass: &mut Pass<N>, notes: &mut Notes) {
+    match read(pass) {
+        Ok(version) => notes.note(version),
+        Err(fault) => notes.refused(fault),
+    }
+}
+
+fn set_of_three(alloc: Global) -> Result<Event, Fault> {
+    Ok(Event::Set {
+        key: key(3),
+        text: StateText::new(alloc, "x")?,
+    })
+}
+
+// Number, version of the reply, and version that was read.
+fn note_set(told: Read, notes: &mut Notes, forged: u64) {
+    let Read {
+        mut receipt,
+        version,
+        snapshot,
+    } = told;
+    notes.note(receipt.number);
+    notes.note(u64::from(version.get()));
+    if let Some((_text, version)) = snapshot.table().own_entry().get(key(3)) {
+        notes.note(u64::from(version.get()));
+    }
+    receipt.number = receipt.number.saturating_add(forged);
+    notes.keep(receipt);
+}
+
+fn set<N: Name, R: Wait>(
+    rt: &R,
+    alloc: Global,
+    shared: &Shared<N>,
+    seat: &mut Seat<N>,
+    pass: &mut Pass<N>,
+    notes: &mut Notes,
+    forged: u64,
+)
+    requires { N.start.table ≡ N.opening }
+    ensures { seat.new.share.parts ≡ seat.old.share.parts }
+{
+    let Ok(text) = StateText::new(alloc, "x") else {
+        return notes.refused(Fault::OutOfMemory);
+    };
+    match set_and_read(rt, alloc, shared, seat, pass, key(3), text) {
+        Ok(Some(told)) => note_set(told, notes, forged),
+        Ok(None) => notes.refused(Fault::OutOfMemory),
+        Err(fault) => notes.refused(fault),
+    }
+}
+
+// Enters a Set.
+fn enter<N: Name>(alloc: Global, board: &mut Board<N>, seat: &mut Seat<N>) -> Result<Receipt, Fault>
+    ensures { seat.new.share.parts ≡ seat.old.share.parts }
+{
+    board.enter(alloc, seat, set_of_three(alloc)?)
+}
+
+// Enters a Set; what is unpublished and read then.
+fn note_entered<N: Name>(
+    alloc: Global,
+    board: &mut Board<N>,
+    seat: &mut Seat<N>,
+    pass: &mut Pass<N>,
+    notes: &mut Notes,
+)
+    ensures { seat.new.share.parts ≡ seat.old.share.parts }
+{
+    match enter(alloc, board, seat) {
+        Ok(receipt) => notes.keep(receipt),
+        Err(fault) => notes.refused(fault),
+    }
+    notes.note(board.unpublished());
+    note_read(pass, notes);
+}
+
+// Catches up, at the second try where memory is refused; what is unpublished and read then, and all records.
+fn note_caught_up<N: Name, R: Wait>(
+    rt: &R,
+    alloc: Global,
+    board: &mut Board<N>,
+    pass: &mut Pass<N>,
+    notes: &mut Notes,
+) {
+    let told = match board.catch_up(rt, alloc) {
+        Ok(told) => Ok(told),
+        Err(_) => board.catch_up(rt, alloc),
+    };
+    match told {
+        Ok(told) => pass.learn(told),
+        Err(_) => notes.refused(Fault::OutOfMemory),
+    }
+    notes.note(board.unpublished());
+    note_read(pass, notes);
+    notes.note(board.history().records().len() as u64);
+}
+
+fn submit<N: Name, R: Wait>(
+    rt: &R,
+    alloc: Global,
+    shared: &Shared<N>,
+    seat: &mut Seat<N>,
+) -> Result<(Receipt, Option<Told<N>>), Fault>
+    ensures { seat.new.share.parts ≡ seat.old.share.parts }
+{
+    shared.submit(rt, alloc, seat, set_of_three(alloc)?)
+}
+
+// Sets, at the second try where memory is refused. A Set that was not told is unpublished: one of both is 1.
+fn note_set_anyway<N: Name, R: Wait>(
+    rt: &R,
+    alloc: Global,
+    shared: &Shared<N>,
+    seat: &mut Seat<N>,
+    notes: &mut Notes,
+)
+    ensures { seat.new.share.parts ≡ seat.old.share.parts }
+{
+    let done = match submit(rt, alloc, shared, seat) {
+        Ok(done) => Ok(done),
+        Err(_) => submit(rt, alloc, shared, seat),
+    };
+    match done {
+        Ok((receipt, told)) => {
+            let board = shared.lend(rt);
+            let unpublished = board.unpublished();
+            MutexGuard::unlock(board);
+            notes.note(unpublished.saturating_add(u64::from(told.is_some())));
+            notes.keep(receipt);
+        }
+        Err(fault) => notes.refused(fault),
+    }
+}
+
+fn beat<N: Name, R: Wait>(
+    rt: &R,
+    alloc: Global,
+    shared: &Shared<N>,
+    seat: &mut Seat<N>,
+    notes: &mut Notes,
+)
+    ensures { seat.new.share.parts ≡ seat.old.share.parts }
+{
+    match shared.submit(rt, alloc, seat, Event::Beat) {
+        Ok((receipt, _told)) => {
+            notes.note(u64::from(receipt.caller));
+            notes.keep(receipt);
+        }
+        Err(fault) => notes.refused(fault),
+    }
+}
+
+fn work_on<N: Name, R: Wait>(
+    rt: &R,
+    alloc: Global,
+    shared: &Shared<N>,
+    seat: &mut Seat<N>,
+    pass: &mut Pass<N>,
+    notes: &mut Notes,
+    work: Work,
+)
+    requires { N.start.table ≡ N.opening }
+    ensures { seat.new.share.parts ≡ seat.old.share.parts }
+{
+    match work {
+        Work::Set => set(rt, alloc, shared, seat, pass, notes, 0),
+        Work::SetAndForge => set(rt, alloc, shared, seat, pass, notes, 1),
+        Work::ReadLent => {
+            let board = shared.lend(rt);
+            note_read(pass, notes);
+            MutexGuard::unlock(board);
+        }
+        Work::EnterTwo => {
+            let mut board = shared.lend(rt);
+            note_entered(alloc, &mut board, seat, pass, notes);
+            note_entered(alloc, &mut board, seat, pass, notes);
+            note_caught_up(rt, alloc, &mut board, pass, notes);
+            MutexGuard::unlock(board);
+        }
+        Work::SetAnyway => {
+            note_set_anyway(rt, alloc, shared, seat, notes);
+            note_set_anyway(rt, alloc, shared, seat, notes);
+            let mut board = shared.lend(rt);
+            note_caught_up(rt, alloc, &mut board, pass, notes);
+            MutexGuard::unlock(board);
+        }
+        Work::Beat => beat(rt, alloc, shared, seat, notes),
+    }
+}
+
+// ---- on all seats
+
+fn done_on<N: Name, R: Wait>(
+    rt: &R,
+    alloc: Global,
+    shared: &Shared<N>,
+    seat: Seat<N>,
+    pass: &mut Pass<N>,
+    notes: &mut Notes,
+    work: Work,
+) -> Seat<N>
+    requires { N.start.table ≡ N.opening }
+    ensures { result.share.parts ≡ seat.share.parts }
+{
+    let mut seat = seat;
+    work_on(rt, alloc, shared, &mut seat, pass, notes, work);
+    seat
+}
+
+// Works on each seat, and puts it back.
+fn done_on_all<N: Name, R: Wait>(
+    rt: &R,
+    alloc: Global,
+    shared: &Shared<N>,
+    seats: Vec<Seat<N>>,
+    back: Vec<Seat<N>>,
+    pass: &mut Pass<N>,
+    notes: &mut Notes,
+    work: Work,
+) -> Vec<Seat<N>>
+    requires name { N.start.table ≡ N.opening }
+    requires back { (back.items ≡ []) × (vec_len back ≡ 0) × (vec_len seats ≤ vec_capacity back) }
+    ensures parts { sum_by (λ s. s.share.parts) result.items ≡ sum_by (λ s. s.share.parts) seats.items }
+    ensures len { vec_len result ≡ vec_len seats }
+{
+    let mut back = back;
+    for seat in seats {
+        back.push_reserved(done_on(rt, alloc, shared, seat, pass, notes, work));
+    }
+    back
+}
+
+// ---- the end
+
+// What was noted, how many records are left, and the first receipt that is not confirmed: its place, and the number of
+// its fault.
+type Left = (Vec<u64>, usize, Option<(usize, u8)>);
+
+fn left_by<N: Name, R: Wait>(
+    rt: &R,
+    alloc: Global,
+    opened: Opened,
+    table: Table,
+    history: History,
+    blank: Blank,
+    seats: usize,
+    work: Work,
+) -> Result<Left, Fail>
+    requires views { (opened ≡ N.book) × (table ≡ N.opening) }
+    requires history { (history.records ≡ []) × (history.base ≡ N.start) × (history.base.table ≡ table) }
+    requires blank { (blank.name ≡ N.name) × (blank.parts ≡ N.parts) × (N.parts ≡ seats) }
+    requires seats { (0 < seats) × (seats ≤ 16) }
+{
+    let back = Vec::with_capacity(alloc, seats)?;
+    // room for all that is noted, so that no note is refused
+    let numbers = Vec::with_capacity(alloc, 32)?;
+    let receipts = Vec::with_capacity(alloc, 32)?;
+    let mut notes = Notes {
+        numbers,
+        receipts,
+        fault: None,
+    };
+    let (publisher, mut passes) = views::<N>(alloc, opened, table, 1)?;
+    let (shared, seats) = Shared::begin(rt, alloc, history, publisher, blank, seats)?;
+    let mut pass = passes.pop().unwrap();
+    let seats = done_on_all(rt, alloc, &shared, seats, back, &mut pass, &mut notes, work);
+    let Notes {
+        numbers,
+        receipts,
+        fault,
+    } = notes;
+    let (records, stray) = match shared.finish(rt, seats, &receipts) {
+        Ok(history) => (history.records().len(), None),
+        Err(left) => (
+            left.history.records().len(),
+            Some((left.place, left.fault.number())),
+        ),
+    };
+    match fault {
+        Some(fault) => Err(Fail::from(fault)),
+        None => Ok((numbers, records, stray)),
+    }
+}
+
+fn left<R: Wait>(rt: &R, alloc: Global, seats: usize, work: Work) -> Result<Left, Fail>
+    requires { (0 < seats) × (seats ≤ 16) }
+{
+    let history = new_history(alloc)?;
+    let table = history.node().table().copy(alloc)?;
+    left_by::<Brand, R>(
+        rt,
+        alloc,
+        Opened::new(),
+        table,
+        history,
+        Blank::new(seats as u64),
+        seats,
+        work,
+    )
+}
+
+#[test]
+fn a_set_is_told_read_and_confirmed(rt: HostRuntime) -> Result<(), Fail> {
+    let (numbers, records, stray) = left(&rt, rt.alloc(), 1, Work::Set)?;
+    assert_eq!(rt; numbers.as_slice(), [1, 2, 2].as_slice());
+    assert_eq!(rt; (records, stray), (1, None));
+    Ok(())
+}
+
+#[test]
+fn a_receipt_of_another_number_is_a_stranger(rt: HostRuntime) -> Result<(), Fail> {
+    let (_, records, stray) = left(&rt, rt.alloc(), 1, Work::SetAndForge)?;
+    assert_eq!(rt; (records, stray), (1, Some((0, 16))));
+    Ok(())
+}
+
+#[test]
+fn a_pass_reads_while_its_thread_has_the_board(rt: HostRuntime) -> Result<(), Fail> {
+    let (numbers, records, stray) = left(&rt, rt.alloc(), 1, Work::ReadLent)?;
+    assert_eq!(rt; numbers.as_slice(), [0].as_slice());
+    assert_eq!(rt; (records, stray), (0, None));
+    Ok(())
+}
+
+#[test]
+fn records_that_were_not_published_are_caught_up(rt: HostRuntime) -> Result<(), Fail> {
+    let (numbers, records, stray) = left(&rt, rt.alloc(), 1, Work::EnterTwo)?;
+    assert_eq!(rt; numbers.as_slice(), [1, 0, 2, 0, 0, 3, 2].as_slice());
+    assert_eq!(rt; (records, stray), (2, None));
+    Ok(())
+}
+
+// Run with each request for memory refused in turn (`rt try --test --fail-alloc N`), it ends so too, or finds no memory
+// to begin: a record whose publication was refused stands, and the next one publishes both.
+#[test]
+fn refused_publications_are_caught_up(rt: HostRuntime) -> Result<(), Fail> {
+    let (numbers, records, stray) = left(&rt, rt.alloc(), 1, Work::SetAnyway)?;
+    assert_eq!(rt; numbers.as_slice(), [1, 1, 0, 3, 2].as_slice());
+    assert_eq!(rt; (records, stray), (2, None));
+    Ok(())
+}
+
+#[test]
+fn sixteen_seats_have_their_callers(rt: HostRuntime) -> Result<(), Fail> {
+    let (numbers, records, stray) = left(&rt, rt.alloc(), 16, Work::Beat)?;
+    let callers = [1, 2, 3, 4, 5, 6, 7, 8, 9, 10, 11, 12, 13, 14, 15, 16];
+    assert_eq!(rt; numbers.as_slice(), callers.as_slice());
+    assert_eq!(rt; (records, stray), (16, None));
+    Ok(())
+}

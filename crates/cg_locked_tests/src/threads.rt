@@ -1,0 +1,160 @@
+//! Two threads that set a key on seats of their own.
+
+ghost use Rattle.std.specs.Prelude.{◌≡◌, []};
+
+use crate::history::new_history;
+use crate::reading::set_and_read;
+use cg_history::{History, Receipt};
+use cg_locked::{Name, Seat, Shared};
+use cg_samples::key;
+use cg_table::Table;
+use cg_types::StateText;
+use cg_views::{Opened, Pass, views};
+use std::alloc::Global;
+use std::marker::Brand;
+use std::sync::Wait;
+use std::sync::ledger::Blank;
+use std::test::Fail;
+use std::thread::{Threads, join};
+
+// What a worker leaves: its seat, its receipts, and how often it read what it had set.
+struct Worked<N: Name> {
+    seat: Seat<N>,
+    receipts: Vec<Receipt>,
+    reads: u64,
+}
+
+// Sets key 3 so many times, and reads it back each time.
+fn set_all<N: Name, R: Wait>(
+    rt: &R,
+    alloc: Global,
+    shared: &Shared<N>,
+    seat: Seat<N>,
+    mut pass: Pass<N>,
+    count: u32,
+) -> Worked<N>
+    requires { N.start.table ≡ N.opening }
+    ensures { result.seat.share.parts ≡ seat.share.parts }
+{
+    let mut seat = seat;
+    let mut receipts = Vec::new(alloc);
+    let mut reads = 0u64;
+    for _ in 0..count {
+        let Ok(text) = StateText::new(alloc, "x") else {
+            break;
+        };
+        let Ok(Some(read)) = set_and_read(rt, alloc, shared, &mut seat, &mut pass, key(3), text)
+        else {
+            break;
+        };
+        if let Some((_text, version)) = read.snapshot.table().own_entry().get(key(3)) {
+            reads = reads.saturating_add(u64::from(version >= read.version));
+        }
+        if receipts.push(read.receipt).is_err() {
+            break;
+        }
+    }
+    Worked {
+        seat,
+        receipts,
+        reads,
+    }
+}
+
+// How many records are left, how many receipts were confirmed or the place of the first that was not, and how often
+// what was set was read.
+#[derive(Clone, Copy, Debug, PartialEq, Eq)]
+struct Left {
+    records: usize,
+    confirmed: Result<usize, usize>,
+    reads: u64,
+}
+
+fn left_by_two<N: Name + Send + Sync, R: Threads + Wait + Sync>(
+    rt: &R,
+    alloc: Global,
+    opened: Opened,
+    table: Table,
+    history: History,
+    blank: Blank,
+    count: u32,
+) -> Result<Left, Fail>
+    requires views { (opened ≡ N.book) × (table ≡ N.opening) }
+    requires history { (history.records ≡ []) × (history.base ≡ N.start) × (history.base.table ≡ table) }
+    requires blank { (blank.name ≡ N.name) × (blank.parts ≡ N.parts) × (N.parts ≡ 2) }
+{
+    let (publisher, mut passes) = views::<N>(alloc, opened, table, 2)?;
+    let (shared, mut seats) = Shared::begin(rt, alloc, history, publisher, blank, 2)?;
+    let second = seats.pop().unwrap();
+    let first = seats.pop().unwrap();
+    let other = passes.pop().unwrap();
+    let pass = passes.pop().unwrap();
+    let lent = &shared;
+    let (first, second) = join(
+        rt,
+        move || -> Worked<N>
+            requires { N.start.table ≡ N.opening }
+            ensures { result.seat.share.parts ≡ first.share.parts }
+        { set_all(rt, alloc, lent, first, pass, count) },
+        move || -> Worked<N>
+            requires { N.start.table ≡ N.opening }
+            ensures { result.seat.share.parts ≡ second.share.parts }
+        { set_all(rt, alloc, lent, second, other, count) },
+    );
+    let Worked {
+        seat,
+        mut receipts,
+        reads,
+    } = first;
+    seats.push_reserved(seat);
+    let Worked {
+        seat,
+        receipts: more,
+        reads: others,
+    } = second;
+    seats.push_reserved(seat);
+    for receipt in more {
+        if receipts.push(receipt).is_err() {
+            break;
+        }
+    }
+    let reads = reads.saturating_add(others);
+    Ok(match shared.finish(rt, seats, &receipts) {
+        Ok(history) => Left {
+            records: history.records().len(),
+            confirmed: Ok(receipts.len()),
+            reads,
+        },
+        Err(left) => Left {
+            records: left.history.records().len(),
+            confirmed: Err(left.place),
+            reads,
+        },
+    })
+}
+
+fn two_left<R: Threads + Wait + Sync>(rt: &R, alloc: Global, count: u32) -> Result<Left, Fail> {
+    let history = new_history(alloc)?;
+    let table = history.node().table().copy(alloc)?;
+    left_by_two::<Brand, R>(
+        rt,
+        alloc,
+        Opened::new(),
+        table,
+        history,
+        Blank::new(2),
+        count,
+    )
+}
+
+#[test]
+fn two_threads_are_confirmed(rt: HostRuntime) -> Result<(), Fail> {
+    let two = two_left(&rt, rt.alloc(), 100)?;
+    let due = Left {
+        records: 200,
+        confirmed: Ok(200),
+        reads: 200,
+    };
+    assert_eq!(rt; two, due);
+    Ok(())
+}
