@@ -1,0 +1,32 @@
+-- What the channel of rounds holds, and what its passes know.
+use Rattle.std.specs.Prelude.{◌≡◌, ℕ, Bool, true, List, [], ◌∷◌, ◌++◌}
+use mathlib.Core.Option.{some}
+use lib.ListN.{get_elem?}
+use Rattle.cg_rounds.specs.declared.round.Round.{Round}
+use Rattle.cg_rounds.specs.declared.rule.Order.{Order}
+use Rattle.cg_rounds.specs.declared.rule.Order.TheVariants.{Of, Done}
+use Rattle.cg_rounds.specs.declared.rule.Hand.{Hand}
+
+-- the round of an order: the end mark has none
+abbrev pub round_of : Order → List Round
+round_of (Of round) = round ∷ []
+round_of Done = []
+
+abbrev pub rounds_of : List Order → List Round
+rounds_of [] = []
+rounds_of (x ∷ xs) = round_of x ++ rounds_of xs
+
+abbrev pub hand : Bool → Bool → List Round → List Round → Hand
+hand puts takes put taken = record { puts = puts; takes = takes; put = put; taken = taken }
+
+-- One pass alone may put, and knows what was put in; one alone may take, and knows what was taken.
+abbrev pub Fits : ℕ → ℕ → List Round → List Round → ℕ → Hand → Type 0
+Fits putter taker put taken pass v =
+    (v.puts ≡ true → (pass ≡ putter) × (v.put ≡ put)) × (v.takes ≡ true → (pass ≡ taker) × (v.taken ≡ taken))
+
+-- what was taken, and then what the channel holds, is what was put in
+abbrev pub InOrder : List Order → List Hand → Type 0
+InOrder items views =
+    (putter : ℕ) × (taker : ℕ) × (put : List Round) × (taken : List Round)
+    × (put ≡ taken ++ rounds_of items)
+    × ((pass : ℕ) (v : Hand) → get_elem? views pass ≡ some v → Fits putter taker put taken pass v)

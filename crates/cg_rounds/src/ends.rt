@@ -1,0 +1,40 @@
+//! The two ends of the channel.
+
+ghost use Rattle.std.specs.Prelude.{◌≡◌, true, false, []};
+ghost use Rattle.crossbeam_channel.specs.Claims.{view, IsSeatAt};
+ghost use Rattle.crossbeam_channel.specs.Ends.{sends_on, receives_on};
+ghost use Rattle.cg_rounds.specs.Rounds.{hand};
+
+use crate::rule::{Hand, Line, Order};
+use crossbeam_channel::{Pass, RuledReceiver, RuledSender};
+
+pub(crate) type Sender = RuledSender<Order, Hand, Line>;
+
+pub(crate) type Receiver = RuledReceiver<Order, Hand, Line>;
+
+pub(crate) type Ticket = Pass<Order, Hand>;
+
+/// The end where rounds are put in.
+#[derive(Drop)]
+pub struct Putting {
+    pub(crate) to: Sender,
+    pub(crate) pass: Ticket,
+    ghost seated: { IsSeatAt (sends_on to) pass },
+    ghost puts: { view pass ≡ hand true false (view pass).put [] },
+}
+
+/// The end where they are taken.
+#[derive(Drop)]
+pub struct Taking {
+    pub(crate) from: Receiver,
+    pub(crate) pass: Ticket,
+    ghost seated: { IsSeatAt (receives_on from) pass },
+    ghost takes: { view pass ≡ hand false true [] (view pass).taken },
+}
+
+/// What is left of that end: which rounds were taken.
+#[derive(Drop)]
+pub struct Taken {
+    pub(crate) pass: Ticket,
+    ghost takes: { view pass ≡ hand false true [] (view pass).taken },
+}

@@ -1,0 +1,8 @@
+//! Laws of the words, each the contract of an empty function.
+
+ghost use Rattle.cg_rounds.specs.Words.{WordsAreTheGenerators};
+
+/// The words of ticks, drawn one tick after the other, are the first of the generator's stream, four by four.
+pub fn words_are_the_generators()
+    ensures { WordsAreTheGenerators }
+{}

@@ -1,0 +1,19 @@
+//! The rounds of a node, on their way from the thread that begins them to the one that sends them, and the random words
+//! that they are drawn with.
+//!
+//! What is taken out of the channel is a front of what was put in: whole rounds, each once, in their order.
+#![tactic(auto)]
+
+mod ends;
+pub mod laws;
+mod making;
+mod putting;
+mod round;
+mod rule;
+mod taking;
+mod words;
+
+pub use ends::{Putting, Taken, Taking};
+pub use making::{ROOM, rounds};
+pub use round::Round;
+pub use words::{generator, next_words};

@@ -1,0 +1,24 @@
+//! The channel.
+
+ghost use Rattle.std.specs.Prelude.{◌≡◌, IfOk, []};
+ghost use Rattle.cg_rounds.specs.Ends.{AreEnds, put_by, taken_by, room_of};
+
+use crate::ends::{Putting, Taking};
+use crate::rule::{Cut, Hand, Line, Order};
+use crossbeam_channel::bounded_with;
+use std::alloc::{AllocError, Global};
+
+/// Rounds that the channel has room for.
+pub const ROOM: usize = 16;
+
+/// The two ends of a new channel.
+pub fn rounds(alloc: Global) -> Result<(Putting, Taking), AllocError>
+    ensures ends { IfOk result (λ r. AreEnds r.0 r.1) }
+    ensures room { IfOk result (λ r. room_of r.0 ≡ ROOM) }
+    ensures put { IfOk result (λ r. put_by r.0 ≡ []) }
+    ensures taken { IfOk result (λ r. taken_by r.1 ≡ []) }
+{
+    let (to, from, mut pass) = bounded_with::<Order, Hand, Line, Global>(alloc, ROOM)?;
+    let other = to.another::<Cut>(&mut pass);
+    Ok((Putting { to, pass }, Taking { from, pass: other }))
+}

@@ -1,0 +1,49 @@
+//! Rounds that are put in.
+
+ghost use Rattle.std.specs.Prelude.{◌≡◌, ◌++◌, ◌∷◌, [], OnOk, IfErr, OnErr};
+ghost use mathlib.Core.List.{IsPrefix};
+ghost use Rattle.cg_rounds.specs.Ends.{put_by, taken_in, PutsWhere, WereTakenOf};
+
+use crate::ends::{Putting, Taken};
+use crate::round::Round;
+use crate::rule::{Cut, Order, Puts, Total};
+use crossbeam_channel::SendError;
+use std::sync::Wait;
+
+impl Putting {
+    /// Puts a round in, where it waits for room. It is handed back where nobody takes any more.
+    pub fn put<R: Wait>(&mut self, rt: &R, round: Round) -> Result<(), Round>
+        ensures channel { PutsWhere self.new self.old }
+        ensures ok { OnOk result (put_by self.new ≡ put_by self.old ++ round ∷ []) }
+        ensures err { OnErr result (put_by self.new ≡ put_by self.old) }
+        ensures back { IfErr result (λ r. r ≡ round) }
+    {
+        match self
+            .to
+            .send_as::<Puts, R>(rt, &mut self.pass, Order::Of(round))
+        {
+            Ok(()) => Ok(()),
+            Err(SendError::Disconnected(Order::Of(round))) => Err(round),
+            _ => unreachable!(),
+        }
+    }
+
+    /// Says that no more come.
+    pub fn end<R: Wait>(&mut self, rt: &R)
+        ensures channel { PutsWhere self.new self.old }
+        ensures put { put_by self.new ≡ put_by self.old }
+    {
+        let _said = self.to.send_as::<Puts, R>(rt, &mut self.pass, Order::Done);
+    }
+
+    /// What was taken at the other end is a front of what was put in here: each round once, in their order.
+    pub fn compare(self, taken: Taken)
+        requires { WereTakenOf self taken }
+        ensures { IsPrefix (taken_in taken) (put_by self) }
+    {
+        let Putting { to, mut pass } = self;
+        let Taken { pass: other } = taken;
+        to.absorb::<Cut>(&mut pass, other);
+        to.learn_as::<Total>(&mut pass);
+    }
+}

@@ -1,0 +1,30 @@
+-- The keys that a table may have.
+use Rattle.std.specs.Prelude.{ℕ, ◌&&◌, ◌||◌, Bool, true, List, codes, bytes_eq}
+use Rattle.toml.specs.Data.{Members, no_members, member}
+
+-- the cluster, the endpoint and the files of a node, and its seeds
+unfoldable pub is_text_key : List ℕ → Bool
+is_text_key key =
+    bytes_eq key (codes "cluster") || (bytes_eq key (codes "listen") || (bytes_eq key (codes "generation_file")
+    || (bytes_eq key (codes "journal") || bytes_eq key (codes "seeds"))))
+
+-- how many turns it takes, how often, and by which words
+unfoldable pub is_turn_key : List ℕ → Bool
+is_turn_key key =
+    bytes_eq key (codes "rounds") || (bytes_eq key (codes "exchanges")
+    || (bytes_eq key (codes "interval") || bytes_eq key (codes "random")))
+
+-- how it judges silence
+unfoldable pub is_silence_key : List ℕ → Bool
+is_silence_key key =
+    bytes_eq key (codes "window") || (bytes_eq key (codes "initial_gap")
+    || (bytes_eq key (codes "max_gap") || bytes_eq key (codes "threshold")))
+
+-- a key that has a meaning
+unfoldable pub is_known : List ℕ → Bool
+is_known key = is_text_key key || (is_turn_key key || is_silence_key key)
+
+-- each key has a meaning
+unfoldable pub are_known : Members → Bool
+are_known no_members = true
+are_known (member key value table) = is_known key && are_known table
