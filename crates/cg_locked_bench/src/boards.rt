@@ -1,0 +1,224 @@
+//! Events done on seats of a board, by one thread or several.
+
+ghost use Rattle.std.specs.Prelude.{◌≡◌, []};
+
+use crate::counts::{Counts, print_line};
+use crate::inputs::{Work, event, filling, new_history};
+use anyhow::Result;
+use cg_history::History;
+use cg_locked::{Name, Seat, Shared};
+use cg_table::Table;
+use cg_views::{Opened, views};
+use std::alloc::Global;
+use std::marker::Brand;
+use std::rt::Clock;
+use std::sync::Wait;
+use std::sync::ledger::Blank;
+use std::thread::{Threads, join};
+use std::time::Instant;
+
+// Has an event done. It answers whether it was.
+fn submit_one<N: Name, R: Wait>(
+    rt: &R,
+    alloc: Global,
+    shared: &Shared<N>,
+    seat: &mut Seat<N>,
+    work: Work,
+    counts: Counts,
+) -> bool
+    ensures { seat.new.share.parts ≡ seat.old.share.parts }
+{
+    match event(alloc, work, counts) {
+        Ok(event) => shared.submit(rt, alloc, seat, event).is_ok(),
+        Err(_) => false,
+    }
+}
+
+// Has the work's event done again and again.
+fn submit_all<N: Name, R: Wait>(
+    rt: &R,
+    alloc: Global,
+    shared: &Shared<N>,
+    seat: Seat<N>,
+    work: Work,
+    counts: Counts,
+) -> Seat<N>
+    ensures { result.share.parts ≡ seat.share.parts }
+{
+    let mut seat = seat;
+    for _ in 0..counts.events {
+        if !submit_one(rt, alloc, shared, &mut seat, work, counts) {
+            break;
+        }
+    }
+    seat
+}
+
+// The same in two threads, one a seat.
+fn submit_by_two<N: Name + Send + Sync, R: Threads + Wait + Sync>(
+    rt: &R,
+    alloc: Global,
+    shared: &Shared<N>,
+    first: Seat<N>,
+    second: Seat<N>,
+    work: Work,
+    counts: Counts,
+) -> (Seat<N>, Seat<N>)
+    ensures { (result.0.share.parts ≡ first.share.parts) × (result.1.share.parts ≡ second.share.parts) }
+{
+    join(
+        rt,
+        move || -> Seat<N>
+            ensures { result.share.parts ≡ first.share.parts }
+        { submit_all(rt, alloc, shared, first, work, counts) },
+        move || -> Seat<N>
+            ensures { result.share.parts ≡ second.share.parts }
+        { submit_all(rt, alloc, shared, second, work, counts) },
+    )
+}
+
+// The same in four threads.
+fn submit_by_four<N: Name + Send + Sync, R: Threads + Wait + Sync>(
+    rt: &R,
+    alloc: Global,
+    shared: &Shared<N>,
+    one: (Seat<N>, Seat<N>),
+    other: (Seat<N>, Seat<N>),
+    work: Work,
+    counts: Counts,
+) -> ((Seat<N>, Seat<N>), (Seat<N>, Seat<N>))
+    ensures one { (result.0.0.share.parts ≡ one.0.share.parts) × (result.0.1.share.parts ≡ one.1.share.parts) }
+    ensures other { (result.1.0.share.parts ≡ other.0.share.parts) × (result.1.1.share.parts ≡ other.1.share.parts) }
+{
+    join(
+        rt,
+        move || -> (Seat<N>, Seat<N>)
+            ensures { (result.0.share.parts ≡ one.0.share.parts) × (result.1.share.parts ≡ one.1.share.parts) }
+        {
+            let (first, second) = one;
+            submit_by_two(rt, alloc, shared, first, second, work, counts)
+        },
+        move || -> (Seat<N>, Seat<N>)
+            ensures { (result.0.share.parts ≡ other.0.share.parts) × (result.1.share.parts ≡ other.1.share.parts) }
+        {
+            let (first, second) = other;
+            submit_by_two(rt, alloc, shared, first, second, work, counts)
+        },
+    )
+}
+
+/// How many threads have events done.
+#[derive(Clone, Copy)]
+pub(crate) enum Workers {
+    One,
+    Two,
+    Four,
+}
+
+// Has the work done by so many threads. The other seats do nothing.
+fn submit_by<N: Name + Send + Sync, R: Threads + Wait + Sync>(
+    rt: &R,
+    alloc: Global,
+    shared: &Shared<N>,
+    one: (Seat<N>, Seat<N>),
+    other: (Seat<N>, Seat<N>),
+    workers: Workers,
+    work: Work,
+    counts: Counts,
+) -> ((Seat<N>, Seat<N>), (Seat<N>, Seat<N>))
+    ensures one { (result.0.0.share.parts ≡ one.0.share.parts) × (result.0.1.share.parts ≡ one.1.share.parts) }
+    ensures other { (result.1.0.share.parts ≡ other.0.share.parts) × (result.1.1.share.parts ≡ other.1.share.parts) }
+{
+    match workers {
+        Workers::One => {
+            let (first, second) = one;
+            let first = submit_all(rt, alloc, shared, first, work, counts);
+            ((first, second), other)
+        }
+        Workers::Two => {
+            let (first, second) = one;
+            let one = submit_by_two(rt, alloc, shared, first, second, work, counts);
+            (one, other)
+        }
+        Workers::Four => submit_by_four(rt, alloc, shared, one, other, work, counts),
+    }
+}
+
+// Fills the table. It answers whether that was done.
+fn fill<N: Name, R: Wait>(
+    rt: &R,
+    alloc: Global,
+    shared: &Shared<N>,
+    seat: &mut Seat<N>,
+    counts: Counts,
+) -> bool
+    ensures { seat.new.share.parts ≡ seat.old.share.parts }
+{
+    match filling(alloc, counts) {
+        Ok(event) => shared.submit(rt, alloc, seat, event).is_ok(),
+        Err(_) => false,
+    }
+}
+
+// Fills a board, has the work done on it, and answers how many records there are and when the work began.
+fn records_by<N: Name + Send + Sync, R: Threads + Wait + Sync + Clock>(
+    rt: &R,
+    alloc: Global,
+    opened: Opened,
+    table: Table,
+    history: History,
+    blank: Blank,
+    workers: Workers,
+    work: Work,
+    counts: Counts,
+) -> Result<(usize, Instant)>
+    requires views { (opened ≡ N.book) × (table ≡ N.opening) }
+    requires history { (history.records ≡ []) × (history.base ≡ N.start) × (history.base.table ≡ table) }
+    requires blank { (blank.name ≡ N.name) × (blank.parts ≡ N.parts) × (N.parts ≡ 4) }
+{
+    let (publisher, _passes) = views::<N>(alloc, opened, table, 1)?;
+    let (shared, mut seats) = Shared::begin(rt, alloc, history, publisher, blank, 4)?;
+    let fourth = seats.pop().unwrap();
+    let third = seats.pop().unwrap();
+    let second = seats.pop().unwrap();
+    let mut first = seats.pop().unwrap();
+    let _filled = fill(rt, alloc, &shared, &mut first, counts);
+    let start = Instant::now(rt);
+    let one = (first, second);
+    let other = (third, fourth);
+    let (one, other) = submit_by(rt, alloc, &shared, one, other, workers, work, counts);
+    seats.push_reserved(one.0);
+    seats.push_reserved(one.1);
+    seats.push_reserved(other.0);
+    seats.push_reserved(other.1);
+    let records = match shared.finish(rt, seats, &[]) {
+        Ok(history) => history.records().len(),
+        Err(left) => left.history.records().len(),
+    };
+    Ok((records, start?))
+}
+
+/// Measures the work on a board of its own.
+pub(crate) fn measure<R: Threads + Wait + Sync + Clock + Print>(
+    rt: &R,
+    alloc: Global,
+    workers: Workers,
+    work: Work,
+    counts: Counts,
+    name: &str,
+) -> Result<()> {
+    let history = new_history(alloc)?;
+    let table = history.node().table().copy(alloc)?;
+    let (records, start) = records_by::<Brand, R>(
+        rt,
+        alloc,
+        Opened::new(),
+        table,
+        history,
+        Blank::new(4),
+        workers,
+        work,
+        counts,
+    )?;
+    print_line(rt, name, counts, records, start)
+}

@@ -1,0 +1,72 @@
+//! How much is done, and what is printed of it.
+
+use anyhow::Result;
+use std::env::Env;
+use std::rt::Clock;
+use std::time::Instant;
+
+/// How many owners the table has, how many states each of them, how long a state's text is, how many events are done,
+/// and whether times are printed.
+#[derive(Clone, Copy)]
+pub(crate) struct Counts {
+    pub(crate) owners: u16,
+    pub(crate) states: u8,
+    pub(crate) text: usize,
+    pub(crate) events: u32,
+    is_timed: bool,
+}
+
+const TIMED: Counts = Counts {
+    owners: 256,
+    states: 16,
+    text: 1024,
+    events: 20_000,
+    is_timed: true,
+};
+
+const FEW: Counts = Counts {
+    owners: 3,
+    states: 1,
+    text: 4,
+    events: 2,
+    is_timed: false,
+};
+
+const SOME: Counts = Counts {
+    owners: 256,
+    states: 16,
+    text: 64,
+    events: 100,
+    is_timed: false,
+};
+
+/// The counts that the first word behind the program's name asks for.
+pub(crate) fn counts_by_word(rt: &impl Env) -> Counts {
+    let mut word = [0u8; 4];
+    match rt.arg(1, &mut word) {
+        Ok(4) if word == *b"time" => TIMED,
+        Ok(3) if word == *b"few\0" => FEW,
+        _ => SOME,
+    }
+}
+
+/// Prints how many records there are, or how many nanoseconds each of them took.
+pub(crate) fn print_line(
+    rt: &(impl Clock + Print),
+    name: &str,
+    counts: Counts,
+    records: usize,
+    start: Instant,
+) -> Result<()> {
+    if counts.is_timed {
+        let each = start
+            .elapsed(rt)?
+            .as_nanos()
+            .checked_div(records as u128)
+            .unwrap_or(0);
+        println!(rt; "bench {name} ns_per_op {each}")?;
+    } else {
+        println!(rt; "case {name} {records}")?;
+    }
+    Ok(())
+}

@@ -1,0 +1,78 @@
+//! The events that are done, and the history of a node whose table is full.
+
+ghost use Rattle.std.specs.Prelude.{◌≡◌, [], IfOk};
+
+use crate::counts::Counts;
+use anyhow::{Context, Result};
+use cg_core::{Event, Settings};
+use cg_entry::{Delta, State};
+use cg_exchange::{Ack2, OwnerDelta};
+use cg_history::History;
+use cg_samples::{cluster, endpoint, generation, key, long_text, version};
+use cg_silence::Silence;
+use cg_types::StateText;
+use std::alloc::Global;
+
+/// What a thread does again and again.
+#[derive(Clone, Copy)]
+pub(crate) enum Work {
+    Beat,
+    Set,
+}
+
+fn text(alloc: Global, counts: Counts) -> Result<StateText> {
+    let text = long_text(alloc, counts.text)?;
+    Ok(StateText::new(alloc, &text)?)
+}
+
+/// The event of the work; what is set is as long as each text of the table.
+pub(crate) fn event(alloc: Global, work: Work, counts: Counts) -> Result<Event> {
+    Ok(match work {
+        Work::Beat => Event::Beat,
+        Work::Set => Event::Set {
+            key: key(3),
+            text: text(alloc, counts)?,
+        },
+    })
+}
+
+fn states(alloc: Global, counts: Counts) -> Result<Vec<State>> {
+    let mut states = Vec::new(alloc);
+    for number in 1..=counts.states {
+        states.push(State {
+            key: key(number),
+            version: version(u32::from(number) + 1),
+            text: text(alloc, counts)?,
+        })?;
+    }
+    Ok(states)
+}
+
+fn delta(alloc: Global, owner: u16, counts: Counts) -> Result<OwnerDelta> {
+    let delta = Delta::new(generation(5), 0, version(40), states(alloc, counts)?);
+    Ok(OwnerDelta {
+        endpoint: endpoint(owner),
+        delta: delta.context("a delta")?,
+    })
+}
+
+/// The message that fills the table up to so many owners.
+pub(crate) fn filling(alloc: Global, counts: Counts) -> Result<Event> {
+    let mut deltas = Vec::new(alloc);
+    for owner in 2..=counts.owners {
+        deltas.push(delta(alloc, owner, counts)?)?;
+    }
+    Ok(Event::Ack2 {
+        now: 0,
+        m: Ack2::new(deltas).context("a message")?,
+    })
+}
+
+/// The history of a node at its start.
+pub(crate) fn new_history(alloc: Global) -> Result<History>
+    ensures { IfOk result (λ h. h.records ≡ []) }
+{
+    let settings = Settings::new(cluster(alloc)?, Vec::new(alloc), Silence::default());
+    let settings = settings.context("settings")?;
+    Ok(History::begin(alloc, endpoint(1), generation(9), settings)?)
+}
