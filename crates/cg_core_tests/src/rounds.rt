@@ -1,4 +1,4 @@
-//! Whom a round is for.
+//! Rounds: live, silent and seed peers, as four words choose them.
 
 use crate::samples::{hears, node, settings};
 use cg_core::{Event, Node, Peers, Reply};

@@ -1,3 +1,5 @@
+//! Entries and deltas: what is held after starts, beats and sets, what stands above a version, and what is taken.
+
 use cg_entry::{Absorbed, Delta, Entry, State, met};
 use cg_samples::{bare_delta, delta, entry_at_start, generation, key, state, version};
 use cg_types::{Cause, Fault, StateKey, StateText};

@@ -1,3 +1,5 @@
+//! What a SYN is answered with.
+
 use crate::samples::{ack_of, answer_of_b, delta, digest, syn_of};
 use cg_exchange::Ack;
 use cg_samples::{B, endpoint};

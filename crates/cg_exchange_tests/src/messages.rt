@@ -1,3 +1,5 @@
+//! Messages made, copied and compared, and lists that are none.
+
 use crate::samples::{ack_of, ack2_of, delta, digest, request, syn_of};
 use cg_exchange::{Ack, Ack2, Kind, Message, OwnerDelta, Request, Syn};
 use cg_samples::{A, B, endpoint, generation};

@@ -1,3 +1,5 @@
+//! What an ACK and an ACK2 make of a table.
+
 use crate::samples::{ack_of, ack2_of, alone, answer_of_b, delta, digest, request, syn_of};
 use cg_exchange::{Ack, Ack2, Outcome, OwnerDelta, Syn, syn, take_ack, take_ack2};
 use cg_samples::{A, B, C, endpoint};

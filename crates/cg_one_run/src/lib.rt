@@ -8,7 +8,7 @@
 
 ghost use Rattle.cg_one_run.specs.Laws.{OrdersAreRuns, StuckLivesAreNoRun, HeadsCanNotGo};
 
-/// An order that turns find is one run.
+/// Where generations rise, an order that turns find is one run.
 pub fn orders_are_runs()
     ensures { OrdersAreRuns }
 {}

@@ -54,7 +54,8 @@ pub fn joins_are_least()
     ensures { JoinsAreLeast }
 {}
 
-/// An exchange takes both of its nodes to the join of what they held, whatever is done between its messages.
+/// An exchange takes both of its nodes to the join of what they held or past it, whatever is done between its messages
+/// but a start of the two.
 pub fn exchanges_reach_the_join()
     ensures { ExchangesReachTheJoin }
 {}

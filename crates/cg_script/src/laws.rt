@@ -1,4 +1,4 @@
-//! Laws of the limits, each the contract of an empty function.
+//! The greatest number in a line, as a number.
 
 ghost use Rattle.cg_script.specs.Limits.{LimitValues};
 

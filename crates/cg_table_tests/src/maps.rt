@@ -1,3 +1,5 @@
+//! Maps from endpoints to shared values, their rows, and lists that are made item by item.
+
 use cg_map::{Row, SharedMap, push_some, rows_rise};
 use cg_samples::endpoint;
 use std::alloc::Global;

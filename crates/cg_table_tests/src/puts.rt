@@ -1,3 +1,5 @@
+//! Puts: lists of owners with whole entries, compared and copied.
+
 use cg_samples::{bare_entry, endpoint};
 use cg_table::Puts;
 use std::alloc::Global;

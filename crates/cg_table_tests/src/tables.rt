@@ -1,3 +1,5 @@
+//! Tables: deltas put, tables merged, and the limit of owners.
+
 use cg_entry::Delta;
 use cg_map::{push_some, rows_rise};
 use cg_samples::{bare_delta, bare_entry, endpoint, entry_at_start, generation};
