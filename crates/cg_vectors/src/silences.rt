@@ -1,0 +1,65 @@
+//! Arrivals, and what is said of their endpoint at a moment.
+
+use crate::rings::words_in;
+use cg_silence::{Silence, Window};
+use cg_types::{Fault, number};
+use std::alloc::Global;
+
+fn number_in(word: &str) -> Result<u64, Fault> {
+    match number(word.as_bytes(), u64::MAX) {
+        Some(number) => Ok(number),
+        None => Err(Fault::BadText),
+    }
+}
+
+// A setting, which has four bytes.
+fn setting_in(word: &str) -> Result<u32, Fault> {
+    match number(word.as_bytes(), u64::from(u32::MAX)) {
+        Some(number) => Ok(number as u32),
+        None => Err(Fault::BadText),
+    }
+}
+
+// The settings of four words: the window, the initial and the greatest gap, the threshold.
+fn silence_in(words: &[&str]) -> Result<Silence, Fault> {
+    if words.len() != 4 {
+        return Err(Fault::BadText);
+    }
+    let window = setting_in(words[0])?;
+    let initial_gap = setting_in(words[1])?;
+    let max_gap = setting_in(words[2])?;
+    let threshold = setting_in(words[3])?;
+    match Silence::new(window as usize, initial_gap, max_gap, threshold) {
+        Some(silence) => Ok(silence),
+        None => Err(Fault::BadText),
+    }
+}
+
+// A window after these arrivals.
+fn window_of(alloc: Global, silence: Silence, arrivals: &[&str]) -> Result<Window, Fault> {
+    let mut window = Window::new(alloc, silence)?;
+    for arrival in arrivals {
+        window.arrived(number_in(arrival)?);
+    }
+    Ok(window)
+}
+
+// Where the moment is named.
+fn moment_place(words: &[&str]) -> Option<usize> {
+    words.iter().position(|word| *word == "at")
+}
+
+/// The verdict on four settings and arrivals, at the moment behind `at`.
+pub fn verdict_text(alloc: Global, given: &str) -> Result<String, Fault> {
+    let words = words_in(alloc, given)?;
+    let Some(place) = moment_place(&words) else {
+        return Err(Fault::BadText);
+    };
+    if place < 4 || words.len() - place != 2 {
+        return Err(Fault::BadText);
+    }
+    let silence = silence_in(&words[..4])?;
+    let window = window_of(alloc, silence, &words[4..place])?;
+    let verdict = window.verdict(number_in(words[place + 1])?);
+    Ok(verdict.name().to_string(alloc)?)
+}
