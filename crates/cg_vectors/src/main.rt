@@ -14,6 +14,7 @@ mod rings;
 mod silences;
 mod subject;
 mod vector;
+mod words;
 
 use crate::checking::{Tally, check_lines, lines_in};
 use crate::files::contents;

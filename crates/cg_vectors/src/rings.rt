@@ -1,24 +1,16 @@
 //! What endpoints claim, the ring of it, and the replicas of a token.
 
+ghost use Rattle.std.specs.Prelude.{◌<◌, IfSome, length};
+
+use crate::words::{add_word, number_in, place_of, words_in};
 use cg_entry::{Delta, Entry, State};
 use cg_table::Table;
 use cg_tokens::{Ring, Token, read_tokens};
-use cg_types::{
-    Endpoint, Fault, Generation, STATUS_KEY, StateKey, StateText, TOKENS_KEY, Version, number,
-};
+use cg_types::{Endpoint, Fault, Generation, STATUS_KEY, StateKey, StateText, TOKENS_KEY, Version};
 use std::alloc::Global;
 
 // The last endpoint there is, which claims nothing here: a table has an endpoint of its own.
 const OWN: ([u8; 4], u16) = ([255, 255, 255, 255], 65535);
-
-// The words of a text, which are parted by single spaces.
-pub(crate) fn words_in(alloc: Global, text: &str) -> Result<Vec<&str>, Fault> {
-    let mut words = Vec::new(alloc);
-    for word in text.split(' ') {
-        words.push(word)?;
-    }
-    Ok(words)
-}
 
 // A table that holds nothing but a node which claims nothing.
 fn empty_table(alloc: Global) -> Result<Table, Fault> {
@@ -83,14 +75,6 @@ fn ring_of(alloc: Global, claims: &[&str]) -> Result<Ring, Fault> {
     Ok(Ring::of_table(alloc, &table)?)
 }
 
-// Adds a word, behind a space where it is not the first.
-fn add_word(text: &mut String, word: &str) -> Result<(), Fault> {
-    if !text.is_empty() {
-        text.push(' ')?;
-    }
-    Ok(text.push_str(word)?)
-}
-
 // The tokens of a ring with their endpoints.
 fn positions(alloc: Global, ring: &Ring) -> Result<String, Fault> {
     let mut text = String::new(alloc);
@@ -113,9 +97,7 @@ fn token_in(alloc: Global, text: &str) -> Result<Token, Fault> {
 // The replicas of a token, at most so many.
 fn replicas(alloc: Global, ring: &Ring, token: &str, rf: &str) -> Result<String, Fault> {
     let token = token_in(alloc, token)?;
-    let Some(rf) = number(rf.as_bytes(), u64::MAX) else {
-        return Err(Fault::BadText);
-    };
+    let rf = number_in(rf, u64::MAX)?;
     let mut text = String::new(alloc);
     for endpoint in &ring.replicas(alloc, token, rf as usize)? {
         let word = format!(in alloc; "{endpoint}")?;
@@ -136,10 +118,13 @@ fn answer(alloc: Global, ring: &Ring, asked: &[&str]) -> Result<String, Fault> {
 }
 
 // Where the words of the question begin.
-fn question_place(words: &[&str]) -> Option<usize> {
-    words
-        .iter()
-        .position(|word| *word == "ring" || *word == "replicas")
+fn question_place(words: &[&str]) -> Option<usize>
+    ensures { IfSome result (λ place. place < length words.now) }
+{
+    match place_of(words, "ring") {
+        Some(place) => Some(place),
+        None => place_of(words, "replicas"),
+    }
 }
 
 /// What is answered to a question about a ring, `none` where that is nothing.

@@ -1,23 +1,13 @@
 //! Arrivals, and what is said of their endpoint at a moment.
 
-use crate::rings::words_in;
+use crate::words::{number_in, place_of, words_in};
 use cg_silence::{Silence, Window};
-use cg_types::{Fault, number};
+use cg_types::Fault;
 use std::alloc::Global;
 
-fn number_in(word: &str) -> Result<u64, Fault> {
-    match number(word.as_bytes(), u64::MAX) {
-        Some(number) => Ok(number),
-        None => Err(Fault::BadText),
-    }
-}
-
-// A setting, which has four bytes.
+// A setting.
 fn setting_in(word: &str) -> Result<u32, Fault> {
-    match number(word.as_bytes(), u64::from(u32::MAX)) {
-        Some(number) => Ok(number as u32),
-        None => Err(Fault::BadText),
-    }
+    Ok(number_in(word, u64::from(u32::MAX))? as u32)
 }
 
 // The settings of four words: the window, the initial and the greatest gap, the threshold.
@@ -39,20 +29,15 @@ fn silence_in(words: &[&str]) -> Result<Silence, Fault> {
 fn window_of(alloc: Global, silence: Silence, arrivals: &[&str]) -> Result<Window, Fault> {
     let mut window = Window::new(alloc, silence)?;
     for arrival in arrivals {
-        window.arrived(number_in(arrival)?);
+        window.arrived(number_in(arrival, u64::MAX)?);
     }
     Ok(window)
-}
-
-// Where the moment is named.
-fn moment_place(words: &[&str]) -> Option<usize> {
-    words.iter().position(|word| *word == "at")
 }
 
 /// The verdict on four settings and arrivals, at the moment behind `at`.
 pub fn verdict_text(alloc: Global, given: &str) -> Result<String, Fault> {
     let words = words_in(alloc, given)?;
-    let Some(place) = moment_place(&words) else {
+    let Some(place) = place_of(&words, "at") else {
         return Err(Fault::BadText);
     };
     if place < 4 || words.len() - place != 2 {
@@ -60,6 +45,6 @@ pub fn verdict_text(alloc: Global, given: &str) -> Result<String, Fault> {
     }
     let silence = silence_in(&words[..4])?;
     let window = window_of(alloc, silence, &words[4..place])?;
-    let verdict = window.verdict(number_in(words[place + 1])?);
+    let verdict = window.verdict(number_in(words[place + 1], u64::MAX)?);
     Ok(verdict.name().to_string(alloc)?)
 }
