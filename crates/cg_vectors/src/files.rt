@@ -1,0 +1,52 @@
+//! Scripts and journals, which stand in files of their own.
+
+use cg_auditing::audit_files;
+use cg_links::{Counted, read_all};
+use cg_sim::sim;
+use cg_types::Fault;
+use std::alloc::Global;
+use std::fs;
+use std::rt::Files;
+
+/// What stands in a file. ReadFault where it can't be read.
+pub fn contents<R: Files + Alloc<A = Global>>(rt: &R, file: &str) -> Result<Vec<u8>, Fault> {
+    match fs::open(rt, file) {
+        Ok(link) => read_all(rt.alloc(), &mut Counted::new(link)),
+        Err(_) => Err(Fault::ReadFault),
+    }
+}
+
+/// What the script of a file prints.
+pub fn printed<R: Files + Alloc<A = Global>>(rt: &R, file: &str) -> Result<Vec<u8>, Fault> {
+    let script = contents(rt, file)?;
+    let mut reader = Counted::new(script.as_slice());
+    let mut writer = Counted::new(Vec::new(rt.alloc()));
+    let _ = sim(rt.alloc(), &mut reader, &mut writer);
+    Ok(writer.into_link())
+}
+
+// The texts of the files that are named, parted by single spaces.
+fn texts<R: Files + Alloc<A = Global>>(rt: &R, files: &str) -> Result<Vec<Vec<u8>>, Fault> {
+    let mut texts = Vec::new(rt.alloc());
+    for file in files.split(' ') {
+        texts.push(contents(rt, file)?)?;
+    }
+    Ok(texts)
+}
+
+// What is said of these journals.
+fn said(alloc: Global, journals: &[Vec<u8>]) -> Result<Vec<u8>, Fault> {
+    let mut readers = Vec::new(alloc);
+    for journal in journals {
+        readers.push(Counted::new(journal.as_slice()))?;
+    }
+    let mut writer = Counted::new(Vec::new(alloc));
+    let _ = audit_files(alloc, &mut readers, &mut writer);
+    Ok(writer.into_link())
+}
+
+/// What is said of the journals of the files that are named.
+pub fn verdict<R: Files + Alloc<A = Global>>(rt: &R, files: &str) -> Result<Vec<u8>, Fault> {
+    let journals = texts(rt, files)?;
+    said(rt.alloc(), &journals)
+}
