@@ -3,9 +3,12 @@ use Rattle.std.specs.Prelude.{◌≡◌, ℕ, List, [], ◌∷◌, ◌++◌, map
 use Rattle.std.specs.List.{AllByRecursion}
 use Rattle.cg_history.specs.declared.item.Item.{Item}
 use Rattle.cg_history.specs.Items.{events_of}
+use Rattle.cg_core.specs.declared.event.Event.{Event}
 use Rattle.cg_history.specs.History.{HistoryValue}
 use Rattle.cg_lines.specs.Lines.{lines_of}
+use Rattle.cg_journal.specs.Text.{event_line, journal_of}
 use Rattle.cg_journal.specs.Reading.{life_in, event_in, journal_in}
+use Rattle.cg_journal_laws.specs.Contents.{IsEvent, IsLife}
 
 -- The history began as the first of the lines says, and has a record for each other line, with the line's event, for
 -- caller 0.
@@ -34,3 +37,30 @@ abbrev pub FrontsAreRead : Type 0
 FrontsAreRead =
     (front rest : List ℕ) (h : HistoryValue) → journal_in (front ++ 10 ∷ rest) ≡ Ok h
     → (g : HistoryValue) × (journal_in (front ++ 10 ∷ []) ≡ Ok g) × Continues g h
+
+-- ---- of what is written
+
+-- What is written of an event is one line, which is read as that event.
+pub record IsItsLine (e : Event) : Type 0 where
+  pub line : List ℕ
+  pub only : lines_of (event_line e) ≡ line ∷ []
+  pub read : event_in line ≡ Some e
+
+abbrev pub WrittenEventsAreRead : Type 0
+WrittenEventsAreRead = (e : Event) → IsEvent e → IsItsLine e
+
+-- the record, for caller 0
+abbrev pub for_caller_0 : Item → Item
+for_caller_0 i = record { caller = 0; event = i.event; reply = i.reply; puts = i.puts }
+
+-- the history, with each record for caller 0
+abbrev pub uncalled : HistoryValue → HistoryValue
+uncalled h = record { base = h.base; records = map for_caller_0 h.records; node = h.node }
+
+-- The text of the history is read as that history, for caller 0, and what was read is written as the same text.
+pub record IsReadAgain (h : HistoryValue) : Type 0 where
+  pub read : journal_in (journal_of h) ≡ Ok (uncalled h)
+  pub again : journal_of (uncalled h) ≡ journal_of h
+
+abbrev pub WrittenHistoriesAreRead : Type 0
+WrittenHistoriesAreRead = (h : HistoryValue) → IsLife h → IsReadAgain h

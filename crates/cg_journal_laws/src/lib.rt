@@ -1,7 +1,7 @@
 //! Laws of journals, each the contract of an empty function.
 #![tactic(auto)]
 
-ghost use Rattle.cg_journal_laws.specs.Laws.{ReadHistoriesAreOfTheirLines, FrontsAreRead};
+ghost use Rattle.cg_journal_laws.specs.Laws.{ReadHistoriesAreOfTheirLines, FrontsAreRead, WrittenEventsAreRead, WrittenHistoriesAreRead};
 
 /// What is read of a journal began as its first line says, and has a record for each other line, in order, with the
 /// line's event, for caller 0.
@@ -12,4 +12,15 @@ pub fn each_line_makes_one_record()
 /// A journal that is cut behind a line feed is read as a history that the whole one goes on from.
 pub fn fronts_are_read()
     ensures { FrontsAreRead }
+{}
+
+/// What is written of an event is one line, and that line is read as the event, for all events that there can be.
+pub fn written_events_are_read()
+    ensures { WrittenEventsAreRead }
+{}
+
+/// What is written of a history is read as that history, with the node that it began with, its records and where they
+/// lead, each record for caller 0; and what was read is written as the same text.
+pub fn written_histories_are_read()
+    ensures { WrittenHistoriesAreRead }
 {}

@@ -1,0 +1,52 @@
+-- What histories hold whose text is read again: they began with a start, and their numbers and texts are such as the
+-- types of events and settings allow.
+use Rattle.std.specs.Prelude.{ℕ, ◌≡◌, ◌<◌, ◌≤◌, ◌^◌, List, length}
+use Rattle.std.specs.List.{AllByRecursion}
+use Rattle.cg_types.specs.Numbers.{IsEndpoint, IsGeneration, IsKey}
+use Rattle.cg_types.specs.Text.{IsStateText, IsCluster}
+use Rattle.cg_exchange.specs.Contents.{IsSyn, IsAck, IsAck2}
+use Rattle.cg_silence.specs.Values.{IsSilence}
+use Rattle.cg_core.specs.declared.event.Event.{Event}
+use Rattle.cg_core.specs.declared.event.Event.TheVariants as event
+use Rattle.cg_core.specs.Values.{SettingsValue, IsSettings}
+use Rattle.cg_core.specs.Step.{starting_node}
+use Rattle.cg_history.specs.History.{HistoryValue, IsReplayed, LAST_NUMBER}
+
+-- a moment or a random word
+abbrev pub IsCount : ℕ → Type 0
+IsCount n = n < 2 ^ 64
+
+-- the random words of a round
+pub record AreWords (words : List ℕ) : Type 0 where
+  pub four : length words ≡ 4
+  pub counts : AllByRecursion IsCount words
+
+-- What is true of every event.
+abbrev pub IsEvent : Event → Type 0
+IsEvent event.Beat = Unit
+IsEvent (event.Set key text) = IsKey key × IsStateText text
+IsEvent (event.Tick now words) = IsCount now × AreWords words
+IsEvent event.Opening = Unit
+IsEvent (event.Syn m) = IsSyn m
+IsEvent (event.Ack now m) = IsCount now × IsAck m
+IsEvent (event.Ack2 now m) = IsCount now × IsAck2 m
+
+-- What a node may start with.
+pub record IsStart (own generation : ℕ) (s : SettingsValue) : Type 0 where
+  pub endpoint : IsEndpoint own
+  pub first : IsGeneration generation
+  pub settings : IsSettings s
+  pub cluster : IsCluster s.cluster
+  pub seeds : AllByRecursion IsEndpoint s.seeds
+  pub silence : IsSilence s.silence
+
+-- The history began with a node that started, and its records are events, no more than can be numbered.
+pub record IsLife (h : HistoryValue) : Type 0 where
+  pub own : ℕ
+  pub generation : ℕ
+  pub settings : SettingsValue
+  pub start : IsStart own generation settings
+  pub base : h.base ≡ starting_node own generation settings
+  pub replayed : IsReplayed h
+  pub events : AllByRecursion (λ r. IsEvent r.event) h.records
+  pub few : length h.records ≤ LAST_NUMBER
