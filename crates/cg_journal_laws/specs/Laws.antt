@@ -4,11 +4,13 @@ use Rattle.std.specs.List.{AllByRecursion}
 use Rattle.cg_history.specs.declared.item.Item.{Item}
 use Rattle.cg_history.specs.Items.{events_of}
 use Rattle.cg_core.specs.declared.event.Event.{Event}
-use Rattle.cg_history.specs.History.{HistoryValue}
+use Rattle.cg_core.specs.Values.{SettingsValue}
+use Rattle.cg_history.specs.declared.item.Receipt.{Receipt}
+use Rattle.cg_history.specs.History.{HistoryValue, new_history, apply}
 use Rattle.cg_lines.specs.Lines.{lines_of}
 use Rattle.cg_journal.specs.Text.{event_line, journal_of}
 use Rattle.cg_journal.specs.Reading.{life_in, event_in, journal_in}
-use Rattle.cg_journal_laws.specs.Contents.{IsEvent, IsLife}
+use Rattle.cg_journal_laws.specs.Contents.{IsEvent, IsStart, IsLife}
 
 -- The history began as the first of the lines says, and has a record for each other line, with the line's event, for
 -- caller 0.
@@ -64,3 +66,19 @@ pub record IsReadAgain (h : HistoryValue) : Type 0 where
 
 abbrev pub WrittenHistoriesAreRead : Type 0
 WrittenHistoriesAreRead = (h : HistoryValue) → IsLife h → IsReadAgain h
+
+-- Histories are lives from their start on, whatever event is done.
+pub record LivesGoOn : Type 0 where
+  pub begins : (own generation : ℕ) (s : SettingsValue) → IsStart own generation s
+      → IsLife (new_history own generation s)
+  pub goes_on :
+      (h : HistoryValue) (caller : ℕ) (e : Event) (after : HistoryValue) (q : Receipt) → IsLife h → IsEvent e
+      → apply h caller e ≡ Ok (after, q) → IsLife after
+
+-- What was read is a life, and its text is read as it.
+pub record IsReadBack (h : HistoryValue) : Type 0 where
+  pub life : IsLife h
+  pub again : journal_in (journal_of h) ≡ Ok h
+
+abbrev pub ReadHistoriesAreReadAgain : Type 0
+ReadHistoriesAreReadAgain = (text : List ℕ) (h : HistoryValue) → journal_in text ≡ Ok h → IsReadBack h

@@ -4,6 +4,7 @@
 use cg_core::Event;
 use cg_history::History;
 use cg_journal::{read_journal, write_journal};
+use cg_journal_laws::every_event_fits;
 use cg_links::Counted;
 use std::alloc::Global;
 use std::test::Fail;
@@ -102,5 +103,18 @@ fn told_after_beat(alloc: Global, text: &str) -> Result<(u32, usize, u32, usize,
 fn callers_are_left_out(rt: HostRuntime) -> Result<(), Fail> {
     let again = told_after_beat(rt.alloc(), OF_A)?;
     assert_eq!(rt; again, (9, 2, 1, 3, true));
+    Ok(())
+}
+
+#[test]
+fn each_event_in_hand_fits(rt: HostRuntime) -> Result<(), Fail> {
+    let mut reader = Counted::new(LOCAL.as_bytes());
+    let history = read_journal(rt.alloc(), &mut reader)
+        .ok()
+        .ok_or("a history")?;
+    for record in history.records() {
+        every_event_fits(&record.event);
+    }
+    assert_eq!(rt; history.records().len(), 5);
     Ok(())
 }
