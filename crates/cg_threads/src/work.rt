@@ -18,12 +18,6 @@ use std::alloc::Global;
 use std::rt::Clock;
 use std::sync::{OnceLock, Wait};
 
-// What is left of a gate.
-fn left<N: Name, R: Wait>(gate: SeatGate<'_, N, R>) -> Left<N> {
-    let (seat, receipts) = gate.into_parts();
-    Left { seat, receipts }
-}
-
 // The receiver's work, where the word is to go.
 pub(crate) fn receive<N: Name, R: Wait, L: Listen + Drop, C: Milliseconds>(
     go: &OnceLock<bool>,
@@ -36,15 +30,15 @@ pub(crate) fn receive<N: Name, R: Wait, L: Listen + Drop, C: Milliseconds>(
     exchanges: u32,
 ) -> Left<N>
     requires { seat.share.amount ≡ 0 }
-    ensures { IsLeft is_received seat.caller seat.share.parts result.seat.share.parts result.seat.share.amount
-        result.receipts.items }
+    ensures { IsLeft is_received seat.caller seat.share.parts result }
 {
+    if !*go.wait(rt) {
+        return Left::unused(alloc, seat);
+    }
     let mut listener = listener;
     let mut gate = SeatGate::new(rt, alloc, shared, seat);
-    if *go.wait(rt) {
-        let _came = receiver(alloc, &mut gate, &mut listener, clock, exchanges);
-    }
-    left(gate)
+    let _came = receiver(alloc, &mut gate, &mut listener, clock, exchanges);
+    Left::of(gate)
 }
 
 // The sender's.
@@ -60,20 +54,22 @@ pub(crate) fn send<N: Name, R: Wait, D: Dial + Drop, C: Milliseconds>(
 ) -> Sent<N>
     requires seat { seat.share.amount ≡ 0 }
     requires taking { taken_by taking ≡ [] }
-    ensures left { IsLeft is_ack seat.caller seat.share.parts result.left.seat.share.parts
-        result.left.seat.share.amount result.left.receipts.items }
+    ensures left { IsLeft is_ack seat.caller seat.share.parts result.left }
     ensures taken { HasTaken taking result.taken result.numbers.items }
 {
+    if !*go.wait(rt) {
+        return Sent {
+            left: Left::unused(alloc, seat),
+            taken: taking.leave(),
+            numbers: Vec::new(alloc),
+        };
+    }
     let mut dialer = dialer;
     let mut taking = taking;
     let mut gate = SeatGate::new(rt, alloc, shared, seat);
-    let numbers = if *go.wait(rt) {
-        sender(rt, alloc, &mut gate, &mut dialer, clock, &mut taking)
-    } else {
-        Vec::new(alloc)
-    };
+    let numbers = sender(rt, alloc, &mut gate, &mut dialer, clock, &mut taking);
     Sent {
-        left: left(gate),
+        left: Left::of(gate),
         taken: taking.leave(),
         numbers,
     }
@@ -93,27 +89,30 @@ pub(crate) fn tick<N: Name, R: Wait + Clock, C: Milliseconds, G: Rng + Drop>(
 ) -> Ticks<N>
     requires seat { seat.share.amount ≡ 0 }
     requires putting { put_by putting ≡ [] }
-    ensures left { IsLeft is_tick seat.caller seat.share.parts result.left.seat.share.parts
-        result.left.seat.share.amount result.left.receipts.items }
-    ensures put { HasPut putting result.putting result.left.receipts.items }
+    ensures left { IsLeft is_tick seat.caller seat.share.parts result.left }
+    ensures put { HasPut putting result.putting result.left.receipts }
 {
+    if !*go.wait(rt) {
+        return Ticks {
+            left: Left::unused(alloc, seat),
+            putting,
+        };
+    }
     let mut generator = generator;
     let mut putting = putting;
     let mut gate = SeatGate::new(rt, alloc, shared, seat);
-    if *go.wait(rt) {
-        let _ticked = ticker(
-            rt,
-            alloc,
-            clock,
-            &mut gate,
-            &mut generator,
-            &mut putting,
-            turns.rounds,
-            turns.interval,
-        );
-    }
+    let _ticked = ticker(
+        rt,
+        alloc,
+        clock,
+        &mut gate,
+        &mut generator,
+        &mut putting,
+        turns.rounds,
+        turns.interval,
+    );
     Ticks {
-        left: left(gate),
+        left: Left::of(gate),
         putting,
     }
 }
@@ -129,14 +128,14 @@ pub(crate) fn operate<N: Name, R: Wait, O: Operate + Drop>(
     pass: Pass<N>,
 ) -> Left<N>
     requires { seat.share.amount ≡ 0 }
-    ensures { IsLeft is_any seat.caller seat.share.parts result.seat.share.parts result.seat.share.amount
-        result.receipts.items }
+    ensures { IsLeft is_any seat.caller seat.share.parts result }
 {
+    if !*go.wait(rt) {
+        return Left::unused(alloc, seat);
+    }
     let mut operates = operates;
     let mut pass = pass;
     let mut gate = SeatGate::new(rt, alloc, shared, seat);
-    if *go.wait(rt) {
-        let _ended = operator(alloc, &mut gate, &mut pass, &mut operates);
-    }
-    left(gate)
+    let _ended = operator(alloc, &mut gate, &mut pass, &mut operates);
+    Left::of(gate)
 }
