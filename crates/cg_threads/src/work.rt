@@ -1,0 +1,135 @@
+//! The workers: each waits for the word, works over a gate of its seat, and gives the seat back.
+
+ghost use Rattle.std.specs.Prelude.{◌≡◌, []};
+ghost use Rattle.cg_rounds.specs.Ends.{put_by, taken_by};
+ghost use Rattle.cg_threads.specs.Left.{IsLeft, HasTaken, HasPut, is_received, is_ack, is_tick, is_any};
+
+use crate::left::{Left, Sent, Ticks};
+use crate::site::Site;
+use cg_clock::Milliseconds;
+use cg_locked::{Name, Seat};
+use cg_rounds::{Putting, Taking};
+use cg_seats::{Operate, SeatGate, operator};
+use cg_settings::Turns;
+use cg_ticker::ticker;
+use cg_views::Pass;
+use cg_workers::{Dial, Listen, receiver, sender};
+use rand_core::Rng;
+use std::alloc::Global;
+use std::rt::Clock;
+use std::sync::Wait;
+
+// The receiver's work, where the word is to go.
+pub(crate) fn receive<N: Name, R: Wait, L: Listen + Drop, C: Milliseconds>(
+    rt: &R,
+    alloc: Global,
+    site: &Site<N, C>,
+    seat: Seat<N>,
+    listener: L,
+    exchanges: u32,
+) -> Left<N>
+    requires { seat.share.amount ≡ 0 }
+    ensures { IsLeft is_received seat.caller seat.share.parts result }
+{
+    if !*site.go.wait(rt) {
+        return Left::unused(alloc, seat);
+    }
+    let mut listener = listener;
+    let mut gate = SeatGate::new(rt, alloc, &site.shared, seat);
+    let _came = receiver(alloc, &mut gate, &mut listener, &site.clock, exchanges);
+    Left::of(gate)
+}
+
+// The sender's.
+pub(crate) fn send<N: Name, R: Wait, D: Dial + Drop, C: Milliseconds>(
+    rt: &R,
+    alloc: Global,
+    site: &Site<N, C>,
+    seat: Seat<N>,
+    dialer: D,
+    taking: Taking,
+) -> Sent<N>
+    requires seat { seat.share.amount ≡ 0 }
+    requires taking { taken_by taking ≡ [] }
+    ensures left { IsLeft is_ack seat.caller seat.share.parts result.left }
+    ensures taken { HasTaken taking result.taken result.numbers.items }
+{
+    if !*site.go.wait(rt) {
+        return Sent {
+            left: Left::unused(alloc, seat),
+            taken: taking.leave(),
+            numbers: Vec::new(alloc),
+        };
+    }
+    let mut dialer = dialer;
+    let mut taking = taking;
+    let mut gate = SeatGate::new(rt, alloc, &site.shared, seat);
+    let numbers = sender(rt, alloc, &mut gate, &mut dialer, &site.clock, &mut taking);
+    Sent {
+        left: Left::of(gate),
+        taken: taking.leave(),
+        numbers,
+    }
+}
+
+// The ticker's.
+pub(crate) fn tick<N: Name, R: Wait + Clock, C: Milliseconds, G: Rng + Drop>(
+    rt: &R,
+    alloc: Global,
+    site: &Site<N, C>,
+    seat: Seat<N>,
+    generator: G,
+    putting: Putting,
+    turns: Turns,
+) -> Ticks<N>
+    requires seat { seat.share.amount ≡ 0 }
+    requires putting { put_by putting ≡ [] }
+    ensures left { IsLeft is_tick seat.caller seat.share.parts result.left }
+    ensures put { HasPut putting result.putting result.left.receipts }
+{
+    if !*site.go.wait(rt) {
+        return Ticks {
+            left: Left::unused(alloc, seat),
+            putting,
+        };
+    }
+    let mut generator = generator;
+    let mut putting = putting;
+    let mut gate = SeatGate::new(rt, alloc, &site.shared, seat);
+    let _ticked = ticker(
+        rt,
+        alloc,
+        &site.clock,
+        &mut gate,
+        &mut generator,
+        &mut putting,
+        turns.rounds,
+        turns.interval,
+    );
+    Ticks {
+        left: Left::of(gate),
+        putting,
+    }
+}
+
+// The operator's.
+pub(crate) fn operate<N: Name, R: Wait, C: Milliseconds, O: Operate + Drop>(
+    rt: &R,
+    alloc: Global,
+    site: &Site<N, C>,
+    seat: Seat<N>,
+    operates: O,
+    pass: Pass<N>,
+) -> Left<N>
+    requires { seat.share.amount ≡ 0 }
+    ensures { IsLeft is_any seat.caller seat.share.parts result }
+{
+    if !*site.go.wait(rt) {
+        return Left::unused(alloc, seat);
+    }
+    let mut operates = operates;
+    let mut pass = pass;
+    let mut gate = SeatGate::new(rt, alloc, &site.shared, seat);
+    let _ended = operator(alloc, &mut gate, &mut pass, &mut operates);
+    Left::of(gate)
+}

@@ -1,0 +1,97 @@
+//! Rounds that are sent.
+
+ghost use Rattle.std.specs.Prelude.{◌≡◌};
+ghost use Rattle.cg_rounds.specs.Ends.{TakesWhere};
+ghost use Rattle.cg_workers.specs.Workers.{Begun, Reached, SentRound, Sent};
+
+use crate::links::Dial;
+use cg_clock::Milliseconds;
+use cg_engine::{Counted, Gate, initiate};
+use cg_exchange::Syn;
+use cg_rounds::{Round, Taking};
+use cg_types::Endpoint;
+use std::alloc::Global;
+use std::io::{Read, Write};
+use std::sync::Wait;
+
+// Begins an exchange over a link, with this SYN.
+fn begin<G: Gate, R: Read + Drop, W: Write + Drop, C: Milliseconds>(
+    alloc: Global,
+    gate: &mut G,
+    clock: &C,
+    syn: &Syn,
+    link: (R, W),
+)
+    ensures { Begun G.does G.refuses G.stays R.remaining W.contents (C.shows clock.now) syn.now link gate.old gate.new }
+{
+    let (reader, writer) = link;
+    let mut reader = Counted::new(reader);
+    let mut writer = Counted::new(writer);
+    let now = clock.now();
+    let _ended = initiate(alloc, gate, now, syn, &mut reader, &mut writer);
+}
+
+// Dials a peer, and begins an exchange with it where it can be reached.
+fn reach<G: Gate, D: Dial, C: Milliseconds>(
+    alloc: Global,
+    gate: &mut G,
+    dialer: &mut D,
+    clock: &C,
+    syn: &Syn,
+    peer: Endpoint,
+)
+    ensures { Reached G.does G.refuses G.stays D.Reader.remaining D.Writer.contents D.dials (C.shows clock.now) syn.now
+        peer (dialer.old, gate.old) (dialer.new, gate.new) }
+{
+    if let Ok(link) = dialer.dial(peer) {
+        begin(alloc, gate, clock, syn, link);
+    }
+}
+
+// Reaches each peer of a round, in their order.
+fn send_round<G: Gate, D: Dial, C: Milliseconds>(
+    alloc: Global,
+    gate: &mut G,
+    dialer: &mut D,
+    clock: &C,
+    round: &Round,
+)
+    ensures { SentRound G.does G.refuses G.stays D.Reader.remaining D.Writer.contents D.dials (C.shows clock.now)
+        round.now (dialer.old, gate.old) (dialer.new, gate.new) }
+{
+    for peer in round.peers.endpoints() {
+        reach(alloc, gate, dialer, clock, &round.syn, *peer);
+    }
+}
+
+/// Sends each round that is taken: it dials the peers of the round in their order, and begins an exchange with each that
+/// it reaches. A peer that can't be reached and a broken exchange end that exchange alone. Answers the numbers of the
+/// rounds that it took.
+///
+/// It ends where it is told that no more rounds come, and where there is no memory for the number of a further one; a
+/// round is only taken once there is room for its number.
+pub fn sender<G: Gate, D: Dial, C: Milliseconds, R: Wait>(
+    rt: &R,
+    alloc: Global,
+    gate: &mut G,
+    dialer: &mut D,
+    clock: &C,
+    from: &mut Taking,
+) -> Vec<u64>
+    ensures channel { TakesWhere from.new from.old }
+    ensures sent { Sent G.does G.refuses G.stays D.Reader.remaining D.Writer.contents D.dials (C.shows clock.now)
+        from.old from.new result.items (dialer.old, gate.old) (dialer.new, gate.new) }
+{
+    let mut numbers = Vec::new(alloc);
+    for _ in rt.forever() {
+        if numbers.reserve(1).is_err() {
+            break;
+        }
+        let Some(round) = from.take(rt) else {
+            break;
+        };
+        send_round(alloc, gate, dialer, clock, &round);
+        numbers.push_reserved(round.number);
+    }
+    numbers
+}

@@ -1,0 +1,92 @@
+//! Connections that come in.
+
+use crate::samples::{SYN, SYN_AND_ACK2, Standing, owners, started};
+use cg_samples::B;
+use cg_types::Fault;
+use cg_workers::{Listen, receiver};
+use std::alloc::Global;
+use std::test::Fail;
+
+// What one call of a listener comes to: a connection of which these bytes are read, none, or a fault.
+type Coming = Result<Option<&'static [u8]>, Fault>;
+
+// A listener that answers so, one call after the other, and then that no connection comes.
+#[derive(Drop)]
+struct Script<'a> {
+    alloc: Global,
+    comings: &'a [Coming],
+    calls: usize,
+}
+
+impl<'a> Listen for Script<'a> {
+    type Reader = &'static [u8];
+
+    type Writer = Vec<u8>;
+
+    fn accept(&mut self) -> Result<Option<(&'static [u8], Vec<u8>)>, Fault> {
+        let coming = self.comings.get(self.calls).copied();
+        self.calls = self.calls.saturating_add(1);
+        match coming {
+            Some(Ok(Some(bytes))) => Ok(Some((bytes, Vec::new(self.alloc)))),
+            Some(Err(fault)) => Err(fault),
+            _ => Ok(None),
+        }
+    }
+}
+
+// How many connections came to B, how often it asked for one, and how many owners it holds at the end.
+fn received(
+    alloc: Global,
+    comings: &[Coming],
+    exchanges: u32,
+) -> Result<(u32, usize, usize), Fail> {
+    let mut gate = started(alloc, B, 5)?;
+    let mut listener = Script {
+        alloc,
+        comings,
+        calls: 0,
+    };
+    let count = receiver(alloc, &mut gate, &mut listener, &Standing(1000), exchanges);
+    Ok((count, listener.calls, owners(&gate)))
+}
+
+const WHOLE: Coming = Ok(Some(SYN_AND_ACK2));
+
+#[test]
+fn an_exchange_is_answered(rt: HostRuntime) -> Result<(), Fail> {
+    assert_eq!(rt; received(rt.alloc(), &[WHOLE], 1)?, (1, 1, 2));
+    Ok(())
+}
+
+#[test]
+fn a_broken_exchange_ends_itself_alone(rt: HostRuntime) -> Result<(), Fail> {
+    let alloc = rt.alloc();
+    let short: Coming = Ok(Some(SYN));
+    let noise: Coming = Ok(Some(b"\x00\x00\x00\x01\xff".as_slice()));
+    let nothing: Coming = Ok(Some(b"".as_slice()));
+    assert_eq!(rt; received(alloc, &[short, noise, nothing], 3)?, (3, 3, 1));
+    assert_eq!(rt; received(alloc, &[short, noise, WHOLE], 3)?, (3, 3, 2));
+    Ok(())
+}
+
+#[test]
+fn it_ends_where_none_comes_or_accepting_fails(rt: HostRuntime) -> Result<(), Fail> {
+    let alloc = rt.alloc();
+    assert_eq!(rt; received(alloc, &[WHOLE, Ok(None), WHOLE], 3)?, (1, 2, 2));
+    assert_eq!(rt;
+        received(alloc, &[Err(Fault::ReadFault), WHOLE], 3)?,
+        (0, 1, 1)
+    );
+    Ok(())
+}
+
+#[test]
+fn no_more_come_than_are_wanted(rt: HostRuntime) -> Result<(), Fail> {
+    let alloc = rt.alloc();
+    assert_eq!(rt; received(alloc, &[WHOLE], 0)?, (0, 0, 1));
+    assert_eq!(rt;
+        received(alloc, &[Ok(Some(SYN)), WHOLE, WHOLE], 2)?,
+        (2, 2, 2)
+    );
+    Ok(())
+}

@@ -1,0 +1,167 @@
+//! Rounds that are sent.
+
+use crate::samples::{ACK, SYN, Standing, owners, started};
+use cg_core::Peers;
+use cg_exchange::Syn;
+use cg_frames::decode;
+use cg_rounds::{Round, rounds};
+use cg_samples::{A, B, endpoint};
+use cg_types::{Endpoint, Fault};
+use cg_wire::syn_due;
+use cg_workers::{Dial, sender};
+use std::alloc::Global;
+use std::sync::Wait;
+use std::test::Fail;
+
+// A dialer that reaches one peer, of which these bytes are read, and no other. It keeps the endpoints that it was to
+// reach.
+#[derive(Drop)]
+struct Book {
+    alloc: Global,
+    reached: Endpoint,
+    bytes: &'static [u8],
+    dialed: Vec<Endpoint>,
+}
+
+impl Dial for Book {
+    type Reader = &'static [u8];
+
+    type Writer = Vec<u8>;
+
+    fn dial(&mut self, peer: Endpoint) -> Result<(&'static [u8], Vec<u8>), Fault> {
+        if self.dialed.push(peer).is_err() {
+            return Err(Fault::OutOfMemory);
+        }
+        if peer == self.reached {
+            Ok((self.bytes, Vec::new(self.alloc)))
+        } else {
+            Err(Fault::ReadFault)
+        }
+    }
+}
+
+// A's SYN.
+fn opening(alloc: Global) -> Result<Syn, Fail> {
+    let (message, _size) = decode(alloc, SYN)?.ok_or("a whole frame")?;
+    Ok(syn_due(message)?)
+}
+
+// A round of this number, for the endpoints of these.
+fn round(alloc: Global, number: u64, peers: &[u16]) -> Result<Round, Fail> {
+    let mut endpoints = Vec::new(alloc);
+    for peer in peers {
+        endpoints.push(endpoint(*peer))?;
+    }
+    Ok(Round {
+        peers: Peers::of(endpoints),
+        syn: opening(alloc)?,
+        number,
+    })
+}
+
+// The numbers that A answers for two rounds, whom it dialed, how many owners it holds at the end, and whether both rounds
+// were put in.
+type Came = (Vec<u64>, Vec<Endpoint>, usize, bool);
+
+// What comes of a round of number 5 for these peers, and one of number 9 for those, where B alone is reached.
+fn sent<R: Wait>(
+    rt: &R,
+    alloc: Global,
+    these: &[u16],
+    those: &[u16],
+    bytes: &'static [u8],
+) -> Result<Came, Fail> {
+    let mut gate = started(alloc, A, 9)?;
+    let mut dialer = Book {
+        alloc,
+        reached: endpoint(B),
+        bytes,
+        dialed: Vec::new(alloc),
+    };
+    let (first, second) = (round(alloc, 5, these)?, round(alloc, 9, those)?);
+    let (mut putting, mut taking) = rounds(alloc)?;
+    let is_first = putting.put(rt, first).is_ok();
+    let is_second = putting.put(rt, second).is_ok();
+    putting.end(rt);
+    let numbers = sender(
+        rt,
+        alloc,
+        &mut gate,
+        &mut dialer,
+        &Standing(1000),
+        &mut taking,
+    );
+    let held = owners(&gate);
+    let Book { dialed, .. } = dialer;
+    Ok((numbers, dialed, held, is_first && is_second))
+}
+
+// Whether these were dialed, in this order.
+fn are(dialed: &[Endpoint], due: &[u16]) -> bool {
+    dialed.len() == due.len()
+        && dialed
+            .iter()
+            .zip(due.iter())
+            .all(|(one, other)| *one == endpoint(*other))
+}
+
+#[test]
+fn each_peer_is_dialed_and_each_number_answered(rt: HostRuntime) -> Result<(), Fail> {
+    let (numbers, dialed, held, put) = sent(&rt, rt.alloc(), &[3, B], &[B], ACK)?;
+    assert!(rt; put && numbers.as_slice() == [5, 9].as_slice());
+    assert!(rt; are(&dialed, &[3, B, B]));
+    assert_eq!(rt; held, 2);
+    Ok(())
+}
+
+#[test]
+fn a_round_counts_where_no_peer_is_reached(rt: HostRuntime) -> Result<(), Fail> {
+    let (numbers, dialed, held, put) = sent(&rt, rt.alloc(), &[3, 4], &[], ACK)?;
+    assert!(rt; put && numbers.as_slice() == [5, 9].as_slice());
+    assert!(rt; are(&dialed, &[3, 4]));
+    assert_eq!(rt; held, 1);
+    Ok(())
+}
+
+#[test]
+fn a_broken_exchange_ends_itself_alone(rt: HostRuntime) -> Result<(), Fail> {
+    let (numbers, dialed, held, put) = sent(
+        &rt,
+        rt.alloc(),
+        &[B, 3],
+        &[4],
+        b"\x00\x00\x00\x01\xff",
+    )?;
+    assert!(rt; put && numbers.as_slice() == [5, 9].as_slice());
+    assert!(rt; are(&dialed, &[B, 3, 4]));
+    assert_eq!(rt; held, 1);
+    Ok(())
+}
+
+// How many rounds A takes, of none and where nobody can put any in any more.
+fn taken<R: Wait>(rt: &R, alloc: Global) -> Result<usize, Fail> {
+    let mut gate = started(alloc, A, 9)?;
+    let mut dialer = Book {
+        alloc,
+        reached: endpoint(B),
+        bytes: ACK,
+        dialed: Vec::new(alloc),
+    };
+    let (putting, mut taking) = rounds(alloc)?;
+    drop(putting);
+    let numbers = sender(
+        rt,
+        alloc,
+        &mut gate,
+        &mut dialer,
+        &Standing(1000),
+        &mut taking,
+    );
+    Ok(numbers.len())
+}
+
+#[test]
+fn it_ends_where_nobody_puts_any_in(rt: HostRuntime) -> Result<(), Fail> {
+    assert_eq!(rt; taken(&rt, rt.alloc())?, 0);
+    Ok(())
+}
