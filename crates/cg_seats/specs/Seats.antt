@@ -1,0 +1,67 @@
+-- What a gate over a seat shows, and how it goes on.
+use Rattle.std.specs.Prelude.{ℕ, ◌≡◌, ◌⊎◌, List, [], ◌∷◌, ◌++◌, length, Option, Some, None, Ok, Err, IfSome}
+use Rattle.std.specs.List.{All}
+use Rattle.cg_types.specs.declared.fault.Fault.{Fault}
+use Rattle.cg_types.specs.declared.fault.Fault.TheVariants as fault
+use Rattle.cg_table.specs.Puts.{Put}
+use Rattle.cg_core.specs.declared.event.Event.{Event}
+use Rattle.cg_core.specs.declared.reply.Reply.{Reply}
+use Rattle.cg_core.specs.Values.{NodeValue}
+use Rattle.cg_history.specs.declared.item.Receipt.{Receipt}
+use Rattle.cg_locked.specs.Entry.{IsEntry, ShowsSet}
+
+-- the seat's caller and parts, the receipts, and what the last event was told
+pub record SeatValue : Type 0 where
+  pub caller : ℕ
+  pub parts : ℕ
+  pub receipts : List Receipt
+  pub told : Option (List Put)
+
+-- a gate that has done nothing
+abbrev pub new_gate : ℕ → ℕ → SeatValue
+new_gate caller parts = record { caller = caller; parts = parts; receipts = []; told = None }
+
+abbrev pub with_told : SeatValue → Option (List Put) → SeatValue
+with_told g told = record { caller = g.caller; parts = g.parts; receipts = g.receipts; told = told }
+
+-- The receipts are the caller's.
+abbrev pub AreOf : ℕ → List Receipt → Type 0
+AreOf caller receipts = All (λ q. q.caller ≡ caller) receipts
+
+-- the reply of the last receipt
+abbrev pub last_reply : List Receipt → Option Reply
+last_reply [] = None
+last_reply (q ∷ []) = Some q.reply
+last_reply (q ∷ r ∷ rs) = last_reply (r ∷ rs)
+
+-- The receipt is the caller's, of this event and reply.
+abbrev pub IsReceiptOf : ℕ → Event → Reply → Receipt → Type 0
+IsReceiptOf caller e answer q = (q.caller ≡ caller) × (q.event ≡ e) × (q.reply ≡ answer)
+
+-- The gate went on by one event with its reply: it was entered for the caller into some history of the start, with at
+-- least as many records as the gate has receipts; its receipt is kept behind those; and what it was told shows its Set.
+pub record Enters (start : NodeValue) (g : SeatValue) (e : Event) (answer : Reply) (h : SeatValue) : Type 0 where
+  pub receipt : Receipt
+  pub is : IsReceiptOf g.caller e answer receipt
+  pub entry : IsEntry start (length g.receipts) g.caller e (Ok (receipt, h.told))
+  pub receipts : h.receipts ≡ g.receipts ++ receipt ∷ []
+  pub seat : (h.caller ≡ g.caller) × (h.parts ≡ g.parts)
+  pub shown : IfSome h.told (λ t. ShowsSet t start.table.own e answer)
+
+-- The event is refused as an entry of it is, or for want of room for its receipt.
+abbrev pub Refuses : NodeValue → SeatValue → Event → Fault → Type 0
+Refuses start g e f = (f ≡ fault.OutOfMemory) ⊎ IsEntry start (length g.receipts) g.caller e (Err f)
+
+-- The gate went on: its seat is the same, and its receipts begin with those that it had.
+pub record GoesOn (g h : SeatValue) : Type 0 where
+  pub seat : (h.caller ≡ g.caller) × (h.parts ≡ g.parts)
+  pub more : List Receipt
+  pub receipts : h.receipts ≡ g.receipts ++ more
+
+-- the faults that end an operator
+abbrev pub IsOperatorFault : Fault → Type 0
+IsOperatorFault fault.OutOfMemory = Unit {0}
+IsOperatorFault fault.ReadFault = Unit {0}
+IsOperatorFault fault.WriteFault = Unit {0}
+IsOperatorFault fault.NoSuchNode = Unit {0}
+IsOperatorFault f = ⊥

@@ -1,0 +1,11 @@
+//! The events of one caller at a shared node, with a receipt for each.
+//!
+//! A `SeatGate` does events as the caller of its seat, and keeps the receipts. An `Operate` is what an operator has done
+//! over such a gate.
+#![tactic(auto)]
+
+mod operate;
+mod seat_gate;
+
+pub use operate::{Operate, operator};
+pub use seat_gate::SeatGate;

@@ -1,0 +1,87 @@
+-- What a ticker does.
+use Rattle.std.specs.Prelude.{ℕ, ◌+◌, ◌≡◌, ◌≤◌, Bool, true, false, List, [], ◌∷◌, ◌++◌, length}
+use Rattle.std.specs.List.{All}
+use Rattle.rand_core.specs.Stream.{Stream}
+use Rattle.cg_core.specs.declared.event.Event.{Event}
+use Rattle.cg_core.specs.declared.event.Event.TheVariants as event
+use Rattle.cg_core.specs.declared.reply.Reply.{Reply}
+use Rattle.cg_core.specs.declared.reply.Reply.TheVariants as reply
+use Rattle.cg_history.specs.declared.item.Receipt.{Receipt}
+use Rattle.cg_seats.specs.Seats.{SeatValue}
+use Rattle.cg_rounds.specs.declared.round.Round.{Round}
+use Rattle.cg_rounds.specs.Words.{four_of, words_of_ticks}
+use Rattle.cg_ticker.specs.declared.ticked.Ticked.{Ticked}
+use Rattle.cg_ticker.specs.declared.ticking.Turn.{Turn}
+use Rattle.cg_ticker.specs.declared.ticking.Turn.TheVariants as turn
+
+-- ---- ticks, and their rounds
+
+-- A tick was answered by a round.
+abbrev pub IsTickOf : Event → Reply → Type 0
+IsTickOf (event.Tick now words) (reply.Round peers syn) = Unit {0}
+IsTickOf e answer = ⊥
+
+abbrev pub IsTick : Receipt → Type 0
+IsTick q = IsTickOf q.event q.reply
+
+-- the round of a receipt: its reply's peers and SYN, with its number; none where it is not of a tick
+abbrev pub round_with : ℕ → Reply → List Round
+round_with number (reply.Round peers syn) = record { peers = peers; syn = syn; number = number } ∷ []
+round_with number answer = []
+
+abbrev pub round_in : Receipt → List Round
+round_in q = round_with q.number q.reply
+
+-- the rounds of receipts
+abbrev pub rounds_in : List Receipt → List Round
+rounds_in [] = []
+rounds_in (q ∷ qs) = round_in q ++ rounds_in qs
+
+-- the words of an event, none where it is not a tick
+abbrev pub words_in : Event → List ℕ
+words_in (event.Tick now words) = words
+words_in e = []
+
+-- the words of the ticks of receipts, one tick after the other
+abbrev pub words_of : List Receipt → List ℕ
+words_of [] = []
+words_of (q ∷ qs) = words_in q.event ++ words_of qs
+
+-- ---- one turn
+
+-- The gate has one receipt more, of a tick with these words.
+pub record HasTicked (words : List ℕ) (g h : SeatValue) (q : Receipt) : Type 0 where
+  pub tick : IsTick q
+  pub words : words_in q.event ≡ words
+  pub receipts : h.receipts ≡ g.receipts ++ q ∷ []
+  pub seat : (h.caller ≡ g.caller) × (h.parts ≡ g.parts)
+
+-- One turn from a gate and the rounds put in so far to another gate and its rounds: a tick with the next words was
+-- refused; or it was done, and its round is put in or not.
+abbrev pub IsTurn : Stream → SeatValue → List Round → Turn → SeatValue → List Round → Type 0
+IsTurn s g put turn.Refused h after = (h ≡ g) × (after ≡ put)
+IsTurn s g put turn.Put h after =
+    (q : Receipt) × HasTicked (four_of s).0 g h q × (after ≡ put ++ round_in q)
+IsTurn s g put turn.Stopped h after = (q : Receipt) × HasTicked (four_of s).0 g h q × (after ≡ put)
+
+-- ---- all turns
+
+-- how many ticks at the end have no round in the channel
+abbrev pub missing : Bool → ℕ
+missing true = 1
+missing false = 0
+
+-- The gate has more receipts, all of ticks: first those whose rounds were put in, then, where the ticker stopped, one
+-- whose round was not. Where it did not stop, ticks and refused ticks are as many as rounds were wanted; where no tick
+-- was refused, the words of the ticks are the generator's.
+pub record Ticks (rounds : ℕ) (s : Stream) (g : SeatValue) (put : List Round) (left : Ticked) (h : SeatValue) (after : List Round) : Type 0 where
+  pub passed : List Receipt
+  pub rest : List Receipt
+  pub receipts : h.receipts ≡ g.receipts ++ (passed ++ rest)
+  pub seat : (h.caller ≡ g.caller) × (h.parts ≡ g.parts)
+  pub ticks : All IsTick (passed ++ rest)
+  pub put : after ≡ put ++ rounds_in passed
+  pub stopped : length rest ≡ missing left.stopped
+  pub most : left.refused + length (passed ++ rest) ≤ rounds
+  pub whole : left.stopped ≡ false → left.refused + length (passed ++ rest) ≡ rounds
+  pub words : left.refused ≡ 0 → words_of (passed ++ rest) ≡ words_of_ticks (length (passed ++ rest)) s

@@ -1,0 +1,11 @@
+//! The worker that begins rounds.
+//!
+//! A ticker has its node tick from a seat, and puts the round of each tick into the channel that the sender takes from.
+#![tactic(auto)]
+
+mod passing;
+mod ticked;
+mod ticking;
+
+pub use ticked::Ticked;
+pub use ticking::ticker;

@@ -1,0 +1,126 @@
+//! The ticks of a node, one after the other.
+
+ghost use Rattle.std.specs.Prelude.{◌≡◌, ◌≤◌, ℕ};
+ghost use Rattle.cg_core.specs.declared.event.Event.TheVariants as events;
+ghost use Rattle.cg_rounds.specs.Words.{four_of};
+ghost use Rattle.cg_rounds.specs.Ends.{put_by, PutsWhere};
+ghost use Rattle.cg_ticker.specs.Ticks.{IsTurn, Ticks};
+
+use crate::passing::pass_on;
+use crate::ticked::Ticked;
+use cg_clock::Milliseconds;
+use cg_core::Event;
+use cg_engine::Gate;
+use cg_locked::Name;
+use cg_rounds::{Putting, next_words};
+use cg_seats::SeatGate;
+use rand_core::Rng;
+use std::alloc::Global;
+use std::rt::Clock;
+use std::sync::Wait;
+use std::thread;
+use std::time::Duration;
+
+/// What became of one tick.
+pub(crate) enum Turn {
+    /// It was refused, and made no round.
+    Refused,
+    /// Its round was put in.
+    Put,
+    /// Its round could not be put in.
+    Stopped,
+}
+
+/// The next tick: at the clock's moment, with the next four words.
+pub(crate) fn tick<C: Milliseconds, G: Rng>(clock: &C, generator: &mut G) -> Event
+    ensures tick { (now : ℕ) × (result ≡ events.Tick now (four_of (G.stream generator.old)).0) }
+    ensures left { G.stream generator.new ≡ (four_of (G.stream generator.old)).1 }
+{
+    let now = clock.now();
+    let words = next_words(generator);
+    Event::Tick { now, words }
+}
+
+/// Has the node tick, and puts its round in.
+pub(crate) fn tick_once<N: Name, R: Wait, C: Milliseconds, G: Rng>(
+    rt: &R,
+    alloc: Global,
+    clock: &C,
+    gate: &mut SeatGate<'_, N, R>,
+    generator: &mut G,
+    to: &mut Putting,
+) -> Turn
+    ensures channel { PutsWhere to.new to.old }
+    ensures turn { IsTurn (G.stream generator.old) gate.old (put_by to.old) result gate.new (put_by to.new) }
+    ensures left { G.stream generator.new ≡ (four_of (G.stream generator.old)).1 }
+{
+    let event = tick(clock, generator);
+    if gate.event(alloc, event).is_err() {
+        return Turn::Refused;
+    }
+    let Some(receipt) = gate.receipts().last() else {
+        unreachable!()
+    };
+    if pass_on(rt, alloc, receipt, to) {
+        Turn::Put
+    } else {
+        Turn::Stopped
+    }
+}
+
+/// So many turns, with a pause of so many milliseconds between two; fewer where a round could not be put in.
+fn turns<N: Name, R: Wait + Clock, C: Milliseconds, G: Rng>(
+    rt: &R,
+    alloc: Global,
+    clock: &C,
+    gate: &mut SeatGate<'_, N, R>,
+    generator: &mut G,
+    to: &mut Putting,
+    rounds: u32,
+    interval: u32,
+) -> Ticked
+    ensures channel { PutsWhere to.new to.old }
+    ensures ticks { Ticks rounds (G.stream generator.old) gate.old (put_by to.old) result gate.new (put_by to.new) }
+{
+    let mut refused = 0;
+    for place in 0..rounds {
+        if place > 0 {
+            thread::sleep(rt, Duration::from_millis(u64::from(interval)));
+        }
+        match tick_once(rt, alloc, clock, gate, generator, to) {
+            Turn::Refused => refused += 1,
+            Turn::Put => {}
+            Turn::Stopped => return Ticked {
+                refused,
+                stopped: true,
+            },
+        }
+    }
+    Ticked {
+        refused,
+        stopped: false,
+    }
+}
+
+/// Has the node tick `rounds` times from its seat, with a pause of `interval` milliseconds between two ticks, and puts
+/// the round of each tick into the channel; in the end it says that no more come.
+///
+/// A refused tick makes no round, and counts as one. The ticker stops where it finds no memory to pass a round on, and
+/// where the channel hands it back. Each tick's moment is the clock's, of which the contract says nothing.
+pub fn ticker<N: Name, R: Wait + Clock, C: Milliseconds, G: Rng>(
+    rt: &R,
+    alloc: Global,
+    clock: &C,
+    gate: &mut SeatGate<'_, N, R>,
+    generator: &mut G,
+    to: &mut Putting,
+    rounds: u32,
+    interval: u32,
+) -> Ticked
+    ensures channel { PutsWhere to.new to.old }
+    ensures ticks { Ticks rounds (G.stream generator.old) gate.old (put_by to.old) result gate.new (put_by to.new) }
+{
+    let ticked = turns(rt, alloc, clock, gate, generator, to, rounds, interval);
+    to.end(rt);
+    ticked
+}

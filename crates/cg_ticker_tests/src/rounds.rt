@@ -1,0 +1,208 @@
+//! The rounds that a ticker puts in.
+
+ghost use Rattle.std.specs.Prelude.{◌≡◌, []};
+
+use crate::history::new_history;
+use cg_clock::Milliseconds;
+use cg_core::Event;
+use cg_history::{History, Receipt};
+use cg_locked::{Name, Seat, Shared};
+use cg_rounds::{Putting, Taking, generator, rounds};
+use cg_seats::SeatGate;
+use cg_table::Table;
+use cg_ticker::{Ticked, ticker};
+use cg_views::{Opened, views};
+use std::alloc::Global;
+use std::marker::Brand;
+use std::rt::Clock;
+use std::sync::Wait;
+use std::sync::ledger::Blank;
+use std::test::Fail;
+
+// A clock that stands at a moment.
+#[derive(Clone, Copy)]
+struct Standing(u64);
+
+impl Milliseconds for Standing {
+    fn now(&self) -> u64 {
+        self.0
+    }
+}
+
+// What a ticker left, with the seat and its receipts.
+#[derive(Drop)]
+struct Done<N: Name> {
+    seat: Seat<N>,
+    receipts: Vec<Receipt>,
+    ticked: Ticked,
+}
+
+// Ticks so many times, with no pause, at the moment 1000 and with the words of seed 0.
+fn ticked<N: Name, R: Wait + Clock>(
+    rt: &R,
+    alloc: Global,
+    shared: &Shared<N>,
+    seat: Seat<N>,
+    to: &mut Putting,
+    count: u32,
+) -> Done<N>
+    requires { seat.share.amount ≡ 0 }
+    ensures { result.seat.share.parts ≡ seat.share.parts }
+{
+    let mut gate = SeatGate::new(rt, alloc, shared, seat);
+    let mut words = generator(0);
+    let ticked = ticker(
+        rt,
+        alloc,
+        &Standing(1000),
+        &mut gate,
+        &mut words,
+        to,
+        count,
+        0,
+    );
+    let (seat, receipts) = gate.into_parts();
+    Done {
+        seat,
+        receipts,
+        ticked,
+    }
+}
+
+// The moment and the first word of a tick, 0 where it is none.
+fn moment_and_word(receipt: Option<&Receipt>) -> (u64, u64) {
+    match receipt {
+        Some(receipt) => match &receipt.event {
+            Event::Tick { now, words } => (*now, words[0]),
+            _ => (0, 0),
+        },
+        None => (0, 0),
+    }
+}
+
+// The number of the next round and how many digests its SYN has, 0 where none comes.
+fn next_round<R: Wait>(rt: &R, from: &mut Taking) -> (u64, usize) {
+    match from.take(rt) {
+        Some(round) => (round.number, round.syn.digests().len()),
+        None => (0, 0),
+    }
+}
+
+// What is left by a ticker of so many ticks: what it answered, how many records there are and receipts are confirmed,
+// the last receipt's moment and first word, and the first two rounds.
+#[derive(Clone, Copy, Debug, PartialEq, Eq)]
+struct Left {
+    ticked: Ticked,
+    records: usize,
+    confirmed: usize,
+    last: (u64, u64),
+}
+
+fn left_by<N: Name, R: Wait + Clock>(
+    rt: &R,
+    alloc: Global,
+    opened: Opened,
+    table: Table,
+    history: History,
+    blank: Blank,
+    to: &mut Putting,
+    count: u32,
+) -> Result<Left, Fail>
+    requires views { (opened ≡ N.book) × (table ≡ N.opening) }
+    requires history { (history.records ≡ []) × (history.base ≡ N.start) × (history.base.table ≡ table) }
+    requires blank { (blank.name ≡ N.name) × (blank.parts ≡ N.parts) × (N.parts ≡ 1) }
+{
+    let (publisher, _passes) = views::<N>(alloc, opened, table, 1)?;
+    let (shared, mut seats) = Shared::begin(rt, alloc, history, publisher, blank, 1)?;
+    let seat = seats.pop().unwrap();
+    let Done {
+        seat,
+        receipts,
+        ticked,
+    } = ticked(rt, alloc, &shared, seat, to, count);
+    let last = moment_and_word(receipts.last());
+    seats.push_reserved(seat);
+    let (records, confirmed) = match shared.finish(rt, seats, &receipts) {
+        Ok(history) => (history.records().len(), receipts.len()),
+        Err(left) => (left.history.records().len(), left.place),
+    };
+    Ok(Left {
+        ticked,
+        records,
+        confirmed,
+        last,
+    })
+}
+
+fn left_after<R: Wait + Clock>(
+    rt: &R,
+    alloc: Global,
+    to: &mut Putting,
+    count: u32,
+) -> Result<Left, Fail> {
+    let history = new_history(alloc)?;
+    let table = history.node().table().copy(alloc)?;
+    left_by::<Brand, R>(
+        rt,
+        alloc,
+        Opened::new(),
+        table,
+        history,
+        Blank::new(1),
+        to,
+        count,
+    )
+}
+
+// What a ticker of two ticks leaves, and what is taken then: two rounds, and none.
+fn two_rounds<R: Wait + Clock>(rt: &R, alloc: Global) -> Result<(Left, [(u64, usize); 3]), Fail> {
+    let (mut putting, mut taking) = rounds(alloc)?;
+    let left = left_after(rt, alloc, &mut putting, 2)?;
+    let one = next_round(rt, &mut taking);
+    let other = next_round(rt, &mut taking);
+    let none = next_round(rt, &mut taking);
+    putting.compare(taking.leave());
+    Ok((left, [one, other, none]))
+}
+
+#[test]
+fn two_ticks_make_two_rounds(rt: HostRuntime) -> Result<(), Fail> {
+    let (left, taken) = two_rounds(&rt, rt.alloc())?;
+    let due = Left {
+        ticked: Ticked {
+            refused: 0,
+            stopped: false,
+        },
+        records: 2,
+        confirmed: 2,
+        last: (1000, 15795103776161667678),
+    };
+    assert_eq!(rt; left, due);
+    assert_eq!(rt; taken, [(1, 1), (2, 1), (0, 0)]);
+    Ok(())
+}
+
+// What a ticker of five ticks leaves where nobody takes any round.
+fn stopped<R: Wait + Clock>(rt: &R, alloc: Global) -> Result<Left, Fail> {
+    let (mut putting, taking) = rounds(alloc)?;
+    let taken = taking.leave();
+    let left = left_after(rt, alloc, &mut putting, 5)?;
+    putting.compare(taken);
+    Ok(left)
+}
+
+#[test]
+fn a_round_that_is_handed_back_stops_the_ticker(rt: HostRuntime) -> Result<(), Fail> {
+    let left = stopped(&rt, rt.alloc())?;
+    let due = Left {
+        ticked: Ticked {
+            refused: 0,
+            stopped: true,
+        },
+        records: 1,
+        confirmed: 1,
+        last: (1000, 2354861276966075475),
+    };
+    assert_eq!(rt; left, due);
+    Ok(())
+}
