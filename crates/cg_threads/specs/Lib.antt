@@ -1,0 +1,4 @@
+pub mod Left
+pub mod Numbers
+pub mod Laws
+pub mod Ran

@@ -1,0 +1,46 @@
+-- What is left of a node that ran.
+use Rattle.std.specs.Prelude.{ℕ, ◌≡◌, ◌⊎◌, Bool, true, List, length}
+use Rattle.std.specs.List.{All}
+use mathlib.Core.List.{IsPrefix}
+use Rattle.cg_types.specs.declared.fault.Fault.TheVariants as fault
+use Rattle.cg_core.specs.declared.event.Event.{Event}
+use Rattle.cg_core.specs.Values.{NodeValue}
+use Rattle.cg_history.specs.declared.item.Item.{Item}
+use Rattle.cg_history.specs.declared.item.Receipt.{Receipt}
+use Rattle.cg_history.specs.Confirming.{IsFirstStray}
+use Rattle.cg_history.specs.History.{HistoryValue, IsReplayed}
+use Rattle.cg_locked.specs.declared.shared.Unconfirmed.{Unconfirmed}
+use Rattle.cg_locked.specs.Shared.{stray_of}
+use Rattle.cg_threads.specs.declared.seats.TheConstants.{RECEIVER, SENDER, TICKER, OPERATOR}
+use Rattle.cg_threads.specs.declared.ran.NotRun.{NotRun}
+use Rattle.cg_threads.specs.declared.ran.NotRun.TheVariants as not_run
+use Rattle.cg_threads.specs.Left.{is_received, is_ack, is_tick}
+use Rattle.cg_threads.specs.Numbers.{numbers_in}
+
+-- The event is one that the worker of the caller has done.
+abbrev pub IsWork : ℕ → Event → Type 0
+IsWork caller e =
+    ((caller ≡ RECEIVER) × (is_received e ≡ true)) ⊎ ((caller ≡ SENDER) × (is_ack e ≡ true))
+    ⊎ ((caller ≡ TICKER) × (is_tick e ≡ true)) ⊎ (caller ≡ OPERATOR)
+
+-- The history replays from where it began, and each record is of a worker's event; the rounds taken are the first of the
+-- ticker's, in their order.
+pub record IsRun (start : NodeValue) (h : HistoryValue) (rounds : List ℕ) : Type 0 where
+  pub base : h.base ≡ start
+  pub replayed : IsReplayed h
+  pub work : All (λ (r : Item). IsWork r.caller r.event) h.records
+  pub rounds : IsPrefix rounds (numbers_in TICKER is_tick h.records)
+
+-- The history began where it did, and does not confirm all receipts of the workers, of which there are as many as
+-- records: this is the first that it does not.
+pub record IsUnconfirmed (start : NodeValue) (u : Unconfirmed) : Type 0 where
+  pub base : u.history.base ≡ start
+  pub receipts : List Receipt
+  pub counted : length receipts ≡ length u.history.records
+  pub work : All (λ (q : Receipt). IsWork q.caller q.event) receipts
+  pub stray : IsFirstStray u.history.records receipts (stray_of u)
+
+-- no node ran, or its history is not confirmed
+abbrev pub IsNotRun : NodeValue → NotRun → Type 0
+IsNotRun start (not_run.Unstarted f) = f ≡ fault.OutOfMemory
+IsNotRun start (not_run.Unconfirmed u) = IsUnconfirmed start u

@@ -1,0 +1,53 @@
+//! What a worker's thread promises of what it leaves.
+
+use crate::left::{Left, Sent, Ticks};
+use cg_locked::{Name, Seat};
+use cg_rounds::{Putting, Taking};
+use std::snapshot::Snapshot;
+use std::thread::Promise;
+
+// The operator's.
+#[derive(Drop)]
+pub(crate) struct Operates<N: Name> {
+    pub(crate) seat: Snapshot<Seat<N>>,
+}
+
+impl<N: Name> Promise<Left<N>> for Operates<N> {
+    ghost use Rattle.cg_threads.specs.Left.{IsLeft, is_any};
+
+    ghost kept_by = { λ p r.
+        IsLeft is_any p.seat.value.caller p.seat.value.share.parts r.seat.share.parts r.seat.share.amount
+        r.receipts.items };
+}
+
+// The sender's.
+#[derive(Drop)]
+pub(crate) struct Sends<N: Name> {
+    pub(crate) seat: Snapshot<Seat<N>>,
+    pub(crate) taking: Snapshot<Taking>,
+}
+
+impl<N: Name> Promise<Sent<N>> for Sends<N> {
+    ghost use Rattle.cg_threads.specs.Left.{IsLeft, HasTaken, is_ack};
+
+    ghost kept_by = { λ p r.
+        IsLeft is_ack p.seat.value.caller p.seat.value.share.parts r.left.seat.share.parts r.left.seat.share.amount
+        r.left.receipts.items
+        × HasTaken p.taking.value r.taken r.numbers.items };
+}
+
+// The ticker's.
+#[derive(Drop)]
+pub(crate) struct TicksOn<N: Name> {
+    pub(crate) seat: Snapshot<Seat<N>>,
+    pub(crate) putting: Snapshot<Putting>,
+}
+
+impl<N: Name> Promise<Ticks<N>> for TicksOn<N> {
+    ghost use Rattle.cg_threads.specs.Left.{IsLeft, HasPut, is_tick};
+
+    ghost kept_by = { λ p r.
+        IsLeft is_tick p.seat.value.caller p.seat.value.share.parts r.left.seat.share.parts r.left.seat.share.amount
+        r.left.receipts.items
+        × HasPut p.putting.value r.putting r.left.receipts.items };
+}

@@ -1,0 +1,39 @@
+//! What a node runs on, and what is left of it.
+
+use cg_history::History;
+use cg_locked::Unconfirmed;
+use cg_types::Fault;
+
+/// What a node runs on.
+#[derive(Drop)]
+pub struct Parts<L: Drop, D: Drop, C: Drop, G: Drop, O: Drop> {
+    /// Where connections come in.
+    pub listener: L,
+    /// What makes connections.
+    pub dialer: D,
+    /// The clock that moments are read from.
+    pub clock: C,
+    /// What the words of ticks are drawn from.
+    pub generator: G,
+    /// What the operator does.
+    pub operator: O,
+}
+
+/// A node that ran.
+#[derive(Drop)]
+pub struct Ran {
+    /// Its history, in which the receipts of all workers stand.
+    pub history: History,
+    /// The numbers of the records whose rounds the sender took, in their order.
+    pub rounds: Vec<u64>,
+}
+
+/// A node that did not run, or whose history does not confirm what its workers were told.
+#[derive(Drop)]
+pub enum NotRun {
+    /// The views, the board, the channel or a worker could not be made, for want of memory, and the workers that were
+    /// made have ended. A thread that is refused counts as memory.
+    Unstarted(Fault),
+    /// The history that is left, and the first receipt that it does not confirm.
+    Unconfirmed(Unconfirmed),
+}
