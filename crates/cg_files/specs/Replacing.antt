@@ -1,5 +1,5 @@
 -- Where a new file stands before it is put in the place of another.
-use Rattle.std.specs.Prelude.{ℕ, List, ◌++◌, codes}
+use Rattle.std.specs.Prelude.{ℕ, List, ◌++◌, codes, string_bytes}
 use Rattle.cg_links.specs.declared.counted.Counted.{Counted}
 use Rattle.cg_files.specs.declared.replacing.Replacement.{Replacement}
 
@@ -10,5 +10,5 @@ aside_of path = path ++ codes ".new"
 abbrev pub link_in : {F : Type 0} → Replacement F → Counted F
 link_in r = r.link
 
-abbrev pub aside_path : {F : Type 0} → Replacement F → String
-aside_path r = r.aside
+abbrev pub aside_path : {F : Type 0} → Replacement F → List ℕ
+aside_path r = string_bytes r.aside

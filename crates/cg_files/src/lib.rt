@@ -5,6 +5,7 @@
 #![tactic(auto)]
 
 mod generation;
+pub mod laws;
 mod reading;
 mod replacing;
 

@@ -51,7 +51,7 @@ impl<F> Replacement<F> {
     /// `WriteFault` where it can't be made, `OutOfMemory` where its path finds no memory.
     pub fn begin<R: Files<File = F>>(rt: &R, alloc: Global, path: &str) -> Result<Replacement<F>, Fault>
         ensures link { IfOk result (λ r. IsNew (link_in r)) }
-        ensures aside { IfOk result (λ r. string_bytes (aside_path r) ≡ aside_of path.now) }
+        ensures aside { IfOk result (λ r. aside_path r ≡ aside_of path.now) }
         ensures err { IfErr result (λ f. (f ≡ faults.OutOfMemory) ⊎ (f ≡ faults.WriteFault)) }
     {
         let aside = path_aside(alloc, path)?;

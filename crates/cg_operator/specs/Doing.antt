@@ -1,7 +1,7 @@
 -- What a line of the operator does at a gate and a pass, and what is shown of it.
 use Rattle.std.specs.Prelude.{ℕ, ◌≡◌, ◌⊎◌, List, Option, Some, None, Result, Ok, Err}
 use Rattle.cg_types.specs.declared.fault.Fault.{Fault}
-use Rattle.cg_types.specs.declared.fault.Fault.TheVariants.{OutOfMemory}
+use Rattle.cg_types.specs.declared.fault.Fault.TheVariants.{OutOfMemory, NoSuchNode}
 use Rattle.cg_types.specs.Fault.{fault_text}
 use Rattle.cg_table.specs.Values.{TableValue}
 use Rattle.cg_table.specs.Puts.{Put, with_puts}
@@ -10,7 +10,8 @@ use Rattle.cg_core.specs.declared.reply.Reply.TheVariants as reply
 use Rattle.cg_core.specs.Values.{NodeValue}
 use Rattle.cg_views.specs.Lists.{StartsWith}
 use Rattle.cg_printed.specs.Printed.{version_line}
-use Rattle.cg_seats.specs.Seats.{SeatValue, with_told, Enters, Refuses}
+use Rattle.cg_seats.specs.Seats.{SeatValue, with_told, Enters, Refuses, GoesOn}
+use Rattle.cg_script.specs.declared.line.View.{View}
 use Rattle.cg_operator.specs.declared.order.Order.{Order}
 use Rattle.cg_operator.specs.declared.order.Order.TheVariants.{Show, Set, Quit}
 use Rattle.cg_operator.specs.Shown.{table_lines, unpublished_line}
@@ -52,9 +53,9 @@ module _ (start : NodeValue) where
   Does opening (Err f) g p text h q = (h ≡ g) × (q ≡ p) × (text ≡ fault_text f)
 
   -- A line is answered with its text, or is the one that asks for the end.
-  abbrev pub Answers : TableValue → Result Order Fault → SeatValue → List Put → Option String → SeatValue → List Put → Type 0
+  abbrev pub Answers : TableValue → Result Order Fault → SeatValue → List Put → Option (List ℕ) → SeatValue → List Put → Type 0
   Answers opening order g p None h q = (order ≡ Ok Quit) × (h ≡ g) × (q ≡ p)
-  Answers opening order g p (Some text) h q = Does opening order g p (string_bytes text) h q
+  Answers opening order g p (Some text) h q = Does opening order g p text h q
 
 -- A line is not answered: memory ran out, or it asks for what is held and there is nothing to read.
 abbrev pub Unanswered : Result Order Fault → SeatValue → List Put → SeatValue → List Put → Fault → Type 0

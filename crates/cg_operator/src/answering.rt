@@ -1,6 +1,6 @@
 //! What the lines of the operator do.
 
-ghost use Rattle.std.specs.Prelude.{ℕ, ◌≡◌, ◌⊎◌, Some, None, Ok, Err, IfOk, IfErr, MatchResult, string_bytes};
+ghost use Rattle.std.specs.Prelude.{ℕ, ◌≡◌, ◌⊎◌, Some, None, Ok, Err, IfOk, IfErr, MatchResult, option_map, string_bytes};
 ghost use Rattle.cg_types.specs.declared.fault.Fault.TheVariants as faults;
 ghost use Rattle.cg_table.specs.Puts.{with_puts};
 ghost use Rattle.cg_core.specs.declared.reply.Reply.TheVariants as replies;
@@ -109,7 +109,8 @@ pub(crate) fn answer<N: Name, R: Wait>(
     line: &[u8],
 ) -> Result<Option<String>, Fault>
     ensures { MatchResult result
-        (λ text. Answers N.start N.opening (order_in line.now) gate.old pass.old text gate.new pass.new)
+        (λ text. Answers N.start N.opening (order_in line.now) gate.old pass.old
+        (option_map string_bytes text) gate.new pass.new)
         (λ f. Unanswered (order_in line.now) gate.old pass.old gate.new pass.new f) }
 {
     match read_order(alloc, line) {
