@@ -1,11 +1,13 @@
 -- What a gate over a seat shows, and how it goes on.
-use Rattle.std.specs.Prelude.{ℕ, ◌≡◌, ◌⊎◌, List, [], ◌∷◌, ◌++◌, length, Option, Some, None, Ok, Err, IfSome}
+use Rattle.std.specs.Prelude.{ℕ, ◌-◌, ◌≡◌, ◌⊎◌, List, [], ◌∷◌, ◌++◌, length, Option, None, Ok, Err, IfSome, option_map, slice_get, refl}
+use Rattle.std.specs.Coded.{Coded, code_by, coded×, coded_ℕ, coded_list, coded_option}
 use Rattle.std.specs.List.{All}
 use Rattle.cg_types.specs.declared.fault.Fault.{Fault}
 use Rattle.cg_types.specs.declared.fault.Fault.TheVariants as fault
-use Rattle.cg_table.specs.Puts.{Put}
+use Rattle.cg_table.specs.Puts.{Put, puts_code}
 use Rattle.cg_core.specs.declared.event.Event.{Event}
 use Rattle.cg_core.specs.declared.reply.Reply.{Reply}
+use Rattle.cg_core.specs.EventCodes.{event_code, reply_code}
 use Rattle.cg_core.specs.Values.{NodeValue}
 use Rattle.cg_history.specs.declared.item.Receipt.{Receipt}
 use Rattle.cg_locked.specs.Entry.{IsEntry, ShowsSet}
@@ -16,6 +18,22 @@ pub record SeatValue : Type 0 where
   pub parts : ℕ
   pub receipts : List Receipt
   pub told : Option (List Put)
+
+-- the codes that a model of such a value asks for
+abbrev pub receipt_code : Coded Receipt
+receipt_code =
+    code_by (ℕ × (ℕ × (Event × Reply))) (coded× coded_ℕ (coded× coded_ℕ (coded× event_code reply_code)))
+    (λ q. (q.caller, (q.number, (q.event, q.reply))))
+    (λ p. record { caller = p.0; number = p.1.0; event = p.1.1.0; reply = p.1.1.1 })
+    (λ _. refl)
+
+abbrev pub seat_code : Coded SeatValue
+seat_code =
+    code_by (ℕ × (ℕ × (List Receipt × Option (List Put))))
+    (coded× coded_ℕ (coded× coded_ℕ (coded× (coded_list receipt_code) (coded_option puts_code))))
+    (λ g. (g.caller, (g.parts, (g.receipts, g.told))))
+    (λ p. record { caller = p.0; parts = p.1.0; receipts = p.1.1.0; told = p.1.1.1 })
+    (λ _. refl)
 
 -- a gate that has done nothing
 abbrev pub new_gate : ℕ → ℕ → SeatValue
@@ -30,9 +48,7 @@ AreOf caller receipts = All (λ q. q.caller ≡ caller) receipts
 
 -- the reply of the last receipt
 abbrev pub last_reply : List Receipt → Option Reply
-last_reply [] = None
-last_reply (q ∷ []) = Some q.reply
-last_reply (q ∷ r ∷ rs) = last_reply (r ∷ rs)
+last_reply receipts = option_map (λ q. q.reply) (slice_get receipts (length receipts - 1))
 
 -- The receipt is the caller's, of this event and reply.
 abbrev pub IsReceiptOf : ℕ → Event → Reply → Receipt → Type 0

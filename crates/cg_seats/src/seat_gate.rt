@@ -27,9 +27,11 @@ pub struct SeatGate<'a, N: Name, R: Wait> {
 /// receipts, and they are its caller's.
 impl<'a, N: Name, R: Wait> Model for SeatGate<'a, N, R> {
     ghost use Rattle.std.specs.Prelude.{◌≡◌, length};
-    ghost use Rattle.cg_seats.specs.Seats.{SeatValue, AreOf};
+    ghost use Rattle.cg_seats.specs.Seats.{SeatValue, AreOf, seat_code};
 
     ghost Value = { SeatValue };
+
+    ghost coded = { seat_code };
 
     ghost view = { λ g. record { caller = g.seat.caller; parts = g.seat.share.parts; receipts = g.receipts.items; told = g.told } };
 

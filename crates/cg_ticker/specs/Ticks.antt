@@ -50,19 +50,19 @@ words_of (q ∷ qs) = words_in q.event ++ words_of qs
 -- ---- one turn
 
 -- The gate has one receipt more, of a tick with these words.
-pub record HasTicked (words : List ℕ) (g h : SeatValue) (q : Receipt) : Type 0 where
+pub record HasTicked (drawn : List ℕ) (g h : SeatValue) (q : Receipt) : Type 0 where
   pub tick : IsTick q
-  pub words : words_in q.event ≡ words
+  pub words : words_in q.event ≡ drawn
   pub receipts : h.receipts ≡ g.receipts ++ q ∷ []
   pub seat : (h.caller ≡ g.caller) × (h.parts ≡ g.parts)
 
 -- One turn from a gate and the rounds put in so far to another gate and its rounds: a tick with the next words was
 -- refused; or it was done, and its round is put in or not.
 abbrev pub IsTurn : Stream → SeatValue → List Round → Turn → SeatValue → List Round → Type 0
-IsTurn s g put turn.Refused h after = (h ≡ g) × (after ≡ put)
-IsTurn s g put turn.Put h after =
-    (q : Receipt) × HasTicked (four_of s).0 g h q × (after ≡ put ++ round_in q)
-IsTurn s g put turn.Stopped h after = (q : Receipt) × HasTicked (four_of s).0 g h q × (after ≡ put)
+IsTurn s g before turn.Refused h after = (h ≡ g) × (after ≡ before)
+IsTurn s g before turn.Put h after =
+    (q : Receipt) × HasTicked (four_of s).0 g h q × (after ≡ before ++ round_in q)
+IsTurn s g before turn.Stopped h after = (q : Receipt) × HasTicked (four_of s).0 g h q × (after ≡ before)
 
 -- ---- all turns
 
@@ -74,13 +74,13 @@ missing false = 0
 -- The gate has more receipts, all of ticks: first those whose rounds were put in, then, where the ticker stopped, one
 -- whose round was not. Where it did not stop, ticks and refused ticks are as many as rounds were wanted; where no tick
 -- was refused, the words of the ticks are the generator's.
-pub record Ticks (rounds : ℕ) (s : Stream) (g : SeatValue) (put : List Round) (left : Ticked) (h : SeatValue) (after : List Round) : Type 0 where
+pub record Ticks (rounds : ℕ) (s : Stream) (g : SeatValue) (before : List Round) (left : Ticked) (h : SeatValue) (after : List Round) : Type 0 where
   pub passed : List Receipt
   pub rest : List Receipt
   pub receipts : h.receipts ≡ g.receipts ++ (passed ++ rest)
   pub seat : (h.caller ≡ g.caller) × (h.parts ≡ g.parts)
   pub ticks : All IsTick (passed ++ rest)
-  pub put : after ≡ put ++ rounds_in passed
+  pub put : after ≡ before ++ rounds_in passed
   pub stopped : length rest ≡ missing left.stopped
   pub most : left.refused + length (passed ++ rest) ≤ rounds
   pub whole : left.stopped ≡ false → left.refused + length (passed ++ rest) ≡ rounds
