@@ -33,6 +33,11 @@ impl<'a, R: Net<Stream = TcpStream> + Clock> Dialer<'a, R> {
 }
 
 impl<'a, R: Net<Stream = TcpStream> + Clock> Dial for Dialer<'a, R> {
+    ghost use Rattle.std.specs.Prelude.{◌≡◌, ◌⊎◌, IfErr};
+    ghost use Rattle.cg_types.specs.declared.fault.Fault.TheVariants.{OutOfMemory, ReadFault};
+
+    ghost dials = { λ d p r e. IfErr r (λ f. (f ≡ OutOfMemory) ⊎ (f ≡ ReadFault)) };
+
     type Reader = Side<'a, R>;
 
     type Writer = Side<'a, R>;

@@ -1,5 +1,8 @@
 //! Connections that come in.
 
+ghost use Rattle.std.specs.Prelude.{◌≡◌, ◌⊎◌, IfErr};
+ghost use Rattle.cg_types.specs.declared.fault.Fault.TheVariants as faults;
+
 use crate::limits::{ACCEPT_PAUSE, ACCEPT_TRIES, RESPOND_LIMIT};
 use crate::side::{Side, end_in};
 use cg_types::{Endpoint, Fault};
@@ -41,7 +44,9 @@ fn is_of_one(error: &Error) -> bool {
 impl<'a, R: Net<Listener = TcpListener, Stream = TcpStream> + Clock> Listener<'a, R> {
     /// Listens at an endpoint. `ReadFault` where that can't be, as where another program does; `OutOfMemory` where memory
     /// is refused.
-    pub fn bind(rt: &'a R, alloc: Global, at: Endpoint) -> Result<Listener<'a, R>, Fault> {
+    pub fn bind(rt: &'a R, alloc: Global, at: Endpoint) -> Result<Listener<'a, R>, Fault>
+        ensures { IfErr result (λ f. (f ≡ faults.OutOfMemory) ⊎ (f ≡ faults.ReadFault)) }
+    {
         let address = SocketAddr::from((at.address(), at.port()));
         match TcpListener::bind(rt, address) {
             Ok(listener) => Ok(Listener {
@@ -64,7 +69,9 @@ impl<'a, R: Clock> Listener<'a, R> {
     }
 
     // The next connection; none where one could not be taken.
-    fn accept_one(&self) -> Result<Option<(Side<'a, R>, Side<'a, R>)>, Fault> {
+    fn accept_one(&self) -> Result<Option<(Side<'a, R>, Side<'a, R>)>, Fault>
+        ensures { IfErr result (λ f. f ≡ faults.ReadFault) }
+    {
         let stream = match self.listener.accept() {
             Ok((stream, _)) => stream,
             Err(error) => {
@@ -87,6 +94,11 @@ impl<'a, R: Clock> Listener<'a, R> {
 /// A connection that can't be taken, as where its peer gave up, no descriptor is left or memory is refused, is no end: after
 /// a pause the next one is waited for, up to `ACCEPT_TRIES` times. Any other failure is `ReadFault`.
 impl<'a, R: Clock> Listen for Listener<'a, R> {
+    ghost use Rattle.std.specs.Prelude.{◌≡◌, IfErr};
+    ghost use Rattle.cg_types.specs.declared.fault.Fault.TheVariants.{ReadFault};
+
+    ghost accepts = { λ l r m. IfErr r (λ f. f ≡ ReadFault) };
+
     type Reader = Side<'a, R>;
 
     type Writer = Side<'a, R>;

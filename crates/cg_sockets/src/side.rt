@@ -1,6 +1,8 @@
 //! One side of a connection.
 
-ghost use Rattle.std.specs.Prelude.{◌≡◌};
+ghost use Rattle.std.specs.Prelude.{◌≡◌, IfErr};
+ghost use Rattle.std.specs.Io.{ReadsAtMost, WritesAtMost};
+ghost use Rattle.cg_types.specs.declared.fault.Fault.TheVariants as faults;
 
 use crate::limits::CALL_TRIES;
 use cg_types::Fault;
@@ -46,7 +48,9 @@ impl<'a, R: Clock> Side<'a, R> {
         alloc: Global,
         stream: TcpStream,
         end: Instant,
-    ) -> Result<(Side<'a, R>, Side<'a, R>), Fault> {
+    ) -> Result<(Side<'a, R>, Side<'a, R>), Fault>
+        ensures { IfErr result (λ f. f ≡ faults.OutOfMemory) }
+    {
         let stream = match Arc::new(alloc, stream) {
             Ok(stream) => stream,
             Err(_) => return Err(Fault::OutOfMemory),
