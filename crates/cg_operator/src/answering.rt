@@ -101,6 +101,31 @@ fn set<N: Name, R: Wait>(
     }
 }
 
+// Does what is asked for, and tells what is shown of it; nothing where it is the end.
+fn obey<N: Name, R: Wait>(
+    alloc: Global,
+    gate: &mut SeatGate<'_, N, R>,
+    pass: &mut Pass<N>,
+    order: Order,
+) -> Result<Option<String>, Fault>
+    ensures { MatchResult result
+        (λ text. Answers N.start N.opening (Ok order) gate.old pass.old
+        (option_map string_bytes text) gate.new pass.new)
+        (λ f. Unanswered (Ok order) gate.old pass.old gate.new pass.new f) }
+{
+    match order {
+        Order::Show(view) => match show(alloc, pass, view) {
+            Ok(text) => Ok(Some(text)),
+            Err(fault) => Err(fault),
+        },
+        Order::Set { key, text } => match set(alloc, gate, pass, key, text) {
+            Ok(text) => Ok(Some(text)),
+            Err(fault) => Err(fault),
+        },
+        Order::Quit => Ok(None),
+    }
+}
+
 /// Does what a line asks for, and tells what is shown of it; nothing where it asks for the end.
 pub(crate) fn answer<N: Name, R: Wait>(
     alloc: Global,
@@ -114,9 +139,7 @@ pub(crate) fn answer<N: Name, R: Wait>(
         (λ f. Unanswered (order_in line.now) gate.old pass.old gate.new pass.new f) }
 {
     match read_order(alloc, line) {
-        Ok(Order::Show(view)) => Ok(Some(show(alloc, pass, view)?)),
-        Ok(Order::Set { key, text }) => Ok(Some(set(alloc, gate, pass, key, text)?)),
-        Ok(Order::Quit) => Ok(None),
+        Ok(order) => obey(alloc, gate, pass, order),
         Err(Fault::OutOfMemory) => Err(Fault::OutOfMemory),
         Err(fault) => Ok(Some(fault.line(alloc)?)),
     }

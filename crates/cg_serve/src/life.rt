@@ -1,8 +1,8 @@
 //! What a node keeps in files: its settings, its generation and its journal.
 
-ghost use Rattle.std.specs.Prelude.{◌≡◌, ◌⊎◌, IfErr};
+ghost use Rattle.std.specs.Prelude.{◌≡◌, ◌⊎◌, IfOk, IfErr};
 ghost use Rattle.cg_types.specs.declared.fault.Fault.TheVariants as faults;
-ghost use Rattle.cg_serve.specs.Refusals.{IsUnsettled, IsUnborn};
+ghost use Rattle.cg_serve.specs.Lives.{IsUnsettled, IsUnborn, IsOfAStart};
 
 use cg_clock::seconds_since_1970;
 use cg_files::{Replacement, read_file, store_generation, stored_generation};
@@ -38,7 +38,8 @@ pub fn settings_in<R: Files>(rt: &R, alloc: Global, file: &str) -> Result<ServeS
 /// `ReadFault` where the file can't be read, `BadText` where it holds no generation, `VersionsSpent` where there is no
 /// greater one, `WriteFault` where it can't be kept; `OutOfMemory` where memory is refused.
 pub fn next_life<R: Files + Clock>(rt: &R, alloc: Global, file: &str) -> Result<Generation, Fault>
-    ensures { IfErr result IsUnborn }
+    ensures next { IfOk result IsOfAStart }
+    ensures err { IfErr result IsUnborn }
 {
     let stored = match stored_generation(rt, alloc, file) {
         Ok(stored) => stored,

@@ -1,4 +1,6 @@
--- The faults that keep a node from its life.
+-- The generation of a life, and the faults that keep a node from it.
+use Rattle.std.specs.Prelude.{◌≡◌, ℕ, Option, Ok}
+use Rattle.cg_version.specs.Version.{generation_at_start}
 use Rattle.cg_types.specs.declared.fault.Fault.{Fault}
 use Rattle.cg_types.specs.declared.fault.Fault.TheVariants as fault
 
@@ -17,3 +19,7 @@ IsUnborn fault.VersionsSpent = Unit {0}
 IsUnborn fault.ReadFault = Unit {0}
 IsUnborn fault.WriteFault = Unit {0}
 IsUnborn f = ⊥
+
+-- The generation is that of a start, by what was stored and the seconds since 1970.
+abbrev pub IsOfAStart : ℕ → Type 0
+IsOfAStart generation = (stored : Option ℕ) × (seconds : ℕ) × (generation_at_start stored seconds ≡ Ok generation)
