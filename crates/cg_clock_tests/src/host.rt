@@ -1,11 +1,10 @@
 //! Readings, one after the other.
 
 use cg_clock::{HostClock, Milliseconds, seconds_since_1970};
-use std::io;
 use std::rt::Clock;
 use std::sync::atomic::{AtomicU64, Ordering};
-use std::thread;
 use std::time::Duration;
+use std::{io, thread};
 
 // A clock that is read at most so many times, and goes on by half a second at each.
 #[derive(Drop)]
@@ -45,7 +44,13 @@ impl Clock for ShortClock {
 fn a_clock_that_fails_shows_what_it_showed_last(rt: HostRuntime) {
     let short = ShortClock::new(4);
     let clock = HostClock::new(&short);
-    let shown = [clock.now(), clock.now(), clock.now(), clock.now(), clock.now()];
+    let shown = [
+        clock.now(),
+        clock.now(),
+        clock.now(),
+        clock.now(),
+        clock.now(),
+    ];
     assert_eq!(rt; shown, [500, 1000, 1500, 1500, 1500]);
 }
 

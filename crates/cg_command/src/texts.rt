@@ -81,8 +81,7 @@ Example:\n\
 pub const SERVE_ABOUT: &str = "Run a node over TCP, with an operator at standard input";
 
 /// What `serve` reads and writes.
-pub const SERVE_HELP: &str =
-    "Reads the node's settings from a file, a TOML table:\n\
+pub const SERVE_HELP: &str = "Reads the node's settings from a file, a TOML table:\n\
 \n  cluster = TEXT           the cluster's name; needed\
 \n  listen = ENDPOINT        where it listens, as \"127.0.0.1:7001\": the node's own endpoint; needed\
 \n  generation_file = PATH   keeps the node's generation from one life to the next; needed\

@@ -6,9 +6,9 @@ ghost use Rattle.cg_types.specs.declared.fault.Fault.TheVariants as faults;
 use cg_links::{Counted, read_all};
 use cg_types::Fault;
 use std::alloc::Global;
+use std::fs;
 use std::io::{Error, ErrorKind, Read};
 use std::rt::Files;
-use std::fs;
 
 /// The fault of a call that failed: `OutOfMemory` where memory was refused, else the one that is given.
 pub(crate) fn fault_of(error: &Error, other: Fault) -> Fault

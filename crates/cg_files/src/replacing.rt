@@ -25,13 +25,7 @@ pub struct Replacement<F> {
 // runs.
 fn folder_of(path: &str) -> &str {
     match path.rsplit_once('/') {
-        Some((folder, _)) => {
-            if folder.is_empty() {
-                "/"
-            } else {
-                folder
-            }
-        }
+        Some((folder, _)) => { if folder.is_empty() { "/" } else { folder } }
         None => ".",
     }
 }
@@ -49,7 +43,11 @@ impl<F> Replacement<F> {
     /// Begins a new, empty file beside the one at the path; what stands there from before is written over.
     ///
     /// `WriteFault` where it can't be made, `OutOfMemory` where its path finds no memory.
-    pub fn begin<R: Files<File = F>>(rt: &R, alloc: Global, path: &str) -> Result<Replacement<F>, Fault>
+    pub fn begin<R: Files<File = F>>(
+        rt: &R,
+        alloc: Global,
+        path: &str,
+    ) -> Result<Replacement<F>, Fault>
         ensures link { IfOk result (λ r. IsNew (link_in r)) }
         ensures aside { IfOk result (λ r. aside_path r ≡ aside_of path.now) }
         ensures err { IfErr result (λ f. (f ≡ faults.OutOfMemory) ⊎ (f ≡ faults.WriteFault)) }
@@ -86,7 +84,12 @@ impl<F: OpenFile + Drop> Replacement<F> {
 }
 
 // Syncs a file and renames it, and syncs the folder that it stands in then.
-fn put_in_place<R: Files, F: OpenFile + Drop>(rt: &R, file: F, aside: &str, path: &str) -> io::Result<()> {
+fn put_in_place<R: Files, F: OpenFile + Drop>(
+    rt: &R,
+    file: F,
+    aside: &str,
+    path: &str,
+) -> io::Result<()> {
     file.sync_all()?;
     fs::rename(rt, aside, path)?;
     fs::open(rt, folder_of(path))?.sync_all()

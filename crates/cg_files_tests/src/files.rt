@@ -4,9 +4,9 @@ use cg_files::{Replacement, read_file, replace, store_generation, stored_generat
 use cg_links::write_bytes;
 use cg_types::{Fault, Generation};
 use std::alloc::Global;
+use std::fs;
 use std::rt::Files;
 use std::test::Fail;
-use std::fs;
 
 // What is in a file, with its fault.
 fn found<R: Files>(rt: &R, alloc: Global, path: &str) -> Result<Option<Vec<u8>>, Fault> {
@@ -62,7 +62,10 @@ fn a_file_that_is_not_put_in_place_stays_aside(rt: HostRuntime) -> Result<(), Fa
 fn a_file_in_no_folder_can_not_be_made(rt: HostRuntime) {
     let alloc = rt.alloc();
     for path in ["/tmp/cg_files_no_folder/file", "", "/tmp/cg\0files"] {
-        assert!(rt; replace(&rt, alloc, path, b"new") == Err(Fault::WriteFault), "{path:?}");
+        assert!(rt;
+            replace(&rt, alloc, path, b"new") == Err(Fault::WriteFault),
+            "{path:?}"
+        );
     }
 }
 
@@ -101,7 +104,14 @@ fn a_generation_is_kept(rt: HostRuntime) -> Result<(), Fail> {
         store_generation(&rt, alloc, path, generation)?;
         assert!(rt; stored_generation(&rt, alloc, path) == Ok(Some(generation)));
     }
-    for bytes in [b"".as_slice(), b"0\n", b"x", b"5\n\n", b"2147483648\n", b"123456789012"] {
+    for bytes in [
+        b"".as_slice(),
+        b"0\n",
+        b"x",
+        b"5\n\n",
+        b"2147483648\n",
+        b"123456789012",
+    ] {
         assert!(rt; refuses(&rt, alloc, path, bytes), "{bytes:?}");
     }
     assert!(rt; stored_generation(&rt, alloc, "/tmp") == Err(Fault::ReadFault));

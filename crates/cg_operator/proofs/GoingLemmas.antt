@@ -51,9 +51,9 @@ module _ (start : NodeValue) where
   set_goes key value g p text h q s =
       elim s as (λ _. On g p h q) [
         | inl k ↦ record {
-            gate = record { seat = k.entered.seat; more = k.entered.receipt ∷ []; receipts = k.entered.receipts };
-            later = k.later;
-          }
+          gate = record { seat = k.entered.seat; more = k.entered.receipt ∷ []; receipts = k.entered.receipts };
+          later = k.later;
+        }
         | inr k ↦ on_same g p h q k.gate k.pass
       ]
 
@@ -111,9 +111,9 @@ module _ (start : NodeValue) where
         elim h as (λ _. OnTo s t f) [
           | inl k ↦ short_goes s t f k
           | inr k ↦ elim k as (λ _. OnTo s t f) [
-              | inl r ↦ unread_goes s t line f r
-              | inr w ↦ unwritten_goes s t line f w
-            ]
+            | inl r ↦ unread_goes s t line f r
+            | inr w ↦ unwritten_goes s t line f w
+          ]
         ]
 
     refused_goes : (s t : At W) (lines : List (List ℕ)) (f : Fault) → Refuses does ends s lines t f → OnTo s t f
@@ -140,9 +140,9 @@ module _ (start : NodeValue) where
           elim h as (λ _. OnTo s t f) [
             | inl k ↦ stopped_goes f k
             | inr k ↦ elim k as (λ _. OnTo s t f) [
-                | inl l ↦ refused_goes s t (lines_of l.text) f l.stops
-                | inr u ↦ cut_goes f u
-              ]
+              | inl l ↦ refused_goes s t (lines_of l.text) f l.stops
+              | inr u ↦ cut_goes f u
+            ]
           ]
 
       pub ended_goes : Ends holds start opening before after old new s t → OnAt s t

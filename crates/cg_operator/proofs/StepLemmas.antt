@@ -73,13 +73,13 @@ module _ {W : Type 0} (holds : W → Option (List ℕ)) (start : NodeValue) (ope
       let before = chained s h.middle h.front h.taken in
       elim h.refused.cause as (λ _. QuitsIn (at_of s) (at_of t) lines) [
         | inl q ↦ record {
-            front = h.front;
-            line = h.line;
-            rest = h.rest;
-            are = h.are;
-            asked = q.asked;
-            done = subst (λ (x : At W). Takes does ends (at_of s) h.front x) (sym q.at) before.done;
-          }
+          front = h.front;
+          line = h.line;
+          rest = h.rest;
+          are = h.are;
+          asked = q.asked;
+          done = subst (λ (x : At W). Takes does ends (at_of s) h.front x) (sym q.at) before.done;
+        }
         | inr e ↦ absurd (cc (e.quit, before.quit, was, is))
       ]
 
@@ -90,14 +90,14 @@ module _ {W : Type 0} (holds : W → Option (List ℕ)) (start : NodeValue) (ope
       elim h.refused.cause as (λ _. Refuses does ends (at_of s) lines (at_of t) f) [
         | inl q ↦ absurd (cc (q.quit, is))
         | inr e ↦ record {
-            front = h.front;
-            line = h.line;
-            rest = h.rest;
-            are = h.are;
-            middle = at_of h.middle;
-            taken = before.done;
-            refused = e.ends;
-          }
+          front = h.front;
+          line = h.line;
+          rest = h.rest;
+          are = h.are;
+          middle = at_of h.middle;
+          taken = before.done;
+          refused = e.ends;
+        }
       ]
 
   lacked_ends : (s t : Operating W) (lines : List (List ℕ)) (f : Fault) → Lacks steps stops s lines t f → Lacks does ends (at_of s) lines (at_of t) f
@@ -135,9 +135,9 @@ module _ {W : Type 0} (holds : W → Option (List ℕ)) (start : NodeValue) (ope
         elim h as (λ _. HoldsSame s t) [
           | inl k ↦ stopped_same f k
           | inr k ↦ elim k as (λ _. HoldsSame s t) [
-              | inl l ↦ refused_same s t (lines_of l.text) f l.stops
-              | inr u ↦ (chained s t (ended_lines [] u.text) u.taken).same
-            ]
+            | inl l ↦ refused_same s t (lines_of l.text) f l.stops
+            | inr u ↦ (chained s t (ended_lines [] u.text) u.taken).same
+          ]
         ]
 
     pub taken_same : {T : Type 0} (r : Result T Fault) → TakesLines steps stops before after old new s t r → HoldsSame s t
@@ -193,9 +193,9 @@ module _ {W : Type 0} (holds : W → Option (List ℕ)) (start : NodeValue) (ope
         elim h as (λ _. Quits holds start opening before after old new (at_of s) (at_of t)) [
           | inl k ↦ stopped_quits f was is k
           | inr k ↦ elim k as (λ _. Quits holds start opening before after old new (at_of s) (at_of t)) [
-              | inl l ↦ quits_in l.text l.read l.kept (refused_quits s t (lines_of l.text) f was is l.stops)
-              | inr u ↦ absurd (unread_quit f was is u)
-            ]
+            | inl l ↦ quits_in l.text l.read l.kept (refused_quits s t (lines_of l.text) f was is l.stops)
+            | inr u ↦ absurd (unread_quit f was is u)
+          ]
         ]
 
     -- ---- a fault
@@ -207,9 +207,9 @@ module _ {W : Type 0} (holds : W → Option (List ℕ)) (start : NodeValue) (ope
       read = h.read;
       kept = h.kept;
       stops = elim h.stops as (λ _. Refuses does ends (at_of s) (ended_lines [] h.text) (at_of t) f ⊎ Lacks does ends (at_of s) (ended_lines [] h.text) (at_of t) f) [
-          | inl r ↦ inl (refused_ends s t (ended_lines [] h.text) f was is r)
-          | inr l ↦ inr (lacked_ends s t (ended_lines [] h.text) f l)
-        ];
+        | inl r ↦ inl (refused_ends s t (ended_lines [] h.text) f was is r)
+        | inr l ↦ inr (lacked_ends s t (ended_lines [] h.text) f l)
+      ];
     }
 
     last_ends : (f : Fault) → s.has_quit ≡ false → t.has_quit ≡ false → StopsLast steps stops before after old new s t f
@@ -245,7 +245,7 @@ module _ {W : Type 0} (holds : W → Option (List ℕ)) (start : NodeValue) (ope
         elim h as (λ _. Fails does ends before after old new (at_of s) (at_of t) f) [
           | inl k ↦ inl (stopped_ends f was is k)
           | inr k ↦ elim k as (λ _. Fails does ends before after old new (at_of s) (at_of t) f) [
-              | inl l ↦ inr (inl (last_ends f was is l))
-              | inr u ↦ inr (inr (unread_ends f u))
-            ]
+            | inl l ↦ inr (inl (last_ends f was is l))
+            | inr u ↦ inr (inr (unread_ends f u))
+          ]
         ]

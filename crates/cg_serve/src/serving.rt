@@ -46,7 +46,13 @@ fn run<R>(
     random: u64,
 ) -> Result<(History, Option<Fault>), Fault>
 where
-    R: Threads + Wait + Clock + Sync + Input + Print + Net<Listener = TcpListener, Stream = TcpStream>,
+    R: Threads
+        + Wait
+        + Clock
+        + Sync
+        + Input
+        + Print
+        + Net<Listener = TcpListener, Stream = TcpStream>,
 {
     let Birth {
         own,
@@ -71,7 +77,14 @@ where
 // Lives by the settings in a file, to the end.
 fn live<R>(rt: &R, alloc: Global, file: &str) -> Result<Lived, Fault>
 where
-    R: Threads + Wait + Clock + Sync + Files + Input + Print + Net<Listener = TcpListener, Stream = TcpStream>,
+    R: Threads
+        + Wait
+        + Clock
+        + Sync
+        + Files
+        + Input
+        + Print
+        + Net<Listener = TcpListener, Stream = TcpStream>,
 {
     let settings = settings_in(rt, alloc, file)?;
     let generation = next_life(rt, alloc, settings.generation_file.as_str())?;
@@ -130,7 +143,14 @@ fn ended<R: Files + Print>(rt: &R, alloc: Global, lived: &Lived) -> u8
 /// where it can't be.
 pub fn serve<R>(rt: &R, alloc: Global, file: &str) -> u8
 where
-    R: Threads + Wait + Clock + Sync + Files + Input + Print + Net<Listener = TcpListener, Stream = TcpStream>,
+    R: Threads
+        + Wait
+        + Clock
+        + Sync
+        + Files
+        + Input
+        + Print
+        + Net<Listener = TcpListener, Stream = TcpStream>,
     ensures { result ≤ 1 }
 {
     match live(rt, alloc, file) {

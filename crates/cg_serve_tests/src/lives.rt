@@ -13,7 +13,9 @@ use std::{fs, io};
 
 // A port that nobody listens at.
 fn free_port<R: Net<Listener = TcpListener, Stream = TcpStream>>(rt: &R) -> io::Result<u16> {
-    TcpListener::bind(rt, "127.0.0.1:0")?.local_addr().map(|at| at.port())
+    TcpListener::bind(rt, "127.0.0.1:0")?
+        .local_addr()
+        .map(|at| at.port())
 }
 
 // Has a file hold the settings of a node, which begins two rounds and takes nobody.

@@ -4,11 +4,11 @@ use crate::side::{Side, end_in, left_until};
 use cg_types::{Endpoint, Fault};
 use cg_workers::Dial;
 use std::alloc::Global;
+use std::io;
 use std::io::ErrorKind;
 use std::net::{Net, SocketAddr, TcpStream};
 use std::rt::Clock;
 use std::time::Instant;
-use std::io;
 
 /// What dials peers over TCP. Dialing a peer and the exchange with it end at one moment.
 #[derive(Drop)]

@@ -7,12 +7,12 @@ ghost use Rattle.cg_types.specs.declared.fault.Fault.TheVariants as faults;
 use crate::limits::CALL_TRIES;
 use cg_types::Fault;
 use std::alloc::Global;
+use std::io;
 use std::io::{ErrorKind, Read, Write};
 use std::net::TcpStream;
 use std::rt::Clock;
 use std::sync::Arc;
 use std::time::{Duration, Instant};
-use std::io;
 
 /// A connection, to read or to write. A call fails that is made behind the connection's end, or that ends behind it.
 #[derive(Drop)]
@@ -72,7 +72,8 @@ impl<'a, R: Clock> Side<'a, R> {
     fn read_once(&self, buf: &mut [u8]) -> io::Result<usize>
         ensures { ReadsAtMost result buf.new }
     {
-        self.stream.set_read_timeout(Some(left_until(self.rt, self.end)?))?;
+        self.stream
+            .set_read_timeout(Some(left_until(self.rt, self.end)?))?;
         let mut stream = &*self.stream;
         stream.read(buf)
     }
@@ -81,7 +82,8 @@ impl<'a, R: Clock> Side<'a, R> {
     fn write_once(&self, buf: &[u8]) -> io::Result<usize>
         ensures { WritesAtMost result buf.now }
     {
-        self.stream.set_write_timeout(Some(left_until(self.rt, self.end)?))?;
+        self.stream
+            .set_write_timeout(Some(left_until(self.rt, self.end)?))?;
         let mut stream = &*self.stream;
         stream.write(buf)
     }

@@ -12,7 +12,9 @@ use std::time::{Duration, Instant};
 use std::{io, thread};
 
 // A free place at the loopback.
-fn free_endpoint<R: Net<Listener = TcpListener, Stream = TcpStream>>(rt: &R) -> Result<Endpoint, Fail> {
+fn free_endpoint<R: Net<Listener = TcpListener, Stream = TcpStream>>(
+    rt: &R,
+) -> Result<Endpoint, Fail> {
     let listener = TcpListener::bind(rt, "127.0.0.1:0")?;
     let port = listener.local_addr()?.port();
     Ok(Endpoint::new([127, 0, 0, 1], port).ok_or("endpoint")?)
@@ -130,6 +132,9 @@ fn a_peer_that_drips_is_left_at_the_end(rt: HostRuntime) -> Result<(), Fail> {
         || dripped(&rt, alloc, to),
     );
     let (lasted, read) = read?;
-    assert!(rt; lasted >= 199 && lasted < 1000 && read > 0 && read < 10, "{lasted} {read}");
+    assert!(rt;
+        lasted >= 199 && lasted < 1000 && read > 0 && read < 10,
+        "{lasted} {read}"
+    );
     Ok(())
 }
