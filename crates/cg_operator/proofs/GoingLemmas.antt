@@ -91,10 +91,10 @@ module _ (start : NodeValue) where
       pub on : OnAt s t
       pub fault : IsOperatorFault f
 
-    short_goes : (s t : At W) (f : Fault) → LacksMemory s t f → OnTo s t f
+    short_goes : (s t : At W) (f : Fault) → LacksMemory holds start opening s t f → OnTo s t f
     short_goes s t f h = record { on = record { gate = h.gate; later = h.later }; fault = subst IsOperatorFault (sym h.fault) tt }
 
-    unread_goes : (s t : At W) (line : List ℕ) (f : Fault) → ReadsNothing s line t f → OnTo s t f
+    unread_goes : (s t : At W) (line : List ℕ) (f : Fault) → ReadsNothing holds start opening s line t f → OnTo s t f
     unread_goes s t line f h = record {
       on = on_same s.gate s.pass t.gate t.pass (ap (λ (x : At W). x.gate) h.same) (ap (λ (x : At W). x.pass) h.same);
       fault = subst IsOperatorFault (sym h.fault) tt;

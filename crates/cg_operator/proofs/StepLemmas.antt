@@ -15,11 +15,11 @@ use Rattle.cg_operator.specs.Orders.{order_in}
 use Rattle.cg_operator.specs.Operating.{At, DoesLine, EndsAt, Quits, Ends, Operates}
 use Rattle.cg_operator.specs.Steps.{at_of, HoldsSame, TakesStep, QuitsStep, EndsStep, RefusesStep}
 
-module _ {W : Type 0} (holds : W → Option (List ℕ)) (start : NodeValue) (opening : TableValue) where
-  abbrev steps : Operating W → List ℕ → Operating W → Type 0
+module _ {N R W : Type 0} (holds : W → Option (List ℕ)) (start : NodeValue) (opening : TableValue) where
+  abbrev steps : Operating N R W → List ℕ → Operating N R W → Type 0
   steps = TakesStep holds start opening
 
-  abbrev stops : Operating W → List ℕ → Operating W → Fault → Type 0
+  abbrev stops : Operating N R W → List ℕ → Operating N R W → Fault → Type 0
   stops = RefusesStep holds start opening
 
   abbrev does : At W → List ℕ → At W → Type 0
@@ -28,7 +28,7 @@ module _ {W : Type 0} (holds : W → Option (List ℕ)) (start : NodeValue) (ope
   abbrev ends : At W → List ℕ → At W → Fault → Type 0
   ends = EndsAt holds start opening
 
-  same_further : (s m t : Operating W) → HoldsSame s m → HoldsSame m t → HoldsSame s t
+  same_further : (s m t : Operating N R W) → HoldsSame s m → HoldsSame m t → HoldsSame s t
   same_further s m t one two = record {
     gate = two.gate ∙ one.gate;
     pass = two.pass ∙ one.pass;
@@ -36,14 +36,14 @@ module _ {W : Type 0} (holds : W → Option (List ℕ)) (start : NodeValue) (ope
   }
 
   -- lines that were taken
-  pub record Chained (s t : Operating W) (lines : List (List ℕ)) : Type 0 where
+  pub record Chained (s t : Operating N R W) (lines : List (List ℕ)) : Type 0 where
     pub same : HoldsSame s t
     pub quit : t.has_quit ≡ s.has_quit
     pub done : Takes does ends (at_of s) lines (at_of t)
 
-  pub chained : (s t : Operating W) (lines : List (List ℕ)) → Takes steps stops s lines t → Chained s t lines
+  pub chained : (s t : Operating N R W) (lines : List (List ℕ)) → Takes steps stops s lines t → Chained s t lines
   chained s t [] e =
-      subst (λ (x : Operating W). Chained s x []) e
+      subst (λ (x : Operating N R W). Chained s x []) e
       (record { same = record { gate = refl; pass = refl; writer = refl }; quit = refl; done = refl })
   chained s t (line ∷ lines) h =
       let rest = chained h.0 t lines h.2 in
@@ -64,10 +64,10 @@ module _ {W : Type 0} (holds : W → Option (List ℕ)) (start : NodeValue) (ope
     pub asked : order_in line ≡ Ok Quit
     pub done : Takes does ends s front t
 
-  refused_same : (s t : Operating W) (lines : List (List ℕ)) (f : Fault) → Refuses steps stops s lines t f → HoldsSame s t
+  refused_same : (s t : Operating N R W) (lines : List (List ℕ)) (f : Fault) → Refuses steps stops s lines t f → HoldsSame s t
   refused_same s t lines f h = same_further s h.middle t (chained s h.middle h.front h.taken).same h.refused.same
 
-  refused_quits : (s t : Operating W) (lines : List (List ℕ)) (f : Fault) → s.has_quit ≡ false → t.has_quit ≡ true
+  refused_quits : (s t : Operating N R W) (lines : List (List ℕ)) (f : Fault) → s.has_quit ≡ false → t.has_quit ≡ true
       → Refuses steps stops s lines t f → QuitsIn (at_of s) (at_of t) lines
   refused_quits s t lines f was is h =
       let before = chained s h.middle h.front h.taken in
@@ -83,7 +83,7 @@ module _ {W : Type 0} (holds : W → Option (List ℕ)) (start : NodeValue) (ope
         | inr e ↦ absurd (cc (e.quit, before.quit, was, is))
       ]
 
-  refused_ends : (s t : Operating W) (lines : List (List ℕ)) (f : Fault) → s.has_quit ≡ false → t.has_quit ≡ false
+  refused_ends : (s t : Operating N R W) (lines : List (List ℕ)) (f : Fault) → s.has_quit ≡ false → t.has_quit ≡ false
       → Refuses steps stops s lines t f → Refuses does ends (at_of s) lines (at_of t) f
   refused_ends s t lines f was is h =
       let before = chained s h.middle h.front h.taken in
@@ -100,7 +100,7 @@ module _ {W : Type 0} (holds : W → Option (List ℕ)) (start : NodeValue) (ope
         }
       ]
 
-  lacked_ends : (s t : Operating W) (lines : List (List ℕ)) (f : Fault) → Lacks steps stops s lines t f → Lacks does ends (at_of s) lines (at_of t) f
+  lacked_ends : (s t : Operating N R W) (lines : List (List ℕ)) (f : Fault) → Lacks steps stops s lines t f → Lacks does ends (at_of s) lines (at_of t) f
   lacked_ends s t lines f h = record {
     fault = h.fault;
     front = h.front;
@@ -111,7 +111,7 @@ module _ {W : Type 0} (holds : W → Option (List ℕ)) (start : NodeValue) (ope
 
   -- ---- a text
 
-  module _ {R : Type 0} (before after : Option (List ℕ)) (old new : Counted R) (s t : Operating W) where
+  module _ {I : Type 0} (before after : Option (List ℕ)) (old new : Counted I) (s t : Operating N R W) where
     all_taken : TakesAll steps stops before after old new s t → TakesAll does ends before after old new (at_of s) (at_of t)
     all_taken h = record {
       text = h.text;

@@ -9,32 +9,32 @@ use Rattle.cg_operator.specs.Orders.{order_in}
 use Rattle.cg_operator.specs.Operating.{At, DoesLine, EndsAt}
 
 -- how far it has come
-abbrev pub at_of : {W : Type 0} → Operating W → At W
+abbrev pub at_of : {N R W : Type 0} → Operating N R W → At W
 at_of o = record { gate = o.gate.now; pass = o.pass.now; writer = o.writer.now }
 
 -- It holds the same gate, pass and writer.
-pub record HoldsSame {W : Type 0} (s t : Operating W) : Type 0 where
+pub record HoldsSame {N R W : Type 0} (s t : Operating N R W) : Type 0 where
   pub gate : t.gate.ghost_name ≡ s.gate.ghost_name
   pub pass : t.pass.ghost_name ≡ s.pass.ghost_name
   pub writer : t.writer.ghost_name ≡ s.writer.ghost_name
 
-module _ {W : Type 0} (holds : W → Option (List ℕ)) (start : NodeValue) (opening : TableValue) where
-  pub record TakesStep (s : Operating W) (line : List ℕ) (t : Operating W) : Type 0 where
+module _ {N R W : Type 0} (holds : W → Option (List ℕ)) (start : NodeValue) (opening : TableValue) where
+  pub record TakesStep (s : Operating N R W) (line : List ℕ) (t : Operating N R W) : Type 0 where
     pub same : HoldsSame s t
     pub quit : t.has_quit ≡ s.has_quit
     pub done : DoesLine holds start opening (at_of s) line (at_of t)
 
   -- The line asked for the end.
-  pub record QuitsStep (s : Operating W) (line : List ℕ) (t : Operating W) : Type 0 where
+  pub record QuitsStep (s : Operating N R W) (line : List ℕ) (t : Operating N R W) : Type 0 where
     pub quit : t.has_quit ≡ true
     pub asked : order_in line ≡ Ok Quit
     pub at : at_of t ≡ at_of s
 
   -- The line ended the operator by a fault.
-  pub record EndsStep (s : Operating W) (line : List ℕ) (t : Operating W) (f : Fault) : Type 0 where
+  pub record EndsStep (s : Operating N R W) (line : List ℕ) (t : Operating N R W) (f : Fault) : Type 0 where
     pub quit : t.has_quit ≡ s.has_quit
     pub ends : EndsAt holds start opening (at_of s) line (at_of t) f
 
-  pub record RefusesStep (s : Operating W) (line : List ℕ) (t : Operating W) (f : Fault) : Type 0 where
+  pub record RefusesStep (s : Operating N R W) (line : List ℕ) (t : Operating N R W) (f : Fault) : Type 0 where
     pub same : HoldsSame s t
     pub cause : QuitsStep s line t ⊎ EndsStep s line t f
