@@ -1,4 +1,4 @@
-//! The program `cg`: `answer` and `sim` over the standard streams.
+//! The program `cg`: `answer`, `sim`, `audit` and `serve`.
 #![tactic(auto)]
 
 use cg_tool::run;

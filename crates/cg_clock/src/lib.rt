@@ -1,7 +1,11 @@
 //! The clock that a node's moments are read from.
 #![tactic(auto)]
 
+mod host;
+
 ghost use Rattle.std.specs.Prelude.{ℕ};
+
+pub use host::{HostClock, seconds_since_1970};
 
 /// A clock of milliseconds. It may be read by many threads.
 pub trait Milliseconds {

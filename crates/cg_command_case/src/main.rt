@@ -36,6 +36,7 @@ fn main(rt: HostRuntime) -> ExitCode {
         "cg --help",
         "cg sim --help",
         "cg answer --help",
+        "cg serve --help",
         "cg --version",
         "cg sim x",
         "cg answer x",

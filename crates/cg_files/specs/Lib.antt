@@ -1,0 +1,2 @@
+pub mod Generation
+pub mod Replacing

@@ -1,0 +1,80 @@
+//! The generation that a node keeps from one life to the next.
+
+ghost use Rattle.std.specs.Prelude.{◌≡◌, ◌⊎◌, IfOk, IfErr, string_bytes};
+ghost use Rattle.cg_types.specs.declared.fault.Fault.TheVariants as faults;
+ghost use Rattle.cg_files.specs.Generation.{generation_in as generation_of, text_of};
+
+use crate::reading::read_file;
+use crate::replacing::replace;
+use cg_types::{Fault, Generation, cut};
+use std::alloc::{AllocError, Global};
+use std::fmt::Write;
+use std::rt::Files;
+
+// The bytes of the longest file that is a generation: ten digits and a line feed.
+const MOST: u32 = 11;
+
+/// The generation that the bytes are: one decimal number with no leading zero, and perhaps a line feed.
+#[tactic(auto, unfolding(crate::specs::Generation::generation_in))]
+pub fn generation_in(bytes: &[u8]) -> Option<Generation>
+    ensures { result ≡ generation_of bytes.now }
+{
+    let Some((digits, rest)) = cut(bytes, b'\n') else {
+        return Generation::from_bytes(bytes);
+    };
+    if rest.is_empty() {
+        Generation::from_bytes(digits)
+    } else {
+        None
+    }
+}
+
+/// The text of a generation: its number and a line feed.
+#[tactic(auto, unfolding(crate::specs::Generation::text_of))]
+pub fn generation_text(alloc: Global, generation: Generation) -> Result<String, AllocError>
+    ensures { IfOk result (λ text. string_bytes text ≡ text_of generation) }
+{
+    let mut text = String::new(alloc);
+    let generation = generation.get();
+    writeln!(&mut text, "{generation}")?;
+    Ok(text)
+}
+
+/// The generation that a file keeps; none where there is no file.
+///
+/// `BadText` where it holds anything else than one number and perhaps a line feed; `ReadFault` where it can't be read,
+/// `OutOfMemory` where memory is refused.
+pub fn stored_generation<R: Files>(
+    rt: &R,
+    alloc: Global,
+    path: &str,
+) -> Result<Option<Generation>, Fault>
+    ensures { IfErr result (λ f. (f ≡ faults.OutOfMemory) ⊎ ((f ≡ faults.BadText) ⊎ (f ≡ faults.ReadFault))) }
+{
+    match read_file(rt, alloc, path, MOST) {
+        Ok(Some(bytes)) => match generation_in(&bytes) {
+            Some(generation) => Ok(Some(generation)),
+            None => Err(Fault::BadText),
+        },
+        Ok(None) => Ok(None),
+        Err(fault) => Err(fault),
+    }
+}
+
+/// Has a file keep a generation, in place of what it kept: after a crash it keeps the old one or the new one.
+///
+/// `WriteFault` where that fails, `OutOfMemory` where memory is refused.
+pub fn store_generation<R: Files>(
+    rt: &R,
+    alloc: Global,
+    path: &str,
+    generation: Generation,
+) -> Result<(), Fault>
+    ensures { IfErr result (λ f. (f ≡ faults.OutOfMemory) ⊎ (f ≡ faults.WriteFault)) }
+{
+    let text = generation_text(alloc, generation)?;
+    match replace(rt, alloc, path, text.as_bytes()) {
+        Ok(()) => Ok(()),
+        Err(fault) => Err(fault),
+    }
+}

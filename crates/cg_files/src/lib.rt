@@ -1,0 +1,14 @@
+//! Files that a node that serves keeps: they are read up to a limit, and replaced whole.
+//!
+//! A file is replaced by a new one that was written beside it and synced, so that a crash leaves the old one or the new
+//! one, and never a part.
+#![tactic(auto)]
+
+mod generation;
+pub mod laws;
+mod reading;
+mod replacing;
+
+pub use generation::{generation_in, generation_text, store_generation, stored_generation};
+pub use reading::read_file;
+pub use replacing::{Replacement, replace};

@@ -1,0 +1,112 @@
+//! Files that are replaced whole.
+
+ghost use Rattle.std.specs.Prelude.{◌≡◌, ◌⊎◌, IfOk, IfErr, string_bytes};
+ghost use Rattle.cg_types.specs.declared.fault.Fault.TheVariants as faults;
+ghost use Rattle.cg_links.specs.Counted.{IsNew};
+ghost use Rattle.cg_files.specs.Replacing.{aside_of, link_in, aside_path};
+
+use crate::reading::fault_of;
+use cg_links::{Counted, write_bytes};
+use cg_types::Fault;
+use std::alloc::{AllocError, Global};
+use std::fs::OpenFile;
+use std::rt::Files;
+use std::{fs, io};
+
+/// A new file that is to stand in the place of another. Until it is put there, it stands beside that, under its name with
+/// `.new` behind it.
+#[derive(Drop)]
+pub struct Replacement<F> {
+    link: Counted<F>,
+    aside: String,
+}
+
+// The folder that a file stands in: what stands before the last slash of its path, or the root, or where the program
+// runs.
+fn folder_of(path: &str) -> &str {
+    match path.rsplit_once('/') {
+        Some((folder, _)) => { if folder.is_empty() { "/" } else { folder } }
+        None => ".",
+    }
+}
+
+// The path of the new file.
+fn path_aside(alloc: Global, path: &str) -> Result<String, AllocError>
+    ensures { IfOk result (λ aside. string_bytes aside ≡ aside_of path.now) }
+{
+    let mut aside = String::from_str(alloc, path)?;
+    aside.push_str(".new")?;
+    Ok(aside)
+}
+
+impl<F> Replacement<F> {
+    /// Begins a new, empty file beside the one at the path; what stands there from before is written over.
+    ///
+    /// `WriteFault` where it can't be made, `OutOfMemory` where its path finds no memory.
+    pub fn begin<R: Files<File = F>>(
+        rt: &R,
+        alloc: Global,
+        path: &str,
+    ) -> Result<Replacement<F>, Fault>
+        ensures link { IfOk result (λ r. IsNew (link_in r)) }
+        ensures aside { IfOk result (λ r. aside_path r ≡ aside_of path.now) }
+        ensures err { IfErr result (λ f. (f ≡ faults.OutOfMemory) ⊎ (f ≡ faults.WriteFault)) }
+    {
+        let aside = path_aside(alloc, path)?;
+        match fs::create(rt, aside.as_str()) {
+            Ok(file) => Ok(Replacement {
+                link: Counted::new(file),
+                aside,
+            }),
+            Err(error) => Err(fault_of(&error, Fault::WriteFault)),
+        }
+    }
+
+    /// The link that the new file is written over.
+    pub fn link(&mut self) -> &mut Counted<F> {
+        &mut self.link
+    }
+}
+
+impl<F: OpenFile + Drop> Replacement<F> {
+    /// Puts the new file in the place of the one at the path, once all of it is on the disk; then the folder is synced, so
+    /// that no crash brings the old file back. `WriteFault` where that fails, `OutOfMemory` where memory is refused: the
+    /// old file may then stand in its place, or the new one.
+    pub fn put<R: Files>(self, rt: &R, path: &str) -> Result<(), Fault>
+        ensures { IfErr result (λ f. (f ≡ faults.OutOfMemory) ⊎ (f ≡ faults.WriteFault)) }
+    {
+        let Replacement { link, aside } = self;
+        match put_in_place(rt, link.into_link(), aside.as_str(), path) {
+            Ok(()) => Ok(()),
+            Err(error) => Err(fault_of(&error, Fault::WriteFault)),
+        }
+    }
+}
+
+// Syncs a file and renames it, and syncs the folder that it stands in then.
+fn put_in_place<R: Files, F: OpenFile + Drop>(
+    rt: &R,
+    file: F,
+    aside: &str,
+    path: &str,
+) -> io::Result<()> {
+    file.sync_all()?;
+    fs::rename(rt, aside, path)?;
+    fs::open(rt, folder_of(path))?.sync_all()
+}
+
+/// Replaces a file by these bytes, or makes it: after a crash it has the old bytes or the new ones.
+///
+/// `WriteFault` where that fails, `OutOfMemory` where memory is refused: then, too, it has the old bytes or the new ones.
+pub fn replace<R: Files>(rt: &R, alloc: Global, path: &str, bytes: &[u8]) -> Result<(), Fault>
+    ensures { IfErr result (λ f. (f ≡ faults.OutOfMemory) ⊎ (f ≡ faults.WriteFault)) }
+{
+    let mut new = match Replacement::begin(rt, alloc, path) {
+        Ok(new) => new,
+        Err(fault) => return Err(fault),
+    };
+    match write_bytes(new.link(), bytes) {
+        Ok(()) => new.put(rt, path),
+        Err(fault) => Err(fault),
+    }
+}

@@ -1,0 +1,17 @@
+//! The operator of a running node: lines that show what the node holds, and that set its keys.
+//!
+//! What is shown is read without a lock. Each line is answered at once: its text is written and flushed before the next
+//! line is read.
+#![tactic(auto)]
+
+mod answering;
+mod operating;
+mod order;
+mod reading;
+mod shown;
+mod writing;
+
+pub use operating::operate;
+pub use order::Order;
+pub use reading::read_order;
+pub use shown::table_text;
