@@ -11,6 +11,7 @@ use crate::left::{Sent, Ticks, Work};
 use crate::ran::{NotRun, Parts, Ran};
 use crate::scoped::work;
 use crate::seats::{Seats, WORKERS};
+use crate::site::{Site, Tools};
 use cg_clock::Milliseconds;
 use cg_history::{History, Receipt};
 use cg_locked::{Name, Seat, Shared, Unconfirmed};
@@ -25,7 +26,7 @@ use rand_core::Rng;
 use std::alloc::Global;
 use std::marker::Brand;
 use std::rt::Clock;
-use std::sync::Wait;
+use std::sync::{OnceLock, Wait};
 use std::sync::ledger::Blank;
 use std::thread::Threads;
 
@@ -181,7 +182,30 @@ fn run_named<
         ticker,
         operator,
     };
-    let work = work(rt, alloc, &shared, of_workers, pass, ends, parts, turns);
+    let Parts {
+        listener,
+        dialer,
+        clock,
+        generator,
+        operator,
+    } = parts;
+    let tools = Tools {
+        listener,
+        dialer,
+        generator,
+        operator,
+    };
+    let site = Site {
+        shared,
+        clock,
+        go: OnceLock::new(),
+    };
+    let work = work(rt, alloc, &site, of_workers, pass, ends, tools, turns);
+    let Site {
+        shared,
+        clock: _clock,
+        go: _go,
+    } = site;
     left(rt, shared, seats, work)
 }
 

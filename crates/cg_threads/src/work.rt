@@ -5,8 +5,9 @@ ghost use Rattle.cg_rounds.specs.Ends.{put_by, taken_by};
 ghost use Rattle.cg_threads.specs.Left.{IsLeft, HasTaken, HasPut, is_received, is_ack, is_tick, is_any};
 
 use crate::left::{Left, Sent, Ticks};
+use crate::site::Site;
 use cg_clock::Milliseconds;
-use cg_locked::{Name, Seat, Shared};
+use cg_locked::{Name, Seat};
 use cg_rounds::{Putting, Taking};
 use cg_seats::{Operate, SeatGate, operator};
 use cg_settings::Turns;
@@ -16,40 +17,36 @@ use cg_workers::{Dial, Listen, receiver, sender};
 use rand_core::Rng;
 use std::alloc::Global;
 use std::rt::Clock;
-use std::sync::{OnceLock, Wait};
+use std::sync::Wait;
 
 // The receiver's work, where the word is to go.
 pub(crate) fn receive<N: Name, R: Wait, L: Listen + Drop, C: Milliseconds>(
-    go: &OnceLock<bool>,
     rt: &R,
     alloc: Global,
-    shared: &Shared<N>,
+    site: &Site<N, C>,
     seat: Seat<N>,
     listener: L,
-    clock: &C,
     exchanges: u32,
 ) -> Left<N>
     requires { seat.share.amount ≡ 0 }
     ensures { IsLeft is_received seat.caller seat.share.parts result }
 {
-    if !*go.wait(rt) {
+    if !*site.go.wait(rt) {
         return Left::unused(alloc, seat);
     }
     let mut listener = listener;
-    let mut gate = SeatGate::new(rt, alloc, shared, seat);
-    let _came = receiver(alloc, &mut gate, &mut listener, clock, exchanges);
+    let mut gate = SeatGate::new(rt, alloc, &site.shared, seat);
+    let _came = receiver(alloc, &mut gate, &mut listener, &site.clock, exchanges);
     Left::of(gate)
 }
 
 // The sender's.
 pub(crate) fn send<N: Name, R: Wait, D: Dial + Drop, C: Milliseconds>(
-    go: &OnceLock<bool>,
     rt: &R,
     alloc: Global,
-    shared: &Shared<N>,
+    site: &Site<N, C>,
     seat: Seat<N>,
     dialer: D,
-    clock: &C,
     taking: Taking,
 ) -> Sent<N>
     requires seat { seat.share.amount ≡ 0 }
@@ -57,7 +54,7 @@ pub(crate) fn send<N: Name, R: Wait, D: Dial + Drop, C: Milliseconds>(
     ensures left { IsLeft is_ack seat.caller seat.share.parts result.left }
     ensures taken { HasTaken taking result.taken result.numbers.items }
 {
-    if !*go.wait(rt) {
+    if !*site.go.wait(rt) {
         return Sent {
             left: Left::unused(alloc, seat),
             taken: taking.leave(),
@@ -66,8 +63,8 @@ pub(crate) fn send<N: Name, R: Wait, D: Dial + Drop, C: Milliseconds>(
     }
     let mut dialer = dialer;
     let mut taking = taking;
-    let mut gate = SeatGate::new(rt, alloc, shared, seat);
-    let numbers = sender(rt, alloc, &mut gate, &mut dialer, clock, &mut taking);
+    let mut gate = SeatGate::new(rt, alloc, &site.shared, seat);
+    let numbers = sender(rt, alloc, &mut gate, &mut dialer, &site.clock, &mut taking);
     Sent {
         left: Left::of(gate),
         taken: taking.leave(),
@@ -77,13 +74,11 @@ pub(crate) fn send<N: Name, R: Wait, D: Dial + Drop, C: Milliseconds>(
 
 // The ticker's.
 pub(crate) fn tick<N: Name, R: Wait + Clock, C: Milliseconds, G: Rng + Drop>(
-    go: &OnceLock<bool>,
     rt: &R,
     alloc: Global,
-    shared: &Shared<N>,
+    site: &Site<N, C>,
     seat: Seat<N>,
     generator: G,
-    clock: &C,
     putting: Putting,
     turns: Turns,
 ) -> Ticks<N>
@@ -92,7 +87,7 @@ pub(crate) fn tick<N: Name, R: Wait + Clock, C: Milliseconds, G: Rng + Drop>(
     ensures left { IsLeft is_tick seat.caller seat.share.parts result.left }
     ensures put { HasPut putting result.putting result.left.receipts }
 {
-    if !*go.wait(rt) {
+    if !*site.go.wait(rt) {
         return Ticks {
             left: Left::unused(alloc, seat),
             putting,
@@ -100,11 +95,11 @@ pub(crate) fn tick<N: Name, R: Wait + Clock, C: Milliseconds, G: Rng + Drop>(
     }
     let mut generator = generator;
     let mut putting = putting;
-    let mut gate = SeatGate::new(rt, alloc, shared, seat);
+    let mut gate = SeatGate::new(rt, alloc, &site.shared, seat);
     let _ticked = ticker(
         rt,
         alloc,
-        clock,
+        &site.clock,
         &mut gate,
         &mut generator,
         &mut putting,
@@ -118,11 +113,10 @@ pub(crate) fn tick<N: Name, R: Wait + Clock, C: Milliseconds, G: Rng + Drop>(
 }
 
 // The operator's.
-pub(crate) fn operate<N: Name, R: Wait, O: Operate + Drop>(
-    go: &OnceLock<bool>,
+pub(crate) fn operate<N: Name, R: Wait, C: Milliseconds, O: Operate + Drop>(
     rt: &R,
     alloc: Global,
-    shared: &Shared<N>,
+    site: &Site<N, C>,
     seat: Seat<N>,
     operates: O,
     pass: Pass<N>,
@@ -130,12 +124,12 @@ pub(crate) fn operate<N: Name, R: Wait, O: Operate + Drop>(
     requires { seat.share.amount ≡ 0 }
     ensures { IsLeft is_any seat.caller seat.share.parts result }
 {
-    if !*go.wait(rt) {
+    if !*site.go.wait(rt) {
         return Left::unused(alloc, seat);
     }
     let mut operates = operates;
     let mut pass = pass;
-    let mut gate = SeatGate::new(rt, alloc, shared, seat);
+    let mut gate = SeatGate::new(rt, alloc, &site.shared, seat);
     let _ended = operator(alloc, &mut gate, &mut pass, &mut operates);
     Left::of(gate)
 }
