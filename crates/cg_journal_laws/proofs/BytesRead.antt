@@ -1,13 +1,13 @@
 -- A frame is bytes, so its hexadecimal digits are read as it.
-use Rattle.std.proofs.Common.{◌≡◌, ℕ, ◌+◌, ◌/◌, ◌%◌, ◌<◌, ◌≤◌, ◌^◌, zero, suc, Bool, true, false, cond, ◌&&◌, List, [], ◌∷◌, ◌++◌, length, inl, inr, refl, ap, subst, arith, slice_index, nat_lt}
+use Rattle.std.proofs.Common.{◌≡◌, ℕ, ◌<◌, zero, suc, Bool, true, false, List, [], ◌∷◌, ◌++◌, length, inl, inr, refl, subst, arith, nat_lt}
 use Rattle.std.specs.List.{flat_map, AllByRecursion}
 use Rattle.std.specs.FinMap.{entries, entries_sorted}
 use Rattle.std.specs.Str.{is_utf8}
-use Rattle.std.proofs.lemmas.Bool.{and_parts, ltb-true, ltb-false, cases_lt}
+use Rattle.std.proofs.lemmas.Bool.{and_parts, ltb-true}
 use Rattle.std.proofs.lemmas.Str.{IsUtf8-from_is_utf8}
 use lib.Utf8.{scalar, scalars, encode, encodes, scalar_cases}
 use Rattle.hex.specs.Hex.{IsBytes}
-use Rattle.cg_types.specs.Text.{plain, printable, IsClusterName}
+use Rattle.cg_types.specs.Text.{plain, printable}
 use Rattle.cg_types.proofs.RisingLemmas.{rise_sorted}
 use Rattle.cg_entry.specs.Versioned.{Versioned}
 use Rattle.cg_table.specs.declared.digest.Digest.{Digest}
@@ -17,9 +17,9 @@ use Rattle.cg_exchange.specs.declared.message.Message.TheVariants.{Syn, Ack, Ack
 use Rattle.cg_exchange.specs.Contents.{IsDigest, IsRequest}
 use Rattle.cg_exchange.specs.Values.{RequestValue}
 use Rattle.cg_frames.specs.declared.layout.Layout.{Layout}
-use Rattle.cg_frames.specs.Spelling.{two_bytes, four_bytes, endpoint, digest, request, text, state, delta, members, cluster, kind, body, message, inside, frame}
+use Rattle.cg_frames.specs.Spelling.{two_bytes, four_bytes, endpoint, digest, request, text, state, delta, members, cluster, kind, body, inside, frame}
 use Rattle.cg_frames.specs.Fits.{Fits}
-use Rattle.cg_frames.proofs.FitsFields.{FitsState, FitsDelta, FitsSyn, FitsFields}
+use Rattle.cg_frames.proofs.FitsFields.{FitsState, FitsDelta, FitsFields}
 use Rattle.cg_frames.proofs.FitsLemmas.{fields_of}
 use Rattle.cg_frames.proofs.SpelledIsReadDeltas.{states_few}
 

@@ -1,7 +1,6 @@
 -- What is read of a line is an event, with values that its types allow.
-use Rattle.std.proofs.Common.{◌≡◌, ℕ, ◌+◌, ◌<◌, ◌≤◌, ◌^◌, zero, suc, Bool, true, false, cond, List, [], ◌∷◌, length, Option, Some, None, Ok, Err, Result, IfSome, refl, arith, decimal, ◌-◌}
+use Rattle.std.proofs.Common.{◌≡◌, ℕ, ◌≤◌, ◌^◌, Bool, true, false, cond, List, [], ◌∷◌, length, Option, Some, None, Ok, Err, Result, IfSome, refl, arith, decimal, ◌-◌}
 use Rattle.std.specs.Prelude.{◌==◌, nat_lt, bytes_eq, codes}
-use Rattle.std.specs.List.{AllByRecursion}
 use Rattle.std.specs.Str.{is_utf8}
 use Rattle.std.proofs.lemmas.Bool.{ltb-false}
 use Rattle.hex.specs.Hex.{decode_of, IsBytes}
@@ -12,13 +11,12 @@ use Rattle.cg_types.specs.declared.fault.Fault.TheVariants.{TooLong, BadText}
 use Rattle.cg_types.specs.declared.limits.TheConstants.{TEXT_LIMIT, STATE_LIMIT}
 use Rattle.cg_types.specs.Numbers.{IsKey}
 use Rattle.cg_types.specs.OptionSteps.{◌>>=◌}
-use Rattle.cg_types.specs.Text.{plain, IsStateText, state_text_of}
+use Rattle.cg_types.specs.Text.{plain, IsStateText}
 use Rattle.cg_types.specs.Words.{cut_at, number_of, key_in}
 use Rattle.cg_types.proofs.WordLemmas.{numbers_found, between_found}
 use Rattle.cg_exchange.specs.declared.message.Message.{Message}
 use Rattle.cg_exchange.specs.declared.message.Message.TheVariants as messages
 use Rattle.cg_exchange.specs.Messages.{IsMessage}
-use Rattle.cg_core.specs.declared.event.Event.{Event}
 use Rattle.cg_core.specs.declared.event.Event.TheVariants as event
 use Rattle.cg_frames.specs.declared.layout.TheConstants.{LAYOUTS}
 use Rattle.cg_frames.specs.Choosing.{frame_among}

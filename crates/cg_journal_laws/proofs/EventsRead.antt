@@ -1,5 +1,5 @@
 -- Each line that is written of an event is read as that event.
-use Rattle.std.proofs.Common.{◌≡◌, ℕ, ◌+◌, ◌-◌, ◌*◌, ◌<◌, ◌≤◌, ◌^◌, zero, suc, Bool, true, false, cond, not, List, [], ◌∷◌, ◌++◌, length, Option, Some, None, Ok, Err, Result, refl, sym, ap, ◌∙◌, append_assoc, append-nil, arith, decimal, eq-eqb, ne_eqb}
+use Rattle.std.proofs.Common.{◌≡◌, ℕ, Bool, true, false, cond, not, List, [], ◌∷◌, ◌++◌, length, Option, Some, None, Ok, Err, Result, refl, sym, ap, ◌∙◌, append_assoc, append-nil, arith, decimal, eq-eqb, ne_eqb}
 use Rattle.std.specs.Prelude.{◌==◌, nat_lt, bytes_eq, codes}
 use Rattle.std.specs.List.{flat_map, AllByRecursion}
 use Rattle.std.specs.Str.{is_utf8}
@@ -12,8 +12,8 @@ use Rattle.cg_types.specs.declared.fault.Fault.TheVariants.{TooLong, BadText}
 use Rattle.cg_types.specs.declared.limits.TheConstants.{TEXT_LIMIT}
 use Rattle.cg_types.specs.Numbers.{IsKey}
 use Rattle.cg_types.specs.OptionSteps.{◌>>=◌}
-use Rattle.cg_types.specs.Text.{plain, printable, IsStateText, state_text_of}
-use Rattle.cg_types.specs.Words.{cut_at, number_of, key_in}
+use Rattle.cg_types.specs.Text.{plain, printable, IsStateText}
+use Rattle.cg_types.specs.Words.{key_in}
 use Rattle.cg_types.proofs.WordLemmas.{number_of-decimal}
 use Rattle.cg_exchange.specs.declared.message.Message.{Message}
 use Rattle.cg_exchange.specs.declared.message.Message.TheVariants as messages

@@ -1,8 +1,6 @@
 -- The text of a history is read as the history, for caller 0.
-use Rattle.std.proofs.Common.{◌≡◌, ℕ, suc, ◌+◌, ◌<◌, ◌≤◌, Bool, List, [], ◌∷◌, ◌++◌, length, map, cond, Option, Some, None, option_map, Ok, Err, Result, refl, sym, ap, subst, ◌∙◌, append_assoc, append-nil, arith, length-append, ne_eqb}
-use Rattle.std.specs.Prelude.{◌==◌}
+use Rattle.std.proofs.Common.{◌≡◌, ℕ, suc, ◌+◌, ◌<◌, ◌≤◌, Bool, List, [], ◌∷◌, ◌++◌, length, map, cond, Option, Some, None, option_map, Ok, Err, refl, sym, ap, subst, ◌∙◌, append_assoc, append-nil, arith, length-append, ne_eqb}
 use Rattle.std.specs.List.{AllByRecursion}
-use Rattle.cg_types.specs.declared.fault.Fault.{Fault}
 use Rattle.cg_types.specs.declared.fault.Fault.TheVariants.{VersionsSpent}
 use Rattle.cg_core.specs.declared.event.Event.{Event}
 use Rattle.cg_core.specs.declared.reply.Reply.{Reply}
@@ -10,13 +8,13 @@ use Rattle.cg_core.specs.Values.{SettingsValue, NodeValue}
 use Rattle.cg_core.specs.Step.{Step, node_step, starting_node}
 use Rattle.cg_history.specs.declared.item.Item.{Item}
 use Rattle.cg_history.specs.Items.{record_of}
-use Rattle.cg_history.specs.History.{HistoryValue, Replays, IsReplayed, LAST_NUMBER, new_history, with_record, with_step, apply}
+use Rattle.cg_history.specs.History.{HistoryValue, Replays, LAST_NUMBER, new_history, with_record, with_step}
 use Rattle.cg_lines.specs.Lines.{lines_of}
 use Rattle.cg_script.specs.Gives.{readable}
-use Rattle.cg_journal.specs.Text.{life_line, event_line, event_lines, journal_lines, joined, journal_of}
-use Rattle.cg_journal.specs.Reading.{life_in, event_in, history_after, after_line, on_line, after_lines, journal_in}
-use Rattle.cg_journal_laws.specs.Contents.{IsEvent, IsStart, IsLife}
-use Rattle.cg_journal_laws.specs.Laws.{for_caller_0, uncalled, WrittenHistoriesAreRead}
+use Rattle.cg_journal.specs.Text.{life_line, event_line, event_lines, joined}
+use Rattle.cg_journal.specs.Reading.{history_after, on_line, after_lines, journal_in}
+use Rattle.cg_journal_laws.specs.Contents.{IsEvent, IsStart}
+use Rattle.cg_journal_laws.specs.Laws.{for_caller_0, WrittenHistoriesAreRead}
 use Rattle.cg_journal_laws.proofs.LinesRead.{lines_of-ended}
 use Rattle.cg_journal_laws.proofs.EventsRead.{event_words, event_line-ended, event_again, event_words-lack}
 use Rattle.cg_journal_laws.proofs.LifeRead.{life_words, life_line-ended, life_again, life_words-lack}

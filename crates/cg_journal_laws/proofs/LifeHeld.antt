@@ -1,6 +1,6 @@
 -- What is read of a first line is the start of a life.
-use Rattle.std.proofs.Common.{◌≡◌, ℕ, ◌+◌, ◌<◌, ◌≤◌, ◌^◌, zero, suc, Bool, true, false, cond, not, List, [], ◌∷◌, length, Option, Some, None, Ok, Err, Result, IfSome, refl, arith, leb-true, eqb-true, decimal, ◌-◌}
-use Rattle.std.specs.Prelude.{◌==◌, ◌&&◌, nat_le, nat_lt, bytes_eq, codes}
+use Rattle.std.proofs.Common.{◌≡◌, ℕ, ◌≤◌, zero, suc, Bool, true, false, cond, not, List, [], ◌∷◌, length, Option, Some, None, Ok, Err, Result, IfSome, refl, arith, leb-true, eqb-true, decimal, ◌-◌}
+use Rattle.std.specs.Prelude.{◌==◌, nat_le, nat_lt, bytes_eq, codes}
 use Rattle.std.specs.Int.{is_in_range}
 use Rattle.std.specs.List.{AllByRecursion}
 use Rattle.std.proofs.lemmas.Bool.{and_parts, ltb-false, eqb-false}
@@ -25,11 +25,11 @@ use Rattle.cg_core.specs.declared.fault.SettingsFault.TheVariants as settings_fa
 use Rattle.cg_core.specs.declared.limits.TheConstants.{SEED_LIMIT}
 use Rattle.cg_core.specs.Settings.{settings_or_fault}
 use Rattle.cg_core.specs.Values.{SettingsValue, IsSettings, settings_of}
-use Rattle.cg_history.specs.History.{HistoryValue, new_history}
+use Rattle.cg_history.specs.History.{new_history}
 use Rattle.cg_script.specs.Gives.{readable}
 use Rattle.cg_script.specs.Words.{endpoint_before, endpoints_by, endpoints_in}
 use Rattle.cg_journal.specs.Reading.{generation_before, setting_before, silence_before, seeds_in, settings_in, life_behind, life_of_parts, life_in}
-use Rattle.cg_journal_laws.specs.Contents.{IsStart, IsLife}
+use Rattle.cg_journal_laws.specs.Contents.{IsLife}
 use Rattle.cg_journal_laws.proofs.EventsHeld.{held_bind, held_cond, held_weaker, held_any}
 use Rattle.cg_journal_laws.proofs.LivesGoOn.{lives_go_on}
 

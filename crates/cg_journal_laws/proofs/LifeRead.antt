@@ -1,27 +1,25 @@
 -- The first line that is written of a history is read as its start.
-use Rattle.std.proofs.Common.{◌≡◌, ℕ, ◌+◌, ◌<◌, ◌≤◌, ◌^◌, zero, suc, Bool, true, false, cond, not, List, [], ◌∷◌, ◌++◌, length, Option, Some, None, Ok, Err, Result, refl, sym, ap, ◌∙◌, append_assoc, append-nil, arith, decimal, le-leb, ne_eqb, eq-eqb}
-use Rattle.std.specs.Prelude.{◌==◌, ◌&&◌, nat_le, nat_lt, bytes_eq, codes, unwrap_or}
+use Rattle.std.proofs.Common.{◌≡◌, ℕ, ◌≤◌, zero, suc, Bool, true, false, cond, not, List, [], ◌∷◌, ◌++◌, length, Option, Some, None, Ok, Err, Result, refl, sym, ap, ◌∙◌, append_assoc, append-nil, arith, decimal, le-leb, ne_eqb, eq-eqb}
+use Rattle.std.specs.Prelude.{◌==◌, nat_le, nat_lt, codes}
 use Rattle.std.specs.Char.{is_ascii_digit}
 use Rattle.std.specs.Int.{is_in_range}
 use Rattle.std.specs.List.{flat_map, AllByRecursion}
-use Rattle.std.specs.Ordering.{nat_cmp, eq_by_cmp}
 use Rattle.std.specs.Cmp.{nat_cmp_total, eq_by_cmp_equiv}
-use Rattle.std.specs.FinMap.{empty, insert, get, get-insert}
+use Rattle.std.specs.FinMap.{empty, get-insert}
 use Rattle.std.proofs.lemmas.Bool.{le-ltb}
 use Rattle.cg_types.specs.declared.fault.Fault.{Fault}
 use Rattle.cg_types.specs.declared.fault.Fault.TheVariants.{TooLong, BadText}
 use Rattle.cg_types.specs.declared.limits.TheConstants.{PARTITIONER, NAME_LIMIT}
-use Rattle.cg_types.specs.EndpointText.{endpoint_text, endpoint_in}
+use Rattle.cg_types.specs.EndpointText.{endpoint_text}
 use Rattle.cg_types.specs.Numbers.{IsEndpoint, IsGeneration}
 use Rattle.cg_types.specs.OptionSteps.{◌>>=◌}
 use Rattle.cg_types.specs.Rising.{rise_past}
-use Rattle.cg_types.specs.Text.{ClusterValue, IsCluster, IsClusterName, cluster_of, plain}
-use Rattle.cg_types.specs.Words.{cut_at, number_of, generation_in}
+use Rattle.cg_types.specs.Text.{ClusterValue, IsClusterName, cluster_of, plain}
+use Rattle.cg_types.specs.Words.{cut_at, generation_in}
 use Rattle.cg_types.proofs.EndpointLaws.{endpoint_in-text}
 use Rattle.cg_types.proofs.RisingLemmas.{both}
 use Rattle.cg_types.proofs.WordLemmas.{number_of-decimal}
 use Rattle.cg_entry.specs.Entry.{starting_entry}
-use Rattle.cg_entry.specs.Values.{EntryValue}
 use Rattle.cg_table.specs.Own.{own_entry}
 use Rattle.cg_table.specs.Table.{alone}
 use Rattle.cg_table.specs.Values.{Entries}
@@ -36,7 +34,7 @@ use Rattle.cg_core.specs.declared.limits.TheConstants.{SEED_LIMIT}
 use Rattle.cg_core.specs.Settings.{settings_or_fault}
 use Rattle.cg_core.specs.Step.{starting_node}
 use Rattle.cg_core.specs.Values.{SettingsValue, IsSettings, settings_of}
-use Rattle.cg_history.specs.History.{HistoryValue, new_history}
+use Rattle.cg_history.specs.History.{new_history}
 use Rattle.cg_script.specs.Gives.{readable}
 use Rattle.cg_script.specs.Words.{endpoint_before, endpoints_by, endpoints_in}
 use Rattle.cg_journal.specs.Text.{silence_text, further_seed, seeds_text, settings_text, life_line}

@@ -8,10 +8,9 @@ use Rattle.cg_history.specs.declared.item.Receipt.{Receipt}
 use Rattle.cg_history.specs.History.{HistoryValue, apply}
 use Rattle.cg_lines.specs.Lines.{lines_of}
 use Rattle.cg_script.specs.Gives.{readable}
-use Rattle.cg_journal.specs.Text.{journal_of}
 use Rattle.cg_journal.specs.Reading.{life_in, event_in, history_after, on_line, after_lines, journal_in}
 use Rattle.cg_journal_laws.specs.Contents.{IsEvent, IsLife}
-use Rattle.cg_journal_laws.specs.Laws.{for_caller_0, uncalled, IsOfItsLines, ReadHistoriesAreReadAgain}
+use Rattle.cg_journal_laws.specs.Laws.{for_caller_0, uncalled, ReadHistoriesAreReadAgain}
 use Rattle.cg_journal_laws.proofs.OfLines.{of_its_lines}
 use Rattle.cg_journal_laws.proofs.HistoryRead.{histories_read}
 use Rattle.cg_journal_laws.proofs.EventsHeld.{event_held}

@@ -1,5 +1,5 @@
 -- What is written between two separators is read again.
-use Rattle.std.proofs.Common.{◌≡◌, ℕ, ◌-◌, ◌/◌, ◌%◌, ◌<◌, ◌≤◌, ◌^◌, zero, suc, Bool, true, false, cond, not, List, [], ◌∷◌, ◌++◌, Option, Some, None, refl, sym, ap, ◌∙◌, arith, decimal, eq-eqb, eqb-true}
+use Rattle.std.proofs.Common.{◌≡◌, ℕ, ◌/◌, ◌%◌, ◌<◌, ◌≤◌, ◌^◌, zero, suc, Bool, true, false, not, List, [], ◌∷◌, ◌++◌, Some, None, refl, sym, ap, ◌∙◌, arith, decimal, eq-eqb, eqb-true}
 use Rattle.std.specs.Prelude.{◌==◌, nat_lt, slice_index, bytes_eq, codes}
 use Rattle.std.specs.List.{list_all}
 use Rattle.std.specs.Char.{is_ascii_digit}
@@ -9,10 +9,9 @@ use Rattle.std.proofs.lemmas.List.Folds.{list_all-append}
 use Rattle.hex.specs.Hex.{encode_with, encode_lower, lower_digits}
 use Rattle.cg_types.specs.Numbers.{IsEndpoint, IsGeneration, IsKey, address_of, port_of}
 use Rattle.cg_types.specs.EndpointText.{endpoint_text}
-use Rattle.cg_types.specs.OptionSteps.{◌>>=◌}
 use Rattle.cg_types.specs.Text.{plain, printable}
 use Rattle.std.specs.Str.{is_utf8}
-use Rattle.cg_types.specs.Words.{cut_at, with_first, number_of, number_between, generation_in, key_in}
+use Rattle.cg_types.specs.Words.{cut_at, number_of, number_between, generation_in, key_in}
 use Rattle.cg_types.proofs.RisingLemmas.{both}
 use Rattle.cg_types.proofs.WordLemmas.{number_of-decimal, digits_of_decimal}
 

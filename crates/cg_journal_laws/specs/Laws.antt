@@ -60,12 +60,12 @@ abbrev pub uncalled : HistoryValue → HistoryValue
 uncalled h = record { base = h.base; records = map for_caller_0 h.records; node = h.node }
 
 -- The text of the history is read as that history, for caller 0, and what was read is written as the same text.
-pub record IsReadAgain (h : HistoryValue) : Type 0 where
+pub record IsReadAsWritten (h : HistoryValue) : Type 0 where
   pub read : journal_in (journal_of h) ≡ Ok (uncalled h)
   pub again : journal_of (uncalled h) ≡ journal_of h
 
 abbrev pub WrittenHistoriesAreRead : Type 0
-WrittenHistoriesAreRead = (h : HistoryValue) → IsLife h → IsReadAgain h
+WrittenHistoriesAreRead = (h : HistoryValue) → IsLife h → IsReadAsWritten h
 
 -- Histories are lives from their start on, whatever event is done.
 pub record LivesGoOn : Type 0 where
@@ -76,9 +76,9 @@ pub record LivesGoOn : Type 0 where
       → apply h caller e ≡ Ok (after, q) → IsLife after
 
 -- What was read is a life, and its text is read as it.
-pub record IsReadBack (h : HistoryValue) : Type 0 where
+pub record IsReadAgain (h : HistoryValue) : Type 0 where
   pub life : IsLife h
   pub again : journal_in (journal_of h) ≡ Ok h
 
 abbrev pub ReadHistoriesAreReadAgain : Type 0
-ReadHistoriesAreReadAgain = (text : List ℕ) (h : HistoryValue) → journal_in text ≡ Ok h → IsReadBack h
+ReadHistoriesAreReadAgain = (text : List ℕ) (h : HistoryValue) → journal_in text ≡ Ok h → IsReadAgain h
