@@ -159,3 +159,13 @@ module _ (start : NodeValue) where
       pub operated_faults : {T : Type 0} (r : Result T Fault) → Operates holds start opening before after old new s t r → IfErr r IsOperatorFault
       operated_faults (Ok x) h = tt
       operated_faults (Err f) h = (failed_goes f h).fault
+
+    -- the same with other names for what is left
+    pub operated_at : {R T : Type 0} (before after : Option (List ℕ)) (old new : Counted R) (s : At W)
+        (g h : SeatValue) (p q : List Put) (w x : Counted W) (r : Result T Fault) → g ≡ h → p ≡ q → w ≡ x
+        → Operates holds start opening before after old new s (record { gate = g; pass = p; writer = w }) r
+        → Operates holds start opening before after old new s (record { gate = h; pass = q; writer = x }) r
+    operated_at before after old new s g h p q w x r a b c done =
+        let one = subst (λ (y : SeatValue). Operates holds start opening before after old new s (record { gate = y; pass = p; writer = w }) r) a done in
+        let two = subst (λ (y : List Put). Operates holds start opening before after old new s (record { gate = h; pass = y; writer = w }) r) b one in
+        subst (λ (y : Counted W). Operates holds start opening before after old new s (record { gate = h; pass = q; writer = y }) r) c two
