@@ -1,6 +1,6 @@
 //! The work of an operator, over its lines.
 
-ghost use Rattle.std.specs.Prelude.{◌≡◌, true, false, tt, Ok, Err, IfErr};
+ghost use Rattle.std.specs.Prelude.{◌≡◌, true, false, Ok, Err, IfErr};
 ghost use Rattle.cg_links.specs.Counted.{link_of};
 ghost use Rattle.cg_views.specs.Lists.{StartsWith};
 ghost use Rattle.cg_seats.specs.Seats.{GoesOn, IsOperatorFault};
