@@ -23,7 +23,7 @@ at_length : (qs : List Receipt) (q : Receipt) → slice_get (qs ++ q ∷ []) (le
 at_length [] q = refl
 at_length (p ∷ ps) q = at_length ps q
 
-pub last_stands : (qs : List Receipt) (q : Receipt) → slice_get (qs ++ q ∷ []) (length (qs ++ q ∷ []) - 1) ≡ Some q
+last_stands : (qs : List Receipt) (q : Receipt) → slice_get (qs ++ q ∷ []) (length (qs ++ q ∷ []) - 1) ≡ Some q
 last_stands qs q =
     let place : length (qs ++ q ∷ []) - 1 ≡ length qs = omega (arith, length-append qs (q ∷ [])) in
     ap (slice_get (qs ++ q ∷ [])) place ∙ at_length qs q

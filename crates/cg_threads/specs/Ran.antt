@@ -1,5 +1,5 @@
 -- What is left of a node that ran.
-use Rattle.std.specs.Prelude.{ℕ, ◌≡◌, ◌⊎◌, Bool, true, List, length}
+use Rattle.std.specs.Prelude.{ℕ, ◌+◌, ◌≡◌, ◌⊎◌, Bool, true, List, length}
 use Rattle.std.specs.List.{All}
 use mathlib.Core.List.{IsPrefix}
 use Rattle.cg_types.specs.declared.fault.Fault.TheVariants as fault
@@ -7,6 +7,7 @@ use Rattle.cg_core.specs.declared.event.Event.{Event}
 use Rattle.cg_core.specs.Values.{NodeValue}
 use Rattle.cg_history.specs.declared.item.Item.{Item}
 use Rattle.cg_history.specs.declared.item.Receipt.{Receipt}
+use Rattle.cg_history.specs.declared.item.Stray.{Stray}
 use Rattle.cg_history.specs.Confirming.{IsFirstStray}
 use Rattle.cg_history.specs.History.{HistoryValue, IsReplayed}
 use Rattle.cg_locked.specs.declared.shared.Unconfirmed.{Unconfirmed}
@@ -16,6 +17,12 @@ use Rattle.cg_threads.specs.declared.ran.NotRun.{NotRun}
 use Rattle.cg_threads.specs.declared.ran.NotRun.TheVariants as not_run
 use Rattle.cg_threads.specs.Left.{is_received, is_ack, is_tick}
 use Rattle.cg_threads.specs.Numbers.{numbers_in}
+
+-- The first stray of these receipts is counted behind so many others.
+abbrev pub IsStrayBehind : ℕ → List Item → List Receipt → Stray → Type 0
+IsStrayBehind before records receipts stray =
+    (place : ℕ) × (stray.place ≡ before + place)
+    × IsFirstStray records receipts (record { place = place; fault = stray.fault })
 
 -- The event is one that the worker of the caller has done.
 abbrev pub IsWork : ℕ → Event → Type 0
@@ -29,7 +36,7 @@ pub record IsRun (start : NodeValue) (h : HistoryValue) (rounds : List ℕ) : Ty
   pub base : h.base ≡ start
   pub replayed : IsReplayed h
   pub work : All (λ (r : Item). IsWork r.caller r.event) h.records
-  pub rounds : IsPrefix rounds (numbers_in TICKER is_tick h.records)
+  pub are_first : IsPrefix rounds (numbers_in TICKER is_tick h.records)
 
 -- The history began where it did, and does not confirm all receipts of the workers, of which there are as many as
 -- records: this is the first that it does not.

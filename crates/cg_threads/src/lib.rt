@@ -12,6 +12,7 @@ mod ran;
 mod run;
 mod scoped;
 mod seats;
+mod site;
 mod work;
 
 pub use cg_settings::Turns;

@@ -16,8 +16,7 @@ impl<N: Name> Promise<Left<N>> for Operates<N> {
     ghost use Rattle.cg_threads.specs.Left.{IsLeft, is_any};
 
     ghost kept_by = { λ p r.
-        IsLeft is_any p.seat.value.caller p.seat.value.share.parts r.seat.share.parts r.seat.share.amount
-        r.receipts.items };
+        IsLeft is_any p.seat.value.caller p.seat.value.share.parts r };
 }
 
 // The sender's.
@@ -31,8 +30,7 @@ impl<N: Name> Promise<Sent<N>> for Sends<N> {
     ghost use Rattle.cg_threads.specs.Left.{IsLeft, HasTaken, is_ack};
 
     ghost kept_by = { λ p r.
-        IsLeft is_ack p.seat.value.caller p.seat.value.share.parts r.left.seat.share.parts r.left.seat.share.amount
-        r.left.receipts.items
+        IsLeft is_ack p.seat.value.caller p.seat.value.share.parts r.left
         × HasTaken p.taking.value r.taken r.numbers.items };
 }
 
@@ -47,7 +45,6 @@ impl<N: Name> Promise<Ticks<N>> for TicksOn<N> {
     ghost use Rattle.cg_threads.specs.Left.{IsLeft, HasPut, is_tick};
 
     ghost kept_by = { λ p r.
-        IsLeft is_tick p.seat.value.caller p.seat.value.share.parts r.left.seat.share.parts r.left.seat.share.amount
-        r.left.receipts.items
-        × HasPut p.putting.value r.putting r.left.receipts.items };
+        IsLeft is_tick p.seat.value.caller p.seat.value.share.parts r.left
+        × HasPut p.putting.value r.putting r.left.receipts };
 }

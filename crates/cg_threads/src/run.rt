@@ -1,11 +1,17 @@
 //! The run of a node.
 
-ghost use Rattle.std.specs.Prelude.{◌≡◌, ◌+◌, ◌≤◌, [], length, vec_len, IfOk, IfErr, MatchResult};
+ghost use Rattle.std.specs.Prelude.{◌≡◌, ◌+◌, ◌≤◌, ◌<◌, ◌++◌, [], length, vec_len, vec_capacity, IfOk, IfErr, MatchResult};
+ghost use Rattle.std.specs.List.{sum_by};
+ghost use Rattle.cg_history.specs.Confirming.{AreConfirmed, IsFirstStray};
+ghost use Rattle.cg_locked.specs.Shared.{history_of, stray_of};
+ghost use Rattle.cg_threads.specs.Left.{AreOfWorkers, AreTaken};
+ghost use Rattle.cg_threads.specs.Ran.{IsStrayBehind, IsRun, IsNotRun};
 
-use crate::left::{Left, Sent, Ticks, Work};
+use crate::left::{Sent, Ticks, Work};
 use crate::ran::{NotRun, Parts, Ran};
 use crate::scoped::work;
 use crate::seats::{Seats, WORKERS};
+use crate::site::{Site, Tools};
 use cg_clock::Milliseconds;
 use cg_history::{History, Receipt};
 use cg_locked::{Name, Seat, Shared, Unconfirmed};
@@ -20,14 +26,18 @@ use rand_core::Rng;
 use std::alloc::Global;
 use std::marker::Brand;
 use std::rt::Clock;
-use std::sync::Wait;
 use std::sync::ledger::Blank;
+use std::sync::{OnceLock, Wait};
 use std::thread::Threads;
 
 // Has a history confirm further receipts, which stand behind `before` others.
 fn confirmed(history: History, before: usize, receipts: &[Receipt]) -> Result<History, Unconfirmed>
     requires { before + length receipts.now ≤ length history.records }
+    ensures history { history_of result ≡ history }
+    ensures confirmed { MatchResult result (λ h. AreConfirmed h.records receipts.now)
+        (λ u. IsStrayBehind before u.history.records receipts.now (stray_of u)) }
 {
+    let _records = history.records();
     match history.confirms(receipts) {
         Ok(()) => Ok(history),
         Err(stray) => Err(Unconfirmed {
@@ -48,21 +58,42 @@ fn finished<N: Name, R: Wait>(
     sender: &[Receipt],
     ticker: &[Receipt],
     operator: &[Receipt],
-) -> Result<History, Unconfirmed> {
+) -> Result<History, Unconfirmed>
+    requires seats { (sum_by (λ s. s.share.parts) seats.items ≡ N.parts) × (0 < vec_len seats) }
+    requires count { sum_by (λ s. s.share.amount) seats.items
+        ≡ length receiver.now + length sender.now + length ticker.now + length operator.now }
+    requires receipts { AreOfWorkers receiver.now sender.now ticker.now operator.now }
+    ensures start { (history_of result).base ≡ N.start }
+    ensures count { length (history_of result).records
+        ≡ length (receiver.now ++ sender.now ++ ticker.now ++ operator.now) }
+    ensures confirmed { MatchResult result
+        (λ h. AreConfirmed h.records (receiver.now ++ sender.now ++ ticker.now ++ operator.now))
+        (λ u. IsFirstStray u.history.records (receiver.now ++ sender.now ++ ticker.now ++ operator.now) (stray_of u)) }
+{
     let history = shared.finish(rt, seats, receiver)?;
     let history = confirmed(history, receiver.len(), sender)?;
-    let behind = receiver.len() + sender.len();
-    let history = confirmed(history, behind, ticker)?;
-    confirmed(history, behind + ticker.len(), operator)
+    let history = confirmed(history, receiver.len() + sender.len(), ticker)?;
+    let before = receiver.len() + sender.len() + ticker.len();
+    confirmed(history, before, operator)
 }
 
 // What is left of a node whose workers have ended.
-fn end<N: Name, R: Wait>(
+fn left<N: Name, R: Wait>(
     rt: &R,
     shared: Shared<N>,
     seats: Vec<Seat<N>>,
     work: Work<N>,
-) -> Result<Ran, NotRun> {
+) -> Result<Ran, NotRun>
+    requires seats { (seats.items ≡ []) × (4 ≤ vec_capacity seats) }
+    requires parts { work.receiver.parts + work.sender.left.parts + work.ticker.left.parts + work.operator.parts
+        ≡ N.parts }
+    requires receipts { AreOfWorkers work.receiver.receipts work.sender.left.receipts
+        work.ticker.left.receipts work.operator.receipts }
+    requires taken { AreTaken work.ticker.putting work.sender.taken work.sender.numbers.items
+        work.ticker.left.receipts }
+    ensures ran { IfOk result (λ r. IsRun N.start r.history r.rounds.items) }
+    ensures not { IfErr result (IsNotRun N.start) }
+{
     let mut seats = seats;
     let Work {
         started,
@@ -81,35 +112,15 @@ fn end<N: Name, R: Wait>(
         putting,
     } = ticker;
     putting.compare(taken);
-    let Left {
-        seat,
-        receipts: of_receiver,
-    } = receiver;
+    let (seat, receiver) = receiver.into_parts();
     seats.push_reserved(seat);
-    let Left {
-        seat,
-        receipts: of_sender,
-    } = sender;
+    let (seat, sender) = sender.into_parts();
     seats.push_reserved(seat);
-    let Left {
-        seat,
-        receipts: of_ticker,
-    } = ticker;
+    let (seat, ticker) = ticker.into_parts();
     seats.push_reserved(seat);
-    let Left {
-        seat,
-        receipts: of_operator,
-    } = operator;
+    let (seat, operator) = operator.into_parts();
     seats.push_reserved(seat);
-    let left = finished(
-        rt,
-        shared,
-        seats,
-        &of_receiver,
-        &of_sender,
-        &of_ticker,
-        &of_operator,
-    );
+    let left = finished(rt, shared, seats, &receiver, &sender, &ticker, &operator);
     if !started {
         return Err(NotRun::Unstarted(Fault::OutOfMemory));
     }
@@ -141,9 +152,14 @@ fn run_named<
     parts: Parts<L, D, C, G, O>,
     turns: Turns,
 ) -> Result<Ran, NotRun>
+where
+    D::Reader: Send,
+    D::Writer: Send,
     requires views { (opened ≡ N.book) × (table ≡ N.opening) }
     requires history { (history.records ≡ []) × (history.base ≡ N.start) × (history.base.table ≡ table) }
     requires blank { (blank.name ≡ N.name) × (blank.parts ≡ N.parts) × (N.parts ≡ 4) }
+    ensures ran { IfOk result (λ r. IsRun history.base r.history r.rounds.items) }
+    ensures not { IfErr result (IsNotRun history.base) }
 {
     let Ok(ends) = rounds(alloc) else {
         return Err(NotRun::Unstarted(Fault::OutOfMemory));
@@ -166,8 +182,31 @@ fn run_named<
         ticker,
         operator,
     };
-    let work = work(rt, alloc, &shared, of_workers, pass, ends, parts, turns);
-    end(rt, shared, seats, work)
+    let Parts {
+        listener,
+        dialer,
+        clock,
+        generator,
+        operator,
+    } = parts;
+    let tools = Tools {
+        listener,
+        dialer,
+        generator,
+        operator,
+    };
+    let site = Site {
+        shared,
+        clock,
+        go: OnceLock::new(),
+    };
+    let work = work(rt, alloc, &site, of_workers, pass, ends, tools, turns);
+    let Site {
+        shared,
+        clock: _clock,
+        go: _go,
+    } = site;
+    left(rt, shared, seats, work)
 }
 
 /// Runs a node until its workers have ended, and takes its history back.
@@ -189,7 +228,12 @@ pub fn run_node<
     parts: Parts<L, D, C, G, O>,
     turns: Turns,
 ) -> Result<Ran, NotRun>
+where
+    D::Reader: Send,
+    D::Writer: Send,
     requires { history.records ≡ [] }
+    ensures ran { IfOk result (λ r. IsRun history.base r.history r.rounds.items) }
+    ensures not { IfErr result (IsNotRun history.base) }
 {
     let Ok(table) = history.base().table().copy(alloc) else {
         return Err(NotRun::Unstarted(Fault::OutOfMemory));

@@ -1,16 +1,17 @@
 //! The workers in their threads.
 
-ghost use Rattle.std.specs.Prelude.{◌≡◌, [], IfErr, MatchResult};
-ghost use Rattle.cg_rounds.specs.Ends.{put_by, taken_by};
-ghost use Rattle.cg_threads.specs.Left.{IsLeft, HasTaken, HasPut, is_received, is_ack, is_tick, is_any};
+ghost use Rattle.std.specs.Prelude.{◌≡◌, [], IfOk, IfErr};
+ghost use Rattle.cg_rounds.specs.Ends.{AreEnds, put_by, taken_by};
+ghost use Rattle.cg_threads.specs.Left.{IsLeft, HasTaken, HasPut, AreOfWorkers, AreTaken};
+ghost use Rattle.cg_threads.specs.Left.{is_received, is_ack, is_tick, is_any};
 
 use crate::left::{Left, Sent, Ticks, Work};
 use crate::promises::{Operates, Sends, TicksOn};
-use crate::ran::Parts;
-use crate::seats::Seats;
+use crate::seats::{OPERATOR, RECEIVER, SENDER, Seats, TICKER};
+use crate::site::{Site, Tools};
 use crate::work::{operate, receive, send, tick};
 use cg_clock::Milliseconds;
-use cg_locked::{Name, Shared};
+use cg_locked::Name;
 use cg_rounds::{Putting, Taking};
 use cg_seats::Operate;
 use cg_settings::Turns;
@@ -20,17 +21,20 @@ use rand_core::Rng;
 use std::alloc::Global;
 use std::rt::Clock;
 use std::snapshot::Snapshot;
-use std::sync::{OnceLock, Wait};
+use std::sync::Wait;
 use std::thread;
 use std::thread::{Promise, PromisedHandle, SpawnError, Threads};
 
-// What a worker leaves, once its thread has ended; a worker that no thread could be made for works here.
+// What a worker leaves, once its thread has ended, as it promised; a worker that no thread could be made for works here.
 fn ended<T, P: Promise<T>, F: FnOnce() -> T, R: Threads>(
     rt: &R,
+    promise: Snapshot<P>,
     worker: Result<PromisedHandle<T, P>, SpawnError<F>>,
 ) -> T
-    requires { IfErr worker (λ e. F.pre e.value) }
-    ensures { MatchResult worker (λ h. P.kept_by h.promise result) (λ e. F.post e.value result) }
+    requires promised { IfOk worker (λ h. h.promise ≡ promise.value) }
+    requires runs { IfErr worker (λ e. F.pre e.value) }
+    requires keeps { IfErr worker (λ e. (r : T) → F.post e.value r → P.kept_by promise.value r) }
+    ensures { P.kept_by promise.value result }
 {
     match worker {
         Ok(handle) => handle.join(rt),
@@ -54,17 +58,34 @@ pub(crate) fn work<
 >(
     rt: &R,
     alloc: Global,
-    shared: &Shared<N>,
+    site: &Site<N, C>,
     seats: Seats<N>,
     pass: Pass<N>,
     ends: (Putting, Taking),
-    parts: Parts<L, D, C, G, O>,
+    parts: Tools<L, D, G, O>,
     turns: Turns,
-) -> Work<N> {
-    let Parts {
+) -> Work<N>
+where
+    D::Reader: Send,
+    D::Writer: Send,
+    requires callers { (seats.receiver.caller ≡ RECEIVER) × (seats.sender.caller ≡ SENDER)
+        × (seats.ticker.caller ≡ TICKER) × (seats.operator.caller ≡ OPERATOR) }
+    requires amounts { (seats.receiver.share.amount ≡ 0) × (seats.sender.share.amount ≡ 0)
+        × (seats.ticker.share.amount ≡ 0) × (seats.operator.share.amount ≡ 0) }
+    requires ends { AreEnds ends.0 ends.1 }
+    requires none { (put_by ends.0 ≡ []) × (taken_by ends.1 ≡ []) }
+    ensures parts { (result.receiver.parts ≡ seats.receiver.share.parts)
+        × (result.sender.left.parts ≡ seats.sender.share.parts)
+        × (result.ticker.left.parts ≡ seats.ticker.share.parts)
+        × (result.operator.parts ≡ seats.operator.share.parts) }
+    ensures receipts { AreOfWorkers result.receiver.receipts result.sender.left.receipts
+        result.ticker.left.receipts result.operator.receipts }
+    ensures taken { AreTaken result.ticker.putting result.sender.taken result.sender.numbers.items
+        result.ticker.left.receipts }
+{
+    let Tools {
         listener,
         dialer,
-        clock,
         generator,
         operator,
     } = parts;
@@ -75,9 +96,6 @@ pub(crate) fn work<
         operator: fourth,
     } = seats;
     let (putting, taking) = ends;
-    let clock = &clock;
-    let go: OnceLock<bool> = OnceLock::new();
-    let go = &go;
     let sends = Sends {
         seat: Snapshot::of(&second),
         taking: Snapshot::of(&taking),
@@ -89,39 +107,59 @@ pub(crate) fn work<
     let operates = Operates {
         seat: Snapshot::of(&fourth),
     };
-    thread::scope(thread::scope_env(), rt, move |scope| -> Work<N> {
-        let sender = scope.spawn_with(
-            sends,
-            move || send(go, rt, alloc, shared, second, dialer, clock, taking),
-        );
-        let ticker = scope.spawn_with(
-            ticks,
-            move || tick(
-                go, rt, alloc, shared, third, generator, clock, putting, turns,
-            ),
-        );
-        let operator = scope.spawn_with(
-            operates,
-            move || operate(go, rt, alloc, shared, fourth, operator, pass),
-        );
-        let started = sender.is_ok() && ticker.is_ok() && operator.is_ok();
-        let _said = go.try_set(started);
-        let receiver = receive(
-            go,
-            rt,
-            alloc,
-            shared,
-            first,
-            listener,
-            clock,
-            turns.exchanges,
-        );
-        Work {
-            started,
-            receiver,
-            sender: ended(rt, sender),
-            ticker: ended(rt, ticker),
-            operator: ended(rt, operator),
-        }
-    })
+    thread::scope(
+        thread::scope_env(),
+        rt,
+        move |scope| -> Work<N>
+            requires sends { (sends.seat.value ≡ second) × (sends.taking.value ≡ taking) }
+            requires ticks { (ticks.seat.value ≡ third) × (ticks.putting.value ≡ putting) }
+            requires operates { operates.seat.value ≡ fourth }
+            requires amounts { (first.share.amount ≡ 0) × (second.share.amount ≡ 0) × (third.share.amount ≡ 0)
+                × (fourth.share.amount ≡ 0) }
+            requires none { (put_by putting ≡ []) × (taken_by taking ≡ []) }
+            ensures receiver { IsLeft is_received first.caller first.share.parts result.receiver }
+            ensures sender { IsLeft is_ack second.caller second.share.parts result.sender.left }
+            ensures taken { HasTaken taking result.sender.taken result.sender.numbers.items }
+            ensures ticker { IsLeft is_tick third.caller third.share.parts result.ticker.left }
+            ensures put { HasPut putting result.ticker.putting result.ticker.left.receipts }
+            ensures operator { IsLeft is_any fourth.caller fourth.share.parts result.operator }
+        {
+            let sent = Snapshot::of(&sends);
+            let sender = scope.spawn_with(
+                sends,
+                move || -> Sent<N>
+                    requires { (second.share.amount ≡ 0) × (taken_by taking ≡ []) }
+                    ensures left { IsLeft is_ack second.caller second.share.parts result.left }
+                    ensures taken { HasTaken taking result.taken result.numbers.items }
+                { send(rt, alloc, site, second, dialer, taking) },
+            );
+            let ticked = Snapshot::of(&ticks);
+            let ticker = scope.spawn_with(
+                ticks,
+                move || -> Ticks<N>
+                    requires { (third.share.amount ≡ 0) × (put_by putting ≡ []) }
+                    ensures left { IsLeft is_tick third.caller third.share.parts result.left }
+                    ensures put { HasPut putting result.putting result.left.receipts }
+                { tick(rt, alloc, site, third, generator, putting, turns) },
+            );
+            let operated = Snapshot::of(&operates);
+            let operator = scope.spawn_with(
+                operates,
+                move || -> Left<N>
+                    requires { fourth.share.amount ≡ 0 }
+                    ensures { IsLeft is_any fourth.caller fourth.share.parts result }
+                { operate(rt, alloc, site, fourth, operator, pass) },
+            );
+            let started = sender.is_ok() && ticker.is_ok() && operator.is_ok();
+            let _said = site.go.try_set(started);
+            let receiver = receive(rt, alloc, site, first, listener, turns.exchanges);
+            Work {
+                started,
+                receiver,
+                sender: ended(rt, sent, sender),
+                ticker: ended(rt, ticked, ticker),
+                operator: ended(rt, operated, operator),
+            }
+        },
+    )
 }

@@ -5,8 +5,9 @@ ghost use Rattle.cg_rounds.specs.Ends.{put_by, taken_by};
 ghost use Rattle.cg_threads.specs.Left.{IsLeft, HasTaken, HasPut, is_received, is_ack, is_tick, is_any};
 
 use crate::left::{Left, Sent, Ticks};
+use crate::site::Site;
 use cg_clock::Milliseconds;
-use cg_locked::{Name, Seat, Shared};
+use cg_locked::{Name, Seat};
 use cg_rounds::{Putting, Taking};
 use cg_seats::{Operate, SeatGate, operator};
 use cg_settings::Turns;
@@ -16,64 +17,56 @@ use cg_workers::{Dial, Listen, receiver, sender};
 use rand_core::Rng;
 use std::alloc::Global;
 use std::rt::Clock;
-use std::sync::{OnceLock, Wait};
-
-// What is left of a gate.
-fn left<N: Name, R: Wait>(gate: SeatGate<'_, N, R>) -> Left<N> {
-    let (seat, receipts) = gate.into_parts();
-    Left { seat, receipts }
-}
+use std::sync::Wait;
 
 // The receiver's work, where the word is to go.
 pub(crate) fn receive<N: Name, R: Wait, L: Listen + Drop, C: Milliseconds>(
-    go: &OnceLock<bool>,
     rt: &R,
     alloc: Global,
-    shared: &Shared<N>,
+    site: &Site<N, C>,
     seat: Seat<N>,
     listener: L,
-    clock: &C,
     exchanges: u32,
 ) -> Left<N>
     requires { seat.share.amount ≡ 0 }
-    ensures { IsLeft is_received seat.caller seat.share.parts result.seat.share.parts result.seat.share.amount
-        result.receipts.items }
+    ensures { IsLeft is_received seat.caller seat.share.parts result }
 {
-    let mut listener = listener;
-    let mut gate = SeatGate::new(rt, alloc, shared, seat);
-    if *go.wait(rt) {
-        let _came = receiver(alloc, &mut gate, &mut listener, clock, exchanges);
+    if !*site.go.wait(rt) {
+        return Left::unused(alloc, seat);
     }
-    left(gate)
+    let mut listener = listener;
+    let mut gate = SeatGate::new(rt, alloc, &site.shared, seat);
+    let _came = receiver(alloc, &mut gate, &mut listener, &site.clock, exchanges);
+    Left::of(gate)
 }
 
 // The sender's.
 pub(crate) fn send<N: Name, R: Wait, D: Dial + Drop, C: Milliseconds>(
-    go: &OnceLock<bool>,
     rt: &R,
     alloc: Global,
-    shared: &Shared<N>,
+    site: &Site<N, C>,
     seat: Seat<N>,
     dialer: D,
-    clock: &C,
     taking: Taking,
 ) -> Sent<N>
     requires seat { seat.share.amount ≡ 0 }
     requires taking { taken_by taking ≡ [] }
-    ensures left { IsLeft is_ack seat.caller seat.share.parts result.left.seat.share.parts
-        result.left.seat.share.amount result.left.receipts.items }
+    ensures left { IsLeft is_ack seat.caller seat.share.parts result.left }
     ensures taken { HasTaken taking result.taken result.numbers.items }
 {
+    if !*site.go.wait(rt) {
+        return Sent {
+            left: Left::unused(alloc, seat),
+            taken: taking.leave(),
+            numbers: Vec::new(alloc),
+        };
+    }
     let mut dialer = dialer;
     let mut taking = taking;
-    let mut gate = SeatGate::new(rt, alloc, shared, seat);
-    let numbers = if *go.wait(rt) {
-        sender(rt, alloc, &mut gate, &mut dialer, clock, &mut taking)
-    } else {
-        Vec::new(alloc)
-    };
+    let mut gate = SeatGate::new(rt, alloc, &site.shared, seat);
+    let numbers = sender(rt, alloc, &mut gate, &mut dialer, &site.clock, &mut taking);
     Sent {
-        left: left(gate),
+        left: Left::of(gate),
         taken: taking.leave(),
         numbers,
     }
@@ -81,62 +74,62 @@ pub(crate) fn send<N: Name, R: Wait, D: Dial + Drop, C: Milliseconds>(
 
 // The ticker's.
 pub(crate) fn tick<N: Name, R: Wait + Clock, C: Milliseconds, G: Rng + Drop>(
-    go: &OnceLock<bool>,
     rt: &R,
     alloc: Global,
-    shared: &Shared<N>,
+    site: &Site<N, C>,
     seat: Seat<N>,
     generator: G,
-    clock: &C,
     putting: Putting,
     turns: Turns,
 ) -> Ticks<N>
     requires seat { seat.share.amount ≡ 0 }
     requires putting { put_by putting ≡ [] }
-    ensures left { IsLeft is_tick seat.caller seat.share.parts result.left.seat.share.parts
-        result.left.seat.share.amount result.left.receipts.items }
-    ensures put { HasPut putting result.putting result.left.receipts.items }
+    ensures left { IsLeft is_tick seat.caller seat.share.parts result.left }
+    ensures put { HasPut putting result.putting result.left.receipts }
 {
+    if !*site.go.wait(rt) {
+        return Ticks {
+            left: Left::unused(alloc, seat),
+            putting,
+        };
+    }
     let mut generator = generator;
     let mut putting = putting;
-    let mut gate = SeatGate::new(rt, alloc, shared, seat);
-    if *go.wait(rt) {
-        let _ticked = ticker(
-            rt,
-            alloc,
-            clock,
-            &mut gate,
-            &mut generator,
-            &mut putting,
-            turns.rounds,
-            turns.interval,
-        );
-    }
+    let mut gate = SeatGate::new(rt, alloc, &site.shared, seat);
+    let _ticked = ticker(
+        rt,
+        alloc,
+        &site.clock,
+        &mut gate,
+        &mut generator,
+        &mut putting,
+        turns.rounds,
+        turns.interval,
+    );
     Ticks {
-        left: left(gate),
+        left: Left::of(gate),
         putting,
     }
 }
 
 // The operator's.
-pub(crate) fn operate<N: Name, R: Wait, O: Operate + Drop>(
-    go: &OnceLock<bool>,
+pub(crate) fn operate<N: Name, R: Wait, C: Milliseconds, O: Operate + Drop>(
     rt: &R,
     alloc: Global,
-    shared: &Shared<N>,
+    site: &Site<N, C>,
     seat: Seat<N>,
     operates: O,
     pass: Pass<N>,
 ) -> Left<N>
     requires { seat.share.amount ≡ 0 }
-    ensures { IsLeft is_any seat.caller seat.share.parts result.seat.share.parts result.seat.share.amount
-        result.receipts.items }
+    ensures { IsLeft is_any seat.caller seat.share.parts result }
 {
+    if !*site.go.wait(rt) {
+        return Left::unused(alloc, seat);
+    }
     let mut operates = operates;
     let mut pass = pass;
-    let mut gate = SeatGate::new(rt, alloc, shared, seat);
-    if *go.wait(rt) {
-        let _ended = operator(alloc, &mut gate, &mut pass, &mut operates);
-    }
-    left(gate)
+    let mut gate = SeatGate::new(rt, alloc, &site.shared, seat);
+    let _ended = operator(alloc, &mut gate, &mut pass, &mut operates);
+    Left::of(gate)
 }

@@ -1,0 +1,3 @@
+pub mod EachLemmas
+pub mod WorkLemmas
+pub mod Keeping

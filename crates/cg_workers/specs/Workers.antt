@@ -69,6 +69,12 @@ module _ {S R W L : Type 0} (does : S → Event → Reply → S → Type 0) (ref
     pub accepted : accepts s.0 (Ok (Some link)) t.0
     pub answered : Answered does refuses stays remaining contents shows link s.1 t.1
 
+  -- so many connections came, one after the other
+  pub record AllCame (count : ℕ) (s t : L × S) : Type 0 where
+    pub links : List (R × W)
+    pub counted : length links ≡ count
+    pub came : Each Came links s t
+
   -- no further connection came
   pub record NoneCame (s t : L) : Type 0 where
     pub answer : Result (Option (R × W)) Fault
@@ -77,10 +83,8 @@ module _ {S R W L : Type 0} (does : S → Event → Reply → S → Type 0) (ref
 
   -- So many connections came, each was answered, and there were as many as were wanted, or no further one came.
   pub record Received (wanted count : ℕ) (s t : L × S) : Type 0 where
-    pub links : List (R × W)
-    pub counted : length links ≡ count
     pub here : L
-    pub came : Each Came links s (here, t.1)
+    pub all : AllCame count s (here, t.1)
     pub ended : ((count ≡ wanted) × (t.0 ≡ here)) ⊎ ((count < wanted) × NoneCame here t.0)
 
 -- By a dialer too: what it answers.

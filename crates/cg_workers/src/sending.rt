@@ -85,10 +85,10 @@ pub fn sender<G: Gate, D: Dial, C: Milliseconds, R: Wait>(
     let mut numbers = Vec::new(alloc);
     for _ in rt.forever() {
         if numbers.reserve(1).is_err() {
-            return numbers;
+            break;
         }
         let Some(round) = from.take(rt) else {
-            return numbers;
+            break;
         };
         send_round(alloc, gate, dialer, clock, &round);
         numbers.push_reserved(round.number);
