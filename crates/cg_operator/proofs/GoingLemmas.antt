@@ -1,21 +1,20 @@
 -- An operator's gate and pass go on from line to line.
-use Rattle.std.proofs.Common.{◌≡◌, ℕ, ◌⊎◌, inl, inr, List, [], ◌∷◌, ◌++◌, Option, Some, None, Result, Ok, Err, IfErr, refl, sym, ap, ◌∙◌, subst, append_assoc, append-nil}
+use Rattle.std.proofs.Common.{◌≡◌, ℕ, inl, inr, List, [], ◌∷◌, ◌++◌, Option, Result, Ok, Err, IfErr, refl, sym, ap, ◌∙◌, subst, append_assoc, append-nil}
 use Rattle.cg_types.specs.declared.fault.Fault.{Fault}
-use Rattle.cg_types.specs.declared.fault.Fault.TheVariants as fault
 use Rattle.cg_table.specs.Values.{TableValue}
 use Rattle.cg_table.specs.Puts.{Put}
 use Rattle.cg_core.specs.Values.{NodeValue}
 use Rattle.cg_history.specs.declared.item.Receipt.{Receipt}
 use Rattle.cg_views.specs.Lists.{StartsWith}
 use Rattle.cg_seats.specs.Seats.{SeatValue, GoesOn, IsOperatorFault}
-use Rattle.cg_lines.specs.Taken.{Takes, Refuses, Lacks, Stops, StopsLast, IsUnread, Fails, TakesAll}
+use Rattle.cg_lines.specs.Taken.{Takes, Refuses, Lacks, Stops, IsUnread, Fails}
 use Rattle.cg_lines.specs.Lines.{ended_lines, lines_of}
 use Rattle.cg_links.specs.declared.counted.Counted.{Counted}
 use Rattle.cg_operator.specs.declared.order.Order.{Order}
 use Rattle.cg_operator.specs.declared.order.Order.TheVariants.{Show, Set, Quit}
 use Rattle.cg_operator.specs.Orders.{order_in}
-use Rattle.cg_operator.specs.Doing.{Does, Sets, SetsKey, RefusesKey}
-use Rattle.cg_operator.specs.Operating.{At, DoesLine, EndsAt, LacksMemory, ReadsNothing, WritesFront, Quits, Ends, Operates}
+use Rattle.cg_operator.specs.Doing.{Does, Sets}
+use Rattle.cg_operator.specs.Operating.{At, DoesLine, EndsAt, LacksMemory, ReadsNothing, WritesFront, Ends, Operates}
 
 pub goes_nowhere : (g : SeatValue) → GoesOn g g
 goes_nowhere g = record { seat = (refl, refl); more = []; receipts = sym (append-nil g.receipts) }

@@ -1,6 +1,5 @@
 -- What an operator that holds its gate, its pass and its writer does, as what becomes of these.
 use Rattle.std.proofs.Common.{◌≡◌, ℕ, ◌⊎◌, inl, inr, true, false, List, [], ◌∷◌, ◌++◌, Option, Result, Ok, Err, refl, sym, ap, ◌∙◌, subst, append_assoc}
-use Rattle.std.specs.Prelude.{MatchResult}
 use Rattle.std.specs.Io.KnownBytes.{Consumes}
 use Rattle.cg_types.specs.declared.fault.Fault.{Fault}
 use Rattle.cg_table.specs.Values.{TableValue}
@@ -13,7 +12,7 @@ use Rattle.cg_operator.specs.declared.order.Order.TheVariants.{Quit}
 use Rattle.cg_operator.specs.declared.operating.Operating.{Operating}
 use Rattle.cg_operator.specs.Orders.{order_in}
 use Rattle.cg_operator.specs.Operating.{At, DoesLine, EndsAt, Quits, Ends, Operates}
-use Rattle.cg_operator.specs.Steps.{at_of, HoldsSame, TakesStep, QuitsStep, EndsStep, RefusesStep}
+use Rattle.cg_operator.specs.Steps.{at_of, HoldsSame, TakesStep, RefusesStep}
 
 module _ {W : Type 0} (holds : W → Option (List ℕ)) (start : NodeValue) (opening : TableValue) where
   -- lines of which one asked for the end

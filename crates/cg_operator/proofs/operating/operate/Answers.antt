@@ -15,12 +15,12 @@ returns g c =
     let s : At g.row.W.Denot = record { gate = c.args.gate.now; pass = c.args.pass.now; writer = c.args.writer.now } in
     let t : At g.row.W.Denot = record { gate = c.gate-1.given.0; pass = c.pass-1.given.0; writer = c.writer-1.given.0 } in
     let lines = operated_at
-        g.N.Name.start g.W.Write.contents g.N.Naming.opening before after c.args.reader.now c.operate_lines.new.reader
-        s o.gate.now c.gate-1.given.0 o.pass.now c.pass-1.given.0 o.writer.now c.writer-1.given.0 c.operate_lines.result
-        gate_is pass_is writer_is c.operate_lines.ensures.done in
+    g.N.Name.start g.W.Write.contents g.N.Naming.opening before after c.args.reader.now c.operate_lines.new.reader
+    s o.gate.now c.gate-1.given.0 o.pass.now c.pass-1.given.0 o.writer.now c.writer-1.given.0 c.operate_lines.result
+    gate_is pass_is writer_is c.operate_lines.ensures.done in
     let on = operated_goes
-        g.N.Name.start g.W.Write.contents g.N.Naming.opening before after c.args.reader.now c.operate_lines.new.reader
-        s t c.operate_lines.result lines in
+    g.N.Name.start g.W.Write.contents g.N.Naming.opening before after c.args.reader.now c.operate_lines.new.reader
+    s t c.operate_lines.result lines in
     record {
       lines = lines;
       gate = on.gate;

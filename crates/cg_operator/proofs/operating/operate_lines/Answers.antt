@@ -5,10 +5,10 @@ use Rattle.cg_operator.proofs.operating.operate_lines.Goals as goal
 pub returns-in-Ok : goal.returns-in-Ok
 returns-in-Ok g c =
     let same = taken_same
-        g.W.Write.contents g.N.Name.start g.N.Naming.opening
-        (g.I.Read.remaining (link_of c.args.reader.now)) (g.I.Read.remaining (link_of c.take_lines.new.reader))
-        c.args.reader.now c.take_lines.new.reader c.args.operating.now c.take_lines.new.taker c.take_lines.result
-        c.take_lines.ensures in
+    g.W.Write.contents g.N.Name.start g.N.Naming.opening
+    (g.I.Read.remaining (link_of c.args.reader.now)) (g.I.Read.remaining (link_of c.take_lines.new.reader))
+    c.args.reader.now c.take_lines.new.reader c.args.operating.now c.take_lines.new.taker c.take_lines.result
+    c.take_lines.ensures in
     record {
       gate = same.gate;
       pass = same.pass;
@@ -23,10 +23,10 @@ returns-in-Ok g c =
 pub returns-in-Err : goal.returns-in-Err
 returns-in-Err g c =
     let same = taken_same
-        g.W.Write.contents g.N.Name.start g.N.Naming.opening
-        (g.I.Read.remaining (link_of c.args.reader.now)) (g.I.Read.remaining (link_of c.take_lines.new.reader))
-        c.args.reader.now c.take_lines.new.reader c.args.operating.now c.take_lines.new.taker c.take_lines.result
-        c.take_lines.ensures in
+    g.W.Write.contents g.N.Name.start g.N.Naming.opening
+    (g.I.Read.remaining (link_of c.args.reader.now)) (g.I.Read.remaining (link_of c.take_lines.new.reader))
+    c.args.reader.now c.take_lines.new.reader c.args.operating.now c.take_lines.new.taker c.take_lines.result
+    c.take_lines.ensures in
     record {
       gate = same.gate;
       pass = same.pass;

@@ -1,4 +1,4 @@
-use Rattle.std.proofs.Common.{refl, inl, inr, ap}
+use Rattle.std.proofs.Common.{refl, inr}
 use Rattle.cg_operator.proofs.operating.OperatingTakeLine.take_line.Goals as goal
 
 pub returns-in-Err : goal.returns-in-Err
