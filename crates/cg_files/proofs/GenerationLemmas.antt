@@ -1,11 +1,11 @@
 -- A generation's text is read back.
-use Rattle.std.proofs.Common.{◌≡◌, ℕ, ◌-◌, ◌<◌, ◌≤◌, ◌++◌, List, [], ◌∷◌, Option, Some, None, refl, sym, ap, ◌∙◌, arith, decimal, true, false, cond}
+use Rattle.std.proofs.Common.{◌≡◌, ℕ, ◌-◌, ◌<◌, [], Some, refl, arith, decimal}
 use Rattle.std.proofs.lemmas.Grind.{common_steps}
 use Rattle.cg_types.specs.declared.limits.TheConstants.{NUMBER_LIMIT}
-use Rattle.cg_types.specs.Words.{cut_at, number_of, number_between, generation_in as number_in}
+use Rattle.cg_types.specs.Words.{number_between, generation_in as number_in}
 use Rattle.cg_types.proofs.WordLemmas.{number_of-decimal, digits_of_decimal}
 use Rattle.cg_types.proofs.EndpointLaws.{cut_at-digits}
-use Rattle.cg_files.specs.Generation.{generation_in, text_of, behind_number, KeptIsRead}
+use Rattle.cg_files.specs.Generation.{generation_in, text_of, KeptIsRead}
 
 number_read : (n : ℕ) → 0 < n → n < NUMBER_LIMIT → number_in (decimal n) ≡ Some n
 unfolding number_between

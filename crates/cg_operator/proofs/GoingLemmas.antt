@@ -1,21 +1,20 @@
 -- An operator's gate and pass go on from line to line.
-use Rattle.std.proofs.Common.{◌≡◌, ℕ, ◌⊎◌, inl, inr, List, [], ◌∷◌, ◌++◌, Option, Some, None, Result, Ok, Err, IfErr, refl, sym, ap, ◌∙◌, subst, append_assoc, append-nil}
+use Rattle.std.proofs.Common.{◌≡◌, ℕ, inl, inr, List, [], ◌∷◌, ◌++◌, Option, Result, Ok, Err, IfErr, refl, sym, ap, ◌∙◌, subst, append_assoc, append-nil}
 use Rattle.cg_types.specs.declared.fault.Fault.{Fault}
-use Rattle.cg_types.specs.declared.fault.Fault.TheVariants as fault
 use Rattle.cg_table.specs.Values.{TableValue}
 use Rattle.cg_table.specs.Puts.{Put}
 use Rattle.cg_core.specs.Values.{NodeValue}
 use Rattle.cg_history.specs.declared.item.Receipt.{Receipt}
 use Rattle.cg_views.specs.Lists.{StartsWith}
 use Rattle.cg_seats.specs.Seats.{SeatValue, GoesOn, IsOperatorFault}
-use Rattle.cg_lines.specs.Taken.{Takes, Refuses, Lacks, Stops, StopsLast, IsUnread, Fails, TakesAll}
+use Rattle.cg_lines.specs.Taken.{Takes, Refuses, Lacks, Stops, IsUnread, Fails}
 use Rattle.cg_lines.specs.Lines.{ended_lines, lines_of}
 use Rattle.cg_links.specs.declared.counted.Counted.{Counted}
 use Rattle.cg_operator.specs.declared.order.Order.{Order}
 use Rattle.cg_operator.specs.declared.order.Order.TheVariants.{Show, Set, Quit}
 use Rattle.cg_operator.specs.Orders.{order_in}
-use Rattle.cg_operator.specs.Doing.{Does, Sets, SetsKey, RefusesKey}
-use Rattle.cg_operator.specs.Operating.{At, DoesLine, EndsAt, LacksMemory, ReadsNothing, WritesFront, Quits, Ends, Operates}
+use Rattle.cg_operator.specs.Doing.{Does, Sets}
+use Rattle.cg_operator.specs.Operating.{At, DoesLine, EndsAt, LacksMemory, ReadsNothing, WritesFront, Ends, Operates}
 
 pub goes_nowhere : (g : SeatValue) → GoesOn g g
 goes_nowhere g = record { seat = (refl, refl); more = []; receipts = sym (append-nil g.receipts) }
@@ -159,3 +158,13 @@ module _ (start : NodeValue) where
       pub operated_faults : {T : Type 0} (r : Result T Fault) → Operates holds start opening before after old new s t r → IfErr r IsOperatorFault
       operated_faults (Ok x) h = tt
       operated_faults (Err f) h = (failed_goes f h).fault
+
+    -- the same with other names for what is left
+    pub operated_at : {R T : Type 0} (before after : Option (List ℕ)) (old new : Counted R) (s : At W)
+        (g h : SeatValue) (p q : List Put) (w x : Counted W) (r : Result T Fault) → g ≡ h → p ≡ q → w ≡ x
+        → Operates holds start opening before after old new s (record { gate = g; pass = p; writer = w }) r
+        → Operates holds start opening before after old new s (record { gate = h; pass = q; writer = x }) r
+    operated_at before after old new s g h p q w x r a b c done =
+        let one = subst (λ (y : SeatValue). Operates holds start opening before after old new s (record { gate = y; pass = p; writer = w }) r) a done in
+        let two = subst (λ (y : List Put). Operates holds start opening before after old new s (record { gate = h; pass = y; writer = w }) r) b one in
+        subst (λ (y : Counted W). Operates holds start opening before after old new s (record { gate = h; pass = q; writer = y }) r) c two

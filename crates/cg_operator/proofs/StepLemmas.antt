@@ -1,6 +1,5 @@
 -- What an operator that holds its gate, its pass and its writer does, as what becomes of these.
 use Rattle.std.proofs.Common.{◌≡◌, ℕ, ◌⊎◌, inl, inr, true, false, List, [], ◌∷◌, ◌++◌, Option, Result, Ok, Err, refl, sym, ap, ◌∙◌, subst, append_assoc}
-use Rattle.std.specs.Prelude.{MatchResult}
 use Rattle.std.specs.Io.KnownBytes.{Consumes}
 use Rattle.cg_types.specs.declared.fault.Fault.{Fault}
 use Rattle.cg_table.specs.Values.{TableValue}
@@ -13,7 +12,17 @@ use Rattle.cg_operator.specs.declared.order.Order.TheVariants.{Quit}
 use Rattle.cg_operator.specs.declared.operating.Operating.{Operating}
 use Rattle.cg_operator.specs.Orders.{order_in}
 use Rattle.cg_operator.specs.Operating.{At, DoesLine, EndsAt, Quits, Ends, Operates}
-use Rattle.cg_operator.specs.Steps.{at_of, HoldsSame, TakesStep, QuitsStep, EndsStep, RefusesStep}
+use Rattle.cg_operator.specs.Steps.{at_of, HoldsSame, TakesStep, RefusesStep}
+
+module _ {W : Type 0} (holds : W → Option (List ℕ)) (start : NodeValue) (opening : TableValue) where
+  -- lines of which one asked for the end
+  pub record QuitsIn (s t : At W) (lines : List (List ℕ)) : Type 0 where
+    pub front : List (List ℕ)
+    pub line : List ℕ
+    pub rest : List (List ℕ)
+    pub are : lines ≡ front ++ line ∷ rest
+    pub asked : order_in line ≡ Ok Quit
+    pub done : Takes (DoesLine holds start opening) (EndsAt holds start opening) s front t
 
 module _ {N R W : Type 0} (holds : W → Option (List ℕ)) (start : NodeValue) (opening : TableValue) where
   abbrev steps : Operating N R W → List ℕ → Operating N R W → Type 0
@@ -21,12 +30,6 @@ module _ {N R W : Type 0} (holds : W → Option (List ℕ)) (start : NodeValue) 
 
   abbrev stops : Operating N R W → List ℕ → Operating N R W → Fault → Type 0
   stops = RefusesStep holds start opening
-
-  abbrev does : At W → List ℕ → At W → Type 0
-  does = DoesLine holds start opening
-
-  abbrev ends : At W → List ℕ → At W → Fault → Type 0
-  ends = EndsAt holds start opening
 
   same_further : (s m t : Operating N R W) → HoldsSame s m → HoldsSame m t → HoldsSame s t
   same_further s m t one two = record {
@@ -39,7 +42,7 @@ module _ {N R W : Type 0} (holds : W → Option (List ℕ)) (start : NodeValue) 
   pub record Chained (s t : Operating N R W) (lines : List (List ℕ)) : Type 0 where
     pub same : HoldsSame s t
     pub quit : t.has_quit ≡ s.has_quit
-    pub done : Takes does ends (at_of s) lines (at_of t)
+    pub done : Takes (DoesLine holds start opening) (EndsAt holds start opening) (at_of s) lines (at_of t)
 
   pub chained : (s t : Operating N R W) (lines : List (List ℕ)) → Takes steps stops s lines t → Chained s t lines
   chained s t [] e =
@@ -55,39 +58,30 @@ module _ {N R W : Type 0} (holds : W → Option (List ℕ)) (start : NodeValue) 
 
   -- ---- a line that is refused
 
-  -- lines of which one asked for the end
-  pub record QuitsIn (s t : At W) (lines : List (List ℕ)) : Type 0 where
-    pub front : List (List ℕ)
-    pub line : List ℕ
-    pub rest : List (List ℕ)
-    pub are : lines ≡ front ++ line ∷ rest
-    pub asked : order_in line ≡ Ok Quit
-    pub done : Takes does ends s front t
-
   refused_same : (s t : Operating N R W) (lines : List (List ℕ)) (f : Fault) → Refuses steps stops s lines t f → HoldsSame s t
   refused_same s t lines f h = same_further s h.middle t (chained s h.middle h.front h.taken).same h.refused.same
 
   refused_quits : (s t : Operating N R W) (lines : List (List ℕ)) (f : Fault) → s.has_quit ≡ false → t.has_quit ≡ true
-      → Refuses steps stops s lines t f → QuitsIn (at_of s) (at_of t) lines
+      → Refuses steps stops s lines t f → QuitsIn holds start opening (at_of s) (at_of t) lines
   refused_quits s t lines f was is h =
       let before = chained s h.middle h.front h.taken in
-      elim h.refused.cause as (λ _. QuitsIn (at_of s) (at_of t) lines) [
+      elim h.refused.cause as (λ _. QuitsIn holds start opening (at_of s) (at_of t) lines) [
         | inl q ↦ record {
           front = h.front;
           line = h.line;
           rest = h.rest;
           are = h.are;
           asked = q.asked;
-          done = subst (λ (x : At W). Takes does ends (at_of s) h.front x) (sym q.at) before.done;
+          done = subst (λ (x : At W). Takes (DoesLine holds start opening) (EndsAt holds start opening) (at_of s) h.front x) (sym q.at) before.done;
         }
         | inr e ↦ absurd (cc (e.quit, before.quit, was, is))
       ]
 
   refused_ends : (s t : Operating N R W) (lines : List (List ℕ)) (f : Fault) → s.has_quit ≡ false → t.has_quit ≡ false
-      → Refuses steps stops s lines t f → Refuses does ends (at_of s) lines (at_of t) f
+      → Refuses steps stops s lines t f → Refuses (DoesLine holds start opening) (EndsAt holds start opening) (at_of s) lines (at_of t) f
   refused_ends s t lines f was is h =
       let before = chained s h.middle h.front h.taken in
-      elim h.refused.cause as (λ _. Refuses does ends (at_of s) lines (at_of t) f) [
+      elim h.refused.cause as (λ _. Refuses (DoesLine holds start opening) (EndsAt holds start opening) (at_of s) lines (at_of t) f) [
         | inl q ↦ absurd (cc (q.quit, is))
         | inr e ↦ record {
           front = h.front;
@@ -100,7 +94,7 @@ module _ {N R W : Type 0} (holds : W → Option (List ℕ)) (start : NodeValue) 
         }
       ]
 
-  lacked_ends : (s t : Operating N R W) (lines : List (List ℕ)) (f : Fault) → Lacks steps stops s lines t f → Lacks does ends (at_of s) lines (at_of t) f
+  lacked_ends : (s t : Operating N R W) (lines : List (List ℕ)) (f : Fault) → Lacks steps stops s lines t f → Lacks (DoesLine holds start opening) (EndsAt holds start opening) (at_of s) lines (at_of t) f
   lacked_ends s t lines f h = record {
     fault = h.fault;
     front = h.front;
@@ -112,7 +106,7 @@ module _ {N R W : Type 0} (holds : W → Option (List ℕ)) (start : NodeValue) 
   -- ---- a text
 
   module _ {I : Type 0} (before after : Option (List ℕ)) (old new : Counted I) (s t : Operating N R W) where
-    all_taken : TakesAll steps stops before after old new s t → TakesAll does ends before after old new (at_of s) (at_of t)
+    all_taken : TakesAll steps stops before after old new s t → TakesAll (DoesLine holds start opening) (EndsAt holds start opening) before after old new (at_of s) (at_of t)
     all_taken h = record {
       text = h.text;
       read = h.read;
@@ -147,7 +141,7 @@ module _ {N R W : Type 0} (holds : W → Option (List ℕ)) (start : NodeValue) 
     -- ---- a quit
 
     quits_in : (text : List ℕ) (read : Consumes before after text) (kept : KeepsCounts old new)
-        → QuitsIn (at_of s) (at_of t) (lines_of text) → Quits holds start opening before after old new (at_of s) (at_of t)
+        → QuitsIn holds start opening (at_of s) (at_of t) (lines_of text) → Quits holds start opening before after old new (at_of s) (at_of t)
     quits_in text read kept q = record {
       text = text;
       read = read;
@@ -161,7 +155,7 @@ module _ {N R W : Type 0} (holds : W → Option (List ℕ)) (start : NodeValue) 
     }
 
     -- with the last line behind those that end
-    quits_before : (text : List ℕ) → QuitsIn (at_of s) (at_of t) (ended_lines [] text) → QuitsIn (at_of s) (at_of t) (lines_of text)
+    quits_before : (text : List ℕ) → QuitsIn holds start opening (at_of s) (at_of t) (ended_lines [] text) → QuitsIn holds start opening (at_of s) (at_of t) (lines_of text)
     quits_before text q =
         let last = last_line (open_line [] text) in
         record {
@@ -201,19 +195,19 @@ module _ {N R W : Type 0} (holds : W → Option (List ℕ)) (start : NodeValue) 
     -- ---- a fault
 
     stopped_ends : (f : Fault) → s.has_quit ≡ false → t.has_quit ≡ false → Stops steps stops before after old new s t f
-        → Stops does ends before after old new (at_of s) (at_of t) f
+        → Stops (DoesLine holds start opening) (EndsAt holds start opening) before after old new (at_of s) (at_of t) f
     stopped_ends f was is h = record {
       text = h.text;
       read = h.read;
       kept = h.kept;
-      stops = elim h.stops as (λ _. Refuses does ends (at_of s) (ended_lines [] h.text) (at_of t) f ⊎ Lacks does ends (at_of s) (ended_lines [] h.text) (at_of t) f) [
+      stops = elim h.stops as (λ _. Refuses (DoesLine holds start opening) (EndsAt holds start opening) (at_of s) (ended_lines [] h.text) (at_of t) f ⊎ Lacks (DoesLine holds start opening) (EndsAt holds start opening) (at_of s) (ended_lines [] h.text) (at_of t) f) [
         | inl r ↦ inl (refused_ends s t (ended_lines [] h.text) f was is r)
         | inr l ↦ inr (lacked_ends s t (ended_lines [] h.text) f l)
       ];
     }
 
     last_ends : (f : Fault) → s.has_quit ≡ false → t.has_quit ≡ false → StopsLast steps stops before after old new s t f
-        → StopsLast does ends before after old new (at_of s) (at_of t) f
+        → StopsLast (DoesLine holds start opening) (EndsAt holds start opening) before after old new (at_of s) (at_of t) f
     last_ends f was is h = record {
       text = h.text;
       read = h.read;
@@ -222,7 +216,7 @@ module _ {N R W : Type 0} (holds : W → Option (List ℕ)) (start : NodeValue) 
       stops = refused_ends s t (lines_of h.text) f was is h.stops;
     }
 
-    unread_ends : (f : Fault) → IsUnread steps stops before after old new s t f → IsUnread does ends before after old new (at_of s) (at_of t) f
+    unread_ends : (f : Fault) → IsUnread steps stops before after old new s t f → IsUnread (DoesLine holds start opening) (EndsAt holds start opening) before after old new (at_of s) (at_of t) f
     unread_ends f h = record {
       text = h.text;
       read = h.read;
@@ -231,21 +225,30 @@ module _ {N R W : Type 0} (holds : W → Option (List ℕ)) (start : NodeValue) 
       taken = (chained s t (ended_lines [] h.text) h.taken).done;
     }
 
-    pub all_end : {T : Type 0} (x : T) → TakesLines steps stops before after old new s t (Ok {E = Fault} x)
-        → Ends holds start opening before after old new (at_of s) (at_of t)
-    all_end x h = inl (all_taken h)
+    pub all_end : TakesAll steps stops before after old new s t → Ends holds start opening before after old new (at_of s) (at_of t)
+    all_end h = inl (all_taken h)
 
-    pub quit_ends : (f : Fault) → s.has_quit ≡ false → t.has_quit ≡ true → Fails steps stops before after old new s t f
+    quit_ends : (f : Fault) → s.has_quit ≡ false → t.has_quit ≡ true → Fails steps stops before after old new s t f
         → Ends holds start opening before after old new (at_of s) (at_of t)
     quit_ends f was is h = inr (failed_quits f was is h)
 
-    pub fault_ends : (f : Fault) → s.has_quit ≡ false → t.has_quit ≡ false → Fails steps stops before after old new s t f
-        → Fails does ends before after old new (at_of s) (at_of t) f
+    fault_ends : (f : Fault) → s.has_quit ≡ false → t.has_quit ≡ false → Fails steps stops before after old new s t f
+        → Fails (DoesLine holds start opening) (EndsAt holds start opening) before after old new (at_of s) (at_of t) f
     fault_ends f was is h =
-        elim h as (λ _. Fails does ends before after old new (at_of s) (at_of t) f) [
+        elim h as (λ _. Fails (DoesLine holds start opening) (EndsAt holds start opening) before after old new (at_of s) (at_of t) f) [
           | inl k ↦ inl (stopped_ends f was is k)
-          | inr k ↦ elim k as (λ _. Fails does ends before after old new (at_of s) (at_of t) f) [
+          | inr k ↦ elim k as (λ _. Fails (DoesLine holds start opening) (EndsAt holds start opening) before after old new (at_of s) (at_of t) f) [
             | inl l ↦ inr (inl (last_ends f was is l))
             | inr u ↦ inr (inr (unread_ends f u))
           ]
         ]
+
+    pub failed_ends : (f : Fault) (r : Result (Unit {0}) Fault) → s.has_quit ≡ false → (t.has_quit ≡ true → r ≡ Ok tt)
+        → (t.has_quit ≡ false → r ≡ Err f) → Fails steps stops before after old new s t f
+        → Operates holds start opening before after old new (at_of s) (at_of t) r
+    failed_ends f r was quit fault h =
+        let due = λ (x : Result (Unit {0}) Fault). Operates holds start opening before after old new (at_of s) (at_of t) x in
+        elim t.has_quit as (λ b. t.has_quit ≡ b → due r) [
+          | true ↦ λ e. subst due (sym (quit e)) (quit_ends f was e h)
+          | false ↦ λ e. subst due (sym (fault e)) (fault_ends f was e h)
+        ] refl

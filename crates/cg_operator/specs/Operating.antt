@@ -1,5 +1,5 @@
 -- Lines of the operator, one after the other, and what is written of them.
-use Rattle.std.specs.Prelude.{ℕ, ◌≡◌, ◌⊎◌, List, ◌∷◌, ◌++◌, take, Option, Result, Ok, MatchResult}
+use Rattle.std.specs.Prelude.{ℕ, ◌≡◌, ◌⊎◌, Bool, true, false, List, ◌∷◌, ◌++◌, take, Option, Result, Ok, MatchResult}
 use Rattle.std.specs.Io.KnownBytes.{Appends, Consumes}
 use Rattle.cg_types.specs.declared.fault.Fault.{Fault}
 use Rattle.cg_types.specs.declared.fault.Fault.TheVariants.{OutOfMemory, WriteFault, NoSuchNode}
@@ -62,6 +62,15 @@ module _ {W : Type 0} (holds : W → Option (List ℕ)) (start : NodeValue) (ope
   -- The line ended the operator by a fault.
   abbrev pub EndsAt : At W → List ℕ → At W → Fault → Type 0
   EndsAt s line t f = LacksMemory s t f ⊎ (ReadsNothing s line t f ⊎ WritesFront s line t f)
+
+  -- A line goes on with the next one, or asks for the end and does nothing.
+  abbrev pub Goes : At W → List ℕ → At W → Bool → Type 0
+  Goes s line t true = DoesLine s line t
+  Goes s line t false = (order_in line ≡ Ok Quit) × (t ≡ s)
+
+  -- what became of a line
+  abbrev pub TellsLine : At W → List ℕ → At W → Result Bool Fault → Type 0
+  TellsLine s line t result = MatchResult result (Goes s line t) (EndsAt s line t)
 
   module _ {R : Type 0} (before after : Option (List ℕ)) (old new : Counted R) (s t : At W) where
     -- A line asked for the end: those before it were done, and those behind it are not looked at.

@@ -1,11 +1,11 @@
 //! The work of an operator, over its lines.
 
-ghost use Rattle.std.specs.Prelude.{◌≡◌, false, IfErr, MatchResult};
+ghost use Rattle.std.specs.Prelude.{◌≡◌, true, false, Ok, Err, IfErr};
 ghost use Rattle.cg_links.specs.Counted.{link_of};
 ghost use Rattle.cg_views.specs.Lists.{StartsWith};
 ghost use Rattle.cg_seats.specs.Seats.{GoesOn, IsOperatorFault};
-ghost use Rattle.cg_operator.specs.Operating.{Operates};
-ghost use Rattle.cg_operator.specs.Steps.{at_of, TakesStep, RefusesStep};
+ghost use Rattle.cg_operator.specs.Operating.{Operates, TellsLine};
+ghost use Rattle.cg_operator.specs.Steps.{at_of};
 
 use crate::answering::answer;
 use crate::writing::write_text;
@@ -28,6 +28,27 @@ pub(crate) struct Operating<'a, 'b, N: Name, R: Wait, W> {
     pub has_quit: bool,
 }
 
+// Does a line, and writes what is shown of it; answers whether a further line is to be read.
+fn tell_line<N: Name, R: Wait, W: Write>(
+    alloc: Global,
+    gate: &mut SeatGate<'_, N, R>,
+    pass: &mut Pass<N>,
+    writer: &mut Counted<W>,
+    line: &[u8],
+) -> Result<bool, Fault>
+    ensures { TellsLine W.contents N.start N.opening (record { gate = gate.old; pass = pass.old; writer = writer.old })
+        line.now (record { gate = gate.new; pass = pass.new; writer = writer.new }) result }
+{
+    match answer(alloc, gate, pass, line) {
+        Ok(Some(text)) => match write_text(writer, text.as_bytes()) {
+            Ok(()) => Ok(true),
+            Err(fault) => Err(fault),
+        },
+        Ok(None) => Ok(false),
+        Err(fault) => Err(fault),
+    }
+}
+
 impl<'a, 'b, N: Name, R: Wait, W: Write> TakeLine for Operating<'a, 'b, N, R, W> {
     ghost use Rattle.cg_operator.specs.Steps.{TakesStep, RefusesStep};
 
@@ -36,15 +57,23 @@ impl<'a, 'b, N: Name, R: Wait, W: Write> TakeLine for Operating<'a, 'b, N, R, W>
     ghost refuses = { RefusesStep W.contents N.start N.opening };
 
     fn take_line(&mut self, alloc: Global, line: &[u8]) -> Result<(), Fault> {
-        match answer(alloc, self.gate, self.pass, line) {
-            Ok(Some(text)) => write_text(self.writer, text.as_bytes()),
-            Ok(None) => {
+        match tell_line(alloc, self.gate, self.pass, self.writer, line) {
+            Ok(true) => Ok(()),
+            Ok(false) => {
                 self.has_quit = true;
                 Err(Fault::ReadFault)
             }
             Err(fault) => Err(fault),
         }
     }
+}
+
+// How reading ended that a line stopped: no fault where the line asked for the end.
+fn ended(has_quit: bool, fault: Fault) -> Result<(), Fault>
+    ensures quit { has_quit ≡ true → result ≡ Ok tt }
+    ensures fault { has_quit ≡ false → result ≡ Err fault }
+{
+    if has_quit { Ok(()) } else { Err(fault) }
 }
 
 // Does the lines that a reader has left.
@@ -57,18 +86,13 @@ fn operate_lines<N: Name, R: Wait, W: Write, I: Read>(
     ensures gate { operating.new.gate.ghost_name ≡ operating.old.gate.ghost_name }
     ensures pass { operating.new.pass.ghost_name ≡ operating.old.pass.ghost_name }
     ensures writer { operating.new.writer.ghost_name ≡ operating.old.writer.ghost_name }
-    ensures done { Operates W.contents N.start N.opening (I.remaining (link_of reader.old)) (I.remaining (link_of reader.new))
+    ensures done { Operates W.contents N.start N.opening
+        (I.remaining (link_of reader.old)) (I.remaining (link_of reader.new))
         reader.old reader.new (at_of operating.old) (at_of operating.new) result }
 {
     match take_lines(alloc, operating, reader) {
         Ok(()) => Ok(()),
-        Err(fault) => {
-            if operating.has_quit {
-                Ok(())
-            } else {
-                Err(fault)
-            }
-        }
+        Err(fault) => ended(operating.has_quit, fault),
     }
 }
 
