@@ -32,26 +32,26 @@ fn is_missing<R: Files>(rt: &R, alloc: Global, path: &str) -> bool {
 #[test]
 fn a_file_is_made_and_replaced(rt: HostRuntime) {
     let alloc = rt.alloc();
-    let path = "/tmp/cg_files_replaced";
+    let path = "cg_files_replaced";
     let _ = fs::remove_file(&rt, path);
     assert!(rt; is_missing(&rt, alloc, path));
     assert!(rt; replace(&rt, alloc, path, b"old and longer").is_ok());
     assert!(rt; has(&rt, alloc, path, b"old and longer"));
     assert!(rt; replace(&rt, alloc, path, b"new").is_ok());
     assert!(rt; has(&rt, alloc, path, b"new"));
-    assert!(rt; is_missing(&rt, alloc, "/tmp/cg_files_replaced.new"));
+    assert!(rt; is_missing(&rt, alloc, "cg_files_replaced.new"));
     let _ = fs::remove_file(&rt, path);
 }
 
 #[test]
 fn a_file_that_is_not_put_in_place_stays_aside(rt: HostRuntime) -> Result<(), Fail> {
     let alloc = rt.alloc();
-    let path = "/tmp/cg_files_begun";
+    let path = "cg_files_begun";
     assert!(rt; replace(&rt, alloc, path, b"old").is_ok());
     let mut new = Replacement::begin(&rt, alloc, path)?;
     write_bytes(new.link(), b"half")?;
     assert!(rt; has(&rt, alloc, path, b"old"));
-    assert!(rt; has(&rt, alloc, "/tmp/cg_files_begun.new", b"half"));
+    assert!(rt; has(&rt, alloc, "cg_files_begun.new", b"half"));
     new.put(&rt, path)?;
     assert!(rt; has(&rt, alloc, path, b"half"));
     let _ = fs::remove_file(&rt, path);
@@ -61,7 +61,7 @@ fn a_file_that_is_not_put_in_place_stays_aside(rt: HostRuntime) -> Result<(), Fa
 #[test]
 fn a_file_in_no_folder_can_not_be_made(rt: HostRuntime) {
     let alloc = rt.alloc();
-    for path in ["/tmp/cg_files_no_folder/file", "", "/tmp/cg\0files"] {
+    for path in ["cg_files_no_folder/file", "", "cg\0files"] {
         assert!(rt;
             replace(&rt, alloc, path, b"new") == Err(Fault::WriteFault),
             "{path:?}"
@@ -72,7 +72,7 @@ fn a_file_in_no_folder_can_not_be_made(rt: HostRuntime) {
 #[test]
 fn a_file_longer_than_its_limit_is_no_text(rt: HostRuntime) {
     let alloc = rt.alloc();
-    let path = "/tmp/cg_files_long";
+    let path = "cg_files_long";
     assert!(rt; replace(&rt, alloc, path, &[b'x'; 64]).is_ok());
     assert!(rt; has(&rt, alloc, path, &[b'x'; 64]));
     assert!(rt; replace(&rt, alloc, path, &[b'x'; 65]).is_ok());
@@ -83,7 +83,7 @@ fn a_file_longer_than_its_limit_is_no_text(rt: HostRuntime) {
 
 #[test]
 fn a_folder_can_not_be_read(rt: HostRuntime) {
-    assert!(rt; found(&rt, rt.alloc(), "/tmp").err() == Some(Fault::ReadFault));
+    assert!(rt; found(&rt, rt.alloc(), ".").err() == Some(Fault::ReadFault));
     assert!(rt; found(&rt, rt.alloc(), "/dev/null/x").err() == Some(Fault::ReadFault));
 }
 
@@ -96,7 +96,7 @@ fn refuses<R: Files>(rt: &R, alloc: Global, path: &str, bytes: &[u8]) -> bool {
 #[test]
 fn a_generation_is_kept(rt: HostRuntime) -> Result<(), Fail> {
     let alloc = rt.alloc();
-    let path = "/tmp/cg_files_generation";
+    let path = "cg_files_generation";
     let _ = fs::remove_file(&rt, path);
     assert!(rt; stored_generation(&rt, alloc, path) == Ok(None));
     for number in [1, 1700000000, 2147483647] {
@@ -114,7 +114,7 @@ fn a_generation_is_kept(rt: HostRuntime) -> Result<(), Fail> {
     ] {
         assert!(rt; refuses(&rt, alloc, path, bytes), "{bytes:?}");
     }
-    assert!(rt; stored_generation(&rt, alloc, "/tmp") == Err(Fault::ReadFault));
+    assert!(rt; stored_generation(&rt, alloc, ".") == Err(Fault::ReadFault));
     let _ = fs::remove_file(&rt, path);
     Ok(())
 }

@@ -21,31 +21,31 @@ fn free_port<R: Net<Listener = TcpListener, Stream = TcpStream>>(rt: &R) -> io::
 // Has a file hold the settings of a node, which begins two rounds and takes nobody.
 fn settle<R: Files>(rt: &R, alloc: Global, name: &str, port: u16) -> Result<String, Fail> {
     let text = format!(in alloc;
-        "cluster = \"c1\"\nlisten = \"127.0.0.1:{port}\"\ngeneration_file = \"/tmp/{name}.generation\"\n\
-         journal = \"/tmp/{name}.journal\"\nrounds = 2\nexchanges = 0\ninterval = 0\n"
+        "cluster = \"c1\"\nlisten = \"127.0.0.1:{port}\"\ngeneration_file = \"{name}.generation\"\n\
+         journal = \"{name}.journal\"\nrounds = 2\nexchanges = 0\ninterval = 0\n"
     )?;
-    let path = format!(in alloc; "/tmp/{name}.toml")?;
+    let path = format!(in alloc; "{name}.toml")?;
     replace(rt, alloc, path.as_str(), text.as_bytes())?;
     Ok(path)
 }
 
 // Has a file hold these bytes.
 fn keep<R: Files>(rt: &R, alloc: Global, name: &str, kind: &str, bytes: &[u8]) -> Result<(), Fail> {
-    let path = format!(in alloc; "/tmp/{name}.{kind}")?;
+    let path = format!(in alloc; "{name}.{kind}")?;
     replace(rt, alloc, path.as_str(), bytes)?;
     Ok(())
 }
 
 // Removes what a node kept.
 fn remove<R: Files>(rt: &R, alloc: Global, name: &str, kind: &str) -> Result<(), Fail> {
-    let path = format!(in alloc; "/tmp/{name}.{kind}")?;
+    let path = format!(in alloc; "{name}.{kind}")?;
     let _ = fs::remove_file(rt, path.as_str());
     Ok(())
 }
 
 // The generation that a node kept.
 fn kept<R: Files>(rt: &R, alloc: Global, name: &str) -> Result<Result<Option<u32>, Fault>, Fail> {
-    let path = format!(in alloc; "/tmp/{name}.generation")?;
+    let path = format!(in alloc; "{name}.generation")?;
     Ok(match stored_generation(rt, alloc, path.as_str()) {
         Ok(Some(generation)) => Ok(Some(generation.get())),
         Ok(None) => Ok(None),
@@ -59,7 +59,7 @@ fn journal<R: Files>(
     alloc: Global,
     name: &str,
 ) -> Result<Option<(Endpoint, Generation, usize)>, Fail> {
-    let path = format!(in alloc; "/tmp/{name}.journal")?;
+    let path = format!(in alloc; "{name}.journal")?;
     let Some(bytes) = read_file(rt, alloc, path.as_str(), 100000)? else {
         return Ok(None);
     };
@@ -107,10 +107,10 @@ fn a_first_life_is_in_the_generation_of_its_second(rt: HostRuntime) -> Result<()
 fn settings_that_are_missing_or_none(rt: HostRuntime) -> Result<(), Fail> {
     let (alloc, name) = (rt.alloc(), "cg_serve_unset");
     remove(&rt, alloc, name, "toml")?;
-    assert_eq!(rt; serve(&rt, alloc, "/tmp/cg_serve_unset.toml"), 1);
+    assert_eq!(rt; serve(&rt, alloc, "cg_serve_unset.toml"), 1);
     keep(&rt, alloc, name, "toml", b"cluster = \"\xff\"\n")?;
-    assert_eq!(rt; serve(&rt, alloc, "/tmp/cg_serve_unset.toml"), 1);
-    assert_eq!(rt; serve(&rt, alloc, "/tmp"), 1);
+    assert_eq!(rt; serve(&rt, alloc, "cg_serve_unset.toml"), 1);
+    assert_eq!(rt; serve(&rt, alloc, "."), 1);
     Ok(())
 }
 
@@ -144,11 +144,11 @@ fn a_journal_that_can_not_be_written(rt: HostRuntime) -> Result<(), Fail> {
     let (alloc, name) = (rt.alloc(), "cg_serve_unwritten");
     let port = free_port(&rt)?;
     let text = format!(in alloc;
-        "cluster = \"c1\"\nlisten = \"127.0.0.1:{port}\"\ngeneration_file = \"/tmp/{name}.generation\"\n\
-         journal = \"/tmp/cg_serve_no_folder/journal\"\nrounds = 1\nexchanges = 0\n"
+        "cluster = \"c1\"\nlisten = \"127.0.0.1:{port}\"\ngeneration_file = \"{name}.generation\"\n\
+         journal = \"cg_serve_no_folder/journal\"\nrounds = 1\nexchanges = 0\n"
     )?;
     keep(&rt, alloc, name, "toml", text.as_bytes())?;
     keep(&rt, alloc, name, "generation", b"5")?;
-    assert_eq!(rt; serve(&rt, alloc, "/tmp/cg_serve_unwritten.toml"), 1);
+    assert_eq!(rt; serve(&rt, alloc, "cg_serve_unwritten.toml"), 1);
     Ok(())
 }
