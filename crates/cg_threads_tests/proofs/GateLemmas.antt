@@ -1,5 +1,5 @@
 -- A gate that was used goes on.
-use Rattle.std.proofs.Common.{◌≡◌, List, [], ◌∷◌, ◌++◌, refl, sym, ap, ◌∙◌, append-nil}
+use Rattle.std.proofs.Common.{◌≡◌, List, [], ◌∷◌, refl, sym, ap, ◌∙◌, append-nil}
 use Rattle.std.specs.Prelude.{Option}
 use Rattle.cg_table.specs.Puts.{Put}
 use Rattle.cg_core.specs.declared.event.Event.{Event}
