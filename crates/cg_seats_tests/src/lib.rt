@@ -4,6 +4,8 @@
 #![tactic(auto)]
 
 #[cfg(test)]
-mod events;
+mod board;
 #[cfg(test)]
 mod history;
+#[cfg(test)]
+mod operators;

@@ -93,7 +93,7 @@ module _ (records : List Item) (c : ℕ) (xs : List Receipt) (all : AreConfirmed
           r,
           subst (λ (n : ℕ). slice_get (xs ++ ys) n ≡ Some r) (sym there) (in_second xs ys place r behind.2.stray.1),
           (λ is. let one = subst (λ (b : List Receipt). IsConfirmed records b r) front is in
-          behind.2.stray.2 (record { stands = one.stands; follows = follows_part xs (take place ys) r one.follows })),
+              behind.2.stray.2 (record { stands = one.stands; follows = follows_part xs (take place ys) r one.follows })),
         );
         why = behind.2.why;
       }

@@ -1,5 +1,6 @@
 -- What the workers of a node leave.
-use Rattle.std.specs.Prelude.{ℕ, ◌≡◌, Bool, true, false, List, length, map}
+use Rattle.std.specs.Prelude.{ℕ, ◌≡◌, Bool, true, false, List, map, refl}
+use Rattle.std.specs.Coded.{Coded, code_by, coded×, coded_ℕ, coded_list}
 use Rattle.std.specs.List.{All}
 use mathlib.Core.List.{IsPrefix}
 use Rattle.cg_core.specs.declared.event.Event.{Event}
@@ -9,6 +10,7 @@ use Rattle.cg_rounds.specs.declared.ends.Putting.{Putting}
 use Rattle.cg_rounds.specs.declared.ends.Taking.{Taking}
 use Rattle.cg_rounds.specs.declared.ends.Taken.{Taken}
 use Rattle.cg_rounds.specs.Ends.{put_by, taken_in, PutsWhere, IsLeftOf, WereTakenOf}
+use Rattle.cg_seats.specs.Seats.{receipt_code}
 use Rattle.cg_workers.specs.Workers.{numbers_of}
 use Rattle.cg_threads.specs.declared.seats.TheConstants.{RECEIVER, SENDER, TICKER, OPERATOR}
 
@@ -40,6 +42,12 @@ is_any e = true
 pub record LeftValue : Type 0 where
   pub parts : ℕ
   pub receipts : List Receipt
+
+-- the code that a model of such a value asks for
+abbrev pub left_code : Coded LeftValue
+left_code =
+    code_by (ℕ × List Receipt) (coded× coded_ℕ (coded_list receipt_code)) (λ l. (l.parts, l.receipts))
+    (λ p. record { parts = p.0; receipts = p.1 }) (λ _. refl)
 
 -- The receipt is the caller's, of an event of the kind.
 pub record IsOf (kind : Event → Bool) (caller : ℕ) (q : Receipt) : Type 0 where

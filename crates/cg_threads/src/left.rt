@@ -20,9 +20,11 @@ pub(crate) struct Left<N: Name> {
 
 impl<N: Name> Model for Left<N> {
     ghost use Rattle.std.specs.Prelude.{◌≡◌, length};
-    ghost use Rattle.cg_threads.specs.Left.{LeftValue};
+    ghost use Rattle.cg_threads.specs.Left.{LeftValue, left_code};
 
     ghost Value = { LeftValue };
+
+    ghost coded = { left_code };
 
     ghost view = { λ l. record { parts = l.seat.share.parts; receipts = l.receipts.items } };
 

@@ -26,16 +26,12 @@ use rand_core::Rng;
 use std::alloc::Global;
 use std::marker::Brand;
 use std::rt::Clock;
-use std::sync::{OnceLock, Wait};
 use std::sync::ledger::Blank;
+use std::sync::{OnceLock, Wait};
 use std::thread::Threads;
 
 // Has a history confirm further receipts, which stand behind `before` others.
-fn confirmed(
-    history: History,
-    before: usize,
-    receipts: &[Receipt],
-) -> Result<History, Unconfirmed>
+fn confirmed(history: History, before: usize, receipts: &[Receipt]) -> Result<History, Unconfirmed>
     requires { before + length receipts.now ≤ length history.records }
     ensures history { history_of result ≡ history }
     ensures confirmed { MatchResult result (λ h. AreConfirmed h.records receipts.now)
@@ -77,7 +73,8 @@ fn finished<N: Name, R: Wait>(
     let history = shared.finish(rt, seats, receiver)?;
     let history = confirmed(history, receiver.len(), sender)?;
     let history = confirmed(history, receiver.len() + sender.len(), ticker)?;
-    confirmed(history, receiver.len() + sender.len() + ticker.len(), operator)
+    let before = receiver.len() + sender.len() + ticker.len();
+    confirmed(history, before, operator)
 }
 
 // What is left of a node whose workers have ended.
@@ -128,10 +125,13 @@ fn left<N: Name, R: Wait>(
         return Err(NotRun::Unstarted(Fault::OutOfMemory));
     }
     match left {
-        Ok(history) => Ok(Ran {
-            history,
-            rounds: numbers,
-        }),
+        Ok(history) => {
+            let _led = history.node();
+            Ok(Ran {
+                history,
+                rounds: numbers,
+            })
+        }
         Err(left) => Err(NotRun::Unconfirmed(left)),
     }
 }
@@ -155,6 +155,9 @@ fn run_named<
     parts: Parts<L, D, C, G, O>,
     turns: Turns,
 ) -> Result<Ran, NotRun>
+where
+    D::Reader: Send,
+    D::Writer: Send,
     requires views { (opened ≡ N.book) × (table ≡ N.opening) }
     requires history { (history.records ≡ []) × (history.base ≡ N.start) × (history.base.table ≡ table) }
     requires blank { (blank.name ≡ N.name) × (blank.parts ≡ N.parts) × (N.parts ≡ 4) }
@@ -228,6 +231,9 @@ pub fn run_node<
     parts: Parts<L, D, C, G, O>,
     turns: Turns,
 ) -> Result<Ran, NotRun>
+where
+    D::Reader: Send,
+    D::Writer: Send,
     requires { history.records ≡ [] }
     ensures ran { IfOk result (λ r. IsRun history.base r.history r.rounds.items) }
     ensures not { IfErr result (IsNotRun history.base) }

@@ -65,6 +65,9 @@ pub(crate) fn work<
     parts: Tools<L, D, G, O>,
     turns: Turns,
 ) -> Work<N>
+where
+    D::Reader: Send,
+    D::Writer: Send,
     requires callers { (seats.receiver.caller ≡ RECEIVER) × (seats.sender.caller ≡ SENDER)
         × (seats.ticker.caller ≡ TICKER) × (seats.operator.caller ≡ OPERATOR) }
     requires amounts { (seats.receiver.share.amount ≡ 0) × (seats.sender.share.amount ≡ 0)

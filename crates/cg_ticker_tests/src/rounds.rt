@@ -38,7 +38,7 @@ struct Done<N: Name> {
 }
 
 // Ticks so many times, with no pause, at the moment 1000 and with the words of seed 0.
-fn ticked<N: Name, R: Wait + Clock>(
+fn tick_at<N: Name, R: Wait + Clock>(
     rt: &R,
     alloc: Global,
     shared: &Shared<N>,
@@ -119,7 +119,7 @@ fn left_by<N: Name, R: Wait + Clock>(
         seat,
         receipts,
         ticked,
-    } = ticked(rt, alloc, &shared, seat, to, count);
+    } = tick_at(rt, alloc, &shared, seat, to, count);
     let last = moment_and_word(receipts.last());
     seats.push_reserved(seat);
     let (records, confirmed) = match shared.finish(rt, seats, &receipts) {

@@ -1,4 +1,3 @@
-use Rattle.std.proofs.Common.{◌≡◌}
 use Rattle.cg_rounds.specs.Ends.{put_by, PutsWhere}
 use Rattle.cg_ticker.proofs.TickLemmas.{SoFar}
 use Rattle.cg_ticker.proofs.ticking.turns.Given as goal

@@ -1,0 +1,123 @@
+//! An operator at the one seat of a board.
+
+ghost use Rattle.std.specs.Prelude.{◌≡◌, []};
+
+use crate::history::new_history;
+use crate::operators::{IsRefused, SetsAndReads};
+use cg_history::{History, Receipt};
+use cg_locked::{Name, Seat, Shared};
+use cg_seats::{Operate, SeatGate, operator};
+use cg_table::Table;
+use cg_types::Fault;
+use cg_views::{Opened, Pass, views};
+use std::alloc::Global;
+use std::marker::Brand;
+use std::sync::Wait;
+use std::sync::ledger::Blank;
+use std::test::Fail;
+
+// What a seat's operator left.
+#[derive(Drop)]
+struct Worked<N: Name> {
+    seat: Seat<N>,
+    receipts: Vec<Receipt>,
+    ended: Result<(), Fault>,
+}
+
+fn work_at<N: Name, R: Wait, O: Operate>(
+    rt: &R,
+    alloc: Global,
+    shared: &Shared<N>,
+    seat: Seat<N>,
+    pass: &mut Pass<N>,
+    operate: &mut O,
+) -> Worked<N>
+    requires { seat.share.amount ≡ 0 }
+    ensures { result.seat.share.parts ≡ seat.share.parts }
+{
+    let mut gate = SeatGate::new(rt, alloc, shared, seat);
+    let ended = operator(alloc, &mut gate, pass, operate);
+    let (seat, receipts) = gate.into_parts();
+    Worked {
+        seat,
+        receipts,
+        ended,
+    }
+}
+
+// How many records there are in the end, how many receipts are confirmed, and the number of the operator's fault, 0
+// for none.
+type Left = (usize, usize, u8);
+
+fn left_by<N: Name, R: Wait, O: Operate>(
+    rt: &R,
+    alloc: Global,
+    opened: Opened,
+    table: Table,
+    history: History,
+    blank: Blank,
+    operate: &mut O,
+) -> Result<Left, Fail>
+    requires views { (opened ≡ N.book) × (table ≡ N.opening) }
+    requires history { (history.records ≡ []) × (history.base ≡ N.start) × (history.base.table ≡ table) }
+    requires blank { (blank.name ≡ N.name) × (blank.parts ≡ N.parts) × (N.parts ≡ 1) }
+{
+    let (publisher, mut passes) = views::<N>(alloc, opened, table, 1)?;
+    let (shared, mut seats) = Shared::begin(rt, alloc, history, publisher, blank, 1)?;
+    let mut pass = passes.pop().unwrap();
+    let seat = seats.pop().unwrap();
+    let Worked {
+        seat,
+        receipts,
+        ended,
+    } = work_at(rt, alloc, &shared, seat, &mut pass, operate);
+    seats.push_reserved(seat);
+    let (records, confirmed) = match shared.finish(rt, seats, &receipts) {
+        Ok(history) => (history.records().len(), receipts.len()),
+        Err(left) => (left.history.records().len(), left.place),
+    };
+    let fault = match ended {
+        Ok(()) => 0,
+        Err(fault) => fault.number(),
+    };
+    Ok((records, confirmed, fault))
+}
+
+fn left_after<R: Wait, O: Operate>(rt: &R, alloc: Global, operate: &mut O) -> Result<Left, Fail> {
+    let history = new_history(alloc)?;
+    let table = history.node().table().copy(alloc)?;
+    left_by::<Brand, R, O>(
+        rt,
+        alloc,
+        Opened::new(),
+        table,
+        history,
+        Blank::new(1),
+        operate,
+    )
+}
+
+#[test]
+fn a_set_is_told_once_and_read(rt: HostRuntime) -> Result<(), Fail> {
+    let mut work = SetsAndReads {
+        told: (0, 0),
+        version: 0,
+    };
+    let left = left_after(&rt, rt.alloc(), &mut work)?;
+    assert_eq!(rt; left, (1, 1, 0));
+    assert_eq!(rt; (work.told, work.version), ((1, 0), 2));
+    Ok(())
+}
+
+#[test]
+fn a_refused_event_leaves_receipts_reply_and_what_is_told(rt: HostRuntime) -> Result<(), Fail> {
+    let mut work = IsRefused {
+        fault: 0,
+        left: (0, 0),
+        told: 0,
+    };
+    let left = left_after(&rt, rt.alloc(), &mut work)?;
+    assert_eq!(rt; left, (1, 1, 15));
+    assert_eq!(rt; (work.fault, work.left, work.told), (9, (1, 2), 1));
+    Ok(())
+}

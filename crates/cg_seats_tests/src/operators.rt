@@ -1,0 +1,135 @@
+//! What operators have done.
+
+ghost use Rattle.std.specs.Prelude.{IfErr};
+ghost use Rattle.cg_seats.specs.Seats.{GoesOn, IsOperatorFault};
+
+use cg_core::{Event, Reply};
+use cg_engine::Gate;
+use cg_exchange::Syn;
+use cg_locked::Name;
+use cg_samples::key;
+use cg_seats::{Operate, SeatGate};
+use cg_types::{Cluster, Fault, StateText};
+use cg_views::Pass;
+use std::alloc::Global;
+use std::sync::Wait;
+
+// ---- calls of a gate
+
+fn set_three<N: Name, R: Wait>(alloc: Global, gate: &mut SeatGate<'_, N, R>) -> Result<(), Fault>
+    ensures gate { GoesOn gate.old gate.new }
+    ensures fault { IfErr result IsOperatorFault }
+{
+    let Ok(text) = StateText::new(alloc, "x") else {
+        return Err(Fault::OutOfMemory);
+    };
+    match gate.event(alloc, Event::Set { key: key(3), text }) {
+        Ok(()) => Ok(()),
+        Err(_) => Err(Fault::OutOfMemory),
+    }
+}
+
+// Learns what is told, if anything is. Answers how often it was told.
+fn learn<N: Name, R: Wait>(gate: &mut SeatGate<'_, N, R>, pass: &mut Pass<N>) -> u64
+    ensures { GoesOn gate.old gate.new }
+{
+    match gate.told() {
+        Some(told) => {
+            pass.learn(told);
+            1
+        }
+        None => 0,
+    }
+}
+
+// The version of A's key 3, 0 for none.
+fn read_three<N: Name>(pass: &mut Pass<N>) -> Result<u64, Fault>
+    ensures { IfErr result IsOperatorFault }
+{
+    let snapshot = pass.read()?;
+    Ok(match snapshot.table().own_entry().get(key(3)) {
+        Some((_text, version)) => u64::from(version.get()),
+        None => 0,
+    })
+}
+
+// An event that another cluster's SYN makes.
+fn syn_of_another_cluster(alloc: Global) -> Option<Event> {
+    let cluster = Cluster::new(alloc, "c2").ok()?;
+    let m = Syn::new(cluster, Vec::new(alloc))?;
+    Some(Event::Syn { m })
+}
+
+// The number of the fault by which another cluster's SYN is refused, 0 where it is not.
+fn refuse<N: Name, R: Wait>(alloc: Global, gate: &mut SeatGate<'_, N, R>) -> u8
+    ensures { GoesOn gate.old gate.new }
+{
+    let Some(event) = syn_of_another_cluster(alloc) else {
+        return 0;
+    };
+    match gate.event(alloc, event) {
+        Ok(()) => 0,
+        Err(fault) => fault.number(),
+    }
+}
+
+// The version of the last reply, 0 for none.
+fn last_version<N: Name, R: Wait>(gate: &SeatGate<'_, N, R>) -> u64 {
+    match gate.reply() {
+        Some(Reply::Done(version)) => u64::from(version.get()),
+        _ => 0,
+    }
+}
+
+// ---- operators
+
+/// Sets key 3, learns what it was told, wants to learn it again, and reads.
+#[derive(Drop)]
+pub(crate) struct SetsAndReads {
+    /// How often it was told at first, and then.
+    pub(crate) told: (u64, u64),
+    /// The version of key 3 that it read.
+    pub(crate) version: u64,
+}
+
+impl Operate for SetsAndReads {
+    fn run<N: Name, R: Wait>(
+        &mut self,
+        alloc: Global,
+        gate: &mut SeatGate<'_, N, R>,
+        pass: &mut Pass<N>,
+    ) -> Result<(), Fault> {
+        set_three(alloc, gate)?;
+        let first = learn(gate, pass);
+        let again = learn(gate, pass);
+        self.told = (first, again);
+        self.version = read_three(pass)?;
+        Ok(())
+    }
+}
+
+/// Sets key 3, is refused, and ends by a fault.
+#[derive(Drop)]
+pub(crate) struct IsRefused {
+    /// Why it was refused.
+    pub(crate) fault: u8,
+    /// How many receipts there were then, and the version of the last reply.
+    pub(crate) left: (usize, u64),
+    /// How often it was told then.
+    pub(crate) told: u64,
+}
+
+impl Operate for IsRefused {
+    fn run<N: Name, R: Wait>(
+        &mut self,
+        alloc: Global,
+        gate: &mut SeatGate<'_, N, R>,
+        pass: &mut Pass<N>,
+    ) -> Result<(), Fault> {
+        set_three(alloc, gate)?;
+        self.fault = refuse(alloc, gate);
+        self.left = (gate.receipts().len(), last_version(gate));
+        self.told = learn(gate, pass);
+        Err(Fault::WriteFault)
+    }
+}
