@@ -6,7 +6,12 @@
 
 use cg_tool::run;
 use std::alloc::Global;
+use std::io::{Eprint, Input, Print};
+use std::net::{Net, TcpListener, TcpStream};
 use std::process::ExitCode;
+use std::rt::{Clock, Files};
+use std::sync::Wait;
+use std::thread::Threads;
 use std::{env, io};
 
 // The words of a line, which are parted by single spaces.
@@ -19,9 +24,20 @@ fn words_in(alloc: Global, line: &str) -> io::Result<Vec<String>> {
 }
 
 // Does what a line of words asks for.
-fn show(rt: &HostRuntime, line: &str) {
+fn show<R>(rt: &R, alloc: Global, line: &str)
+where
+    R: Input
+        + Print
+        + Eprint
+        + Files
+        + Clock
+        + Threads
+        + Wait
+        + Sync
+        + Net<Listener = TcpListener, Stream = TcpStream>,
+{
     let _ = println!(rt; "> {line}");
-    let status = run(rt, rt.alloc(), words_in(rt.alloc(), line));
+    let status = run(rt, alloc, words_in(alloc, line));
     let _ = println!(rt; "< {status}");
 }
 
@@ -38,7 +54,7 @@ fn main(rt: HostRuntime) -> ExitCode {
         "cg audit a.journal cut.journal",
         "cg audit a.journal missing.journal",
     ] {
-        show(&rt, line);
+        show(&rt, rt.alloc(), line);
     }
     ExitCode::from(run(&rt, rt.alloc(), words(&rt)))
 }

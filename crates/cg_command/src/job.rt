@@ -1,9 +1,9 @@
 //! What a command line asks for.
 
 ghost use Rattle.std.specs.Prelude.{◌≡◌, IfOk, IfErr, true, false, codes};
-ghost use Rattle.clap.specs.Words.{app_of, found_of, new_app, rows_of, rule_of, subcommand_rows_of, kind_of, FailsBy};
+ghost use Rattle.clap.specs.Words.{app_of, found_of, new_app, rows_of, subcommand_rows_of, kind_of, FailsBy};
 ghost use Rattle.clap.specs.declared.builder.command.Command.TheViews.{out-Command};
-ghost use Rattle.cg_command.specs.Job.{with_version, file_rule, audit_command, serve_command, program, subcommand_named as named_subcommand, subcommand_met, files_met, files_in, texts, subcommand_in, are_taken, faults_of};
+ghost use Rattle.cg_command.specs.Job.{with_version, audit_command, serve_command, program, subcommand_named as named_subcommand, subcommand_met, files_met, files_in, texts, subcommand_in, are_taken, faults_of};
 
 use crate::texts::{
     ABOUT, ANSWER_ABOUT, ANSWER_HELP, AUDIT_ABOUT, AUDIT_HELP, SERVE_ABOUT, SERVE_HELP, SIM_ABOUT,
@@ -49,18 +49,13 @@ fn sim<'a>(alloc: Global) -> Command<'a>
     command.after_help(SIM_HELP)
 }
 
-// A file that has to be named.
-fn file<'a>(alloc: Global) -> Arg<'a>
-    ensures { rule_of result ≡ file_rule }
-{
-    Arg::new(alloc, "file").required(true)
-}
-
 fn audit<'a>(alloc: Global) -> Result<Command<'a>, AllocError>
     ensures app { IfOk result (λ c. app_of c ≡ audit_command) }
     ensures local { IfOk result (λ c. (out-Command c).has_globals ≡ false) }
 {
-    let files = file(alloc).action(ArgAction::Append);
+    let files = Arg::new(alloc, "file")
+        .required(true)
+        .action(ArgAction::Append);
     let command = Command::new(alloc, "audit").about(AUDIT_ABOUT);
     let helped = command.after_help(AUDIT_HELP);
     let with_files = helped.arg(files)?;
@@ -71,7 +66,7 @@ fn serve<'a>(alloc: Global) -> Result<Command<'a>, AllocError>
     ensures app { IfOk result (λ c. app_of c ≡ serve_command) }
     ensures local { IfOk result (λ c. (out-Command c).has_globals ≡ false) }
 {
-    let file = file(alloc);
+    let file = Arg::new(alloc, "file").required(true);
     let command = Command::new(alloc, "serve").about(SERVE_ABOUT);
     let helped = command.after_help(SERVE_HELP);
     let with_file = helped.arg(file)?;
