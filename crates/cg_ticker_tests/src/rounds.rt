@@ -1,6 +1,7 @@
 //! The rounds that a ticker puts in.
 
 ghost use Rattle.std.specs.Prelude.{◌≡◌, []};
+ghost use Rattle.cg_rounds.specs.Ends.{PutsWhere};
 
 use crate::history::new_history;
 use cg_clock::Milliseconds;
@@ -47,7 +48,8 @@ fn tick_at<N: Name, R: Wait + Clock>(
     count: u32,
 ) -> Done<N>
     requires { seat.share.amount ≡ 0 }
-    ensures { result.seat.share.parts ≡ seat.share.parts }
+    ensures channel { PutsWhere to.new to.old }
+    ensures seat { result.seat.share.parts ≡ seat.share.parts }
 {
     let mut gate = SeatGate::new(rt, alloc, shared, seat);
     let mut words = generator(0);
@@ -111,6 +113,7 @@ fn left_by<N: Name, R: Wait + Clock>(
     requires views { (opened ≡ N.book) × (table ≡ N.opening) }
     requires history { (history.records ≡ []) × (history.base ≡ N.start) × (history.base.table ≡ table) }
     requires blank { (blank.name ≡ N.name) × (blank.parts ≡ N.parts) × (N.parts ≡ 1) }
+    ensures channel { PutsWhere to.new to.old }
 {
     let (publisher, _passes) = views::<N>(alloc, opened, table, 1)?;
     let (shared, mut seats) = Shared::begin(rt, alloc, history, publisher, blank, 1)?;
@@ -139,7 +142,9 @@ fn left_after<R: Wait + Clock>(
     alloc: Global,
     to: &mut Putting,
     count: u32,
-) -> Result<Left, Fail> {
+) -> Result<Left, Fail>
+    ensures channel { PutsWhere to.new to.old }
+{
     let history = new_history(alloc)?;
     let table = history.node().table().copy(alloc)?;
     left_by::<Brand, R>(
