@@ -1,5 +1,5 @@
 -- The receipts of a caller have the numbers of its records.
-use Rattle.std.proofs.Common.{◌≡◌, ℕ, zero, suc, ◌+◌, ◌<◌, Bool, true, false, List, [], ◌∷◌, length, take, Some, refl, sym, ap, ◌∙◌, subst, arith, eqb-true}
+use Rattle.std.proofs.Common.{◌≡◌, ℕ, zero, suc, ◌+◌, ◌<◌, Bool, true, List, length, take, Some, refl, sym, ap, ◌∙◌, arith, eqb-true}
 use Rattle.std.specs.Prelude.{◌&&◌, ◌==◌, slice_get}
 use Rattle.std.proofs.lemmas.Option.{same_Some, slice_get_within}
 use Rattle.cg_types.specs.ListPlace.{at_place}
@@ -7,9 +7,8 @@ use Rattle.cg_types.proofs.RisingLemmas.{first_of}
 use Rattle.cg_core.specs.declared.event.Event.{Event}
 use Rattle.cg_history.specs.declared.item.Item.{Item}
 use Rattle.cg_history.specs.declared.item.Receipt.{Receipt}
-use Rattle.cg_history.specs.Confirming.{IsOf, Stands, IsConfirmed, AreConfirmed}
+use Rattle.cg_history.specs.Confirming.{IsOf, Stands, AreConfirmed}
 use Rattle.cg_history.proofs.Confirmed.{at_take, within_follows}
-use Rattle.cg_history_laws.specs.Laws.{EachRecordHasItsReceipt}
 use Rattle.cg_history_laws.proofs.Covering.{each_record_has_its_receipt}
 use Rattle.cg_threads.specs.Numbers.{numbers_in, numbers_on, is_record_of, is_receipt_of}
 use Rattle.cg_threads.specs.Laws.{ReceiptsHaveTheNumbers}

@@ -1,5 +1,5 @@
 -- What is left of a node that ran.
-use Rattle.std.proofs.Common.{◌≡◌, ℕ, List, ◌++◌, length, map, refl, sym, ap, ◌∙◌, subst, append_assoc}
+use Rattle.std.proofs.Common.{◌≡◌, ℕ, List, ◌++◌, length, sym, ap, ◌∙◌, subst, append_assoc}
 use Rattle.std.proofs.lemmas.List.{map-append}
 use mathlib.Core.List.{IsPrefix}
 use Rattle.cg_core.specs.Values.{NodeValue}
@@ -15,7 +15,6 @@ use Rattle.cg_rounds.specs.Ends.{put_by, taken_in}
 use Rattle.cg_workers.specs.Workers.{numbers_of}
 use Rattle.cg_threads.specs.declared.seats.TheConstants.{RECEIVER, SENDER, TICKER, OPERATOR}
 use Rattle.cg_threads.specs.Left.{AreOf, AreOfWorkers, AreTaken, numbers_of_all, is_received, is_ack, is_tick, is_any}
-use Rattle.cg_threads.specs.Numbers.{numbers_in}
 use Rattle.cg_threads.specs.Ran.{IsRun, IsUnconfirmed}
 use Rattle.cg_threads.proofs.Workers.{all_work, records_are_work, numbers_are_the_tickers}
 
