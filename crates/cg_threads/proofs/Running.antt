@@ -13,8 +13,8 @@ use Rattle.cg_rounds.specs.declared.ends.Putting.{Putting}
 use Rattle.cg_rounds.specs.declared.ends.Taken.{Taken}
 use Rattle.cg_rounds.specs.Ends.{put_by, taken_in}
 use Rattle.cg_workers.specs.Workers.{numbers_of}
-use Rattle.cg_threads.specs.declared.seats.TheConstants.{TICKER}
-use Rattle.cg_threads.specs.Left.{AreOfWorkers, AreTaken, numbers_of_all, is_tick}
+use Rattle.cg_threads.specs.declared.seats.TheConstants.{RECEIVER, SENDER, TICKER, OPERATOR}
+use Rattle.cg_threads.specs.Left.{AreOf, AreOfWorkers, AreTaken, numbers_of_all, is_received, is_ack, is_tick, is_any}
 use Rattle.cg_threads.specs.Numbers.{numbers_in}
 use Rattle.cg_threads.specs.Ran.{IsRun, IsUnconfirmed}
 use Rattle.cg_threads.proofs.Workers.{all_work, records_are_work, numbers_are_the_tickers}
@@ -24,6 +24,15 @@ numbers_prefix xs ys front = (numbers_of front.0, sym (map-append (λ (r : Round
 
 prefix_trans : (xs ys zs : List ℕ) → IsPrefix xs ys → IsPrefix ys zs → IsPrefix xs zs
 prefix_trans xs ys zs a b = (a.0 ++ b.0, sym (append_assoc xs a.0 b.0) ∙ ap (λ (ns : List ℕ). ns ++ b.0) a.1 ∙ b.1)
+
+-- the same receipts are the workers' too
+pub same_workers : (receiver sender ticker operator r s t o : List Receipt) → r ≡ receiver → s ≡ sender → t ≡ ticker → o ≡ operator → AreOfWorkers receiver sender ticker operator → AreOfWorkers r s t o
+same_workers receiver sender ticker operator r s t o a b c d are = record {
+  of_receiver = subst (AreOf is_received RECEIVER) (sym a) are.of_receiver;
+  of_sender = subst (AreOf is_ack SENDER) (sym b) are.of_sender;
+  of_ticker = subst (AreOf is_tick TICKER) (sym c) are.of_ticker;
+  of_operator = subst (AreOf is_any OPERATOR) (sym d) are.of_operator;
+}
 
 module _ (start : NodeValue) (receiver sender ticker operator : List Receipt) (are : AreOfWorkers receiver sender ticker operator) where
   pub is_run : (h : HistoryValue) (rounds : List ℕ) (putting : Putting) (taken : Taken) → AreTaken putting taken rounds ticker → IsPrefix (taken_in taken) (put_by putting)

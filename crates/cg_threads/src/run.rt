@@ -125,10 +125,13 @@ fn left<N: Name, R: Wait>(
         return Err(NotRun::Unstarted(Fault::OutOfMemory));
     }
     match left {
-        Ok(history) => Ok(Ran {
-            history,
-            rounds: numbers,
-        }),
+        Ok(history) => {
+            let _led = history.node();
+            Ok(Ran {
+                history,
+                rounds: numbers,
+            })
+        }
         Err(left) => Err(NotRun::Unconfirmed(left)),
     }
 }

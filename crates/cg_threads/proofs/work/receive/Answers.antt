@@ -1,0 +1,12 @@
+use Rattle.std.proofs.Common.{subst}
+use Rattle.cg_seats.specs.Seats.{SeatValue}
+use Rattle.cg_threads.specs.Left.{is_received}
+use Rattle.cg_threads.proofs.Gates.{More, left_more, received_more}
+use Rattle.cg_threads.proofs.work.receive.Goals as goal
+
+pub returns : goal.returns
+returns g c =
+    let after = c.receiver-came.new.gate in
+    left_more is_received c.args.seat.caller c.args.seat.share.parts after c.of.result
+    (subst (λ (x : SeatValue). More is_received x after) c.new-gate.ensures (received_more g.N.Name.start _ _ _ _ _ _ _ _ c.receiver-came.ensures.received))
+    c.of.ensures.parts c.of.ensures.receipts c.of.ensures.own

@@ -1,0 +1,12 @@
+use Rattle.std.proofs.Common.{subst}
+use Rattle.cg_seats.specs.Seats.{SeatValue}
+use Rattle.cg_threads.specs.Left.{is_ack}
+use Rattle.cg_threads.proofs.Gates.{More, left_more, sent_more}
+use Rattle.cg_threads.proofs.work.send.Goals as goal
+
+pub returns-clause-left : goal.returns-clause-left
+returns-clause-left g c =
+    let after = c.sender-numbers.new.gate in
+    left_more is_ack c.args.seat.caller c.args.seat.share.parts after c.of.result
+    (subst (λ (x : SeatValue). More is_ack x after) c.new-gate.ensures (sent_more g.N.Name.start _ _ _ _ _ _ _ _ _ c.sender-numbers.ensures.sent))
+    c.of.ensures.parts c.of.ensures.receipts c.of.ensures.own
