@@ -13,8 +13,8 @@ use std::sync::atomic::AtomicBool;
 use std::test::Fail;
 use std::thread::{Threads, join};
 
-// What is left of A and B: the numbers of A's rounds that have the one peer B, those of the rounds that its sender took,
-// the kinds of B's records, and whether both were one run.
+// What is left of A and B: the numbers of A's rounds that have the one peer B, those of the rounds that its sender
+// took, the kinds of B's records, and whether both were one run.
 #[derive(Drop)]
 struct Left {
     begun: Vec<u64>,

@@ -38,7 +38,11 @@ pub(crate) fn ran<
     (listener, dialer): (L, D),
     operator: O,
     turns: Turns,
-) -> Option<Ran> {
+) -> Option<Ran>
+where
+    D::Reader: Send,
+    D::Writer: Send,
+{
     let mut seeds = Vec::new(alloc);
     if let Some(seed) = who.seed {
         seeds.push(seed).ok()?;

@@ -13,8 +13,8 @@ use std::sync::atomic::{AtomicBool, Ordering};
 use std::test::Fail;
 use std::thread::{Threads, join};
 
-// What is left of A and B: whether A's operator read what it had set, whether B's read before a connection was accepted,
-// whether B holds an entry of A, the kinds of its records, and whether both were one run.
+// What is left of A and B: whether A's operator read what it had set, whether B's read before a connection was
+// accepted, whether B holds an entry of A, the kinds of its records, and whether both were one run.
 #[derive(Clone, Copy, Debug, PartialEq, Eq)]
 struct Left {
     seen: bool,

@@ -15,9 +15,7 @@ use Rattle.cg_engine.specs.declared.exchange.Ended.TheVariants as ended
 use Rattle.cg_engine.specs.declared.exchange.Broken.{Broken}
 use Rattle.cg_engine.specs.Events.{event_due, IsReplyTo}
 use Rattle.cg_engine.specs.Exchanged.{Turn, AreTurns, Runs, Turned, Exchanges}
-use Rattle.cg_rounds.specs.declared.round.Round.{Round}
 use Rattle.cg_rounds.specs.declared.ends.Taking.{Taking}
-use Rattle.cg_workers.specs.Each.{Each}
 use Rattle.cg_workers.specs.Workers.{Exchanged, BegunWith, Came, Received, Reached, SentRound, Sent}
 use Rattle.cg_workers.proofs.EachLemmas.{each_keeps}
 

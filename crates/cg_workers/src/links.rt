@@ -1,7 +1,7 @@
 //! Where links come from.
 
 ghost use Rattle.std.specs.Prelude.{ℕ, Option, Result};
-ghost use Rattle.cg_types.specs.declared.fault.Fault.{Fault as FaultValue};
+ghost use Rattle.cg_types.specs.declared.fault.Fault.{Fault as Error};
 
 use cg_types::{Endpoint, Fault};
 use std::io::{Read, Write};
@@ -15,7 +15,7 @@ pub trait Listen {
     type Writer: Write + Drop;
 
     // a listener, what it answers, and the listener after it
-    ghost accepts: { Self → Result (Option (Self.Reader × Self.Writer)) FaultValue → Self → Type 0 } = { λ l r m. Unit {0} };
+    ghost accepts: { Self → Result (Option (Self.Reader × Self.Writer)) Error → Self → Type 0 } = { λ l r m. Unit {0} };
 
     /// The next connection, for which it may wait; none where no further one comes. Refused by `OutOfMemory` and
     /// `ReadFault`.
@@ -32,7 +32,7 @@ pub trait Dial {
     type Writer: Write + Drop;
 
     // a dialer, the endpoint that it is to reach, what it answers, and the dialer after it
-    ghost dials: { Self → ℕ → Result (Self.Reader × Self.Writer) FaultValue → Self → Type 0 } = { λ d p r e. Unit {0} };
+    ghost dials: { Self → ℕ → Result (Self.Reader × Self.Writer) Error → Self → Type 0 } = { λ d p r e. Unit {0} };
 
     /// A connection to an endpoint. Refused by `OutOfMemory`, `ReadFault` and `WriteFault`.
     fn dial(&mut self, peer: Endpoint) -> Result<(Self::Reader, Self::Writer), Fault>

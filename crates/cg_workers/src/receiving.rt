@@ -35,8 +35,8 @@ pub fn receiver<G: Gate, L: Listen, C: Milliseconds>(
     exchanges: u32,
 ) -> u32
     ensures most { result ≤ exchanges }
-    ensures received { Received G.does G.refuses G.stays L.Reader.remaining L.Writer.contents L.accepts (C.shows clock.now)
-        exchanges result (listener.old, gate.old) (listener.new, gate.new) }
+    ensures received { Received G.does G.refuses G.stays L.Reader.remaining L.Writer.contents L.accepts
+        (C.shows clock.now) exchanges result (listener.old, gate.old) (listener.new, gate.new) }
 {
     let mut came = 0;
     for _ in 0..exchanges {

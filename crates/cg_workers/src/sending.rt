@@ -64,9 +64,9 @@ fn send_round<G: Gate, D: Dial, C: Milliseconds>(
     }
 }
 
-/// Sends each round that is taken: it dials the peers of the round in their order, and begins an exchange with each that
-/// it reaches. A peer that can't be reached and a broken exchange end that exchange alone. Answers the numbers of the
-/// rounds that it took.
+/// Sends each round that is taken: it dials the peers of the round in their order, and begins an exchange with each
+/// that it reaches. A peer that can't be reached and a broken exchange end that exchange alone. Answers the numbers of
+/// the rounds that it took.
 ///
 /// It ends where it is told that no more rounds come, and where there is no memory for the number of a further one; a
 /// round is only taken once there is room for its number.

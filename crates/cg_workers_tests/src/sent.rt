@@ -59,8 +59,8 @@ fn round(alloc: Global, number: u64, peers: &[u16]) -> Result<Round, Fail> {
     })
 }
 
-// The numbers that A answers for two rounds, whom it dialed, how many owners it holds at the end, and whether both rounds
-// were put in.
+// The numbers that A answers for two rounds, whom it dialed, how many owners it holds at the end, and whether both
+// rounds were put in.
 type Came = (Vec<u64>, Vec<Endpoint>, usize, bool);
 
 // What comes of a round of number 5 for these peers, and one of number 9 for those, where B alone is reached.

@@ -13,11 +13,13 @@ returns-in-Stopped-clause-ticks g c =
 
 pub loop-place-preserved : goal.loop-place-preserved
 loop-place-preserved g c =
-    let so = c.loop-place.invariant.1 in
-    (c.tick_once.ensures.channel ∙ c.loop-place.invariant.0, elim c.match-tick_once.branch [
-      in-Refused w ↦ refused_next _ _ _ _ _ _ _ _ _ _ _ so w.in-Refused.ensures.turn w.in-Refused.ensures.left _ w.refused-is
-      | in-Put w ↦ put_next _ _ _ _ _ _ _ _ _ w.in-Put.ensures.turn.0 so w.in-Put.ensures.turn.1 _ _ w.in-Put.ensures.turn.2 w.in-Put.ensures.left _ w.refused-is
-    ])
+    let so = c.loop-place.invariant.1 in (
+      c.tick_once.ensures.channel ∙ c.loop-place.invariant.0,
+      elim c.match-tick_once.branch [
+        | in-Refused w ↦ refused_next _ _ _ _ _ _ _ _ _ _ _ so w.in-Refused.ensures.turn w.in-Refused.ensures.left _ w.refused-is
+        | in-Put w ↦ put_next _ _ _ _ _ _ _ _ _ w.in-Put.ensures.turn.0 so w.in-Put.ensures.turn.1 _ _ w.in-Put.ensures.turn.2 w.in-Put.ensures.left _ w.refused-is
+      ],
+    )
 
 pub returns-clause-ticks : goal.returns-clause-ticks
 returns-clause-ticks g c =
