@@ -123,9 +123,9 @@ fn files_of<'a>(alloc: Global, found: &ArgMatches<'a>) -> Result<Vec<&'a str>, A
     }
 }
 
-/// What the words ask for, of which the first is the program's name: the subcommand that `clap` finds, and `answer` where
-/// it finds none, with the files that it finds. The error is `clap`'s; where help or the version is asked for, it is
-/// their text.
+/// What the words ask for, of which the first is the program's name: the subcommand that `clap` finds, and `answer`
+/// where it finds none, with the files that it finds. The error is `clap`'s; where help or the version is asked for, it
+/// is their text.
 pub fn job_of<'a>(alloc: Global, words: &'a [&'a str]) -> Result<Job<'a>, Error>
     ensures subcommand { IfOk result (λ job. job.subcommand ≡ subcommand_met (subcommand_in (texts words.entry.now))) }
     ensures files { IfOk result (λ job. texts job.files.items ≡ files_met (subcommand_in (texts words.entry.now))) }

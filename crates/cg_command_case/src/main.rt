@@ -1,7 +1,7 @@
 //! The program `cg`, for stored runs of words that ask for help or the version, or can't be read.
 //!
-//! It does what a few lines of words ask for, each behind a line that shows them and before one with the status, and then
-//! what its own words do, whose status it ends with. What goes to standard error is not among what it prints.
+//! It does what a few lines of words ask for, each behind a line that shows them and before one with the status, and
+//! then what its own words do, whose status it ends with. What goes to standard error is not among what it prints.
 #![tactic(auto)]
 
 use cg_tool::run;

@@ -18,4 +18,6 @@ text_of generation = decimal generation ++ codes "\n"
 
 -- What is kept is read back.
 abbrev pub KeptIsRead : Type 0
-KeptIsRead = (generation : ℕ) → 0 < generation → generation < NUMBER_LIMIT → generation_in (text_of generation) ≡ Some generation
+KeptIsRead =
+    (generation : ℕ) → 0 < generation → generation < NUMBER_LIMIT
+    → generation_in (text_of generation) ≡ Some generation

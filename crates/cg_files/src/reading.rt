@@ -51,8 +51,8 @@ fn read_up_to<L: Read + Drop>(alloc: Global, link: L, most: u32) -> Result<Vec<u
 
 /// The bytes of a file; none where there is no file.
 ///
-/// `BadText` where it has more than `most` bytes, of which no more are read; `ReadFault` where it can't be opened or read,
-/// `OutOfMemory` where the bytes find no memory.
+/// `BadText` where it has more than `most` bytes, of which no more are read; `ReadFault` where it can't be opened or
+/// read, `OutOfMemory` where the bytes find no memory.
 pub fn read_file<R: Files>(
     rt: &R,
     alloc: Global,

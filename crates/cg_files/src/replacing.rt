@@ -13,8 +13,8 @@ use std::fs::OpenFile;
 use std::rt::Files;
 use std::{fs, io};
 
-/// A new file that is to stand in the place of another. Until it is put there, it stands beside that, under its name with
-/// `.new` behind it.
+/// A new file that is to stand in the place of another. Until it is put there, it stands beside that, under its name
+/// with `.new` behind it.
 #[derive(Drop)]
 pub struct Replacement<F> {
     link: Counted<F>,
@@ -69,9 +69,9 @@ impl<F> Replacement<F> {
 }
 
 impl<F: OpenFile + Drop> Replacement<F> {
-    /// Puts the new file in the place of the one at the path, once all of it is on the disk; then the folder is synced, so
-    /// that no crash brings the old file back. `WriteFault` where that fails, `OutOfMemory` where memory is refused: the
-    /// old file may then stand in its place, or the new one.
+    /// Puts the new file in the place of the one at the path, once all of it is on the disk; then the folder is synced,
+    /// so that no crash brings the old file back. `WriteFault` where that fails, `OutOfMemory` where memory is refused:
+    /// the old file may then stand in its place, or the new one.
     pub fn put<R: Files>(self, rt: &R, path: &str) -> Result<(), Fault>
         ensures { IfErr result (λ f. (f ≡ faults.OutOfMemory) ⊎ (f ≡ faults.WriteFault)) }
     {
@@ -97,7 +97,8 @@ fn put_in_place<R: Files, F: OpenFile + Drop>(
 
 /// Replaces a file by these bytes, or makes it: after a crash it has the old bytes or the new ones.
 ///
-/// `WriteFault` where that fails, `OutOfMemory` where memory is refused: then, too, it has the old bytes or the new ones.
+/// `WriteFault` where that fails, `OutOfMemory` where memory is refused: then, too, it has the old bytes or the new
+/// ones.
 pub fn replace<R: Files>(rt: &R, alloc: Global, path: &str, bytes: &[u8]) -> Result<(), Fault>
     ensures { IfErr result (λ f. (f ≡ faults.OutOfMemory) ⊎ (f ≡ faults.WriteFault)) }
 {

@@ -96,16 +96,16 @@ fn operate_lines<N: Name, R: Wait, W: Write, I: Read>(
     }
 }
 
-/// Does the lines that a reader has left, one after the other, until `quit` or the end: what a line shows is written and
-/// flushed before the next one is done.
+/// Does the lines that a reader has left, one after the other, until `quit` or the end: what a line shows is written
+/// and flushed before the next one is done.
 ///
-/// `gossipinfo`, `ring`, `digests` and `replicas RF TEXT` show what the pass reads, with no lock. `set KEY TEXT` sets a key
-/// of the node and shows `version N` once the pass has learnt what was told of it, or `version N unpublished` where no
-/// memory was found to publish it. A line that can't be read shows `fault 2 BadText` or `fault 3 TooLong`, and a refused
-/// set `fault 4 VersionsSpent`.
+/// `gossipinfo`, `ring`, `digests` and `replicas RF TEXT` show what the pass reads, with no lock. `set KEY TEXT` sets a
+/// key of the node and shows `version N` once the pass has learnt what was told of it, or `version N unpublished` where
+/// no memory was found to publish it. A line that can't be read shows `fault 2 BadText` or `fault 3 TooLong`, and a
+/// refused set `fault 4 VersionsSpent`.
 ///
-/// `OutOfMemory` where memory runs out, `ReadFault` where a read fails or 4,294,967,295 reads were made, `WriteFault` where
-/// the writer fails or takes no byte, `NoSuchNode` where there is nothing to read any more.
+/// `OutOfMemory` where memory runs out, `ReadFault` where a read fails or 4,294,967,295 reads were made, `WriteFault`
+/// where the writer fails or takes no byte, `NoSuchNode` where there is nothing to read any more.
 pub fn operate<N: Name, R: Wait, I: Read, W: Write>(
     alloc: Global,
     reader: &mut Counted<I>,
@@ -114,7 +114,8 @@ pub fn operate<N: Name, R: Wait, I: Read, W: Write>(
     pass: &mut Pass<N>,
 ) -> Result<(), Fault>
     // Which lines are done, and what is written of each.
-    ensures lines { Operates W.contents N.start N.opening (I.remaining (link_of reader.old)) (I.remaining (link_of reader.new))
+    ensures lines { Operates W.contents N.start N.opening
+        (I.remaining (link_of reader.old)) (I.remaining (link_of reader.new))
         reader.old reader.new (record { gate = gate.old; pass = pass.old; writer = writer.old })
         (record { gate = gate.new; pass = pass.new; writer = writer.new }) result }
     ensures gate { GoesOn gate.old gate.new }

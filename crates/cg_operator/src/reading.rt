@@ -92,8 +92,8 @@ fn order_behind(alloc: Global, word: &[u8], words: &[u8]) -> Result<Order, Fault
 /// `set KEY TEXT` or `quit`. RF is 0 to 2^64 - 1, KEY 1 to 16, TEXT the rest of the line, which may be empty.
 ///
 /// `TooLong` and `BadText` where only the text of a `set` is refused: over 1,024 bytes, or with control characters.
-/// `BadText` where anything else can't be read, as another word, a word too few or too many, or a text that is not UTF-8.
-/// `OutOfMemory` where the text finds no memory.
+/// `BadText` where anything else can't be read, as another word, a word too few or too many, or a text that is not
+/// UTF-8. `OutOfMemory` where the text finds no memory.
 #[tactic(auto, unfolding(crate::specs::Orders::order_in))]
 pub fn read_order(alloc: Global, line: &[u8]) -> Result<Order, Fault>
     ensures { Gives (λ o. o) result (spec.order_in line.now) }

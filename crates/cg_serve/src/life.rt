@@ -17,8 +17,8 @@ use std::rt::{Clock, Files};
 /// Bytes that a settings file may have.
 pub const SETTINGS_MOST: u32 = 65536;
 
-/// The settings that a file holds. `ReadFault` where it is missing or can't be read; `BadText` where it holds no settings, or
-/// more than `SETTINGS_MOST` bytes; `OutOfMemory` where memory is refused.
+/// The settings that a file holds. `ReadFault` where it is missing or can't be read; `BadText` where it holds no
+/// settings, or more than `SETTINGS_MOST` bytes; `OutOfMemory` where memory is refused.
 pub fn settings_in<R: Files>(rt: &R, alloc: Global, file: &str) -> Result<ServeSettings, Fault>
     ensures { IfErr result IsUnsettled }
 {
@@ -32,8 +32,8 @@ pub fn settings_in<R: Files>(rt: &R, alloc: Global, file: &str) -> Result<ServeS
     }
 }
 
-/// The generation of the life that begins, which the file keeps from then on: one more than it kept, or the seconds since
-/// 1970 where these are more.
+/// The generation of the life that begins, which the file keeps from then on: one more than it kept, or the seconds
+/// since 1970 where these are more.
 ///
 /// `ReadFault` where the file can't be read, `BadText` where it holds no generation, `VersionsSpent` where there is no
 /// greater one, `WriteFault` where it can't be kept; `OutOfMemory` where memory is refused.
@@ -55,8 +55,8 @@ pub fn next_life<R: Files + Clock>(rt: &R, alloc: Global, file: &str) -> Result<
     }
 }
 
-/// Has a file hold the journal of a history, in place of what it held: after a crash it holds the old text or the new one.
-/// `WriteFault` where that fails, `OutOfMemory` where memory is refused.
+/// Has a file hold the journal of a history, in place of what it held: after a crash it holds the old text or the new
+/// one. `WriteFault` where that fails, `OutOfMemory` where memory is refused.
 pub fn write_journal_to<R: Files>(
     rt: &R,
     alloc: Global,

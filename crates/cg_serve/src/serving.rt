@@ -19,8 +19,8 @@ use std::rt::{Clock, Files};
 use std::sync::Wait;
 use std::thread::Threads;
 
-// What is left of a life: its history, where its journal is to stand, and the fault of the first receipt that the history
-// does not confirm.
+// What is left of a life: its history, where its journal is to stand, and the fault of the first receipt that the
+// history does not confirm.
 #[derive(Drop)]
 struct Lived {
     history: History,
@@ -135,12 +135,12 @@ fn ended<R: Files + Print>(rt: &R, alloc: Global, lived: &Lived) -> u8
 /// Lives as a node by the settings in a file, and answers the exit status: 0, or 1 after a fault, which is one line on
 /// standard output.
 ///
-/// A life ends once its rounds are done and sent, its exchanges were taken and its operator has ended. The first of these
-/// faults that comes ends it before it begins: the settings can't be read (`ReadFault`) or are none (`BadText`); the
-/// generation can't be read (`ReadFault`), is none (`BadText`), has none above it (`VersionsSpent`) or can't be kept
-/// (`WriteFault`); another program listens there (`ReadFault`); memory or a thread is refused (`OutOfMemory`). At the end a
-/// receipt that the history does not confirm is told by its fault, and the journal is written all the same; `WriteFault`
-/// where it can't be.
+/// A life ends once its rounds are done and sent, its exchanges were taken and its operator has ended. The first of
+/// these faults that comes ends it before it begins: the settings can't be read (`ReadFault`) or are none (`BadText`);
+/// the generation can't be read (`ReadFault`), is none (`BadText`), has none above it (`VersionsSpent`) or can't be
+/// kept (`WriteFault`); another program listens there (`ReadFault`); memory or a thread is refused (`OutOfMemory`). At
+/// the end a receipt that the history does not confirm is told by its fault, and the journal is written all the same;
+/// `WriteFault` where it can't be.
 pub fn serve<R>(rt: &R, alloc: Global, file: &str) -> u8
 where
     R: Threads

@@ -17,8 +17,8 @@ pub const ACCEPT_TRIES: u32 = 600;
 /// Milliseconds between two such tries.
 pub const ACCEPT_PAUSE: u32 = 100;
 
-/// Milliseconds that are given to dialing a peer and the exchange with it, by those between two rounds: a third, so that
-/// three peers that are gone do not hold up the next round, and at least `LEAST_LIMIT`.
+/// Milliseconds that are given to dialing a peer and the exchange with it, by those between two rounds: a third, so
+/// that three peers that are gone do not hold up the next round, and at least `LEAST_LIMIT`.
 pub fn limit_for(interval: u32) -> u32
     ensures { result ≡ max (interval / 3) LEAST_LIMIT }
 {

@@ -42,8 +42,8 @@ fn is_of_one(error: &Error) -> bool {
 }
 
 impl<'a, R: Net<Listener = TcpListener, Stream = TcpStream> + Clock> Listener<'a, R> {
-    /// Listens at an endpoint. `ReadFault` where that can't be, as where another program does; `OutOfMemory` where memory
-    /// is refused.
+    /// Listens at an endpoint. `ReadFault` where that can't be, as where another program does; `OutOfMemory` where
+    /// memory is refused.
     pub fn bind(rt: &'a R, alloc: Global, at: Endpoint) -> Result<Listener<'a, R>, Fault>
         ensures { IfErr result (λ f. (f ≡ faults.OutOfMemory) ⊎ (f ≡ faults.ReadFault)) }
     {
@@ -91,8 +91,8 @@ impl<'a, R: Clock> Listener<'a, R> {
     }
 }
 
-/// A connection that can't be taken, as where its peer gave up, no descriptor is left or memory is refused, is no end: after
-/// a pause the next one is waited for, up to `ACCEPT_TRIES` times. Any other failure is `ReadFault`.
+/// A connection that can't be taken, as where its peer gave up, no descriptor is left or memory is refused, is no end:
+/// after a pause the next one is waited for, up to `ACCEPT_TRIES` times. Any other failure is `ReadFault`.
 impl<'a, R: Clock> Listen for Listener<'a, R> {
     ghost use Rattle.std.specs.Prelude.{◌≡◌, IfErr};
     ghost use Rattle.cg_types.specs.declared.fault.Fault.TheVariants.{ReadFault};

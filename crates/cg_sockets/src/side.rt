@@ -41,8 +41,8 @@ pub(crate) fn left_until<R: Clock>(rt: &R, end: Instant) -> io::Result<Duration>
 }
 
 impl<'a, R: Clock> Side<'a, R> {
-    /// Both sides of a connection that ends at a moment. `OutOfMemory` where there is no memory for them; the connection is
-    /// then closed.
+    /// Both sides of a connection that ends at a moment. `OutOfMemory` where there is no memory for them; the
+    /// connection is then closed.
     pub(crate) fn pair(
         rt: &'a R,
         alloc: Global,

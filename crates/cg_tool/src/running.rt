@@ -157,10 +157,11 @@ where
     }
 }
 
-/// Does what the words ask for, of which the first is the program's name, over the standard streams, the files that
-/// are named and, to serve, sockets, and answers the exit status. With no further words that is `answer`. Help and the version go to standard output, with status 0; a
-/// fault of the command line goes to standard error, with status 2, as does a word that is not UTF-8. Want of memory
-/// before the work begins is the line `fault 1 OutOfMemory`, with status 1.
+/// Does what the words ask for, of which the first is the program's name, over the standard streams, the files that are
+/// named and, to serve, sockets, and answers the exit status. With no further words that is `answer`. Help and the
+/// version go to standard output, with status 0; a fault of the command line goes to standard error, with status 2, as
+/// does a word that is not UTF-8. Want of memory before the work begins is the line `fault 1 OutOfMemory`, with status
+/// 1.
 pub fn run<R>(rt: &R, alloc: Global, words: io::Result<Vec<String>>) -> u8
 where
     R: Input
