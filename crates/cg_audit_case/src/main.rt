@@ -35,6 +35,7 @@ where
         + Wait
         + Sync
         + Net<Listener = TcpListener, Stream = TcpStream>,
+    R::Reader: Send,
 {
     let _ = println!(rt; "> {line}");
     let status = run(rt, alloc, words_in(alloc, line));

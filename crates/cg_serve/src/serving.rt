@@ -53,6 +53,7 @@ where
         + Input
         + Print
         + Net<Listener = TcpListener, Stream = TcpStream>,
+    R::Reader: Send,
 {
     let Birth {
         own,
@@ -85,6 +86,7 @@ where
         + Input
         + Print
         + Net<Listener = TcpListener, Stream = TcpStream>,
+    R::Reader: Send,
 {
     let settings = settings_in(rt, alloc, file)?;
     let generation = next_life(rt, alloc, settings.generation_file.as_str())?;
@@ -151,6 +153,7 @@ where
         + Input
         + Print
         + Net<Listener = TcpListener, Stream = TcpStream>,
+    R::Reader: Send,
     ensures { result ≤ 1 }
 {
     match live(rt, alloc, file) {

@@ -95,6 +95,7 @@ where
         + Wait
         + Sync
         + Net<Listener = TcpListener, Stream = TcpStream>,
+    R::Reader: Send,
 {
     match files {
         [file] => serve(rt, alloc, file),
@@ -115,6 +116,7 @@ where
         + Wait
         + Sync
         + Net<Listener = TcpListener, Stream = TcpStream>,
+    R::Reader: Send,
 {
     let mut reader = Counted::new(rt.reader());
     let mut writer = Counted::new(io::writer(rt));
@@ -147,6 +149,7 @@ where
         + Wait
         + Sync
         + Net<Listener = TcpListener, Stream = TcpStream>,
+    R::Reader: Send,
 {
     let Ok(words) = texts(alloc, words) else {
         return out_of_memory(rt);
@@ -173,6 +176,7 @@ where
         + Wait
         + Sync
         + Net<Listener = TcpListener, Stream = TcpStream>,
+    R::Reader: Send,
 {
     match words {
         Ok(words) => ran(rt, alloc, words.as_slice()),
