@@ -5,6 +5,7 @@ use crate::nodes::{Who, kinds, ran, rounds, were_one_run};
 use crate::operators::Quits;
 use cg_samples::{A, endpoint};
 use cg_threads::{Ran, Turns};
+use cg_types::Endpoint;
 use std::alloc::Global;
 use std::net::{Net, TcpListener, TcpStream};
 use std::rt::Clock;
@@ -23,6 +24,54 @@ struct Left {
     one: bool,
 }
 
+// A runs two rounds, whose one peer is its seed.
+fn opener<R: Threads + Wait + Clock + Sync + Net<Listener = TcpListener, Stream = TcpStream>>(
+    rt: &R,
+    alloc: Global,
+    own: Endpoint,
+    seed: Endpoint,
+) -> Option<Ran> {
+    let who = Who {
+        own,
+        start: 9,
+        seed: Some(seed),
+    };
+    let turns = Turns {
+        rounds: 2,
+        exchanges: 0,
+        interval: 0,
+    };
+    ran(rt, alloc, who, (Nobody, Dialing { rt }), Quits, turns)
+}
+
+// B answers two exchanges.
+fn answerer<R: Threads + Wait + Clock + Sync + Net<Listener = TcpListener, Stream = TcpStream>>(
+    rt: &R,
+    alloc: Global,
+    own: Endpoint,
+    listener: TcpListener,
+    asked: &AtomicBool,
+    may: &AtomicBool,
+) -> Option<Ran> {
+    let who = Who {
+        own,
+        start: 5,
+        seed: None,
+    };
+    let turns = Turns {
+        rounds: 0,
+        exchanges: 2,
+        interval: 0,
+    };
+    let listening = Listening {
+        rt,
+        listener,
+        asked,
+        may,
+    };
+    ran(rt, alloc, who, (listening, Nobody), Quits, turns)
+}
+
 fn both<R: Threads + Wait + Clock + Sync + Net<Listener = TcpListener, Stream = TcpStream>>(
     rt: &R,
     alloc: Global,
@@ -34,38 +83,8 @@ fn both<R: Threads + Wait + Clock + Sync + Net<Listener = TcpListener, Stream = 
     let (asked, may) = (&asked, &may);
     let (of_a, of_b) = join(
         rt,
-        move || -> Option<Ran> {
-            let who = Who {
-                own: a,
-                start: 9,
-                seed: Some(b),
-            };
-            let turns = Turns {
-                rounds: 2,
-                exchanges: 0,
-                interval: 0,
-            };
-            ran(rt, alloc, who, (Nobody, Dialing { rt }), Quits, turns)
-        },
-        move || -> Option<Ran> {
-            let who = Who {
-                own: b,
-                start: 5,
-                seed: None,
-            };
-            let turns = Turns {
-                rounds: 0,
-                exchanges: 2,
-                interval: 0,
-            };
-            let listening = Listening {
-                rt,
-                listener,
-                asked,
-                may,
-            };
-            ran(rt, alloc, who, (listening, Nobody), Quits, turns)
-        },
+        move || -> Option<Ran> { opener(rt, alloc, a, b) },
+        move || -> Option<Ran> { answerer(rt, alloc, b, listener, asked, may) },
     );
     let of_a = of_a.ok_or("A ran")?;
     let of_b = of_b.ok_or("B ran")?;

@@ -5,6 +5,7 @@ use crate::nodes::{Who, kinds, ran, were_one_run};
 use crate::operators::{ReadsOnce, SetsAndReads};
 use cg_samples::{A, endpoint};
 use cg_threads::{Ran, Turns};
+use cg_types::Endpoint;
 use std::alloc::Global;
 use std::net::{Net, TcpListener, TcpStream};
 use std::rt::Clock;
@@ -24,6 +25,67 @@ struct Left {
     one: bool,
 }
 
+// A sets a key, and runs one round, whose one peer is its seed.
+fn setter<R: Threads + Wait + Clock + Sync + Net<Listener = TcpListener, Stream = TcpStream>>(
+    rt: &R,
+    alloc: Global,
+    own: Endpoint,
+    seed: Endpoint,
+    seen: &AtomicBool,
+) -> Option<Ran> {
+    let who = Who {
+        own,
+        start: 9,
+        seed: Some(seed),
+    };
+    let turns = Turns {
+        rounds: 1,
+        exchanges: 0,
+        interval: 0,
+    };
+    ran(
+        rt,
+        alloc,
+        who,
+        (Nobody, Dialing { rt }),
+        SetsAndReads { seen },
+        turns,
+    )
+}
+
+// B answers one exchange, once its operator has read.
+fn reader<R: Threads + Wait + Clock + Sync + Net<Listener = TcpListener, Stream = TcpStream>>(
+    rt: &R,
+    alloc: Global,
+    own: Endpoint,
+    listener: TcpListener,
+    asked: &AtomicBool,
+    read: &AtomicBool,
+) -> Option<Ran> {
+    let who = Who {
+        own,
+        start: 5,
+        seed: None,
+    };
+    let turns = Turns {
+        rounds: 0,
+        exchanges: 1,
+        interval: 0,
+    };
+    let listening = Listening {
+        rt,
+        listener,
+        asked,
+        may: read,
+    };
+    let operator = ReadsOnce {
+        clock: rt,
+        asked,
+        read,
+    };
+    ran(rt, alloc, who, (listening, Nobody), operator, turns)
+}
+
 fn both<R: Threads + Wait + Clock + Sync + Net<Listener = TcpListener, Stream = TcpStream>>(
     rt: &R,
     alloc: Global,
@@ -39,50 +101,8 @@ fn both<R: Threads + Wait + Clock + Sync + Net<Listener = TcpListener, Stream = 
     let (asked, read, seen) = (&asked, &read, &seen);
     let (of_a, of_b) = join(
         rt,
-        move || -> Option<Ran> {
-            let who = Who {
-                own: a,
-                start: 9,
-                seed: Some(b),
-            };
-            let turns = Turns {
-                rounds: 1,
-                exchanges: 0,
-                interval: 0,
-            };
-            ran(
-                rt,
-                alloc,
-                who,
-                (Nobody, Dialing { rt }),
-                SetsAndReads { seen },
-                turns,
-            )
-        },
-        move || -> Option<Ran> {
-            let who = Who {
-                own: b,
-                start: 5,
-                seed: None,
-            };
-            let turns = Turns {
-                rounds: 0,
-                exchanges: 1,
-                interval: 0,
-            };
-            let listening = Listening {
-                rt,
-                listener,
-                asked,
-                may: read,
-            };
-            let operator = ReadsOnce {
-                clock: rt,
-                asked,
-                read,
-            };
-            ran(rt, alloc, who, (listening, Nobody), operator, turns)
-        },
+        move || -> Option<Ran> { setter(rt, alloc, a, b, seen) },
+        move || -> Option<Ran> { reader(rt, alloc, b, listener, asked, read) },
     );
     let of_a = of_a.ok_or("A ran")?;
     let of_b = of_b.ok_or("B ran")?;
