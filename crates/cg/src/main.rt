@@ -1,4 +1,4 @@
-//! The program `cg`: `answer`, `sim`, `audit` and `serve`.
+//! The program `cg`: `answer` and `sim` over the standard streams.
 #![tactic(auto)]
 
 use cg_tool::run;

@@ -1,17 +1,12 @@
 //! The program `cg`, for stored runs of words that ask for help or the version, or can't be read.
 //!
-//! It does what a few lines of words ask for, each behind a line that shows them and before one with the status, and
-//! then what its own words do, whose status it ends with. What goes to standard error is not among what it prints.
+//! It does what a few lines of words ask for, each behind a line that shows them and before one with the status, and then
+//! what its own words do, whose status it ends with. What goes to standard error is not among what it prints.
 #![tactic(auto)]
 
 use cg_tool::run;
 use std::alloc::Global;
-use std::io::{Eprint, Input, Print};
-use std::net::{Net, TcpListener, TcpStream};
 use std::process::ExitCode;
-use std::rt::{Clock, Files};
-use std::sync::Wait;
-use std::thread::Threads;
 use std::{env, io};
 
 // The words of a line, which are parted by single spaces.
@@ -24,21 +19,9 @@ fn words_in(alloc: Global, line: &str) -> io::Result<Vec<String>> {
 }
 
 // Does what a line of words asks for.
-fn show<R>(rt: &R, alloc: Global, line: &str)
-where
-    R: Input
-        + Print
-        + Eprint
-        + Files
-        + Clock
-        + Threads
-        + Wait
-        + Sync
-        + Net<Listener = TcpListener, Stream = TcpStream>,
-    R::Reader: Send,
-{
+fn show(rt: &HostRuntime, line: &str) {
     let _ = println!(rt; "> {line}");
-    let status = run(rt, alloc, words_in(alloc, line));
+    let status = run(rt, rt.alloc(), words_in(rt.alloc(), line));
     let _ = println!(rt; "< {status}");
 }
 
@@ -53,12 +36,11 @@ fn main(rt: HostRuntime) -> ExitCode {
         "cg --help",
         "cg sim --help",
         "cg answer --help",
-        "cg serve --help",
         "cg --version",
         "cg sim x",
         "cg answer x",
     ] {
-        show(&rt, rt.alloc(), line);
+        show(&rt, line);
     }
     ExitCode::from(run(&rt, rt.alloc(), words(&rt)))
 }

@@ -1,5 +1,5 @@
-//! The program's work, over readers and writers: `answer` stands here; scripts, audits, serving and the command line,
-//! in crates of their own, are passed on.
+//! The program's work, over readers and writers: `answer` stands here; scripts and the command line, in crates of their
+//! own, are passed on.
 #![tactic(auto)]
 
 mod answering;
