@@ -1,7 +1,7 @@
 //! The rounds that a ticker puts in.
 
 ghost use Rattle.std.specs.Prelude.{◌≡◌, []};
-ghost use Rattle.cg_rounds.specs.Ends.{PutsWhere};
+ghost use Rattle.cg_rounds.specs.Ends.{PutsWhere, TakesWhere};
 
 use crate::history::new_history;
 use cg_clock::Milliseconds;
@@ -83,7 +83,9 @@ fn moment_and_word(receipt: Option<&Receipt>) -> (u64, u64) {
 }
 
 // The number of the next round and how many digests its SYN has, 0 where none comes.
-fn next_round<R: Wait>(rt: &R, from: &mut Taking) -> (u64, usize) {
+fn next_round<R: Wait>(rt: &R, from: &mut Taking) -> (u64, usize)
+    ensures { TakesWhere from.new from.old }
+{
     match from.take(rt) {
         Some(round) => (round.number, round.syn.digests().len()),
         None => (0, 0),
