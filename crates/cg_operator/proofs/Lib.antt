@@ -1,2 +1,0 @@
-pub mod GoingLemmas
-pub mod StepLemmas

@@ -1,5 +1,0 @@
-pub mod Orders
-pub mod Shown
-pub mod Doing
-pub mod Operating
-pub mod Steps
