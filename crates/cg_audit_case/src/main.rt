@@ -1,44 +1,19 @@
 //! The program `cg`, for stored runs of `audit` over files.
 //!
-//! It does what a few lines of words ask for, each behind a line that shows them and before one with the status, and then
-//! what its own words do, whose status it ends with. What goes to standard error is not among what it prints.
+//! It does what a few lines of words ask for, each behind a line that shows them and before one with the status, and
+//! then what its own words do, whose status it ends with. What goes to standard error is not among what it prints.
 #![tactic(auto)]
 
-use cg_tool::run;
-use std::alloc::Global;
+use cg_tool::show_run;
 use std::process::ExitCode;
-use std::{env, io};
 
-// The words of a line, which are parted by single spaces.
-fn words_in(alloc: Global, line: &str) -> io::Result<Vec<String>> {
-    let mut words = Vec::new(alloc);
-    for word in line.split(' ') {
-        words.push(word.to_string(alloc)?)?;
-    }
-    Ok(words)
-}
-
-// Does what a line of words asks for.
-fn show(rt: &HostRuntime, line: &str) {
-    let _ = println!(rt; "> {line}");
-    let status = run(rt, rt.alloc(), words_in(rt.alloc(), line));
-    let _ = println!(rt; "< {status}");
-}
-
-// The words of the command line, of which the first is the program's name.
-fn words(rt: &HostRuntime) -> io::Result<Vec<String>> {
-    Ok(env::args(rt)?.collect(rt.alloc())?)
-}
-
-/// Does what the words ask for.
+/// Does what the lines ask for, and then what the words do.
 fn main(rt: HostRuntime) -> ExitCode {
-    for line in [
+    let lines = [
         "cg audit a.journal b_without_syn.journal",
         "cg audit b6.journal b.journal",
         "cg audit a.journal cut.journal",
         "cg audit a.journal missing.journal",
-    ] {
-        show(&rt, line);
-    }
-    ExitCode::from(run(&rt, rt.alloc(), words(&rt)))
+    ];
+    ExitCode::from(show_run(&rt, &lines))
 }

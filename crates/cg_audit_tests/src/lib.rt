@@ -2,4 +2,12 @@
 #![tactic(auto)]
 
 #[cfg(test)]
+mod made;
+#[cfg(test)]
+mod many;
+#[cfg(test)]
+mod play;
+#[cfg(test)]
 mod runs;
+#[cfg(test)]
+mod worlds;

@@ -1,67 +1,30 @@
 //! A is 10.0.0.1:7000 and B 10.0.0.2:7000; the cluster is c1. An item is printed as the last byte of the endpoint's
 //! address, the generation, and the number.
 
-use cg_audit::{AuditFault, LifeItem, Lives, audit, endpoints_differ};
-use cg_core::{Event, Settings};
-use cg_exchange::Lent;
+use crate::made::{
+    audited, audited_both, audited_one, begun, event, exchange, hand, life, lives, opened,
+};
+use cg_audit::Lives;
+use cg_core::Event;
 use cg_history::History;
-use cg_samples::{A, B, cluster, endpoint, generation};
-use cg_silence::Silence;
+use cg_samples::{A, B, endpoint};
 use std::alloc::Global;
 use std::test::Fail;
 
-fn begun(alloc: Global, own: u16, number: u32) -> Result<History, Fail> {
-    let settings = Settings::new(cluster(alloc)?, Vec::new(alloc), Silence::default());
-    let settings = settings.ok_or("settings")?;
-    Ok(History::begin(alloc, endpoint(own), generation(number), settings)?)
-}
-
-// The event that hands over what a record sent.
-fn event(alloc: Global, from: &History, number: usize) -> Result<Event, Fail> {
-    let Some(item) = from.records().get(number.saturating_sub(1)) else {
-        return Err(Fail::from("a record"));
-    };
-    match item.reply.message() {
-        Some(Lent::Syn(m)) => Ok(Event::Syn { m: m.copy(alloc)? }),
-        Some(Lent::Ack(m)) => Ok(Event::Ack {
-            now: 1000,
-            m: m.copy(alloc)?,
-        }),
-        Some(Lent::Ack2(m)) => Ok(Event::Ack2 {
-            now: 1000,
-            m: m.copy(alloc)?,
-        }),
-        None => Err(Fail::from("a message")),
-    }
-}
-
 // A sends B a SYN, B an ACK, and A an ACK2.
-fn exchange(alloc: Global) -> Result<(History, History), Fail> {
+fn exchanged(alloc: Global) -> Result<(History, History), Fail> {
     let mut a = begun(alloc, A, 9)?;
     let mut b = begun(alloc, B, 5)?;
-    a.apply(alloc, 0, Event::Opening)?;
-    b.apply(alloc, 0, event(alloc, &a, 1)?)?;
-    a.apply(alloc, 0, event(alloc, &b, 1)?)?;
-    b.apply(alloc, 0, event(alloc, &a, 2)?)?;
+    exchange(alloc, &mut a, &mut b)?;
     Ok((a, b))
 }
 
 // The same, and B's history without the SYN.
 fn without_the_syn(alloc: Global) -> Result<(History, History), Fail> {
-    let (a, _) = exchange(alloc)?;
+    let (a, _) = exchanged(alloc)?;
     let mut b = begun(alloc, B, 5)?;
-    b.apply(alloc, 0, event(alloc, &a, 2)?)?;
+    hand(alloc, &a, 2, &mut b)?;
     Ok((a, b))
-}
-
-fn lives(own: u16, histories: Vec<History>) -> Result<Lives, Fail> {
-    Ok(Lives::new(endpoint(own), histories).ok_or("lives")?)
-}
-
-fn life(alloc: Global, own: u16, history: History) -> Result<Lives, Fail> {
-    let mut histories = Vec::new(alloc);
-    histories.push(history)?;
-    lives(own, histories)
 }
 
 fn two_lives(alloc: Global, own: u16, first: History, second: History) -> Result<Lives, Fail> {
@@ -71,50 +34,14 @@ fn two_lives(alloc: Global, own: u16, first: History, second: History) -> Result
     lives(own, histories)
 }
 
-fn printed(alloc: Global, what: &str, items: &[LifeItem]) -> Result<String, Fail> {
-    let mut text = String::from_str(alloc, what)?;
-    for item in items {
-        let [_, _, _, last] = item.endpoint.address();
-        let generation = item.generation.get();
-        let number = item.number;
-        let one = format!(in alloc; " {last}/{generation}/{number}")?;
-        text.push_str(&one)?;
-    }
-    Ok(text)
-}
-
-fn audited(alloc: Global, lives: &[Lives]) -> Result<String, Fail> {
-    if !endpoints_differ(lives) {
-        return Ok(String::from_str(alloc, "twice")?);
-    }
-    match audit(alloc, lives) {
-        Ok(order) => printed(alloc, "run", &order.items),
-        Err(AuditFault::Stuck(heads)) => printed(alloc, "stuck", &heads),
-        Err(AuditFault::Other(fault)) => Ok(String::from_str(alloc, fault.name())?),
-    }
-}
-
-fn audited_both(alloc: Global, first: Lives, second: Lives) -> Result<String, Fail> {
-    let mut all = Vec::new(alloc);
-    all.push(first)?;
-    all.push(second)?;
-    audited(alloc, &all)
-}
-
-fn audited_one(alloc: Global, one: Lives) -> Result<String, Fail> {
-    let mut all = Vec::new(alloc);
-    all.push(one)?;
-    audited(alloc, &all)
-}
-
 fn exchange_audited(alloc: Global) -> Result<String, Fail> {
-    let (a, b) = exchange(alloc)?;
+    let (a, b) = exchanged(alloc)?;
     audited_both(alloc, life(alloc, A, a)?, life(alloc, B, b)?)
 }
 
 // The lives of B stand first in the list: the order is the same.
 fn exchange_audited_from_b(alloc: Global) -> Result<String, Fail> {
-    let (a, b) = exchange(alloc)?;
+    let (a, b) = exchanged(alloc)?;
     audited_both(alloc, life(alloc, B, b)?, life(alloc, A, a)?)
 }
 
@@ -165,19 +92,25 @@ fn generations_rise(rt: HostRuntime) -> Result<(), Fail> {
 // A handles its own SYN before it sends it.
 fn own_syn_too_early(alloc: Global) -> Result<String, Fail> {
     let mut sender = begun(alloc, A, 9)?;
-    sender.apply(alloc, 0, Event::Opening)?;
+    opened(alloc, &mut sender)?;
     let mut a = begun(alloc, A, 9)?;
-    a.apply(alloc, 0, event(alloc, &sender, 1)?)?;
-    a.apply(alloc, 0, Event::Opening)?;
+    hand(alloc, &sender, 1, &mut a)?;
+    opened(alloc, &mut a)?;
     audited_one(alloc, life(alloc, A, a)?)
+}
+
+// Then its own SYN is handed to the node.
+fn handed_its_own(alloc: Global, history: &mut History) -> Result<(), Fail> {
+    opened(alloc, history)?;
+    let syn = event(alloc, history, 1)?;
+    history.apply(alloc, 0, syn)?;
+    Ok(())
 }
 
 // A handles its own SYN after it sent it.
 fn own_syn_in_time(alloc: Global) -> Result<String, Fail> {
     let mut a = begun(alloc, A, 9)?;
-    a.apply(alloc, 0, Event::Opening)?;
-    let syn = event(alloc, &a, 1)?;
-    a.apply(alloc, 0, syn)?;
+    handed_its_own(alloc, &mut a)?;
     audited_one(alloc, life(alloc, A, a)?)
 }
 

@@ -5,13 +5,13 @@ use cg_links::Counted;
 use std::alloc::Global;
 use std::test::Fail;
 
-// A's life in the first exchange.
-const A: &str = "life 10.0.0.1:7000 9 1000 2000 60000 18421 - c1\n\
+/// A's life in the first exchange.
+pub(crate) const A: &str = "life 10.0.0.1:7000 9 1000 2000 60000 18421 - c1\n\
 open\n\
 ack 1000 00000027010200010a0000011b58000000090000000000010a0000021b5800000005000000000000000100\n";
 
-// B's.
-const B: &str = "life 10.0.0.2:7000 5 1000 2000 60000 18421 - c1\n\
+/// B's.
+pub(crate) const B: &str = "life 10.0.0.2:7000 5 1000 2000 60000 18421 - c1\n\
 syn 0000001601010263310100010a0000011b580000000900000001\n\
 ack2 1000 00000017010300010a0000011b5800000009000000000000000100\n";
 
@@ -35,8 +35,8 @@ fn said(alloc: Global, journals: &[&str]) -> Result<(u8, Vec<u8>), Fail> {
     Ok((status, writer.into_link()))
 }
 
-// Whether this is written of journals, with this status.
-fn is_said(alloc: Global, journals: &[&str], text: &str, due: u8) -> Result<bool, Fail> {
+/// Whether this is written of journals, with this status.
+pub(crate) fn is_said(alloc: Global, journals: &[&str], text: &str, due: u8) -> Result<bool, Fail> {
     let (status, written) = said(alloc, journals)?;
     Ok(written.as_slice() == text.as_bytes() && status == due)
 }

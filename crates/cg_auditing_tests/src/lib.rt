@@ -2,4 +2,8 @@
 #![tactic(auto)]
 
 #[cfg(test)]
+mod cut_tests;
+#[cfg(test)]
 mod journal_tests;
+#[cfg(test)]
+mod link_tests;

@@ -5,11 +5,15 @@ use Rattle.clap.specs.Words.{App, Kinds, Row, Rule, Text, all_of, fault_of, new_
 use Rattle.clap.specs.Words.{with_rule, with_subcommand}
 use Rattle.clap.specs.declared.builder.action.ArgAction.TheVariants.{Append}
 use Rattle.cg_command.specs.declared.job.Subcommand.{Subcommand}
-use Rattle.cg_command.specs.declared.job.Subcommand.TheVariants.{Answer, Sim, Audit}
+use Rattle.cg_command.specs.declared.job.Subcommand.TheVariants.{Answer, Sim, Audit, Serve}
 
 -- a command that tells its version
 abbrev pub with_version : App → App
 with_version app = record app { top = record app.top { has_version = true } }
+
+-- one file
+abbrev pub file_rule : Rule
+file_rule = record (new_rule (codes "file")) { required = true }
 
 -- one file or more
 abbrev pub files_rule : Rule
@@ -19,18 +23,27 @@ files_rule = record (new_rule (codes "file")) { required = true; action = Some A
 abbrev pub audit_command : App
 audit_command = with_rule (new_app (codes "audit")) files_rule
 
+-- `serve` with its file
+abbrev pub serve_command : App
+serve_command = with_rule (new_app (codes "serve")) file_rule
+
 -- the command with its subcommands
 unfoldable pub program : App
 program =
     with_subcommand
+    (with_subcommand
     (with_subcommand (with_subcommand (with_version (new_app (codes "cg"))) (new_app (codes "answer")).top)
     (new_app (codes "sim")).top)
-    audit_command.top
+    audit_command.top)
+    serve_command.top
 
 -- the subcommand of this name
 abbrev pub subcommand_named : Text → Subcommand
 subcommand_named name =
-    if bytes_eq name (codes "sim") then Sim else if bytes_eq name (codes "audit") then Audit else Answer
+    if bytes_eq name (codes "sim") then Sim
+    else if bytes_eq name (codes "audit") then Audit
+    else if bytes_eq name (codes "serve") then Serve
+    else Answer
 
 -- the subcommand that was met, and `answer` where none was
 abbrev pub subcommand_met : Option (Text × List Row) → Subcommand

@@ -3,11 +3,11 @@
 ghost use Rattle.std.specs.Prelude.{◌≡◌, IfOk, IfErr, true, false, codes};
 ghost use Rattle.clap.specs.Words.{app_of, found_of, new_app, rows_of, subcommand_rows_of, kind_of, FailsBy};
 ghost use Rattle.clap.specs.declared.builder.command.Command.TheViews.{out-Command};
-ghost use Rattle.cg_command.specs.Job.{with_version, audit_command, program, subcommand_named as named_subcommand, subcommand_met, files_met, files_in, texts, subcommand_in, are_taken, faults_of};
+ghost use Rattle.cg_command.specs.Job.{with_version, audit_command, serve_command, program, subcommand_named as named_subcommand, subcommand_met, files_met, files_in, texts, subcommand_in, are_taken, faults_of};
 
 use crate::texts::{
-    ABOUT, ANSWER_ABOUT, ANSWER_HELP, AUDIT_ABOUT, AUDIT_HELP, SIM_ABOUT, SIM_HELP, STATUSES,
-    VERSION,
+    ABOUT, ANSWER_ABOUT, ANSWER_HELP, AUDIT_ABOUT, AUDIT_HELP, SERVE_ABOUT, SERVE_HELP, SIM_ABOUT,
+    SIM_HELP, STATUSES, VERSION,
 };
 use clap::error::ErrorKind;
 use clap::{Arg, ArgAction, ArgMatches, Command, Error};
@@ -22,6 +22,8 @@ pub enum Subcommand {
     Sim,
     /// Audit journals.
     Audit,
+    /// Run a node.
+    Serve,
 }
 
 /// What the program is to do, and the files that it is given for it, in the order of the words.
@@ -60,6 +62,17 @@ fn audit<'a>(alloc: Global) -> Result<Command<'a>, AllocError>
     Ok(with_files)
 }
 
+fn serve<'a>(alloc: Global) -> Result<Command<'a>, AllocError>
+    ensures app { IfOk result (λ c. app_of c ≡ serve_command) }
+    ensures local { IfOk result (λ c. (out-Command c).has_globals ≡ false) }
+{
+    let file = Arg::new(alloc, "file").required(true);
+    let command = Command::new(alloc, "serve").about(SERVE_ABOUT);
+    let helped = command.after_help(SERVE_HELP);
+    let with_file = helped.arg(file)?;
+    Ok(with_file)
+}
+
 fn top<'a>(alloc: Global) -> Command<'a>
     ensures { app_of result ≡ with_version (new_app (codes "cg")) }
 {
@@ -72,10 +85,12 @@ fn command<'a>(alloc: Global) -> Result<Command<'a>, AllocError>
     ensures { IfOk result (λ c. app_of c ≡ program) }
 {
     let audit = audit(alloc)?;
+    let serve = serve(alloc)?;
     let with_answer = top(alloc).subcommand(answer(alloc))?;
     let with_sim = with_answer.subcommand(sim(alloc))?;
     let with_audit = with_sim.subcommand(audit)?;
-    Ok(with_audit)
+    let with_serve = with_audit.subcommand(serve)?;
+    Ok(with_serve)
 }
 
 // The matches of the words, of which the first is the program's name.
@@ -94,6 +109,7 @@ fn subcommand_named(name: &str) -> Subcommand
     match name {
         "sim" => Subcommand::Sim,
         "audit" => Subcommand::Audit,
+        "serve" => Subcommand::Serve,
         _ => Subcommand::Answer,
     }
 }
@@ -107,9 +123,9 @@ fn files_of<'a>(alloc: Global, found: &ArgMatches<'a>) -> Result<Vec<&'a str>, A
     }
 }
 
-/// What the words ask for, of which the first is the program's name: the subcommand that `clap` finds, and `answer` where
-/// it finds none, with the files that it finds. The error is `clap`'s; where help or the version is asked for, it is
-/// their text.
+/// What the words ask for, of which the first is the program's name: the subcommand that `clap` finds, and `answer`
+/// where it finds none, with the files that it finds. The error is `clap`'s; where help or the version is asked for, it
+/// is their text.
 pub fn job_of<'a>(alloc: Global, words: &'a [&'a str]) -> Result<Job<'a>, Error>
     ensures subcommand { IfOk result (λ job. job.subcommand ≡ subcommand_met (subcommand_in (texts words.entry.now))) }
     ensures files { IfOk result (λ job. texts job.files.items ≡ files_met (subcommand_in (texts words.entry.now))) }

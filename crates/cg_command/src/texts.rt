@@ -9,7 +9,7 @@ pub const ABOUT: &str =
 
 /// What holds of all commands.
 pub const STATUSES: &str =
-    "answer and sim read standard input, audit reads files; all write standard output. \
+    "answer and sim read standard input, audit reads files, serve reads both; all write standard output. \
 Endpoints are written as 10.0.0.1:7000.\n\
 \n\
 Exit status: 0 when done; 1 after a fault that ended the work, told by a line as `fault 9 OtherCluster`; \
@@ -76,3 +76,44 @@ where a journal can't be read, a fault line; each with status 1.\n\
 \n\
 Example:\n\
 \n  cg audit a.journal b.journal";
+
+/// `serve` in a line.
+pub const SERVE_ABOUT: &str = "Run a node over TCP, with an operator at standard input";
+
+/// What `serve` reads and writes.
+pub const SERVE_HELP: &str = "Reads the node's settings from a file, a TOML table:\n\
+\n  cluster = TEXT           the cluster's name; needed\
+\n  listen = ENDPOINT        where it listens, as \"127.0.0.1:7001\": the node's own endpoint; needed\
+\n  generation_file = PATH   keeps the node's generation from one life to the next; needed\
+\n  journal = PATH           is written at the end; needed\
+\n  rounds = N               rounds that it begins, 0 to 1000000; needed\
+\n  exchanges = N            connections that it takes, 0 to 1000000; needed\
+\n  seeds = [ENDPOINT, ..]   at most 16; none\
+\n  interval = N             milliseconds between two rounds, 0 to 60000; 1000\
+\n  random = N               the seed of its random words; 0\
+\n  window, initial_gap, max_gap, threshold = N\
+\n                           how it judges silence; 1000, 2000, 60000, 18421\n\
+\n\
+Then it keeps a greater generation in the file, listens, and does each line of standard input at once:\n\
+\n  gossipinfo               what it holds of each endpoint\
+\n  digests                  endpoint, generation and newest version of each\
+\n  ring                     token and endpoint of each position\
+\n  replicas RF TEXT         at most RF endpoints that keep the key TEXT\
+\n  set KEY TEXT             version N; KEY is 1 to 16, TEXT the rest of the line\
+\n  quit                     no further line is read\n\
+\n\
+A set shows `version N unpublished` where no memory was left to publish it. A line that can't be read shows \
+`fault 2 BadText`, a refused one its fault, and the next line is read.\n\
+\n\
+It ends when its rounds are done, its exchanges are taken, and its input has ended or said `quit`; then it writes \
+its journal, which `cg audit` reads. A node that is killed writes none. Status 0; 1 after a fault, which is one \
+line: 14 ReadFault where the settings or the generation can't be read or nobody can listen there, 2 BadText where they are \
+none, 4 VersionsSpent, 15 WriteFault, 1 OutOfMemory.\n\
+\n\
+Example:\n\
+\n  printf 'set 3 x\\ngossipinfo\\nquit\\n' | cg serve node.toml\n\
+\n  version 2\
+\n  /127.0.0.1:7001\
+\n    generation:1700000000\
+\n    heartbeat:1\
+\n    LOAD:2:x";

@@ -53,6 +53,10 @@ fn words_name_jobs(rt: HostRuntime) {
         job(alloc, &["cg", "audit", "a"]),
         Some((Subcommand::Audit, 1))
     );
+    assert_eq!(rt;
+        job(alloc, &["cg", "serve", "f"]),
+        Some((Subcommand::Serve, 1))
+    );
 }
 
 #[test]
@@ -63,6 +67,8 @@ fn files_come_in_the_order_of_the_words(rt: HostRuntime) -> Result<(), Fail> {
         &["cg", "audit", "b.journal", "a.journal", "b.journal"],
     )?;
     assert_eq!(rt; named.as_str(), " b.journal a.journal b.journal");
+    let named = files(alloc, &["cg", "serve", "a.toml"])?;
+    assert_eq!(rt; named.as_str(), " a.toml");
     Ok(())
 }
 
@@ -73,7 +79,8 @@ fn other_words_are_faults(rt: HostRuntime) -> Result<(), Fail> {
     assert!(rt; is_fault(alloc, &["cg", "answer", "x"])?);
     assert!(rt; is_fault(alloc, &["cg", "nothing"])?);
     assert!(rt; is_fault(alloc, &["cg", ""])?);
-    assert!(rt; is_fault(alloc, &["cg", "serve", "f"])?);
+    assert!(rt; is_fault(alloc, &["cg", "serve"])?);
+    assert!(rt; is_fault(alloc, &["cg", "serve", "f", "g"])?);
     assert!(rt; is_fault(alloc, &["cg", "audit"])?);
     assert!(rt; is_fault(alloc, &["cg", "--nothing"])?);
     Ok(())
@@ -93,7 +100,9 @@ fn help_and_the_version_are_told(rt: HostRuntime) -> Result<(), Fail> {
             "ENDPOINT GENERATION CLUSTER"
         )?
     );
-    assert!(rt; !is_told(alloc, &["cg", "--help"], "serve")?);
+    assert!(rt; is_told(alloc, &["cg", "--help"], "Run a node")?);
+    assert!(rt; is_told(alloc, &["cg", "serve", "--help"], "generation_file")?);
+    assert!(rt; is_told(alloc, &["cg", "serve", "--help"], "replicas RF TEXT")?);
     assert!(rt; is_told(alloc, &["cg", "--help"], "one run of the gossip")?);
     assert!(rt;
         is_told(

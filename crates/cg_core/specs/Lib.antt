@@ -11,3 +11,16 @@ pub mod Arrivals
 pub mod Parts
 pub mod Laws
 pub mod Changes
+pub use Rattle.cg_types.specs.Answer
+pub use Rattle.cg_types.specs.Equality
+pub use Rattle.cg_types.specs.ResultSteps
+pub use Rattle.cg_types.specs.Rising
+pub use Rattle.cg_version.specs.Version
+pub use Rattle.cg_entry.specs.Entry
+pub use Rattle.cg_table.specs.Own
+pub use Rattle.cg_silence.specs.Silence
+pub use Rattle.cg_silence.specs.Values as SilenceValues
+pub use Rattle.cg_tokens.specs.Ring
+pub use Rattle.cg_exchange.specs.Changes as ExchangeChanges
+pub use Rattle.cg_exchange.specs.Lent
+pub use Rattle.cg_exchange.specs.Members

@@ -2,3 +2,8 @@ pub mod Events
 pub mod Turns
 pub mod Exchanged
 pub mod NodeGate
+pub use Rattle.cg_types.specs.Answer
+pub use Rattle.cg_core.specs.Step
+pub use Rattle.cg_frames.specs.Spelling
+pub use Rattle.cg_links.specs.Counted
+pub use Rattle.cg_wire.specs.Sent

@@ -8,3 +8,6 @@ pub mod History
 pub mod Place
 pub mod Spelling
 pub mod Laws
+pub use Rattle.cg_types.specs.Answer
+pub use Rattle.cg_types.specs.Numbers
+pub use Rattle.cg_version.specs.Version

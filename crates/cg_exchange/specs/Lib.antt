@@ -13,3 +13,7 @@ pub mod Places
 pub mod PlaceMessages
 pub mod Spelling
 pub mod Laws
+pub use Rattle.cg_types.specs.Answer
+pub use Rattle.cg_types.specs.Equality
+pub use Rattle.cg_types.specs.Numbers
+pub use Rattle.cg_types.specs.Rising

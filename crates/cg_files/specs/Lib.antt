@@ -1,2 +1,3 @@
 pub mod Generation
 pub mod Replacing
+pub use Rattle.cg_links.specs.Counted

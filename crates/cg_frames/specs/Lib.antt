@@ -10,3 +10,10 @@ pub mod Faults
 pub mod Choosing
 pub mod Laws
 pub mod Feeding
+pub use Rattle.cg_types.specs.Answer
+pub use Rattle.cg_types.specs.Numbers
+pub use Rattle.cg_types.specs.Text
+pub use Rattle.cg_entry.specs.State
+pub use Rattle.cg_exchange.specs.Contents
+pub use Rattle.cg_exchange.specs.Lent
+pub use Rattle.cg_exchange.specs.Messages

@@ -2,3 +2,12 @@ pub mod Text
 pub mod Reading
 pub mod Written
 pub mod Read
+pub use Rattle.hex.specs.Hex
+pub use Rattle.cg_table.specs.Own
+pub use Rattle.cg_exchange.specs.Lent
+pub use Rattle.cg_history.specs.History
+pub use Rattle.cg_script.specs.Gives
+pub use Rattle.cg_script.specs.Words
+pub use Rattle.cg_frames.specs.Choosing
+pub use Rattle.cg_links.specs.Counted
+pub use Rattle.cg_links.specs.Counts

@@ -1,8 +1,14 @@
-//! Laws of the words, each the contract of an empty function.
+//! Laws of the words and of the channel's room, each the contract of an empty function.
 
+ghost use Rattle.cg_rounds.specs.Laws.{RoomHasItsValue};
 ghost use Rattle.cg_rounds.specs.Words.{WordsAreTheGenerators};
 
 /// The words of ticks, drawn one tick after the other, are the first of the generator's stream, four by four.
 pub fn words_are_the_generators()
     ensures { WordsAreTheGenerators }
+{}
+
+/// How many rounds the channel has room for, as a number.
+pub fn room_has_its_value()
+    ensures { RoomHasItsValue }
 {}

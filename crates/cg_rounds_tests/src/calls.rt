@@ -1,6 +1,7 @@
 //! Each call, by one thread.
 
 use crate::samples::{round, shown};
+use cg_rounds::laws::room_has_its_value;
 use cg_rounds::{ROOM, rounds};
 use std::alloc::Global;
 use std::sync::Wait;
@@ -66,6 +67,7 @@ fn held<R: Wait>(rt: &R, alloc: Global, count: u16) -> Result<(u16, u16), Fail> 
 
 #[test]
 fn sixteen_rounds_wait_for_nobody(rt: HostRuntime) -> Result<(), Fail> {
+    room_has_its_value();
     let counts = held(&rt, rt.alloc(), 16)?;
     assert_eq!(rt; counts, (16, 16));
     assert_eq!(rt; ROOM, 16);

@@ -1,4 +1,4 @@
-//! The history that the examples begin with.
+//! The history that the tests of seats begin with.
 
 ghost use Rattle.std.specs.Prelude.{◌≡◌, [], IfOk};
 

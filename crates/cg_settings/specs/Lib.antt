@@ -4,3 +4,5 @@ pub mod Keys
 pub mod Laws
 pub mod Settings
 pub mod Seen
+pub use Rattle.toml.specs.Data
+pub use Rattle.toml.specs.View

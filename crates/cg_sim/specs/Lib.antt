@@ -2,3 +2,10 @@ pub mod Script
 pub mod Told
 pub mod Simulated
 pub mod Runs
+pub use Rattle.cg_types.specs.Fault
+pub use Rattle.cg_exchange.specs.Kind
+pub use Rattle.cg_steps.specs.Step
+pub use Rattle.cg_world.specs.Acting
+pub use Rattle.cg_world.specs.World
+pub use Rattle.cg_links.specs.Counted
+pub use Rattle.cg_lines.specs.Lines

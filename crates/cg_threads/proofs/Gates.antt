@@ -119,55 +119,56 @@ module _ (start : NodeValue) {R W : Type 0} (remaining : R → Option (List ℕ)
 
 -- ---- the ticker
 
-tick_is : (e : Event) (answer : Reply) → IsTickOf e answer → is_tick e ≡ true
-tick_is (event.Tick now words) answer is = refl
-tick_is event.Beat answer is = absurd is
-tick_is (event.Set key text) answer is = absurd is
-tick_is event.Opening answer is = absurd is
-tick_is (event.Syn m) answer is = absurd is
-tick_is (event.Ack now m) answer is = absurd is
-tick_is (event.Ack2 now m) answer is = absurd is
+module _ (shows : ℕ → Type 0) where
+  tick_is : (e : Event) (answer : Reply) → IsTickOf shows e answer → is_tick e ≡ true
+  tick_is (event.Tick now words) answer is = refl
+  tick_is event.Beat answer is = absurd is
+  tick_is (event.Set key text) answer is = absurd is
+  tick_is event.Opening answer is = absurd is
+  tick_is (event.Syn m) answer is = absurd is
+  tick_is (event.Ack now m) answer is = absurd is
+  tick_is (event.Ack2 now m) answer is = absurd is
 
-one_round : (e : Event) (answer : Reply) (number : ℕ) (caller : ℕ) → IsTickOf e answer → numbers_of (round_in (record { caller = caller; number = number; event = e; reply = answer })) ≡ number ∷ []
-one_round (event.Tick now words) (reply.Round peers syn) number caller is = refl
-one_round (event.Tick now words) (reply.Done version) number caller is = absurd is
-one_round (event.Tick now words) (reply.Sent m) number caller is = absurd is
-one_round (event.Tick now words) (reply.Both outcomes ack2) number caller is = absurd is
-one_round (event.Tick now words) (reply.Took outcomes) number caller is = absurd is
-one_round event.Beat answer number caller is = absurd is
-one_round (event.Set key text) answer number caller is = absurd is
-one_round event.Opening answer number caller is = absurd is
-one_round (event.Syn m) answer number caller is = absurd is
-one_round (event.Ack now m) answer number caller is = absurd is
-one_round (event.Ack2 now m) answer number caller is = absurd is
+  one_round : (e : Event) (answer : Reply) (number : ℕ) (caller : ℕ) → IsTickOf shows e answer → numbers_of (round_in (record { caller = caller; number = number; event = e; reply = answer })) ≡ number ∷ []
+  one_round (event.Tick now words) (reply.Round peers syn) number caller is = refl
+  one_round (event.Tick now words) (reply.Done version) number caller is = absurd is
+  one_round (event.Tick now words) (reply.Sent m) number caller is = absurd is
+  one_round (event.Tick now words) (reply.Both outcomes ack2) number caller is = absurd is
+  one_round (event.Tick now words) (reply.Took outcomes) number caller is = absurd is
+  one_round event.Beat answer number caller is = absurd is
+  one_round (event.Set key text) answer number caller is = absurd is
+  one_round event.Opening answer number caller is = absurd is
+  one_round (event.Syn m) answer number caller is = absurd is
+  one_round (event.Ack now m) answer number caller is = absurd is
+  one_round (event.Ack2 now m) answer number caller is = absurd is
 
-front_all : (qs rs : List Receipt) → All IsTick (qs ++ rs) → All IsTick qs
-front_all [] rs ticks = All-nil IsTick
-front_all (q ∷ qs) rs ticks = All-cons IsTick q qs (All-head IsTick q (qs ++ rs) ticks) (front_all qs rs (All-tail IsTick q (qs ++ rs) ticks))
+  front_all : (qs rs : List Receipt) → All (IsTick shows) (qs ++ rs) → All (IsTick shows) qs
+  front_all [] rs ticks = All-nil (IsTick shows)
+  front_all (q ∷ qs) rs ticks = All-cons (IsTick shows) q qs (All-head (IsTick shows) q (qs ++ rs) ticks) (front_all qs rs (All-tail (IsTick shows) q (qs ++ rs) ticks))
 
-numbers_passed : (qs : List Receipt) → All IsTick qs → numbers_of (rounds_in qs) ≡ numbers_of_all qs
-numbers_passed [] ticks = refl
-numbers_passed (q ∷ qs) ticks =
-    map-append (λ (r : Round). r.number) (round_in q) (rounds_in qs)
-    ∙ ap (λ (ns : List ℕ). ns ++ numbers_of (rounds_in qs)) (one_round q.event q.reply q.number q.caller (All-head IsTick q qs ticks))
-    ∙ ap (λ (ns : List ℕ). q.number ∷ ns) (numbers_passed qs (All-tail IsTick q qs ticks))
+  numbers_passed : (qs : List Receipt) → All (IsTick shows) qs → numbers_of (rounds_in qs) ≡ numbers_of_all qs
+  numbers_passed [] ticks = refl
+  numbers_passed (q ∷ qs) ticks =
+      map-append (λ (r : Round). r.number) (round_in q) (rounds_in qs)
+      ∙ ap (λ (ns : List ℕ). ns ++ numbers_of (rounds_in qs)) (one_round q.event q.reply q.number q.caller (All-head (IsTick shows) q qs ticks))
+      ∙ ap (λ (ns : List ℕ). q.number ∷ ns) (numbers_passed qs (All-tail (IsTick shows) q qs ticks))
 
-module _ (rounds : ℕ) (s : Stream) (put : List Round) (left : Ticked) (after : List Round) (g h : SeatValue) (x : Ticks rounds s g put left h after) where
-  pub ticked_more : More is_tick g h
-  ticked_more = record {
-    seat = x.seat;
-    more = x.passed ++ x.rest;
-    receipts = x.receipts;
-    kinds = All-weaker IsTick (λ (q : Receipt). is_tick q.event ≡ true) (λ q is. tick_is q.event q.reply is) (x.passed ++ x.rest) x.ticks;
-  }
+  module _ (rounds : ℕ) (s : Stream) (put : List Round) (left : Ticked) (after : List Round) (g h : SeatValue) (x : Ticks shows rounds s g put left h after) where
+    pub ticked_more : More is_tick g h
+    ticked_more = record {
+      seat = x.seat;
+      more = x.passed ++ x.rest;
+      receipts = x.receipts;
+      kinds = All-weaker (IsTick shows) (λ (q : Receipt). is_tick q.event ≡ true) (λ q is. tick_is q.event q.reply is) (x.passed ++ x.rest) x.ticks;
+    }
 
-  -- the rounds of the first receipts were put in
-  pub ticked_first : g.receipts ≡ [] → put ≡ [] → IsPrefix (numbers_of after) (numbers_of_all h.receipts)
-  ticked_first no_receipts none =
-      let passed : numbers_of after ≡ numbers_of_all x.passed = ap numbers_of (x.put ∙ ap (λ (rs : List Round). rs ++ rounds_in x.passed) none) ∙ numbers_passed x.passed (front_all x.passed x.rest x.ticks) in
-      let all : numbers_of_all h.receipts ≡ numbers_of_all x.passed ++ numbers_of_all x.rest =
-      ap numbers_of_all (x.receipts ∙ ap (λ (qs : List Receipt). qs ++ (x.passed ++ x.rest)) no_receipts) ∙ map-append (λ (q : Receipt). q.number) x.passed x.rest in
-      (numbers_of_all x.rest, ap (λ (ns : List ℕ). ns ++ numbers_of_all x.rest) passed ∙ sym all)
+    -- the rounds of the first receipts were put in
+    pub ticked_first : g.receipts ≡ [] → put ≡ [] → IsPrefix (numbers_of after) (numbers_of_all h.receipts)
+    ticked_first no_receipts none =
+        let passed : numbers_of after ≡ numbers_of_all x.passed = ap numbers_of (x.put ∙ ap (λ (rs : List Round). rs ++ rounds_in x.passed) none) ∙ numbers_passed x.passed (front_all x.passed x.rest x.ticks) in
+        let all : numbers_of_all h.receipts ≡ numbers_of_all x.passed ++ numbers_of_all x.rest =
+        ap numbers_of_all (x.receipts ∙ ap (λ (qs : List Receipt). qs ++ (x.passed ++ x.rest)) no_receipts) ∙ map-append (λ (q : Receipt). q.number) x.passed x.rest in
+        (numbers_of_all x.rest, ap (λ (ns : List ℕ). ns ++ numbers_of_all x.rest) passed ∙ sym all)
 
 -- ---- the operator
 

@@ -1,4 +1,4 @@
--- What is left of a node that ran.
+-- Why a node whose workers have ended is one that ran, or is not confirmed.
 use Rattle.std.proofs.Common.{◌≡◌, ℕ, List, ◌++◌, length, sym, ap, ◌∙◌, subst, append_assoc}
 use Rattle.std.proofs.lemmas.List.{map-append}
 use mathlib.Core.List.{IsPrefix}
@@ -43,6 +43,10 @@ module _ (start : NodeValue) (receiver sender ticker operator : List Receipt) (a
         base = base;
         replayed = replayed;
         work = records_are_work receiver sender ticker operator are h.records all (sym many);
+        receipts = receiver ++ sender ++ ticker ++ operator;
+        theirs = all_work receiver sender ticker operator are;
+        counted = sym many;
+        confirmed = all;
         are_first = subst (λ (ns : List ℕ). IsPrefix rounds ns) (sym (numbers_are_the_tickers receiver sender ticker operator are h.records all (sym many))) mine;
       }
 
@@ -51,7 +55,7 @@ module _ (start : NodeValue) (receiver sender ticker operator : List Receipt) (a
   is_unconfirmed u base many first = record {
     base = base;
     receipts = receiver ++ sender ++ ticker ++ operator;
+    theirs = all_work receiver sender ticker operator are;
     counted = sym many;
-    work = all_work receiver sender ticker operator are;
     stray = first;
   }

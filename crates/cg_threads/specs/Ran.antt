@@ -8,7 +8,7 @@ use Rattle.cg_core.specs.Values.{NodeValue}
 use Rattle.cg_history.specs.declared.item.Item.{Item}
 use Rattle.cg_history.specs.declared.item.Receipt.{Receipt}
 use Rattle.cg_history.specs.declared.item.Stray.{Stray}
-use Rattle.cg_history.specs.Confirming.{IsFirstStray}
+use Rattle.cg_history.specs.Confirming.{AreConfirmed, IsFirstStray}
 use Rattle.cg_history.specs.History.{HistoryValue, IsReplayed}
 use Rattle.cg_locked.specs.declared.shared.Unconfirmed.{Unconfirmed}
 use Rattle.cg_locked.specs.Shared.{stray_of}
@@ -30,12 +30,16 @@ IsWork caller e =
     ((caller ≡ RECEIVER) × (is_received e ≡ true)) ⊎ ((caller ≡ SENDER) × (is_ack e ≡ true))
     ⊎ ((caller ≡ TICKER) × (is_tick e ≡ true)) ⊎ (caller ≡ OPERATOR)
 
--- The history replays from where it began, and each record is of a worker's event; the rounds taken are the first of the
--- ticker's, in their order.
+-- The history replays from where it began, and each record is of a worker's event. It confirms all receipts of the
+-- workers, of which there are as many as records. The rounds taken are the first of the ticker's, in their order.
 pub record IsRun (start : NodeValue) (h : HistoryValue) (rounds : List ℕ) : Type 0 where
   pub base : h.base ≡ start
   pub replayed : IsReplayed h
   pub work : All (λ (r : Item). IsWork r.caller r.event) h.records
+  pub receipts : List Receipt
+  pub theirs : All (λ (q : Receipt). IsWork q.caller q.event) receipts
+  pub counted : length receipts ≡ length h.records
+  pub confirmed : AreConfirmed h.records receipts
   pub are_first : IsPrefix rounds (numbers_in TICKER is_tick h.records)
 
 -- The history began where it did, and does not confirm all receipts of the workers, of which there are as many as
@@ -43,8 +47,8 @@ pub record IsRun (start : NodeValue) (h : HistoryValue) (rounds : List ℕ) : Ty
 pub record IsUnconfirmed (start : NodeValue) (u : Unconfirmed) : Type 0 where
   pub base : u.history.base ≡ start
   pub receipts : List Receipt
+  pub theirs : All (λ (q : Receipt). IsWork q.caller q.event) receipts
   pub counted : length receipts ≡ length u.history.records
-  pub work : All (λ (q : Receipt). IsWork q.caller q.event) receipts
   pub stray : IsFirstStray u.history.records receipts (stray_of u)
 
 -- no node ran, or its history is not confirmed

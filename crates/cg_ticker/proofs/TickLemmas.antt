@@ -47,13 +47,13 @@ rounds-push (p ∷ ps) q = ap (λ ns. round_in p ++ ns) (rounds-push ps q) ∙ s
 
 -- ---- all turns so far
 
-module _ (s : Stream) (g : SeatValue) (before : List Round) where
+module _ (shows : ℕ → Type 0) (s : Stream) (g : SeatValue) (before : List Round) where
   -- after so many turns, each of which was refused or put its round in
   pub record SoFar (n refused : ℕ) (left : Stream) (h : SeatValue) (after : List Round) : Type 0 where
     pub passed : List Receipt
     pub receipts : h.receipts ≡ g.receipts ++ passed
     pub seat : (h.caller ≡ g.caller) × (h.parts ≡ g.parts)
-    pub ticks : All IsTick passed
+    pub ticks : All (IsTick shows) passed
     pub put : after ≡ before ++ rounds_in passed
     pub count : refused + length passed ≡ n
     pub words : refused ≡ 0 → words_of passed ≡ words_of_ticks (length passed) s
@@ -65,7 +65,7 @@ module _ (s : Stream) (g : SeatValue) (before : List Round) where
         passed = [];
         receipts = sym (append-nil g.receipts);
         seat = (refl, refl);
-        ticks = All-nil IsTick;
+        ticks = All-nil (IsTick shows);
         put = sym (append-nil before);
         count = refl;
         words = λ _. no_words s;
@@ -84,7 +84,7 @@ module _ (s : Stream) (g : SeatValue) (before : List Round) where
     left_is = left_more n s left next so.left_is is;
   }
 
-  module _ (n refused : ℕ) (left : Stream) (h k : SeatValue) (after : List Round) (q : Receipt) (so : SoFar n refused left h after) (more : HasTicked (four_of left).0 h k q) where
+  module _ (n refused : ℕ) (left : Stream) (h k : SeatValue) (after : List Round) (q : Receipt) (so : SoFar n refused left h after) (more : HasTicked shows (four_of left).0 h k q) where
     receipts_next : k.receipts ≡ g.receipts ++ (so.passed ++ q ∷ [])
     receipts_next = more.receipts ∙ ap (λ qs. qs ++ q ∷ []) so.receipts ∙ append_assoc g.receipts so.passed (q ∷ [])
 
@@ -107,20 +107,20 @@ module _ (s : Stream) (g : SeatValue) (before : List Round) where
       passed = so.passed ++ q ∷ [];
       receipts = receipts_next;
       seat = seat_next;
-      ticks = All-push IsTick so.passed q so.ticks more.tick;
+      ticks = All-push (IsTick shows) so.passed q so.ticks more.tick;
       put = went ∙ ap (λ ns. ns ++ round_in q) so.put ∙ append_assoc before (rounds_in so.passed) (round_in q) ∙ ap (λ ns. before ++ ns) (sym (rounds-push so.passed q));
       count = omega (arith, counts, count_next);
       words = λ none. words_more (sym counts ∙ none);
       left_is = left_more n s left next so.left_is is;
     }
 
-    pub stopped_here : (rounds : ℕ) (then : List Round) → n < rounds → then ≡ after → Ticks rounds s g before (record { refused = refused; stopped = true }) k then
+    pub stopped_here : (rounds : ℕ) (then : List Round) → n < rounds → then ≡ after → Ticks shows rounds s g before (record { refused = refused; stopped = true }) k then
     stopped_here rounds then fewer same = record {
       passed = so.passed;
       rest = q ∷ [];
       receipts = receipts_next;
       seat = seat_next;
-      ticks = All-push IsTick so.passed q so.ticks more.tick;
+      ticks = All-push (IsTick shows) so.passed q so.ticks more.tick;
       put = same ∙ so.put;
       stopped = refl;
       most = omega (arith, count_next, fewer);
@@ -128,7 +128,7 @@ module _ (s : Stream) (g : SeatValue) (before : List Round) where
       words = words_more;
     }
 
-  pub all_done : (n refused : ℕ) (left : Stream) (h : SeatValue) (after : List Round) → SoFar n refused left h after → (rounds : ℕ) → n ≡ rounds → Ticks rounds s g before (record { refused = refused; stopped = false }) h after
+  pub all_done : (n refused : ℕ) (left : Stream) (h : SeatValue) (after : List Round) → SoFar n refused left h after → (rounds : ℕ) → n ≡ rounds → Ticks shows rounds s g before (record { refused = refused; stopped = false }) h after
   all_done n refused left h after so rounds all =
       let same : so.passed ++ [] ≡ so.passed = append-nil so.passed in
       let long : length (so.passed ++ []) ≡ length so.passed = ap length same in
@@ -137,7 +137,7 @@ module _ (s : Stream) (g : SeatValue) (before : List Round) where
         rest = [];
         receipts = so.receipts ∙ ap (λ qs. g.receipts ++ qs) (sym same);
         seat = so.seat;
-        ticks = subst (All IsTick) (sym same) so.ticks;
+        ticks = subst (All (IsTick shows)) (sym same) so.ticks;
         put = so.put;
         stopped = refl;
         most = omega (arith, long, so.count, all);

@@ -16,13 +16,13 @@ use Rattle.cg_ticker.specs.declared.ticking.Turn.TheVariants as turn
 
 -- ---- ticks, and their rounds
 
--- A tick was answered by a round.
-abbrev pub IsTickOf : Event → Reply → Type 0
-IsTickOf (event.Tick now words) (reply.Round peers syn) = Unit {0}
-IsTickOf e answer = ⊥
+-- A tick at one of a clock's moments was answered by a round.
+abbrev pub IsTickOf : (ℕ → Type 0) → Event → Reply → Type 0
+IsTickOf shows (event.Tick now words) (reply.Round peers syn) = shows now
+IsTickOf shows e answer = ⊥
 
-abbrev pub IsTick : Receipt → Type 0
-IsTick q = IsTickOf q.event q.reply
+abbrev pub IsTick : (ℕ → Type 0) → Receipt → Type 0
+IsTick shows q = IsTickOf shows q.event q.reply
 
 -- the round of a receipt: its reply's peers and SYN, with its number; none where it is not of a tick
 abbrev pub round_with : ℕ → Reply → List Round
@@ -49,20 +49,21 @@ words_of (q ∷ qs) = words_in q.event ++ words_of qs
 
 -- ---- one turn
 
--- The gate has one receipt more, of a tick with these words.
-pub record HasTicked (drawn : List ℕ) (g h : SeatValue) (q : Receipt) : Type 0 where
-  pub tick : IsTick q
+-- The gate has one receipt more, of a tick with these words, at a moment that the clock showed.
+pub record HasTicked (shows : ℕ → Type 0) (drawn : List ℕ) (g h : SeatValue) (q : Receipt) : Type 0 where
+  pub tick : IsTick shows q
   pub words : words_in q.event ≡ drawn
   pub receipts : h.receipts ≡ g.receipts ++ q ∷ []
   pub seat : (h.caller ≡ g.caller) × (h.parts ≡ g.parts)
 
 -- One turn from a gate and the rounds put in so far to another gate and its rounds: a tick with the next words was
 -- refused; or it was done, and its round is put in or not.
-abbrev pub IsTurn : Stream → SeatValue → List Round → Turn → SeatValue → List Round → Type 0
-IsTurn s g before turn.Refused h after = (h ≡ g) × (after ≡ before)
-IsTurn s g before turn.Put h after =
-    (q : Receipt) × HasTicked (four_of s).0 g h q × (after ≡ before ++ round_in q)
-IsTurn s g before turn.Stopped h after = (q : Receipt) × HasTicked (four_of s).0 g h q × (after ≡ before)
+abbrev pub IsTurn : (ℕ → Type 0) → Stream → SeatValue → List Round → Turn → SeatValue → List Round → Type 0
+IsTurn shows s g before turn.Refused h after = (h ≡ g) × (after ≡ before)
+IsTurn shows s g before turn.Put h after =
+    (q : Receipt) × HasTicked shows (four_of s).0 g h q × (after ≡ before ++ round_in q)
+IsTurn shows s g before turn.Stopped h after =
+    (q : Receipt) × HasTicked shows (four_of s).0 g h q × (after ≡ before)
 
 -- ---- all turns
 
@@ -71,15 +72,15 @@ abbrev pub missing : Bool → ℕ
 missing true = 1
 missing false = 0
 
--- The gate has more receipts, all of ticks: first those whose rounds were put in, then, where the ticker stopped, one
--- whose round was not. Where it did not stop, ticks and refused ticks are as many as rounds were wanted; where no tick
--- was refused, the words of the ticks are the generator's.
-pub record Ticks (rounds : ℕ) (s : Stream) (g : SeatValue) (before : List Round) (left : Ticked) (h : SeatValue) (after : List Round) : Type 0 where
+-- The gate has more receipts, all of ticks at moments that the clock showed: first those whose rounds were put in, then,
+-- where the ticker stopped, one whose round was not. Where it did not stop, ticks and refused ticks are as many as rounds
+-- were wanted; where no tick was refused, the words of the ticks are the generator's.
+pub record Ticks (shows : ℕ → Type 0) (rounds : ℕ) (s : Stream) (g : SeatValue) (before : List Round) (left : Ticked) (h : SeatValue) (after : List Round) : Type 0 where
   pub passed : List Receipt
   pub rest : List Receipt
   pub receipts : h.receipts ≡ g.receipts ++ (passed ++ rest)
   pub seat : (h.caller ≡ g.caller) × (h.parts ≡ g.parts)
-  pub ticks : All IsTick (passed ++ rest)
+  pub ticks : All (IsTick shows) (passed ++ rest)
   pub put : after ≡ before ++ rounds_in passed
   pub stopped : length rest ≡ missing left.stopped
   pub most : left.refused + length (passed ++ rest) ≤ rounds

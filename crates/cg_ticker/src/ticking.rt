@@ -33,7 +33,8 @@ pub(crate) enum Turn {
 
 /// The next tick: at the clock's moment, with the next four words.
 pub(crate) fn tick<C: Milliseconds, G: Rng>(clock: &C, generator: &mut G) -> Event
-    ensures tick { (now : ℕ) × (result ≡ events.Tick now (four_of (G.stream generator.old)).0) }
+    ensures tick { (now : ℕ) × C.shows clock.now now
+        × (result ≡ events.Tick now (four_of (G.stream generator.old)).0) }
     ensures left { G.stream generator.new ≡ (four_of (G.stream generator.old)).1 }
 {
     let now = clock.now();
@@ -51,7 +52,8 @@ pub(crate) fn tick_once<N: Name, R: Wait, C: Milliseconds, G: Rng>(
     to: &mut Putting,
 ) -> Turn
     ensures channel { PutsWhere to.new to.old }
-    ensures turn { IsTurn (G.stream generator.old) gate.old (put_by to.old) result gate.new (put_by to.new) }
+    ensures turn { IsTurn (C.shows clock.now) (G.stream generator.old) gate.old (put_by to.old) result gate.new
+        (put_by to.new) }
     ensures left { G.stream generator.new ≡ (four_of (G.stream generator.old)).1 }
 {
     let event = tick(clock, generator);
@@ -80,7 +82,8 @@ fn turns<N: Name, R: Wait + Clock, C: Milliseconds, G: Rng>(
     interval: u32,
 ) -> Ticked
     ensures channel { PutsWhere to.new to.old }
-    ensures ticks { Ticks rounds (G.stream generator.old) gate.old (put_by to.old) result gate.new (put_by to.new) }
+    ensures ticks { Ticks (C.shows clock.now) rounds (G.stream generator.old) gate.old (put_by to.old) result gate.new
+        (put_by to.new) }
 {
     let mut refused = 0;
     for place in 0..rounds {
@@ -106,7 +109,7 @@ fn turns<N: Name, R: Wait + Clock, C: Milliseconds, G: Rng>(
 /// the round of each tick into the channel; in the end it says that no more come.
 ///
 /// A refused tick makes no round, and counts as one. The ticker stops where it finds no memory to pass a round on, and
-/// where the channel hands it back. Each tick's moment is the clock's, of which the contract says nothing.
+/// where the channel hands it back. The contract does not say that the moments of the ticks rise, nor that it pauses.
 pub fn ticker<N: Name, R: Wait + Clock, C: Milliseconds, G: Rng>(
     rt: &R,
     alloc: Global,
@@ -118,7 +121,8 @@ pub fn ticker<N: Name, R: Wait + Clock, C: Milliseconds, G: Rng>(
     interval: u32,
 ) -> Ticked
     ensures channel { PutsWhere to.new to.old }
-    ensures ticks { Ticks rounds (G.stream generator.old) gate.old (put_by to.old) result gate.new (put_by to.new) }
+    ensures ticks { Ticks (C.shows clock.now) rounds (G.stream generator.old) gate.old (put_by to.old) result gate.new
+        (put_by to.new) }
 {
     let ticked = turns(rt, alloc, clock, gate, generator, to, rounds, interval);
     to.end(rt);

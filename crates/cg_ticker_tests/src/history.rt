@@ -1,4 +1,4 @@
-//! The history that the examples begin with.
+//! The history that a ticker begins with.
 
 ghost use Rattle.std.specs.Prelude.{◌≡◌, [], IfOk};
 

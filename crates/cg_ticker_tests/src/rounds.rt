@@ -213,3 +213,29 @@ fn a_round_that_is_handed_back_stops_the_ticker(rt: HostRuntime) -> Result<(), F
     assert_eq!(rt; left, due);
     Ok(())
 }
+
+// What a ticker of no ticks leaves, and what is taken then: nothing.
+fn no_rounds<R: Wait + Clock>(rt: &R, alloc: Global) -> Result<(Left, (u64, usize)), Fail> {
+    let (mut putting, mut taking) = rounds(alloc)?;
+    let left = left_after(rt, alloc, &mut putting, 0)?;
+    let none = next_round(rt, &mut taking);
+    putting.compare(taking.leave());
+    Ok((left, none))
+}
+
+#[test]
+fn no_ticks_make_no_round(rt: HostRuntime) -> Result<(), Fail> {
+    let (left, taken) = no_rounds(&rt, rt.alloc())?;
+    let due = Left {
+        ticked: Ticked {
+            refused: 0,
+            stopped: false,
+        },
+        records: 0,
+        confirmed: 0,
+        last: (0, 0),
+    };
+    assert_eq!(rt; left, due);
+    assert_eq!(rt; taken, (0, 0));
+    Ok(())
+}

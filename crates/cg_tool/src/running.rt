@@ -4,12 +4,16 @@ use crate::answering::answer;
 use cg_auditing::{Journals, Unread, write_report, write_unread};
 use cg_command::{Error, ErrorKind, Job, Subcommand, job_of};
 use cg_links::Counted;
+use cg_serve::serve;
 use cg_sim::sim;
 use cg_types::Fault;
 use std::alloc::{AllocError, Global};
-use std::io::{Eprint, Input, Print};
-use std::rt::Files;
-use std::{fs, io};
+use std::io::{Eprint, Print};
+use std::net::{Net, TcpListener, TcpStream};
+use std::rt::{Env, Files, Runtime};
+use std::sync::Wait;
+use std::thread::Threads;
+use std::{env, fs, io};
 
 // The status after a fault that ended the work, and after one of the command line.
 const FAILED: u8 = 1;
@@ -80,14 +84,32 @@ fn audit<R: Print + Eprint + Files>(rt: &R, alloc: Global, files: &[&str]) -> u8
     write_report(alloc, journals, &mut writer)
 }
 
-// Does a job over the standard streams, and over files.
-fn done<R: Input + Print + Eprint + Files>(rt: &R, alloc: Global, job: &Job) -> u8 {
+// Runs a node by the settings in a file.
+fn serve_one<R>(rt: &R, alloc: Global, files: &[&str]) -> u8
+where
+    R: Runtime + Threads + Wait + Sync + Net<Listener = TcpListener, Stream = TcpStream>,
+    R::Reader: Send,
+{
+    match files {
+        [file] => serve(rt, alloc, file),
+        // Never so: the command line asks for one.
+        _ => MISUSED,
+    }
+}
+
+// Does a job over the standard streams, over files and over sockets.
+fn done<R>(rt: &R, alloc: Global, job: &Job) -> u8
+where
+    R: Runtime + Threads + Wait + Sync + Net<Listener = TcpListener, Stream = TcpStream>,
+    R::Reader: Send,
+{
     let mut reader = Counted::new(rt.reader());
     let mut writer = Counted::new(io::writer(rt));
     match job.subcommand {
         Subcommand::Answer => answer(alloc, &mut reader, &mut writer),
         Subcommand::Sim => sim(alloc, &mut reader, &mut writer),
         Subcommand::Audit => audit(rt, alloc, job.files.as_slice()),
+        Subcommand::Serve => serve_one(rt, alloc, job.files.as_slice()),
     }
 }
 
@@ -101,7 +123,11 @@ fn unread<R: Print + Eprint>(rt: &R, error: &io::Error) -> u8 {
 }
 
 // Does what the words ask for, and tells the status.
-fn ran<R: Input + Print + Eprint + Files>(rt: &R, alloc: Global, words: &[String]) -> u8 {
+fn ran<R>(rt: &R, alloc: Global, words: &[String]) -> u8
+where
+    R: Runtime + Threads + Wait + Sync + Net<Listener = TcpListener, Stream = TcpStream>,
+    R::Reader: Send,
+{
     let Ok(words) = texts(alloc, words) else {
         return out_of_memory(rt);
     };
@@ -111,17 +137,37 @@ fn ran<R: Input + Print + Eprint + Files>(rt: &R, alloc: Global, words: &[String
     }
 }
 
-/// Does what the words ask for, of which the first is the program's name, over the standard streams and the files that
-/// are named, and answers the exit status. With no further words that is `answer`. Help and the version go to standard output, with status 0; a
-/// fault of the command line goes to standard error, with status 2, as does a word that is not UTF-8. Want of memory
-/// before the work begins is the line `fault 1 OutOfMemory`, with status 1.
-pub fn run<R: Input + Print + Eprint + Files>(
-    rt: &R,
-    alloc: Global,
-    words: io::Result<Vec<String>>,
-) -> u8 {
+// Does what words ask for, of which the first is the program's name.
+pub(crate) fn run_words<R>(rt: &R, alloc: Global, words: io::Result<Vec<String>>) -> u8
+where
+    R: Runtime + Threads + Wait + Sync + Net<Listener = TcpListener, Stream = TcpStream>,
+    R::Reader: Send,
+{
     match words {
         Ok(words) => ran(rt, alloc, words.as_slice()),
         Err(error) => unread(rt, &error),
     }
+}
+
+// The words of the command line, of which the first is the program's name.
+fn words<R: Env + AllocGlobal>(rt: &R) -> io::Result<Vec<String>> {
+    Ok(env::args(rt)?.collect(rt.alloc())?)
+}
+
+/// Does what the words of the command line ask for, of which the first is the program's name, over the standard streams,
+/// the files that are named and, to serve, sockets, and answers the exit status. With no further words that is `answer`.
+/// Help and the version go to standard output, with status 0; a fault of the command line goes to standard error, with
+/// status 2, as does a word that is not UTF-8. Want of memory before the work begins is the line `fault 1 OutOfMemory`,
+/// with status 1.
+pub fn run<R>(rt: &R) -> u8
+where
+    R: Runtime
+        + AllocGlobal
+        + Threads
+        + Wait
+        + Sync
+        + Net<Listener = TcpListener, Stream = TcpStream>,
+    R::Reader: Send,
+{
+    run_words(rt, rt.alloc(), words(rt))
 }

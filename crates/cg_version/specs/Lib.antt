@@ -1,1 +1,2 @@
 pub mod Version
+pub use Rattle.cg_types.specs.Answer

@@ -2,3 +2,9 @@ pub mod Due
 pub mod Received
 pub mod Sent
 pub mod Laws
+pub use Rattle.cg_exchange.specs.Lent
+pub use Rattle.cg_frames.specs.Choosing
+pub use Rattle.cg_frames.specs.Faults
+pub use Rattle.cg_frames.specs.Feeding
+pub use Rattle.cg_frames.specs.Spelling
+pub use Rattle.cg_links.specs.Counted

@@ -1,4 +1,4 @@
-//! Connections that come in.
+//! Tests of connections that come in.
 
 use crate::samples::{SYN, SYN_AND_ACK2, Standing, owners, started};
 use cg_samples::B;

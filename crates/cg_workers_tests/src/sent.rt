@@ -1,4 +1,4 @@
-//! Rounds that are sent.
+//! Tests of rounds that are sent.
 
 use crate::samples::{ACK, SYN, Standing, owners, started};
 use cg_core::Peers;

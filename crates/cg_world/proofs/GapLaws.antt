@@ -55,7 +55,7 @@ module _ (h : List EntryValue) (is : IsHistory h) (span : Span) (s : IsSpan h sp
   positive : 0 < span.from → 0 < d.above
   positive lt = let v : 0 < version_at h span.from = version_positive h span.from is lt (omega (arith, s.rises, s.stands)) in omega (arith, v, above)
 
-  lies_past : p < span.from ↔ LiesPast d (at_place h p)
+  pub lies_past : p < span.from ↔ LiesPast d (at_place h p)
   lies_past = go (at_place h p) refl
     where
       go : (o : Option EntryValue) → at_place h p ≡ o → p < span.from ↔ LiesPast d o
@@ -83,7 +83,7 @@ module _ (h : List EntryValue) (is : IsHistory h) (span : Span) (s : IsSpan h sp
               absurd (l.1 within)
 
 -- a span that does not reach back to the place is told as a gap
-gap_by_place : (own : Bool) (p : ℕ) (span : Span) → span.from < span.to → (own ≡ true → span.from ≤ p) → IsTrue (is_gap (took_for own p span)) ↔ p < span.from
+pub gap_by_place : (own : Bool) (p : ℕ) (span : Span) → span.from < span.to → (own ≡ true → span.from ≤ p) → IsTrue (is_gap (took_for own p span)) ↔ p < span.from
 gap_by_place true p span rises own = (λ gap. absurd cc, λ lt. let le = own refl in absurd (omega (arith, lt, le)))
 gap_by_place false p span rises own = go (nat_le span.to p) (nat_le span.from p) refl refl
   where

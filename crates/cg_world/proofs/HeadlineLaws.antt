@@ -50,7 +50,7 @@ use Rattle.cg_world.proofs.GapLaws.{spans_are, gap_told}
 -- ---- what a node took
 
 -- what it took, by marks and by places
-abbrev Marked : PlaceWorld → ℕ → ℕ → List Mark → Type 0
+abbrev pub Marked : PlaceWorld → ℕ → ℕ → List Mark → Type 0
 Marked w node owner marks = (marks ≡ marks_at (w.histories owner) (w.taken node owner)) × AllSpans (w.histories owner) (w.taken node owner)
 
 -- the histories after more actions
@@ -58,12 +58,12 @@ placed_goes_on : (earlier later : List Action) → Keeps (place_world earlier) (
 placed_goes_on earlier later = subst (Keeps (place_world earlier)) (sym (all_more nobody earlier later)) (actions_from_keeps (place_world earlier) (done_by_places (place_world earlier) later))
 
 -- where the same was taken, or one span more
-marked_still : (w v : PlaceWorld) (node owner : ℕ) (marks : List Mark) → Continues (w.histories owner) (v.histories owner) → v.taken node owner ≡ w.taken node owner → Marked w node owner marks → Marked v node owner marks
+pub marked_still : (w v : PlaceWorld) (node owner : ℕ) (marks : List Mark) → Continues (w.histories owner) (v.histories owner) → v.taken node owner ≡ w.taken node owner → Marked w node owner marks → Marked v node owner marks
 marked_still w v node owner marks on same m =
     subst (λ (spans : List Span). (marks ≡ marks_at (v.histories owner) spans) × AllSpans (v.histories owner) spans) (sym same)
     (m.0 ∙ sym (marks_stay (w.histories owner) (v.histories owner) on (w.taken node owner) m.1), all_stay (w.histories owner) (v.histories owner) on (w.taken node owner) m.1)
 
-marked_more : (w v : PlaceWorld) (node owner : ℕ) (marks : List Mark) (span : Span) → Continues (w.histories owner) (v.histories owner) → v.taken node owner ≡ w.taken node owner ++ span ∷ [] → IsSpan (w.histories owner) span
+pub marked_more : (w v : PlaceWorld) (node owner : ℕ) (marks : List Mark) (span : Span) → Continues (w.histories owner) (v.histories owner) → v.taken node owner ≡ w.taken node owner ++ span ∷ [] → IsSpan (w.histories owner) span
     → Marked w node owner marks → Marked v node owner (marks ++ mark_at (w.histories owner) span.to ∷ [])
 marked_more w v node owner marks span on more is m =
     let h : List EntryValue = w.histories owner in
@@ -187,11 +187,11 @@ nothing_marked node owner = (refl, tt)
 -- ---- marks of places
 
 -- P holds of each, by recursion
-abbrev Each : {X : Type 0} → (X → Type 0) → List X → Type 0
+abbrev pub Each : {X : Type 0} → (X → Type 0) → List X → Type 0
 Each P [] = ⊤
 Each P (x ∷ xs) = P x × Each P xs
 
-each_all : {X : Type 0} → (P : X → Type 0) (xs : List X) → Each P xs → All P xs
+pub each_all : {X : Type 0} → (P : X → Type 0) (xs : List X) → Each P xs → All P xs
 each_all P [] each k d lt = absurd (omega (arith, lt))
 each_all P (x ∷ xs) each zero d lt = each.0
 each_all P (x ∷ xs) each (suc k) d lt = each_all P xs each.1 k d (omega (arith, lt))
@@ -205,15 +205,15 @@ contains_map f (y ∷ xs) zero x lt e = (omega arith, ap f e)
 contains_map f (y ∷ xs) (suc k) x lt e = let rest = contains_map f xs k x (omega (arith, lt)) e in (omega (arith, rest.0), rest.1)
 
 -- each place has an entry
-abbrev HasEntries : List EntryValue → List ℕ → Type 0
+abbrev pub HasEntries : List EntryValue → List ℕ → Type 0
 HasEntries h places = Each (λ p. (0 < p) × (p ≤ length h)) places
 
 -- the marks of a node, by its places
-marks_by_targets : (h : List EntryValue) (spans : List Span) → marks_at h spans ≡ map_list (mark_at h) (targets spans)
+pub marks_by_targets : (h : List EntryValue) (spans : List Span) → marks_at h spans ≡ map_list (mark_at h) (targets spans)
 marks_by_targets h [] = refl
 marks_by_targets h (span ∷ spans) = ap (λ (marks : List Mark). mark_at h span.to ∷ marks) (marks_by_targets h spans)
 
-targets_have : (h : List EntryValue) (spans : List Span) → AllSpans h spans → HasEntries h (targets spans)
+pub targets_have : (h : List EntryValue) (spans : List Span) → AllSpans h spans → HasEntries h (targets spans)
 targets_have h [] all = tt
 targets_have h (span ∷ spans) all = ((omega (arith, all.0.rises), all.0.stands), targets_have h spans all.1)
 
@@ -226,7 +226,7 @@ within_furthest h is top l [] le = tt
 within_furthest h is top l (p ∷ places) le = (mark_rises h is p top (omega (arith, le)) l, within_furthest h is top l places (omega (arith, le)))
 
 -- the entry at the furthest of some places has the greatest of their marks
-greatest_held : (h : List EntryValue) → IsHistory h → (places : List ℕ) → HasEntries h places → HasGreatest (at_place h (furthest places)) (map_list (mark_at h) places)
+pub greatest_held : (h : List EntryValue) → IsHistory h → (places : List ℕ) → HasEntries h places → HasGreatest (at_place h (furthest places)) (map_list (mark_at h) places)
 greatest_held h is places has = go (furthest_stands places)
   where
     go : (furthest places ≡ 0) ⊎ Contains places (furthest places) → HasGreatest (at_place h (furthest places)) (map_list (mark_at h) places)
@@ -251,7 +251,7 @@ same_marks m n a b =
     let second : m.1 ≡ n.1 = grind arith in
     λ i. (first i, second i)
 
-same_held : (one other : Option EntryValue) (ms ns : List Mark) → HasGreatest one ms → HasGreatest other ns → ((m : Mark) → Contains ms m ↔ Contains ns m)
+pub same_held : (one other : Option EntryValue) (ms ns : List Mark) → HasGreatest one ms → HasGreatest other ns → ((m : Mark) → Contains ms m ↔ Contains ns m)
     → ((x y : EntryValue) → one ≡ Some x → other ≡ Some y → mark_of x ≡ mark_of y → x ≡ y) → one ≡ other
 same_held None None ms ns a b same named = refl
 same_held None (Some y) ms ns a b same named = absurd (let c = subst (λ (ms : List Mark). Contains ms (mark_of y)) a ((same (mark_of y)).1 b.0) in omega (arith, c.1))

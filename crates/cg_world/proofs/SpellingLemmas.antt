@@ -88,7 +88,7 @@ module _ (cluster : ClusterValue) (old new : ℕ → List EntryValue) (on : AllC
   spells_on (message.Ack2 ack2) (Syn places) s = absurd s.spells
   spells_on (message.Ack2 ack2) (Ack asks spans) s = absurd s.spells
 
-  says_on : (m : Message) (said : PlaceMessage) → Says old m said → Says new m said
+  pub says_on : (m : Message) (said : PlaceMessage) → Says old m said → Says new m said
   says_on m said s = record { spells = spells_on m said s; stands = message_stays old new on said s.stands }
 
   -- what was sent goes on to be what it says

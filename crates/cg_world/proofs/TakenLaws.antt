@@ -45,21 +45,21 @@ use Rattle.cg_world.proofs.WorldLaws.{done_by_places, Joined, joined, refusals_a
 -- ---- one message
 
 -- the outcome of a span about an owner, at the places of a node
-abbrev outcome_at : PlaceWorld → ℕ → ℕ → Option Span → Option Outcome
+abbrev pub outcome_at : PlaceWorld → ℕ → ℕ → Option Span → Option Outcome
 outcome_at w node owner o = option_map (λ span. record { endpoint = owner; took = took_for (owner == node) (w.places node owner) span }) o
 
 counted_so : (w : PlaceWorld) (node owner : ℕ) (o : Option Span) → taken_with (owner == node) (w.places node owner) (w.taken node owner) o ≡ with_outcome (w.taken node owner) (outcome_at w node owner o) o
 counted_so w node owner None = refl
 counted_so w node owner (Some span) = refl
 
-spans_counted : (w : PlaceWorld) (node : ℕ) (spans : ℕ → Option Span) (outcomes : List Outcome) → ((owner : ℕ) → outcome_about owner outcomes ≡ outcome_at w node owner (spans owner))
+pub spans_counted : (w : PlaceWorld) (node : ℕ) (spans : ℕ → Option Span) (outcomes : List Outcome) → ((owner : ℕ) → outcome_about owner outcomes ≡ outcome_at w node owner (spans owner))
     → (owner : ℕ) → (with_spans w node spans).taken node owner ≡ with_outcome (w.taken node owner) (outcome_about owner outcomes) (spans owner)
 unfolding with_spans
 spans_counted w node spans outcomes each owner =
     ap (λ (row : ℕ → List Span). row owner) (put_at_here w.taken node (λ owner. taken_with (owner == node) (w.places node owner) (w.taken node owner) (spans owner)))
     ∙ rw (each owner) (counted_so w node owner (spans owner))
 
-message_takes_nothing : (w : PlaceWorld) (said : PlaceMessage) (node owner : ℕ) → (with_message w said).taken node owner ≡ w.taken node owner
+pub message_takes_nothing : (w : PlaceWorld) (said : PlaceMessage) (node owner : ℕ) → (with_message w said).taken node owner ≡ w.taken node owner
 unfolding with_message
 message_takes_nothing w said node owner = refl
 
@@ -162,7 +162,7 @@ unfolding with_message
 opened_takes_nothing w node true = refl
 opened_takes_nothing w node false = refl
 
-local_takes_nothing : (w : PlaceWorld) (node : ℕ) (change : LocalEvent) → (after_action w (plain (Local node change))).taken ≡ w.taken
+pub local_takes_nothing : (w : PlaceWorld) (node : ℕ) (change : LocalEvent) → (after_action w (plain (Local node change))).taken ≡ w.taken
 unfolding after_action
 local_takes_nothing w node Beat = changed_takes_nothing w node entry_after_beat (last_entry (w.histories node))
 local_takes_nothing w node (Set key text) = changed_takes_nothing w node (with_state key text) (last_entry (w.histories node))
@@ -171,11 +171,11 @@ local_takes_nothing w node (Tick now words) =
     let v : PlaceWorld = after_change w node entry_after_beat (last_entry (w.histories node)) in
     opened_takes_nothing v node (runs v node) ∙ changed_takes_nothing w node entry_after_beat (last_entry (w.histories node))
 
-start_forgets : (w : PlaceWorld) (node generation owner : ℕ) → (with_start w node generation).taken node owner ≡ []
+pub start_forgets : (w : PlaceWorld) (node generation owner : ℕ) → (with_start w node generation).taken node owner ≡ []
 unfolding with_start
 start_forgets w node generation owner = ap (λ (row : ℕ → List Span). row owner) (put_at_here w.taken node (λ owner. []))
 
-start_leaves : (w : PlaceWorld) (node generation other : ℕ) (may : Bool) → other ≢ node → (cond may (with_start w node generation) w).taken other ≡ w.taken other
+pub start_leaves : (w : PlaceWorld) (node generation other : ℕ) (may : Bool) → other ≢ node → (cond may (with_start w node generation) w).taken other ≡ w.taken other
 unfolding with_start
 start_leaves w node generation other true apart = put_at_other w.taken node (λ owner. []) other apart
 start_leaves w node generation other false apart = refl
@@ -195,7 +195,7 @@ delivered_leaves w node None there is other apart = refl
 delivered_leaves w node (Some said) true is other apart = rw is (received_leaves w node said other apart)
 delivered_leaves w node (Some said) false is other apart = rw is refl
 
-action_leaves : (w : PlaceWorld) (action : Action) (other : ℕ) → taker action ≢ Some other → (after_action w (plain action)).taken other ≡ w.taken other
+pub action_leaves : (w : PlaceWorld) (action : Action) (other : ℕ) → taker action ≢ Some other → (after_action w (plain action)).taken other ≡ w.taken other
 unfolding after_action
 action_leaves w (Start node generation) other apart = start_leaves w node generation other (may_start w node generation) (λ e. apart (ap Some (sym e)))
 action_leaves w (Local node change) other apart = ap (λ (taken : ℕ → ℕ → List Span). taken other) (local_takes_nothing w node change)

@@ -22,7 +22,7 @@ use Rattle.cg_world.proofs.WorldLaws.{Joined, done_by_places, done_joined, joine
 -- ---- what an action adds to histories
 
 -- an entry stood there before, or is the last one
-abbrev OldOrLast : PlaceWorld → PlaceWorld → Type 0
+abbrev pub OldOrLast : PlaceWorld → PlaceWorld → Type 0
 OldOrLast w v = (owner place : ℕ) (entry : EntryValue) → at_place (v.histories owner) place ≡ Some entry → (at_place (w.histories owner) place ≡ Some entry) ⊎ (last_entry (v.histories owner) ≡ Some entry)
 
 same_old : (w : PlaceWorld) → OldOrLast w w
@@ -55,7 +55,7 @@ spans_old w v node spans old = old
 old_kept : (w : PlaceWorld) → IsKept (OldOrLast w)
 old_kept w = record { message = message_old w; spans = spans_old w }
 
-action_old : (w : PlaceWorld) (action : PlaceAction) → OldOrLast w (after_action w action)
+pub action_old : (w : PlaceWorld) (action : PlaceAction) → OldOrLast w (after_action w action)
 action_old w action = action_kept (OldOrLast w) (old_kept w) w action (same_old w) (own_part (OldOrLast w) w own action)
   where
     own : IsAfterOwn (OldOrLast w) w

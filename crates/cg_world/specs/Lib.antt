@@ -7,3 +7,6 @@ pub mod Taken
 pub mod WorkedRuns
 pub mod Mark
 pub mod Headline
+pub use Rattle.cg_types.specs.Answer
+pub use Rattle.cg_entry.specs.History
+pub use Rattle.cg_core.specs.Step

@@ -11,7 +11,7 @@ use Rattle.cg_threads.proofs.work.tick.Goals as goal
 pub returns-clause-put : goal.returns-clause-put
 returns-clause-put g c =
     let after = c.ticker-ticked.new.to in
-    let first = ticked_first _ _ _ _ _ c.new-gate.result c.ticker-ticked.new.gate c.ticker-ticked.ensures.ticks (ap (λ (x : SeatValue). x.receipts) c.new-gate.ensures) c.requires.putting in
+    let first = ticked_first _ _ _ _ _ _ c.new-gate.result c.ticker-ticked.new.gate c.ticker-ticked.ensures.ticks (ap (λ (x : SeatValue). x.receipts) c.new-gate.ensures) c.requires.putting in
     record {
       channel = c.ticker-ticked.ensures.channel;
       are_first = subst (λ (qs : List Receipt). IsPrefix (numbers_of (put_by after)) (numbers_of_all qs)) (sym c.of.ensures.receipts) first;

@@ -1,0 +1,110 @@
+//! Lives to audit: pairs of endpoints that exchange what they hold, over and over.
+
+use anyhow::{Context, Result};
+use cg_audit::Lives;
+use cg_core::{Event, Settings};
+use cg_exchange::Lent;
+use cg_history::History;
+use cg_silence::Silence;
+use cg_types::{Cluster, Endpoint, Generation};
+use std::alloc::{AllocError, Global};
+use std::hint::black_box;
+
+/// About how many items there are, and of how many endpoints.
+#[derive(Clone, Copy)]
+pub(crate) struct Size {
+    pub(crate) items: u32,
+    pub(crate) endpoints: u16,
+}
+
+// The moment of each arrival.
+const NOW: u64 = 2000;
+
+// A beat, and the four events of an exchange.
+const EXCHANGE: u32 = 5;
+
+// 10.0.HIGH.LOW:7000
+fn endpoint(number: u16) -> Result<Endpoint> {
+    let [high, low] = number.to_be_bytes();
+    Endpoint::new([10, 0, high, low], 7000).context("an endpoint")
+}
+
+fn settings(alloc: Global) -> Result<Settings> {
+    let silence = Silence::new(1000, 2000, 60000, 18421).context("settings of a window")?;
+    let cluster = Cluster::new(alloc, "c1")?;
+    Settings::new(cluster, Vec::new(alloc), silence).context("settings of a node")
+}
+
+fn begun(alloc: Global, number: u16) -> Result<History> {
+    let generation = Generation::new(5).context("a generation")?;
+    Ok(History::begin(alloc, endpoint(number)?, generation, settings(alloc)?)?)
+}
+
+// The event that hands a message over.
+fn arrival(alloc: Global, message: Lent<'_>) -> Result<Event, AllocError> {
+    Ok(match message {
+        Lent::Syn(m) => Event::Syn { m: m.copy(alloc)? },
+        Lent::Ack(m) => Event::Ack {
+            now: NOW,
+            m: m.copy(alloc)?,
+        },
+        Lent::Ack2(m) => Event::Ack2 {
+            now: NOW,
+            m: m.copy(alloc)?,
+        },
+    })
+}
+
+// The event that hands over what was sent last.
+fn handed(alloc: Global, from: &History) -> Result<Event> {
+    let last = from.records().last().context("a record")?;
+    let message = last.reply.message().context("a message")?;
+    Ok(arrival(alloc, message)?)
+}
+
+fn done(alloc: Global, history: &mut History, event: Event) -> Result<()> {
+    black_box(history.apply(alloc, 0, event)?);
+    Ok(())
+}
+
+// The opener beats, and the two exchange what they hold.
+fn exchange(alloc: Global, opener: &mut History, answerer: &mut History) -> Result<()> {
+    done(alloc, opener, Event::Beat)?;
+    done(alloc, opener, Event::Opening)?;
+    let syn = handed(alloc, opener)?;
+    done(alloc, answerer, syn)?;
+    let ack = handed(alloc, answerer)?;
+    done(alloc, opener, ack)?;
+    let ack2 = handed(alloc, opener)?;
+    done(alloc, answerer, ack2)
+}
+
+fn life(alloc: Global, number: u16, history: History) -> Result<Lives> {
+    let mut histories = Vec::with_capacity(alloc, 1)?;
+    histories.push(history)?;
+    Lives::new(endpoint(number)?, histories).context("lives")
+}
+
+// The lives of two endpoints after so many exchanges.
+fn add_pair(alloc: Global, all: &mut Vec<Lives>, first: u16, exchanges: u32) -> Result<()> {
+    let second = first.wrapping_add(1);
+    let mut opener = begun(alloc, first)?;
+    let mut answerer = begun(alloc, second)?;
+    for _ in 0..exchanges {
+        exchange(alloc, &mut opener, &mut answerer)?;
+    }
+    all.push(life(alloc, first, opener)?)?;
+    all.push(life(alloc, second, answerer)?)?;
+    Ok(())
+}
+
+/// The lives of so many endpoints, two by two, with about so many items in all.
+pub(crate) fn all_lives(alloc: Global, size: Size) -> Result<Vec<Lives>> {
+    let pairs = size.endpoints / 2;
+    let each = size.items.checked_div(u32::from(pairs)).unwrap_or(0);
+    let mut all = Vec::new(alloc);
+    for pair in 0..pairs {
+        add_pair(alloc, &mut all, pair.wrapping_mul(2), each / EXCHANGE)?;
+    }
+    Ok(all)
+}

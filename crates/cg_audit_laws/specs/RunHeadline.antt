@@ -1,0 +1,149 @@
+-- The headline of lives that are one run: what is true of the tables where the last life of each endpoint ends. It is
+-- said by the marks of entries and deltas, as the headline of a world is.
+use Rattle.std.specs.Prelude.{ℕ, ◌≡◌, ◌↔◌, ◌⊎◌, ◌==◌, ◌++◌, IsTrue, List, [], ◌∷◌, All, Option, Some, None, Ok, if◌then◌else◌}
+use Rattle.std.specs.List.{AllByRecursion, Contains}
+use Rattle.std.specs.Option.{option_and_then}
+use Rattle.std.specs.FinMap as map
+use Rattle.cg_types.specs.Numbers.{IsGeneration}
+use Rattle.cg_entry.specs.Values.{EntryValue}
+use Rattle.cg_table.specs.Own.{own_entry}
+use Rattle.cg_table.specs.Table.{digests_of}
+use Rattle.cg_exchange.specs.declared.outcome.Outcome.{Outcome}
+use Rattle.cg_exchange.specs.declared.owner_delta.OwnerDelta.{OwnerDelta}
+use Rattle.cg_exchange.specs.Spelling.{delta_about, outcome_about}
+use Rattle.cg_core.specs.declared.event.Event.{Event}
+use Rattle.cg_core.specs.Values.{SettingsValue, NodeValue}
+use Rattle.cg_core.specs.Arrivals.{outcomes_in}
+use Rattle.cg_core.specs.Step.{starting_node}
+use Rattle.cg_places.specs.TableLaws.{AreEqual}
+use Rattle.cg_steps.specs.Step.{message_in}
+use Rattle.cg_world.specs.Taken.{deltas_in, is_gap}
+use Rattle.cg_world.specs.Headline.{Mark, mark_of, HasGreatest, LiesPast, with_delta}
+use Rattle.cg_history.specs.declared.item.Item.{Item}
+use Rattle.cg_history.specs.declared.item.Receipt.{Receipt}
+use Rattle.cg_history.specs.History.{HistoryValue, Replays, new_history, apply}
+use Rattle.cg_one_run.specs.Items.{RunItem, LivesValue}
+use Rattle.cg_one_run.specs.OneRun.{IsOneRun}
+
+-- ---- lives
+
+-- The history began with a node of the endpoint that started, and its records lead from there to its node.
+pub record IsLife (endpoint : ℕ) (h : HistoryValue) : Type 0 where
+  pub generation : ℕ
+  pub settings : SettingsValue
+  pub in_range : IsGeneration generation
+  pub begun : h.base ≡ starting_node endpoint generation settings
+  pub replays : Replays h.base h.records h.node
+
+abbrev pub AreLives : List LivesValue → Type 0
+AreLives lives = AllByRecursion (λ (l : LivesValue). AllByRecursion (IsLife l.endpoint) l.histories) lives
+
+-- the histories of an endpoint, which may have none
+abbrev pub histories_at : List LivesValue → ℕ → List HistoryValue
+histories_at [] endpoint = []
+histories_at (l ∷ ls) endpoint = if l.endpoint == endpoint then l.histories else histories_at ls endpoint
+
+-- the last of some histories, or else this one
+abbrev pub last_or : Option HistoryValue → List HistoryValue → Option HistoryValue
+last_or before [] = before
+last_or before (h ∷ hs) = last_or (Some h) hs
+
+-- The endpoint's last life is this history.
+abbrev pub EndsWith : List LivesValue → ℕ → HistoryValue → Type 0
+EndsWith lives endpoint h = last_or None (histories_at lives endpoint) ≡ Some h
+
+-- ---- what a life took
+
+-- the delta about an owner that an event hands over, if it hands one over
+abbrev pub delta_handed : ℕ → Event → Option OwnerDelta
+delta_handed owner e = option_and_then (λ m. delta_about owner (deltas_in m)) (message_in e)
+
+-- what a node took of an owner, by the marks of the deltas in its records that were no gap
+abbrev pub took_from : ℕ → List Mark → List Item → List Mark
+took_from owner marks [] = marks
+took_from owner marks (r ∷ rs) =
+    took_from owner (with_delta marks (outcome_about owner (outcomes_in r.reply)) (delta_handed owner r.event)) rs
+
+-- what a life has of an owner at its end: its own entry's mark, if it is the owner's, and those that it took
+abbrev pub marks_of : ℕ → HistoryValue → ℕ → List Mark
+marks_of endpoint h owner =
+    if owner == endpoint then mark_of (own_entry h.node.table) ∷ took_from owner [] h.records
+    else took_from owner [] h.records
+
+-- Of the records that follow this node, a delta is told as a gap exactly where it lies past what the node then held.
+abbrev pub GapsLiePast : NodeValue → List Item → Type 0
+GapsLiePast begun records =
+    (earlier : List Item) (r : Item) (later : List Item) (n : NodeValue) → earlier ++ r ∷ later ≡ records
+    → Replays begun earlier n → (owner : ℕ) (outcome : Outcome) (d : OwnerDelta)
+    → outcome_about owner (outcomes_in r.reply) ≡ Some outcome → delta_handed owner r.event ≡ Some d
+    → IsTrue (is_gap outcome.took) ↔ LiesPast d.delta (map.get n.table.entries owner)
+
+-- So it is in each of these histories.
+abbrev pub AllGapsLiePast : List HistoryValue → Type 0
+AllGapsLiePast histories = AllByRecursion (λ (h : HistoryValue). GapsLiePast h.base h.records) histories
+
+-- ---- what owners had
+
+-- After some of the first of these records, which follow this node, the entry was its own.
+pub record WasOwnFrom (begun : NodeValue) (records : List Item) (entry : EntryValue) : Type 0 where
+  pub earlier : List Item
+  pub later : List Item
+  pub in_order : earlier ++ later ≡ records
+  pub node : NodeValue
+  pub leads : Replays begun earlier node
+  pub own : own_entry node.table ≡ entry
+
+-- So it was in one of these histories.
+abbrev pub WasOwnIn : List HistoryValue → EntryValue → Type 0
+WasOwnIn [] entry = ⊥
+WasOwnIn (h ∷ hs) entry = WasOwnFrom h.base h.records entry ⊎ WasOwnIn hs entry
+
+-- ---- the headline
+
+module _ (lives : List LivesValue) where
+  -- At one time of one of its lives this was the owner's own entry.
+  abbrev pub Was : ℕ → EntryValue → Type 0
+  Was owner entry = WasOwnIn (histories_at lives owner) entry
+
+  -- Such an entry has this mark.
+  abbrev pub IsMarked : ℕ → Mark → Type 0
+  IsMarked owner mark = (entry : EntryValue) × Was owner entry × (mark_of entry ≡ mark)
+
+  -- lives with the same of every owner
+  abbrev pub SameMarks : ℕ → HistoryValue → ℕ → HistoryValue → Type 0
+  SameMarks a one b other =
+      (owner : ℕ) (mark : Mark) → Contains (marks_of a one owner) mark ↔ Contains (marks_of b other owner) mark
+
+  pub record RunHeadline : Type 0 where
+    -- each table is the join of the node's own entry and the deltas that it took: it holds the furthest of each owner
+    pub joined : (endpoint : ℕ) (h : HistoryValue) → EndsWith lives endpoint h
+        → (owner : ℕ) → HasGreatest (map.get h.node.table.entries owner) (marks_of endpoint h owner)
+    -- a delta is left out, as a gap, exactly where it lies past what the node then held
+    pub gaps : (endpoint : ℕ) → AllGapsLiePast (histories_at lives endpoint)
+    -- each entry in it was its owner's own, whole, at one past time
+    pub whole : (endpoint : ℕ) (h : HistoryValue) → EndsWith lives endpoint h
+        → (owner : ℕ) (entry : EntryValue) → map.get h.node.table.entries owner ≡ Some entry → Was owner entry
+    -- so was the entry that each delta led to, and a mark names one entry of its owner
+    pub marked : (endpoint : ℕ) (h : HistoryValue) → EndsWith lives endpoint h
+        → (owner : ℕ) → All (IsMarked owner) (marks_of endpoint h owner)
+    pub named : (owner : ℕ) (x y : EntryValue) → Was owner x → Was owner y → mark_of x ≡ mark_of y → x ≡ y
+    -- so lives that took the same end with equal tables and rings
+    pub equal_sets : (a b : ℕ) (one other : HistoryValue) → EndsWith lives a one → EndsWith lives b other
+        → SameMarks a one b other → AreEqual one.node.table.entries other.node.table.entries
+    -- and so do lives with equal digests
+    pub equal_digests : (a b : ℕ) (one other : HistoryValue) → EndsWith lives a one → EndsWith lives b other
+        → digests_of one.node.table.entries ≡ digests_of other.node.table.entries
+        → AreEqual one.node.table.entries other.node.table.entries
+
+-- Where lives are one run, the headline holds of where they end, whatever the settings of each and however many
+-- endpoints there are.
+abbrev pub RunsHaveTheHeadline : Type 0
+RunsHaveTheHeadline =
+    (lives : List LivesValue) (order : List RunItem) → AreLives lives → IsOneRun lives order → RunHeadline lives
+
+-- A history that begins is a life, and stays one with each event that is done.
+pub record BegunHistoriesAreLives : Type 0 where
+  pub begin : (endpoint generation : ℕ) (settings : SettingsValue) → IsGeneration generation
+      → IsLife endpoint (new_history endpoint generation settings)
+  pub go_on : (endpoint caller : ℕ) (h : HistoryValue) (e : Event) (after : HistoryValue) (q : Receipt)
+      → IsLife endpoint h → apply h caller e ≡ Ok (after, q) → IsLife endpoint after

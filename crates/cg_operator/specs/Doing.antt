@@ -1,0 +1,65 @@
+-- What a line of the operator does at a gate and a pass, and what is shown of it.
+use Rattle.std.specs.Prelude.{ℕ, ◌≡◌, ◌⊎◌, List, Option, Some, None, Result, Ok, Err}
+use Rattle.cg_types.specs.declared.fault.Fault.{Fault}
+use Rattle.cg_types.specs.declared.fault.Fault.TheVariants.{OutOfMemory, NoSuchNode}
+use Rattle.cg_types.specs.Fault.{fault_text}
+use Rattle.cg_table.specs.Values.{TableValue}
+use Rattle.cg_table.specs.Puts.{Put, with_puts}
+use Rattle.cg_core.specs.declared.event.Event.TheVariants as event
+use Rattle.cg_core.specs.declared.reply.Reply.TheVariants as reply
+use Rattle.cg_core.specs.Values.{NodeValue}
+use Rattle.cg_views.specs.Lists.{StartsWith}
+use Rattle.cg_printed.specs.Printed.{version_line}
+use Rattle.cg_seats.specs.Seats.{SeatValue, with_told, Enters, Refuses, GoesOn}
+use Rattle.cg_script.specs.declared.line.View.{View}
+use Rattle.cg_orders.specs.declared.order.Order.{Order}
+use Rattle.cg_orders.specs.declared.order.Order.TheVariants.{Show, Set, Quit}
+use Rattle.cg_orders.specs.Shown.{table_lines, unpublished_line}
+
+-- A key that was set is told of by its version, once the pass has learnt what was told; where nothing was, as
+-- unpublished.
+abbrev pub TellsSet : ℕ → Option (List Put) → List Put → List Put → List ℕ → Type 0
+TellsSet version None p q text = (q ≡ p) × (text ≡ unpublished_line version)
+TellsSet version (Some told) p q text = StartsWith q told × (text ≡ version_line version)
+
+module _ (start : NodeValue) where
+  -- The gate entered the Set, with what it told handed over.
+  pub record SetsKey (key : ℕ) (value : List ℕ) (g : SeatValue) (p : List Put) (text : List ℕ) (h : SeatValue)
+      (q : List Put) : Type 0 where
+    pub version : ℕ
+    pub told : Option (List Put)
+    pub entered : Enters start g (event.Set key value) (reply.Done version) (with_told h told)
+    pub later : StartsWith q p
+    pub tells : TellsSet version told p q text
+
+  -- The Set was refused, and its fault is told.
+  pub record RefusesKey (key : ℕ) (value : List ℕ) (g : SeatValue) (p : List Put) (text : List ℕ) (h : SeatValue)
+      (q : List Put) : Type 0 where
+    pub fault : Fault
+    pub refused : Refuses start g (event.Set key value) fault
+    pub text_is : text ≡ fault_text fault
+    pub gate : h ≡ g
+    pub pass : q ≡ p
+
+  abbrev pub Sets : ℕ → List ℕ → SeatValue → List Put → List ℕ → SeatValue → List Put → Type 0
+  Sets key value g p text h q = SetsKey key value g p text h q ⊎ RefusesKey key value g p text h q
+
+  -- What a line does, from a gate and what a pass has read to those after it, and its text.
+  abbrev pub Does : TableValue → Result Order Fault → SeatValue → List Put → List ℕ → SeatValue → List Put → Type 0
+  Does opening (Ok (Show view)) g p text h q =
+      (h ≡ g) × StartsWith q p × (text ≡ table_lines (with_puts opening q) view)
+  Does opening (Ok (Set key value)) g p text h q = Sets key value g p text h q
+  Does opening (Ok Quit) g p text h q = ⊥
+  Does opening (Err f) g p text h q = (h ≡ g) × (q ≡ p) × (text ≡ fault_text f)
+
+  -- A line is answered with its text, or is the one that asks for the end.
+  abbrev pub Answers : TableValue → Result Order Fault → SeatValue → List Put → Option (List ℕ) → SeatValue
+      → List Put → Type 0
+  Answers opening order g p None h q = (order ≡ Ok Quit) × (h ≡ g) × (q ≡ p)
+  Answers opening order g p (Some text) h q = Does opening order g p text h q
+
+-- A line is not answered: memory ran out, or it asks for what is held and there is nothing to read.
+abbrev pub Unanswered : Result Order Fault → SeatValue → List Put → SeatValue → List Put → Fault → Type 0
+Unanswered order g p h q f =
+    ((f ≡ OutOfMemory) × GoesOn g h × StartsWith q p)
+    ⊎ ((view : View) × (order ≡ Ok (Show view)) × (f ≡ NoSuchNode) × (h ≡ g) × (q ≡ p))

@@ -1,0 +1,93 @@
+-- Lines of the operator, one after the other, and what is written of them.
+use Rattle.std.specs.Prelude.{ℕ, ◌≡◌, ◌⊎◌, Bool, true, false, List, ◌∷◌, ◌++◌, take, Option, Result, Ok, MatchResult}
+use Rattle.std.specs.Io.KnownBytes.{Appends, Consumes}
+use Rattle.cg_types.specs.declared.fault.Fault.{Fault}
+use Rattle.cg_types.specs.declared.fault.Fault.TheVariants.{OutOfMemory, WriteFault, NoSuchNode}
+use Rattle.cg_table.specs.Values.{TableValue}
+use Rattle.cg_table.specs.Puts.{Put}
+use Rattle.cg_core.specs.Values.{NodeValue}
+use Rattle.cg_views.specs.Lists.{StartsWith}
+use Rattle.cg_links.specs.declared.counted.Counted.{Counted}
+use Rattle.cg_links.specs.Counted.{link_of, KeepsCounts, CountsFailed, CountsIdle, IsFlushed}
+use Rattle.cg_lines.specs.Lines.{lines_of}
+use Rattle.cg_lines.specs.Taken.{Takes, TakesAll, Fails}
+use Rattle.cg_script.specs.declared.line.View.{View}
+use Rattle.cg_seats.specs.Seats.{SeatValue, GoesOn}
+use Rattle.cg_orders.specs.declared.order.Order.TheVariants.{Show, Quit}
+use Rattle.cg_orders.specs.Orders.{order_in}
+use Rattle.cg_operator.specs.Doing.{Does}
+
+-- how far an operator has come: its gate, the puts that its pass has read or learnt, and its writer
+pub record At (W : Type 0) : Type 0 where
+  pub gate : SeatValue
+  pub pass : List Put
+  pub writer : Counted W
+
+-- by what a writer holds, the node's start and the table that the views opened with
+module _ {W : Type 0} (holds : W → Option (List ℕ)) (start : NodeValue) (opening : TableValue) where
+  abbrev pub held : At W → Option (List ℕ)
+  held s = holds (link_of s.writer)
+
+  -- The line was done, and its text written and flushed.
+  pub record DoesLine (s : At W) (line : List ℕ) (t : At W) : Type 0 where
+    pub text : List ℕ
+    pub done : Does start opening (order_in line) s.gate s.pass text t.gate t.pass
+    pub written : Appends (held s) (held t) text
+    pub kept : KeepsCounts s.writer t.writer
+    pub flushed : IsFlushed t.writer
+
+  -- Memory ran out in the line: its event may be done, and nothing was written of it.
+  pub record LacksMemory (s t : At W) (f : Fault) : Type 0 where
+    pub fault : f ≡ OutOfMemory
+    pub gate : GoesOn s.gate t.gate
+    pub later : StartsWith t.pass s.pass
+    pub writer : t.writer ≡ s.writer
+
+  -- The line asks for something that is held, and there is nothing to read it from.
+  pub record ReadsNothing (s : At W) (line : List ℕ) (t : At W) (f : Fault) : Type 0 where
+    pub fault : f ≡ NoSuchNode
+    pub view : View
+    pub asked : order_in line ≡ Ok (Show view)
+    pub same : t ≡ s
+
+  -- The line was done, and a front of its text was written before the writer failed or took nothing.
+  pub record WritesFront (s : At W) (line : List ℕ) (t : At W) (f : Fault) : Type 0 where
+    pub fault : f ≡ WriteFault
+    pub text : List ℕ
+    pub done : Does start opening (order_in line) s.gate s.pass text t.gate t.pass
+    pub count : ℕ
+    pub written : Appends (held s) (held t) (take count text)
+    pub caused : CountsFailed s.writer t.writer ⊎ CountsIdle s.writer t.writer
+
+  -- The line ended the operator by a fault.
+  abbrev pub EndsAt : At W → List ℕ → At W → Fault → Type 0
+  EndsAt s line t f = LacksMemory s t f ⊎ (ReadsNothing s line t f ⊎ WritesFront s line t f)
+
+  -- A line goes on with the next one, or asks for the end and does nothing.
+  abbrev pub Goes : At W → List ℕ → At W → Bool → Type 0
+  Goes s line t true = DoesLine s line t
+  Goes s line t false = (order_in line ≡ Ok Quit) × (t ≡ s)
+
+  -- what became of a line
+  abbrev pub TellsLine : At W → List ℕ → At W → Result Bool Fault → Type 0
+  TellsLine s line t result = MatchResult result (Goes s line t) (EndsAt s line t)
+
+  module _ {R : Type 0} (before after : Option (List ℕ)) (old new : Counted R) (s t : At W) where
+    -- A line asked for the end: those before it were done, and those behind it are not looked at.
+    pub record Quits : Type 0 where
+      pub text : List ℕ
+      pub read : Consumes before after text
+      pub kept : KeepsCounts old new
+      pub front : List (List ℕ)
+      pub line : List ℕ
+      pub rest : List (List ℕ)
+      pub are : lines_of text ≡ front ++ line ∷ rest
+      pub asked : order_in line ≡ Ok Quit
+      pub done : Takes DoesLine EndsAt s front t
+
+    abbrev pub Ends : Type 0
+    Ends = TakesAll DoesLine EndsAt before after old new s t ⊎ Quits
+
+    -- The lines were done to the end of the input or to a quit, or to the line that ended the operator by a fault.
+    abbrev pub Operates : {T : Type 0} → Result T Fault → Type 0
+    Operates result = MatchResult result (λ _. Ends) (Fails DoesLine EndsAt before after old new s t)

@@ -1,0 +1,144 @@
+//! What the lines of the operator do.
+
+ghost use Rattle.std.specs.Prelude.{ℕ, ◌≡◌, ◌⊎◌, Some, None, Ok, Err, IfOk, IfErr, MatchResult, option_map, string_bytes};
+ghost use Rattle.cg_types.specs.declared.fault.Fault.TheVariants as faults;
+ghost use Rattle.cg_table.specs.Puts.{with_puts};
+ghost use Rattle.cg_core.specs.declared.reply.Reply.TheVariants as replies;
+ghost use Rattle.cg_views.specs.Lists.{StartsWith};
+ghost use Rattle.cg_seats.specs.Seats.{GoesOn, last_reply};
+ghost use Rattle.cg_orders.specs.Shown.{table_lines};
+ghost use Rattle.cg_orders.specs.Orders.{order_in};
+ghost use Rattle.cg_operator.specs.Doing.{TellsSet, Sets, Answers, Unanswered};
+
+use cg_core::{Event, Reply};
+use cg_engine::Gate;
+use cg_locked::Name;
+use cg_orders::{Order, add_unpublished, read_order, table_text};
+use cg_printed::add_version;
+use cg_script::View;
+use cg_seats::SeatGate;
+use cg_types::{Fault, StateKey, StateText, Version};
+use cg_views::{Pass, Told};
+use std::alloc::{AllocError, Global};
+use std::sync::Wait;
+
+// What is shown of the table that a pass reads.
+fn show<N: Name>(alloc: Global, pass: &mut Pass<N>, view: View) -> Result<String, Fault>
+    ensures later { StartsWith pass.new pass.old }
+    ensures text { IfOk result (λ text. string_bytes text ≡ table_lines (with_puts N.opening pass.new) view) }
+    ensures gone { (result ≡ Err faults.NoSuchNode) → pass.new ≡ pass.old }
+    ensures err { IfErr result (λ f. (f ≡ faults.NoSuchNode) ⊎ (f ≡ faults.OutOfMemory)) }
+{
+    let snapshot = match pass.read() {
+        Ok(snapshot) => snapshot,
+        Err(fault) => return Err(fault),
+    };
+    match table_text(alloc, snapshot.table(), view) {
+        Ok(text) => Ok(text),
+        Err(_) => Err(Fault::OutOfMemory),
+    }
+}
+
+// Tells of a key that was set, once the pass has learnt what was told of it.
+fn tell_set<N: Name>(
+    alloc: Global,
+    pass: &mut Pass<N>,
+    told: Option<Told<N>>,
+    version: Version,
+) -> Result<String, AllocError>
+    ensures later { StartsWith pass.new pass.old }
+    ensures text { IfOk result (λ text. TellsSet version told pass.old pass.new (string_bytes text)) }
+{
+    let mut text = String::new(alloc);
+    match told {
+        Some(told) => {
+            pass.learn(told);
+            add_version(&mut text, version)?;
+        }
+        None => add_unpublished(&mut text, version)?,
+    }
+    Ok(text)
+}
+
+// The version that the last event, a change, was given.
+fn version_of<N: Name, R: Wait>(gate: &SeatGate<'_, N, R>) -> Version
+    requires { (version : ℕ) × (last_reply gate.now.receipts ≡ Some (replies.Done version)) }
+    ensures { last_reply gate.now.receipts ≡ Some (replies.Done result) }
+{
+    match gate.reply() {
+        Some(reply) => match reply {
+            Reply::Done(version) => *version,
+            _ => unreachable!(),
+        },
+        None => unreachable!(),
+    }
+}
+
+// Sets a key, and tells of it.
+fn set<N: Name, R: Wait>(
+    alloc: Global,
+    gate: &mut SeatGate<'_, N, R>,
+    pass: &mut Pass<N>,
+    key: StateKey,
+    text: StateText,
+) -> Result<String, Fault>
+    ensures gate { GoesOn gate.old gate.new }
+    ensures later { StartsWith pass.new pass.old }
+    ensures set { IfOk result (λ shown.
+        Sets N.start key text gate.old pass.old (string_bytes shown) gate.new pass.new) }
+    ensures err { IfErr result (λ f. f ≡ faults.OutOfMemory) }
+{
+    match gate.event(alloc, Event::Set { key, text }) {
+        Ok(()) => {
+            let version = version_of(gate);
+            let told = gate.told();
+            Ok(tell_set(alloc, pass, told, version)?)
+        }
+        Err(Fault::OutOfMemory) => Err(Fault::OutOfMemory),
+        Err(fault) => Ok(fault.line(alloc)?),
+    }
+}
+
+// Does what is asked for, and tells what is shown of it; nothing where it is the end.
+fn obey<N: Name, R: Wait>(
+    alloc: Global,
+    gate: &mut SeatGate<'_, N, R>,
+    pass: &mut Pass<N>,
+    order: Order,
+) -> Result<Option<String>, Fault>
+    ensures { MatchResult result
+        (λ text. Answers N.start N.opening (Ok order) gate.old pass.old
+        (option_map string_bytes text) gate.new pass.new)
+        (λ f. Unanswered (Ok order) gate.old pass.old gate.new pass.new f) }
+{
+    match order {
+        Order::Show(view) => match show(alloc, pass, view) {
+            Ok(text) => Ok(Some(text)),
+            Err(fault) => Err(fault),
+        },
+        Order::Set { key, text } => match set(alloc, gate, pass, key, text) {
+            Ok(text) => Ok(Some(text)),
+            Err(fault) => Err(fault),
+        },
+        Order::Quit => Ok(None),
+    }
+}
+
+/// Does what a line asks for, and tells what is shown of it; nothing where it asks for the end.
+pub(crate) fn answer<N: Name, R: Wait>(
+    alloc: Global,
+    gate: &mut SeatGate<'_, N, R>,
+    pass: &mut Pass<N>,
+    line: &[u8],
+) -> Result<Option<String>, Fault>
+    ensures { MatchResult result
+        (λ text. Answers N.start N.opening (order_in line.now) gate.old pass.old
+        (option_map string_bytes text) gate.new pass.new)
+        (λ f. Unanswered (order_in line.now) gate.old pass.old gate.new pass.new f) }
+{
+    match read_order(alloc, line) {
+        Ok(order) => obey(alloc, gate, pass, order),
+        Err(Fault::OutOfMemory) => Err(Fault::OutOfMemory),
+        Err(fault) => Ok(Some(fault.line(alloc)?)),
+    }
+}

@@ -1,0 +1,132 @@
+//! The work of an operator, over its lines.
+
+ghost use Rattle.std.specs.Prelude.{◌≡◌, true, false, Ok, Err, IfErr};
+ghost use Rattle.cg_links.specs.Counted.{link_of};
+ghost use Rattle.cg_views.specs.Lists.{StartsWith};
+ghost use Rattle.cg_seats.specs.Seats.{GoesOn, IsOperatorFault};
+ghost use Rattle.cg_operator.specs.Operating.{Operates, TellsLine};
+ghost use Rattle.cg_operator.specs.Steps.{at_of};
+
+use crate::answering::answer;
+use cg_lines::{TakeLine, take_lines};
+use cg_links::Counted;
+use cg_locked::Name;
+use cg_orders::write_text;
+use cg_seats::SeatGate;
+use cg_types::Fault;
+use cg_views::Pass;
+use std::alloc::Global;
+use std::io::{Read, Write};
+use std::sync::Wait;
+
+// An operator between two lines, and whether a line asked for the end.
+#[derive(Drop)]
+pub(crate) struct Operating<'a, 'b, N: Name, R: Wait, W> {
+    pub gate: &'a mut SeatGate<'b, N, R>,
+    pub pass: &'a mut Pass<N>,
+    pub writer: &'a mut Counted<W>,
+    pub has_quit: bool,
+}
+
+// Does a line, and writes what is shown of it; answers whether a further line is to be read.
+fn tell_line<N: Name, R: Wait, W: Write>(
+    alloc: Global,
+    gate: &mut SeatGate<'_, N, R>,
+    pass: &mut Pass<N>,
+    writer: &mut Counted<W>,
+    line: &[u8],
+) -> Result<bool, Fault>
+    ensures { TellsLine W.contents N.start N.opening (record { gate = gate.old; pass = pass.old; writer = writer.old })
+        line.now (record { gate = gate.new; pass = pass.new; writer = writer.new }) result }
+{
+    match answer(alloc, gate, pass, line) {
+        Ok(Some(text)) => match write_text(writer, text.as_bytes()) {
+            Ok(()) => Ok(true),
+            Err(fault) => Err(fault),
+        },
+        Ok(None) => Ok(false),
+        Err(fault) => Err(fault),
+    }
+}
+
+impl<'a, 'b, N: Name, R: Wait, W: Write> TakeLine for Operating<'a, 'b, N, R, W> {
+    ghost use Rattle.cg_operator.specs.Steps.{TakesStep, RefusesStep};
+
+    ghost takes = { TakesStep W.contents N.start N.opening };
+
+    ghost refuses = { RefusesStep W.contents N.start N.opening };
+
+    fn take_line(&mut self, alloc: Global, line: &[u8]) -> Result<(), Fault> {
+        match tell_line(alloc, self.gate, self.pass, self.writer, line) {
+            Ok(true) => Ok(()),
+            Ok(false) => {
+                self.has_quit = true;
+                Err(Fault::ReadFault)
+            }
+            Err(fault) => Err(fault),
+        }
+    }
+}
+
+// How reading ended that a line stopped: no fault where the line asked for the end.
+fn ended(has_quit: bool, fault: Fault) -> Result<(), Fault>
+    ensures quit { has_quit ≡ true → result ≡ Ok tt }
+    ensures fault { has_quit ≡ false → result ≡ Err fault }
+{
+    if has_quit { Ok(()) } else { Err(fault) }
+}
+
+// Does the lines that a reader has left.
+fn operate_lines<N: Name, R: Wait, W: Write, I: Read>(
+    alloc: Global,
+    operating: &mut Operating<'_, '_, N, R, W>,
+    reader: &mut Counted<I>,
+) -> Result<(), Fault>
+    requires { operating.old.has_quit ≡ false }
+    ensures gate { operating.new.gate.ghost_name ≡ operating.old.gate.ghost_name }
+    ensures pass { operating.new.pass.ghost_name ≡ operating.old.pass.ghost_name }
+    ensures writer { operating.new.writer.ghost_name ≡ operating.old.writer.ghost_name }
+    ensures done { Operates W.contents N.start N.opening
+        (I.remaining (link_of reader.old)) (I.remaining (link_of reader.new))
+        reader.old reader.new (at_of operating.old) (at_of operating.new) result }
+{
+    match take_lines(alloc, operating, reader) {
+        Ok(()) => Ok(()),
+        Err(fault) => ended(operating.has_quit, fault),
+    }
+}
+
+/// Does the lines that a reader has left, one after the other, until `quit` or the end: what a line shows is written
+/// and flushed before the next one is done.
+///
+/// `gossipinfo`, `ring`, `digests` and `replicas RF TEXT` show what the pass reads, with no lock. `set KEY TEXT` sets a
+/// key of the node and shows `version N` once the pass has learnt what was told of it, or `version N unpublished` where
+/// no memory was found to publish it. A line that can't be read shows `fault 2 BadText` or `fault 3 TooLong`, and a
+/// refused set `fault 4 VersionsSpent`.
+///
+/// `OutOfMemory` where memory runs out, `ReadFault` where a read fails or 4,294,967,295 reads were made, `WriteFault`
+/// where the writer fails or takes no byte, `NoSuchNode` where there is nothing to read any more.
+pub fn operate<N: Name, R: Wait, I: Read, W: Write>(
+    alloc: Global,
+    reader: &mut Counted<I>,
+    writer: &mut Counted<W>,
+    gate: &mut SeatGate<'_, N, R>,
+    pass: &mut Pass<N>,
+) -> Result<(), Fault>
+    // Which lines are done, and what is written of each.
+    ensures lines { Operates W.contents N.start N.opening
+        (I.remaining (link_of reader.old)) (I.remaining (link_of reader.new))
+        reader.old reader.new (record { gate = gate.old; pass = pass.old; writer = writer.old })
+        (record { gate = gate.new; pass = pass.new; writer = writer.new }) result }
+    ensures gate { GoesOn gate.old gate.new }
+    ensures later { StartsWith pass.new pass.old }
+    ensures fault { IfErr result IsOperatorFault }
+{
+    let mut operating = Operating {
+        gate,
+        pass,
+        writer,
+        has_quit: false,
+    };
+    operate_lines(alloc, &mut operating, reader)
+}

@@ -1,0 +1,13 @@
+//! What is written of a change that those who read do not see yet.
+
+use cg_orders::add_unpublished;
+use cg_samples::version;
+use std::test::Fail;
+
+#[test]
+fn a_change_that_is_not_published(rt: HostRuntime) -> Result<(), Fail> {
+    let mut text = String::new(rt.alloc());
+    add_unpublished(&mut text, version(7))?;
+    assert_eq!(rt; text.as_str(), "version 7 unpublished\n");
+    Ok(())
+}

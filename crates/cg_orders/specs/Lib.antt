@@ -1,0 +1,5 @@
+pub mod Orders
+pub mod Shown
+pub use Rattle.cg_links.specs.Counted
+pub use Rattle.cg_script.specs.Gives
+pub use Rattle.cg_script.specs.Words

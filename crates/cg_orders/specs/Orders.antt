@@ -1,0 +1,59 @@
+-- What a line of the operator asks for.
+use Rattle.std.specs.Prelude.{ℕ, List, Option, Some, None, Result, Ok, Err, codes, bytes_eq, if◌then◌else◌}
+use Rattle.cg_types.specs.declared.fault.Fault.{Fault}
+use Rattle.cg_types.specs.declared.fault.Fault.TheVariants.{BadText}
+use Rattle.cg_types.specs.OptionSteps.{◌>>=◌}
+use Rattle.cg_types.specs.Words.{cut_at}
+use Rattle.cg_tokens.specs.Tokens.{token_of}
+use Rattle.cg_script.specs.declared.line.View.TheVariants as view
+use Rattle.cg_script.specs.Words.{count_before, key_before, text_in, state_text_in}
+use Rattle.cg_orders.specs.declared.order.Order.{Order}
+use Rattle.cg_orders.specs.declared.order.Order.TheVariants.{Show, Set, Quit}
+
+abbrev pub or_unreadable : Option Order → Result Order Fault
+or_unreadable None = Err BadText
+or_unreadable (Some order) = Ok order
+
+-- `replicas RF TEXT`: for the token of the text's bytes
+unfoldable pub replicas_line : List ℕ → Option Order
+replicas_line words = do
+  rf ← count_before words
+  text ← text_in rf.1
+  Some (Show (view.Replicas (token_of text) rf.0))
+
+-- a key that is set, or why its text is refused
+abbrev pub setting : ℕ → Result (List ℕ) Fault → Result Order Fault
+setting key (Ok text) = Ok (Set key text)
+setting key (Err f) = Err f
+
+abbrev pub key_set : Option (ℕ × List ℕ) → Result Order Fault
+key_set None = Err BadText
+key_set (Some key) = setting key.0 (state_text_in key.1)
+
+-- `set KEY TEXT`
+unfoldable pub set_line : List ℕ → Result Order Fault
+set_line words = key_set (key_before words)
+
+-- a line of one word
+unfoldable pub bare_order : List ℕ → Option Order
+bare_order word =
+    if bytes_eq word (codes "gossipinfo") then Some (Show view.Gossipinfo)
+    else if bytes_eq word (codes "ring") then Some (Show view.Ring)
+    else if bytes_eq word (codes "digests") then Some (Show view.Digests)
+    else if bytes_eq word (codes "quit") then Some Quit
+    else None
+
+-- a line of more words, behind the first one
+unfoldable pub order_behind : List ℕ → List ℕ → Result Order Fault
+order_behind word words =
+    if bytes_eq word (codes "replicas") then or_unreadable (replicas_line words)
+    else if bytes_eq word (codes "set") then set_line words
+    else Err BadText
+
+abbrev pub order_of_parts : List ℕ → Option (List ℕ × List ℕ) → Result Order Fault
+order_of_parts line None = or_unreadable (bare_order line)
+order_of_parts line (Some parts) = order_behind parts.0 parts.1
+
+-- what a line asks for, or why it is refused
+unfoldable pub order_in : List ℕ → Result Order Fault
+order_in line = order_of_parts line (cut_at 32 line)

@@ -1,0 +1,105 @@
+//! Reading a line of the operator.
+
+ghost use Rattle.std.specs.Prelude.{◌≡◌, option_map};
+ghost use Rattle.cg_script.specs.Gives.{Gives};
+ghost use Rattle.cg_script.specs.Words.{text_in as text_of_bytes};
+ghost use Rattle.cg_orders.specs.Orders as spec;
+
+use crate::order::Order;
+use cg_script::{View, count_before, is_word, key_before, state_text_in};
+use cg_tokens::token_of;
+use cg_types::{Fault, cut};
+use std::alloc::Global;
+
+// A text that is UTF-8.
+fn text_in(text: &[u8]) -> Option<&str>
+    ensures { option_map (λ t. t.now) result ≡ text_of_bytes text.now }
+{
+    match std::str::from_utf8(text) {
+        Ok(text) => Some(text),
+        Err(_) => None,
+    }
+}
+
+#[tactic(auto, unfolding(crate::specs::Orders::replicas_line))]
+fn replicas_line(words: &[u8]) -> Option<Order>
+    ensures { result ≡ spec.replicas_line words.now }
+{
+    let (rf, rest) = count_before(words)?;
+    let text = text_in(rest)?;
+    let token = token_of(text.as_bytes());
+    Some(Order::Show(View::Replicas { token, rf }))
+}
+
+#[tactic(auto, unfolding(crate::specs::Orders::set_line))]
+fn set_line(alloc: Global, words: &[u8]) -> Result<Order, Fault>
+    ensures { Gives (λ o. o) result (spec.set_line words.now) }
+{
+    let Some((key, text)) = key_before(words) else {
+        return Err(Fault::BadText);
+    };
+    match state_text_in(alloc, text) {
+        Ok(text) => Ok(Order::Set { key, text }),
+        Err(fault) => Err(fault),
+    }
+}
+
+// What a line of one word asks for.
+#[tactic(auto, unfolding(crate::specs::Orders::bare_order))]
+fn bare_order(word: &[u8]) -> Option<Order>
+    ensures { result ≡ spec.bare_order word.now }
+{
+    if is_word(word, "gossipinfo") {
+        return Some(Order::Show(View::Gossipinfo));
+    }
+    if is_word(word, "ring") {
+        return Some(Order::Show(View::Ring));
+    }
+    if is_word(word, "digests") {
+        return Some(Order::Show(View::Digests));
+    }
+    if is_word(word, "quit") {
+        return Some(Order::Quit);
+    }
+    None
+}
+
+// What a line that takes no memory asks for.
+fn or_unreadable(order: Option<Order>) -> Result<Order, Fault>
+    ensures { result ≡ spec.or_unreadable order }
+{
+    match order {
+        Some(order) => Ok(order),
+        None => Err(Fault::BadText),
+    }
+}
+
+// What a line of more words asks for, behind the first one.
+#[tactic(auto, unfolding(crate::specs::Orders::order_behind))]
+fn order_behind(alloc: Global, word: &[u8], words: &[u8]) -> Result<Order, Fault>
+    ensures { Gives (λ o. o) result (spec.order_behind word.now words.now) }
+{
+    if is_word(word, "replicas") {
+        return or_unreadable(replicas_line(words));
+    }
+    if is_word(word, "set") {
+        return set_line(alloc, words);
+    }
+    Err(Fault::BadText)
+}
+
+/// What a line of the operator, without its line feed, asks for: `gossipinfo`, `ring`, `digests`, `replicas RF TEXT`,
+/// `set KEY TEXT` or `quit`. RF is 0 to 2^64 - 1, KEY 1 to 16, TEXT the rest of the line, which may be empty.
+///
+/// `TooLong` and `BadText` where only the text of a `set` is refused: over 1,024 bytes, or with control characters.
+/// `BadText` where anything else can't be read, as another word, a word too few or too many, or a text that is not
+/// UTF-8. `OutOfMemory` where the text finds no memory.
+#[tactic(auto, unfolding(crate::specs::Orders::order_in))]
+pub fn read_order(alloc: Global, line: &[u8]) -> Result<Order, Fault>
+    ensures { Gives (λ o. o) result (spec.order_in line.now) }
+{
+    match cut(line, b' ') {
+        Some((word, words)) => order_behind(alloc, word, words),
+        None => or_unreadable(bare_order(line)),
+    }
+}

@@ -1,0 +1,61 @@
+//! What is shown of a table.
+
+ghost use Rattle.std.specs.Prelude.{◌≡◌, ◌++◌, IfOk, OnOk, string_bytes};
+ghost use Rattle.cg_orders.specs.Shown.{table_lines, unpublished_line};
+
+use cg_printed::{add_digests, add_gossipinfo, add_replicas, add_ring};
+use cg_script::View;
+use cg_table::Table;
+use cg_tokens::{Ring, Token};
+use cg_types::Version;
+use std::alloc::{AllocError, Global};
+use std::fmt::Write;
+
+// The positions of a table's ring.
+fn ring_text(alloc: Global, table: &Table) -> Result<String, AllocError>
+    ensures { IfOk result (λ text. string_bytes text ≡ table_lines table.now View.Ring) }
+{
+    let ring = Ring::of_table(alloc, table)?;
+    let mut text = String::new(alloc);
+    add_ring(&mut text, &ring)?;
+    Ok(text)
+}
+
+// The endpoints that keep what has a token.
+fn replicas_text(alloc: Global, table: &Table, token: Token, rf: u64) -> Result<String, AllocError>
+    ensures { IfOk result (λ text. string_bytes text ≡ table_lines table.now (View.Replicas token rf)) }
+{
+    let ring = Ring::of_table(alloc, table)?;
+    let mut text = String::new(alloc);
+    add_replicas(alloc, &mut text, &ring, token, rf as usize)?;
+    Ok(text)
+}
+
+/// What is shown of a table: what it holds of each endpoint, its digests, its ring, or endpoints of that.
+pub fn table_text(alloc: Global, table: &Table, view: View) -> Result<String, AllocError>
+    ensures { IfOk result (λ text. string_bytes text ≡ table_lines table.now view) }
+{
+    match view {
+        View::Gossipinfo => {
+            let mut text = String::new(alloc);
+            add_gossipinfo(&mut text, table)?;
+            Ok(text)
+        }
+        View::Digests => {
+            let mut text = String::new(alloc);
+            add_digests(&mut text, table)?;
+            Ok(text)
+        }
+        View::Ring => ring_text(alloc, table),
+        View::Replicas { token, rf } => replicas_text(alloc, table, token, rf),
+    }
+}
+
+/// Adds `version 2 unpublished`: a change was given a version, and those who read do not see it yet.
+#[tactic(auto, unfolding(crate::specs::Shown::unpublished_line))]
+pub fn add_unpublished(text: &mut String, version: Version) -> Result<(), AllocError>
+    ensures { OnOk result (string_bytes text.new ≡ string_bytes text.old ++ unpublished_line version) }
+{
+    let version = version.get();
+    writeln!(text, "version {version} unpublished")
+}

@@ -1,0 +1,95 @@
+-- The lives of a node: what each begins with, what is left of it, and the faults that keep a node from it.
+use Rattle.std.specs.Prelude.{◌≡◌, ◌⊎◌, ◌≤◌, ℕ, List, length, Option, Some, None, Result, Ok, Err, IfOk, IfErr, MatchResult, string_bytes}
+use Rattle.cg_types.specs.declared.fault.Fault.{Fault}
+use Rattle.cg_types.specs.declared.fault.Fault.TheVariants as fault
+use Rattle.cg_core.specs.Values.{NodeValue}
+use Rattle.cg_core.specs.Step.{starting_node}
+use Rattle.cg_settings.specs.Settings.{ServeValue, settings_in_bytes}
+use Rattle.cg_threads.specs.declared.ran.Ran.{Ran}
+use Rattle.cg_threads.specs.declared.ran.NotRun.{NotRun}
+use Rattle.cg_threads.specs.declared.ran.NotRun.TheVariants as not_run
+use Rattle.cg_threads.specs.Ran.{IsRun, IsNotRun}
+use Rattle.cg_version.specs.Version.{generation_at_start}
+use Rattle.cg_serve.specs.declared.life.TheConstants.{SETTINGS_MOST}
+use Rattle.cg_serve.specs.declared.node.Birth.{Birth}
+use Rattle.cg_serve.specs.declared.node.Left.{Left}
+use Rattle.cg_serve.specs.declared.serving.Lived.{Lived}
+
+-- ---- what keeps a node from its life
+
+-- faults of its settings
+abbrev pub IsUnsettled : Fault → Type 0
+IsUnsettled fault.OutOfMemory = Unit {0}
+IsUnsettled fault.BadText = Unit {0}
+IsUnsettled fault.ReadFault = Unit {0}
+IsUnsettled f = ⊥
+
+-- faults of its settings, its generation, its place or its workers
+abbrev pub IsUnborn : Fault → Type 0
+IsUnborn fault.OutOfMemory = Unit {0}
+IsUnborn fault.BadText = Unit {0}
+IsUnborn fault.VersionsSpent = Unit {0}
+IsUnborn fault.ReadFault = Unit {0}
+IsUnborn fault.WriteFault = Unit {0}
+IsUnborn f = ⊥
+
+-- ---- what a life begins with
+
+-- The bytes of some file within the limit tell these settings.
+abbrev pub AreTold : ServeValue → Type 0
+AreTold s = (bytes : List ℕ) × (length bytes ≤ SETTINGS_MOST) × (settings_in_bytes bytes ≡ Some s)
+
+-- The generation is that of a start, by what was stored and the seconds since 1970.
+abbrev pub IsOfAStart : ℕ → Type 0
+IsOfAStart generation = (stored : Option ℕ) × (seconds : ℕ) × (generation_at_start stored seconds ≡ Ok generation)
+
+-- The generation that is due is kept; or there is none, or it can't be kept.
+abbrev pub KeepsOf : Result ℕ Fault → Result ℕ Fault → Type 0
+KeepsOf due kept =
+    MatchResult kept (λ g. due ≡ Ok g)
+    (λ f. (due ≡ Err f) × (f ≡ fault.VersionsSpent) ⊎ ((f ≡ fault.OutOfMemory) ⊎ (f ≡ fault.WriteFault)))
+
+-- the node that begins so
+abbrev pub node_of : Birth → NodeValue
+node_of b = starting_node b.own b.generation b.settings
+
+-- ---- what is left of it
+
+-- what a run leaves, or why none began
+abbrev pub left_after : Result Ran NotRun → Result Left Fault
+left_after (Ok r) = Ok (record { history = r.history; stray = None })
+left_after (Err (not_run.Unconfirmed u)) = Ok (record { history = u.history; stray = Some u.fault })
+left_after (Err (not_run.Unstarted f)) = Err f
+
+-- A run from the node left this: a history that confirms all receipts of its workers; or one that does not, and the
+-- fault of the first that it does not confirm.
+abbrev pub IsLeft : NodeValue → Left → Type 0
+IsLeft start l =
+    (ran : Result Ran NotRun) × IfOk ran (λ r. IsRun start r.history r.rounds.items) × IfErr ran (IsNotRun start)
+    × (left_after ran ≡ Ok l)
+
+-- A node lived by settings that were told, at its own endpoint in the generation of a start, and its journal is to stand
+-- where they say.
+pub record IsLived (l : Lived) : Type 0 where
+  pub told : ServeValue
+  pub are_told : AreTold told
+  pub generation : ℕ
+  pub of_a_start : IsOfAStart generation
+  pub left : IsLeft (starting_node told.listen generation told.node) l.left
+  pub journal : string_bytes l.journal ≡ told.journal
+
+-- ---- its status
+
+-- 0 exactly where no receipt is stray and the journal was written
+abbrev pub status_after : Option Fault → Result (Unit {0}) Fault → ℕ
+status_after None (Ok u) = 0
+status_after stray written = 1
+
+-- A life that was not lived ends with 1, another by its stray receipt and its journal.
+abbrev pub EndsWith : Result Lived Fault → ℕ → Type 0
+EndsWith (Ok l) status = (written : Result (Unit {0}) Fault) × (status ≡ status_after l.left.stray written)
+EndsWith (Err f) status = status ≡ 1
+
+-- A life was lived, or a fault kept the node from it, and the status is its end's.
+abbrev pub EndsALife : ℕ → Type 0
+EndsALife status = (life : Result Lived Fault) × MatchResult life IsLived IsUnborn × EndsWith life status

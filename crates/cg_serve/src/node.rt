@@ -1,0 +1,90 @@
+//! A node that runs over sockets, the system's clock and the standard streams.
+
+ghost use Rattle.std.specs.Prelude.{◌≡◌, IfOk, IfErr};
+ghost use Rattle.cg_types.specs.declared.fault.Fault.TheVariants as faults;
+ghost use Rattle.cg_serve.specs.Lives.{node_of, left_after, IsLeft};
+
+use crate::console::Console;
+use cg_clock::HostClock;
+use cg_core::Settings;
+use cg_history::History;
+use cg_rounds::generator;
+use cg_settings::Turns;
+use cg_sockets::{Dialer, Listener, limit_for};
+use cg_threads::{NotRun, Parts, Ran, run_node};
+use cg_types::{Endpoint, Fault, Generation};
+use std::alloc::Global;
+use std::io::{Input, Print};
+use std::net::{Net, TcpListener, TcpStream};
+use std::rt::Clock;
+use std::sync::Wait;
+use std::thread::Threads;
+
+// What a node begins with: who it is and how it judges.
+#[derive(Drop)]
+pub(crate) struct Birth {
+    pub(crate) own: Endpoint,
+    pub(crate) generation: Generation,
+    pub(crate) settings: Settings,
+}
+
+// What is left of a node that ran: its history, and the fault of the first receipt that this does not confirm.
+#[derive(Drop)]
+pub(crate) struct Left {
+    pub(crate) history: History,
+    pub(crate) stray: Option<Fault>,
+}
+
+// What is left by a run, if one began.
+fn left_of(ran: Result<Ran, NotRun>) -> Result<Left, Fault>
+    ensures { result ≡ left_after ran }
+{
+    match ran {
+        Ok(ran) => Ok(Left {
+            history: ran.history,
+            stray: None,
+        }),
+        Err(NotRun::Unconfirmed(left)) => Ok(Left {
+            history: left.history,
+            stray: Some(left.fault),
+        }),
+        Err(NotRun::Unstarted(fault)) => Err(fault),
+    }
+}
+
+// Runs a node until its workers have ended. `OutOfMemory` where none began.
+pub(crate) fn run<R>(
+    rt: &R,
+    alloc: Global,
+    birth: Birth,
+    listener: Listener<'_, R>,
+    turns: Turns,
+    random: u64,
+) -> Result<Left, Fault>
+where
+    R: Threads
+        + Wait
+        + Clock
+        + Sync
+        + Input
+        + Print
+        + Net<Listener = TcpListener, Stream = TcpStream>,
+    R::Reader: Send,
+    ensures left { IfOk result (IsLeft (node_of birth)) }
+    ensures err { IfErr result (λ f. f ≡ faults.OutOfMemory) }
+{
+    let Birth {
+        own,
+        generation,
+        settings,
+    } = birth;
+    let history = History::begin(alloc, own, generation, settings)?;
+    let parts = Parts {
+        listener,
+        dialer: Dialer::new(rt, alloc, limit_for(turns.interval)),
+        clock: HostClock::new(rt),
+        generator: generator(random),
+        operator: Console::new(rt),
+    };
+    left_of(run_node(rt, alloc, history, parts, turns))
+}

@@ -1,0 +1,120 @@
+//! The life of a node that serves.
+
+ghost use Rattle.std.specs.Prelude.{◌≡◌, ◌≤◌, IfOk, IfErr};
+ghost use Rattle.cg_serve.specs.Lives.{IsUnborn, IsLived, status_after, EndsWith, EndsALife};
+
+use crate::life::{next_life, settings_in, write_journal_to};
+use crate::node::{Birth, Left, run};
+use cg_settings::ServeSettings;
+use cg_sockets::Listener;
+use cg_types::Fault;
+use std::alloc::Global;
+use std::io::{Input, Print};
+use std::net::{Net, TcpListener, TcpStream};
+use std::rt::{Clock, Files};
+use std::sync::Wait;
+use std::thread::Threads;
+
+// A life that was lived: what is left of its node, and where its journal is to stand.
+#[derive(Drop)]
+struct Lived {
+    left: Left,
+    journal: String,
+}
+
+// Lives by the settings in a file, to the end.
+fn live<R>(rt: &R, alloc: Global, file: &str) -> Result<Lived, Fault>
+where
+    R: Threads
+        + Wait
+        + Clock
+        + Sync
+        + Files
+        + Input
+        + Print
+        + Net<Listener = TcpListener, Stream = TcpStream>,
+    R::Reader: Send,
+    ensures lived { IfOk result IsLived }
+    ensures err { IfErr result IsUnborn }
+{
+    let settings = settings_in(rt, alloc, file)?;
+    let generation = next_life(rt, alloc, settings.generation_file.as_str())?;
+    let listener = Listener::bind(rt, alloc, settings.listen)?;
+    let ServeSettings {
+        node,
+        listen,
+        journal,
+        turns,
+        random,
+        ..
+    } = settings;
+    let birth = Birth {
+        own: listen,
+        generation,
+        settings: node,
+    };
+    let left = run(rt, alloc, birth, listener, turns, random)?;
+    Ok(Lived { left, journal })
+}
+
+// Says a fault, where that can be said, and answers the status after one.
+fn told<R: Print>(rt: &R, fault: Fault) -> u8
+    ensures { result ≡ 1 }
+{
+    let _ = println!(rt; "fault {fault}");
+    1
+}
+
+// Says what is wrong with the receipts of a life, and with its journal, and answers the status after it.
+fn status_of<R: Print>(rt: &R, stray: Option<Fault>, written: Result<(), Fault>) -> u8
+    ensures { result ≡ status_after stray written }
+{
+    let status = match stray {
+        Some(fault) => told(rt, fault),
+        None => 0,
+    };
+    match written {
+        Ok(()) => status,
+        Err(fault) => told(rt, fault),
+    }
+}
+
+// Writes the journal of a life, if one was lived, and says what is wrong.
+fn ended<R: Files + Print>(rt: &R, alloc: Global, life: &Result<Lived, Fault>) -> u8
+    ensures { EndsWith life.now result }
+{
+    match life {
+        Ok(lived) => {
+            let file = lived.journal.as_str();
+            let written = write_journal_to(rt, alloc, file, &lived.left.history);
+            status_of(rt, lived.left.stray, written)
+        }
+        Err(fault) => told(rt, *fault),
+    }
+}
+
+/// Lives as a node by the settings in a file, and answers the exit status: 0, or 1 after a fault, which is one line on
+/// standard output.
+///
+/// A life ends once its rounds are done and sent, its exchanges were taken and its operator has ended. The first of
+/// these faults that comes ends it before it begins: the settings can't be read (`ReadFault`) or are none (`BadText`);
+/// the generation can't be read (`ReadFault`), is none (`BadText`), has none above it (`VersionsSpent`) or can't be
+/// kept (`WriteFault`); another program listens there (`ReadFault`); memory or a thread is refused (`OutOfMemory`). At
+/// the end a receipt that the history does not confirm is told by its fault, and the journal is written all the same;
+/// `WriteFault` where it can't be.
+pub fn serve<R>(rt: &R, alloc: Global, file: &str) -> u8
+where
+    R: Threads
+        + Wait
+        + Clock
+        + Sync
+        + Files
+        + Input
+        + Print
+        + Net<Listener = TcpListener, Stream = TcpStream>,
+    R::Reader: Send,
+    ensures status { result ≤ 1 }
+    ensures life { EndsALife result }
+{
+    ended(rt, alloc, &live(rt, alloc, file))
+}

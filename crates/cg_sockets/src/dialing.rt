@@ -1,0 +1,57 @@
+//! Connections that are made.
+
+use crate::side::{Side, end_in, left_until};
+use cg_types::{Endpoint, Fault};
+use cg_workers::Dial;
+use std::alloc::Global;
+use std::io;
+use std::io::ErrorKind;
+use std::net::{Net, SocketAddr, TcpStream};
+use std::rt::Clock;
+use std::time::Instant;
+
+/// What dials peers over TCP. Dialing a peer and the exchange with it end at one moment.
+#[derive(Drop)]
+pub struct Dialer<'a, R: Net<Stream = TcpStream> + Clock> {
+    rt: &'a R,
+    alloc: Global,
+    limit: u32,
+}
+
+impl<'a, R: Net<Stream = TcpStream> + Clock> Dialer<'a, R> {
+    /// What gives dialing and an exchange so many milliseconds.
+    pub fn new(rt: &'a R, alloc: Global, limit: u32) -> Dialer<'a, R> {
+        Dialer { rt, alloc, limit }
+    }
+
+    // Connects to a peer, before a moment.
+    fn connect(&self, peer: Endpoint, end: Instant) -> io::Result<TcpStream> {
+        let address = SocketAddr::from((peer.address(), peer.port()));
+        let left = left_until(self.rt, end)?;
+        TcpStream::connect_timeout(self.rt, &address, left)
+    }
+}
+
+impl<'a, R: Net<Stream = TcpStream> + Clock> Dial for Dialer<'a, R> {
+    ghost use Rattle.std.specs.Prelude.{◌≡◌, ◌⊎◌, IfErr};
+    ghost use Rattle.cg_types.specs.declared.fault.Fault.TheVariants.{OutOfMemory, ReadFault};
+
+    ghost dials = { λ d p r e. IfErr r (λ f. (f ≡ OutOfMemory) ⊎ (f ≡ ReadFault)) };
+
+    type Reader = Side<'a, R>;
+
+    type Writer = Side<'a, R>;
+
+    fn dial(&mut self, peer: Endpoint) -> Result<(Side<'a, R>, Side<'a, R>), Fault> {
+        let Ok(end) = end_in(self.rt, self.limit) else {
+            return Err(Fault::ReadFault);
+        };
+        match self.connect(peer, end) {
+            Ok(stream) => Side::pair(self.rt, self.alloc, stream, end),
+            Err(error) => match error.kind() {
+                ErrorKind::OutOfMemory => Err(Fault::OutOfMemory),
+                _ => Err(Fault::ReadFault),
+            },
+        }
+    }
+}

@@ -1,0 +1,16 @@
+//! Connections over TCP, each with one end time for all that it does.
+//!
+//! A limit of a socket is for one call, so a peer that sends a byte now and then could hold a connection for ever. Here
+//! each call of a connection is given what is left until its end, and a call behind the end fails.
+#![tactic(auto)]
+
+mod dialing;
+pub mod laws;
+mod limits;
+mod listening;
+mod side;
+
+pub use dialing::Dialer;
+pub use limits::{ACCEPT_PAUSE, ACCEPT_TRIES, CALL_TRIES, LEAST_LIMIT, RESPOND_LIMIT, limit_for};
+pub use listening::Listener;
+pub use side::Side;

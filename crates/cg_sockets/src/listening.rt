@@ -1,0 +1,118 @@
+//! Connections that come in over TCP.
+
+ghost use Rattle.std.specs.Prelude.{◌≡◌, ◌⊎◌, IfErr};
+ghost use Rattle.cg_types.specs.declared.fault.Fault.TheVariants as faults;
+
+use crate::limits::{ACCEPT_PAUSE, ACCEPT_TRIES, RESPOND_LIMIT};
+use crate::side::{Side, end_in};
+use cg_types::{Endpoint, Fault};
+use cg_workers::Listen;
+use std::alloc::Global;
+use std::io::{Error, ErrorKind};
+use std::net::{Net, SocketAddr, TcpListener, TcpStream};
+use std::rt::Clock;
+use std::time::Duration;
+use std::{io, thread};
+
+// What the system says of a process, and of itself, that has no descriptor left.
+const NO_DESCRIPTOR: i32 = 24;
+
+const NO_FILE: i32 = 23;
+
+/// Where peers connect over TCP. An exchange ends `RESPOND_LIMIT` milliseconds after its connection came.
+#[derive(Drop)]
+pub struct Listener<'a, R: Clock> {
+    rt: &'a R,
+    alloc: Global,
+    listener: TcpListener,
+}
+
+// Whether no more is said than that one connection could not be taken.
+fn is_of_one(error: &Error) -> bool {
+    match error.kind() {
+        ErrorKind::ConnectionAborted
+        | ErrorKind::ConnectionReset
+        | ErrorKind::Interrupted
+        | ErrorKind::OutOfMemory => true,
+        _ => match error.raw_os_error() {
+            Some(code) => code == NO_DESCRIPTOR || code == NO_FILE,
+            None => false,
+        },
+    }
+}
+
+impl<'a, R: Net<Listener = TcpListener, Stream = TcpStream> + Clock> Listener<'a, R> {
+    /// Listens at an endpoint. `ReadFault` where that can't be, as where another program does; `OutOfMemory` where
+    /// memory is refused.
+    pub fn bind(rt: &'a R, alloc: Global, at: Endpoint) -> Result<Listener<'a, R>, Fault>
+        ensures { IfErr result (λ f. (f ≡ faults.OutOfMemory) ⊎ (f ≡ faults.ReadFault)) }
+    {
+        let address = SocketAddr::from((at.address(), at.port()));
+        match TcpListener::bind(rt, address) {
+            Ok(listener) => Ok(Listener {
+                rt,
+                alloc,
+                listener,
+            }),
+            Err(error) => match error.kind() {
+                ErrorKind::OutOfMemory => Err(Fault::OutOfMemory),
+                _ => Err(Fault::ReadFault),
+            },
+        }
+    }
+}
+
+impl<'a, R: Clock> Listener<'a, R> {
+    /// Where it listens.
+    pub fn address(&self) -> io::Result<SocketAddr> {
+        self.listener.local_addr()
+    }
+
+    // The next connection; none where one could not be taken.
+    fn accept_one(&self) -> Result<Option<(Side<'a, R>, Side<'a, R>)>, Fault>
+        ensures { IfErr result (λ f. f ≡ faults.ReadFault) }
+    {
+        let stream = match self.listener.accept() {
+            Ok((stream, _)) => stream,
+            Err(error) => {
+                if is_of_one(&error) {
+                    return Ok(None);
+                }
+                return Err(Fault::ReadFault);
+            }
+        };
+        let Ok(end) = end_in(self.rt, RESPOND_LIMIT) else {
+            return Ok(None);
+        };
+        match Side::pair(self.rt, self.alloc, stream, end) {
+            Ok(sides) => Ok(Some(sides)),
+            Err(_) => Ok(None),
+        }
+    }
+}
+
+/// A connection that can't be taken, as where its peer gave up, no descriptor is left or memory is refused, is no end:
+/// after a pause the next one is waited for, up to `ACCEPT_TRIES` times. Any other failure is `ReadFault`.
+impl<'a, R: Clock> Listen for Listener<'a, R> {
+    ghost use Rattle.std.specs.Prelude.{◌≡◌, IfErr};
+    ghost use Rattle.cg_types.specs.declared.fault.Fault.TheVariants.{ReadFault};
+
+    ghost accepts = { λ l r m. IfErr r (λ f. f ≡ ReadFault) };
+
+    type Reader = Side<'a, R>;
+
+    type Writer = Side<'a, R>;
+
+    fn accept(&mut self) -> Result<Option<(Side<'a, R>, Side<'a, R>)>, Fault> {
+        for _ in 0..ACCEPT_TRIES {
+            match self.accept_one() {
+                Ok(Some(sides)) => return Ok(Some(sides)),
+                Ok(None) => {
+                    thread::sleep(self.rt, Duration::from_millis(u64::from(ACCEPT_PAUSE)));
+                }
+                Err(fault) => return Err(fault),
+            }
+        }
+        Err(Fault::ReadFault)
+    }
+}

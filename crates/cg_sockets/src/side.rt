@@ -1,0 +1,126 @@
+//! One side of a connection.
+
+ghost use Rattle.std.specs.Prelude.{◌≡◌, IfErr};
+ghost use Rattle.std.specs.Io.{ReadsAtMost, WritesAtMost};
+ghost use Rattle.cg_types.specs.declared.fault.Fault.TheVariants as faults;
+
+use crate::limits::CALL_TRIES;
+use cg_types::Fault;
+use std::alloc::Global;
+use std::io;
+use std::io::{ErrorKind, Read, Write};
+use std::net::TcpStream;
+use std::rt::Clock;
+use std::sync::Arc;
+use std::time::{Duration, Instant};
+
+/// A connection, to read or to write. A call fails that is made behind the connection's end, or that ends behind it.
+#[derive(Drop)]
+pub struct Side<'a, R: Clock> {
+    rt: &'a R,
+    stream: Arc<TcpStream, Global>,
+    end: Instant,
+}
+
+/// The moment so many milliseconds from now.
+pub(crate) fn end_in<R: Clock>(rt: &R, milliseconds: u32) -> io::Result<Instant> {
+    let now = Instant::now(rt)?;
+    match now.checked_add(Duration::from_millis(u64::from(milliseconds))) {
+        Some(end) => Ok(end),
+        None => Ok(now),
+    }
+}
+
+/// The time that is left until a moment; `TimedOut` where none is.
+pub(crate) fn left_until<R: Clock>(rt: &R, end: Instant) -> io::Result<Duration> {
+    let left = end.saturating_duration_since(Instant::now(rt)?);
+    if left.is_zero() {
+        return Err(io::Error::from(ErrorKind::TimedOut));
+    }
+    Ok(left)
+}
+
+impl<'a, R: Clock> Side<'a, R> {
+    /// Both sides of a connection that ends at a moment. `OutOfMemory` where there is no memory for them; the
+    /// connection is then closed.
+    pub(crate) fn pair(
+        rt: &'a R,
+        alloc: Global,
+        stream: TcpStream,
+        end: Instant,
+    ) -> Result<(Side<'a, R>, Side<'a, R>), Fault>
+        ensures { IfErr result (λ f. f ≡ faults.OutOfMemory) }
+    {
+        let stream = match Arc::new(alloc, stream) {
+            Ok(stream) => stream,
+            Err(_) => return Err(Fault::OutOfMemory),
+        };
+        let twin = match Arc::try_clone(&stream) {
+            Ok(twin) => twin,
+            Err(_) => return Err(Fault::OutOfMemory),
+        };
+        let reader = Side { rt, stream, end };
+        let writer = Side {
+            rt,
+            stream: twin,
+            end,
+        };
+        Ok((reader, writer))
+    }
+
+    // Reads once, for no longer than is left.
+    fn read_once(&self, buf: &mut [u8]) -> io::Result<usize>
+        ensures { ReadsAtMost result buf.new }
+    {
+        self.stream
+            .set_read_timeout(Some(left_until(self.rt, self.end)?))?;
+        let mut stream = &*self.stream;
+        stream.read(buf)
+    }
+
+    // Writes once, for no longer than is left.
+    fn write_once(&self, buf: &[u8]) -> io::Result<usize>
+        ensures { WritesAtMost result buf.now }
+    {
+        self.stream
+            .set_write_timeout(Some(left_until(self.rt, self.end)?))?;
+        let mut stream = &*self.stream;
+        stream.write(buf)
+    }
+}
+
+impl<'a, R: Clock> Read for Side<'a, R> {
+    fn read(&mut self, buf: &mut [u8]) -> io::Result<usize> {
+        for _ in 0..CALL_TRIES {
+            match self.read_once(buf) {
+                Ok(count) => return Ok(count),
+                Err(error) => {
+                    if error.kind() != ErrorKind::Interrupted {
+                        return Err(error);
+                    }
+                }
+            }
+        }
+        Err(io::Error::from(ErrorKind::Interrupted))
+    }
+}
+
+impl<'a, R: Clock> Write for Side<'a, R> {
+    fn write(&mut self, buf: &[u8]) -> io::Result<usize> {
+        for _ in 0..CALL_TRIES {
+            match self.write_once(buf) {
+                Ok(count) => return Ok(count),
+                Err(error) => {
+                    if error.kind() != ErrorKind::Interrupted {
+                        return Err(error);
+                    }
+                }
+            }
+        }
+        Err(io::Error::from(ErrorKind::Interrupted))
+    }
+
+    fn flush(&mut self) -> io::Result<()> {
+        Ok(())
+    }
+}

@@ -1,0 +1,128 @@
+//! Two nodes that run at once. The one's receiver waits for its operator, and neither can run in the other's place.
+
+use crate::links::{Dialing, Listening, Nobody, bound};
+use crate::nodes::{Side, kinds, ran, rounds, were_one_run};
+use crate::operators::{ReadsOnce, SetsAndReads};
+use cg_samples::{A, endpoint};
+use cg_threads::Ran;
+use std::alloc::Global;
+use std::net::{Net, TcpListener, TcpStream};
+use std::rt::Clock;
+use std::sync::Wait;
+use std::sync::atomic::Ordering;
+use std::test::Fail;
+use std::thread::{Threads, join};
+
+// A sets a key, and begins rounds, whose one peer is its seed.
+fn opener<R: Threads + Wait + Clock + Sync + Net<Listener = TcpListener, Stream = TcpStream>>(
+    rt: &R,
+    alloc: Global,
+    side: &Side,
+) -> Option<Ran> {
+    ran(
+        rt,
+        alloc,
+        side,
+        Nobody,
+        Dialing { rt },
+        SetsAndReads { side },
+    )
+}
+
+// B answers exchanges, once its operator has read.
+fn answerer<R: Threads + Wait + Clock + Sync + Net<Listener = TcpListener, Stream = TcpStream>>(
+    rt: &R,
+    alloc: Global,
+    side: &Side,
+    listener: TcpListener,
+) -> Option<Ran> {
+    let listening = Listening { rt, side, listener };
+    let operator = ReadsOnce { clock: rt, side };
+    ran(rt, alloc, side, listening, Nobody, operator)
+}
+
+// What is left of both, each in a thread of its own.
+fn both<R: Threads + Wait + Clock + Sync + Net<Listener = TcpListener, Stream = TcpStream>>(
+    rt: &R,
+    alloc: Global,
+    a: &Side,
+    b: &Side,
+    listener: TcpListener,
+) -> (Option<Ran>, Option<Ran>) {
+    join(
+        rt,
+        move || -> Option<Ran> { opener(rt, alloc, a) },
+        move || -> Option<Ran> { answerer(rt, alloc, b, listener) },
+    )
+}
+
+// How many of A's rounds have the one peer B, and whether A's sender took just these; whether A's operator read what it
+// had set, and B's before a connection was accepted; whether B holds an entry of A, and the kinds of its records; and
+// whether both were one run.
+#[derive(Clone, Copy, Debug, PartialEq, Eq)]
+struct Left {
+    begun: usize,
+    taken: bool,
+    set: bool,
+    read: bool,
+    held: bool,
+    of_b: (u32, u32, u32),
+    one: bool,
+}
+
+fn left_of(alloc: Global, a: &Side, b: &Side, of_a: Ran, of_b: Ran) -> Result<Left, Fail> {
+    let begun = rounds(alloc, &of_a.history, b.own)?;
+    let held = of_b.history.node().table().get(a.own).is_some();
+    let kinds = kinds(&of_b.history);
+    let one = were_one_run(alloc, (a.own, of_a.history), (b.own, of_b.history))?;
+    Ok(Left {
+        begun: begun.len(),
+        taken: of_a.rounds == begun,
+        set: a.read.load(Ordering::SeqCst),
+        read: b.read.load(Ordering::SeqCst),
+        held,
+        of_b: kinds,
+        one,
+    })
+}
+
+// What is left where A begins so many rounds, and B answers as many exchanges.
+fn left_after<R: Threads + Wait + Clock + Sync + Net<Listener = TcpListener, Stream = TcpStream>>(
+    rt: &R,
+    alloc: Global,
+    count: u32,
+) -> Result<Left, Fail> {
+    let (listener, at) = bound(rt)?;
+    let at = at.ok_or("a port")?;
+    let a = Side::new(endpoint(A), 9, at, count, 0);
+    let b = Side::new(at, 5, at, 0, count);
+    let (of_a, of_b) = both(rt, alloc, &a, &b, listener);
+    let of_a = of_a.ok_or("A ran")?;
+    let of_b = of_b.ok_or("B ran")?;
+    left_of(alloc, &a, &b, of_a, of_b)
+}
+
+// What is due then.
+fn due(count: u32) -> Left {
+    Left {
+        begun: count as usize,
+        taken: true,
+        set: true,
+        read: true,
+        held: true,
+        of_b: (count, count, 0),
+        one: true,
+    }
+}
+
+#[test]
+fn two_running_nodes(rt: HostRuntime) -> Result<(), Fail> {
+    assert_eq!(rt; left_after(&rt, rt.alloc(), 1)?, due(1));
+    Ok(())
+}
+
+#[test]
+fn two_rounds_are_two_exchanges(rt: HostRuntime) -> Result<(), Fail> {
+    assert_eq!(rt; left_after(&rt, rt.alloc(), 2)?, due(2));
+    Ok(())
+}

@@ -1,0 +1,139 @@
+//! Nodes that run, and what is left of them.
+
+ghost use Rattle.std.specs.Prelude.{◌≡◌, [], IfSome};
+
+use crate::links::Standing;
+use cg_audit::{Lives, audit, endpoints_differ};
+use cg_core::{Event, Reply, Settings};
+use cg_history::History;
+use cg_rounds::generator;
+use cg_samples::{cluster, generation};
+use cg_seats::Operate;
+use cg_silence::Silence;
+use cg_threads::{Parts, Ran, Turns, run_node};
+use cg_types::Endpoint;
+use cg_workers::{Dial, Listen};
+use std::alloc::Global;
+use std::rt::Clock;
+use std::sync::Wait;
+use std::sync::atomic::AtomicBool;
+use std::test::Fail;
+use std::thread::Threads;
+
+// A node that is to run: its endpoint and generation, its one seed, how many rounds it begins and exchanges it answers;
+// and what is seen of it as it runs.
+#[derive(Drop)]
+pub(crate) struct Side {
+    pub(crate) own: Endpoint,
+    pub(crate) start: u32,
+    pub(crate) seed: Endpoint,
+    pub(crate) rounds: u32,
+    pub(crate) exchanges: u32,
+    // Whether its listener was asked for a connection.
+    pub(crate) asked: AtomicBool,
+    // Whether its operator read what it was to read.
+    pub(crate) read: AtomicBool,
+}
+
+impl Side {
+    // A node of which nothing was seen yet.
+    pub(crate) fn new(
+        own: Endpoint,
+        start: u32,
+        seed: Endpoint,
+        rounds: u32,
+        exchanges: u32,
+    ) -> Side {
+        Side {
+            own,
+            start,
+            seed,
+            rounds,
+            exchanges,
+            asked: AtomicBool::new(false),
+            read: AtomicBool::new(false),
+        }
+    }
+}
+
+// The history of a node that has just started.
+fn begun(alloc: Global, side: &Side) -> Option<History>
+    ensures { IfSome result (λ h. h.records ≡ []) }
+{
+    let mut seeds = Vec::new(alloc);
+    seeds.push(side.seed).ok()?;
+    let settings = Settings::new(cluster(alloc).ok()?, seeds, Silence::default())?;
+    History::begin(alloc, side.own, generation(side.start), settings).ok()
+}
+
+// What is left of a node once it ran; none where it did not run, or its receipts are not confirmed.
+pub(crate) fn ran<
+    R: Threads + Wait + Clock + Sync,
+    L: Listen + Drop,
+    D: Dial + Drop + Send,
+    O: Operate + Drop + Send,
+>(rt: &R, alloc: Global, side: &Side, listener: L, dialer: D, operator: O) -> Option<Ran>
+where
+    D::Reader: Send,
+    D::Writer: Send,
+{
+    let history = begun(alloc, side)?;
+    let parts = Parts {
+        listener,
+        dialer,
+        clock: Standing,
+        generator: generator(7),
+        operator,
+    };
+    let turns = Turns {
+        rounds: side.rounds,
+        exchanges: side.exchanges,
+        interval: 0,
+    };
+    run_node(rt, alloc, history, parts, turns).ok()
+}
+
+// The numbers of the rounds of a history, where each has this one peer.
+pub(crate) fn rounds(alloc: Global, history: &History, peer: Endpoint) -> Result<Vec<u64>, Fail> {
+    let mut numbers = Vec::new(alloc);
+    let mut number = 0u64;
+    for item in history.records() {
+        number = number.saturating_add(1);
+        if let Reply::Round { peers, .. } = &item.reply {
+            if peers.endpoints() == [peer].as_slice() {
+                numbers.push(number)?;
+            }
+        }
+    }
+    Ok(numbers)
+}
+
+// How many records of a history are of a SYN, of an ACK2, and of a round.
+pub(crate) fn kinds(history: &History) -> (u32, u32, u32) {
+    let (mut syns, mut acks, mut rounds) = (0u32, 0u32, 0u32);
+    for item in history.records() {
+        match &item.event {
+            Event::Syn { .. } => syns = syns.saturating_add(1),
+            Event::Ack2 { .. } => acks = acks.saturating_add(1),
+            Event::Tick { .. } => rounds = rounds.saturating_add(1),
+            _ => {}
+        }
+    }
+    (syns, acks, rounds)
+}
+
+// Whether the lives of two endpoints were one run of the gossip.
+pub(crate) fn were_one_run(
+    alloc: Global,
+    (a, of_a): (Endpoint, History),
+    (b, of_b): (Endpoint, History),
+) -> Result<bool, Fail> {
+    let mut first = Vec::new(alloc);
+    first.push(of_a)?;
+    let mut second = Vec::new(alloc);
+    second.push(of_b)?;
+    let mut lives = Vec::new(alloc);
+    lives.push(Lives::new(a, first).ok_or("lives of the endpoint")?)?;
+    lives.push(Lives::new(b, second).ok_or("lives of the endpoint")?)?;
+    Ok(endpoints_differ(&lives) && audit(alloc, &lives).is_ok())
+}
