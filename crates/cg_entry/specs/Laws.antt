@@ -14,7 +14,7 @@ pub record HistoriesGrow : Type 0 where
   pub next : (history : List EntryValue) (x y : EntryValue)
       → IsHistory history → at_place history (length history) ≡ Some x → Follows x y → IsHistory (history ++ y ∷ [])
 
--- Each entry of a history is later than those before it: generation and version rise strictly.
+-- Each entry is later than those before it: its generation is greater, or in one generation its newest version.
 abbrev pub EntriesRise : Type 0
 EntriesRise =
     (history : List EntryValue) → IsHistory history → (p q : ℕ) (x y : EntryValue)

@@ -13,7 +13,7 @@ pub fn histories_grow()
     ensures { HistoriesGrow }
 {}
 
-/// Generation and version rise strictly along a history.
+/// Along a history the generation rises, or in one generation the newest version.
 pub fn entries_rise()
     ensures { EntriesRise }
 {}
