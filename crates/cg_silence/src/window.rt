@@ -73,7 +73,8 @@ fn is_over(threshold: u32, elapsed: u64, count: usize, total: u64) -> bool
     requires few { count < 2 ^ 32 }
     ensures { result ≡ is_over_of threshold elapsed count total }
 {
-    let waited = elapsed as u128 * count as u128 * THRESHOLD_UNIT as u128;
+    let weight = count as u64 * u64::from(THRESHOLD_UNIT);
+    let waited = elapsed as u128 * weight as u128;
     let allowed = threshold as u128 * total as u128;
     waited > allowed
 }
