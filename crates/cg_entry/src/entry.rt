@@ -24,6 +24,8 @@ use std::marker::Model;
 pub struct Entry {
     generation: Generation,
     heartbeat: Version,
+    // The greatest version of all, so that a digest costs no walk over the states.
+    newest: Version,
     states: States,
 }
 
@@ -35,6 +37,11 @@ impl Model for Entry {
     ghost coded = { entry_code };
 
     ghost view = { λ e. record { generation = e.generation; heartbeat = e.heartbeat; states = e.states } };
+
+    ghost use Rattle.std.specs.Prelude.{◌≡◌};
+    ghost use Rattle.cg_entry.specs.Entry.{greatest};
+
+    ghost invariant = { λ e. e.newest ≡ greatest e.heartbeat e.states };
 }
 
 /// What became of a delta: the entry that it led to, or why it was not taken. `Old` brings nothing new; at a `Gap`
@@ -82,10 +89,18 @@ impl Entry {
     pub fn start(alloc: Global, generation: Generation) -> Entry
         ensures { result ≡ starting_entry generation }
     {
+        Entry::of_parts(generation, Version::first(), States::empty(alloc))
+    }
+
+    fn of_parts(generation: Generation, heartbeat: Version, states: States) -> Entry
+        ensures { result ≡ record { generation = generation; heartbeat = heartbeat; states = states } }
+    {
+        let newest = states.greatest(heartbeat);
         Entry {
             generation,
-            heartbeat: Version::first(),
-            states: States::empty(alloc),
+            heartbeat,
+            newest,
+            states,
         }
     }
 
@@ -98,11 +113,8 @@ impl Entry {
         if delta.above() != 0 {
             return Ok(None);
         }
-        Ok(Some(Entry {
-            generation: delta.generation(),
-            heartbeat: delta.heartbeat(),
-            states: delta.held().copy(alloc)?,
-        }))
+        let states = delta.held().copy(alloc)?;
+        Ok(Some(Entry::of_parts(delta.generation(), delta.heartbeat(), states)))
     }
 
     /// Sets the heartbeat version to the next version. `VersionsSpent` where there is none; the entry and the versions
@@ -118,6 +130,7 @@ impl Entry {
     {
         let version = versions.next()?;
         self.heartbeat = version;
+        self.newest = self.states.greatest(version);
         Ok(version)
     }
 
@@ -140,6 +153,7 @@ impl Entry {
         let mut after = *versions;
         let version = after.next()?;
         self.states.put(State { key, version, text })?;
+        self.newest = self.states.greatest(self.heartbeat);
         *versions = after;
         Ok(version)
     }
@@ -169,12 +183,8 @@ impl Entry {
     fn advance(&self, alloc: Global, delta: &Delta) -> Result<Entry, AllocError>
         ensures { IfOk result (λ e. e ≡ advanced_entry self.now delta.now) }
     {
-        let heartbeat = delta.heartbeat();
-        Ok(Entry {
-            generation: self.generation,
-            heartbeat,
-            states: self.states.overlaid(alloc, delta.held())?,
-        })
+        let states = self.states.overlaid(alloc, delta.held())?;
+        Ok(Entry::of_parts(self.generation, delta.heartbeat(), states))
     }
 
     fn outcome(&self, alloc: Global, delta: &Delta) -> Result<Absorbed, AllocError>
@@ -224,7 +234,7 @@ impl Entry {
     pub fn newest(&self) -> Version
         ensures { result ≡ newest self.now }
     {
-        self.states.greatest(self.heartbeat)
+        self.newest
     }
 
     /// Whether it is the same entry: generation, heartbeat version and states.
@@ -267,6 +277,7 @@ impl Entry {
         Ok(Entry {
             generation: self.generation,
             heartbeat: self.heartbeat,
+            newest: self.newest,
             states: self.states.copy(alloc)?,
         })
     }
