@@ -6,6 +6,8 @@ mod md5;
 #[allow(dead_code)]
 mod model;
 mod naive;
+#[allow(dead_code)]
+mod packed;
 mod ring;
 #[allow(dead_code)]
 mod shared;
@@ -15,6 +17,7 @@ mod world;
 
 use model::Endpoint;
 use naive::{cluster, empty, held, read, Ack, Ack2, Entry, Message, Syn, Table};
+use std::cell::RefCell;
 use std::hint::black_box;
 use timing::{case, Mode};
 use world::*;
@@ -36,6 +39,12 @@ fn frames(mode: Mode, tag: &str, message: &Message) {
         || naive::decode(black_box(&spoilt)).unwrap_err(),
         |fault| format!("fault 12 BadFrame {} {:?}\n", fault.place, fault.cause).into_bytes(),
     );
+    case(
+        mode,
+        &format!("packed_check_{tag}"),
+        || packed::check(black_box(&spoilt)).err().unwrap(),
+        |fault| format!("fault 12 BadFrame {} {:?}\n", fault.place, fault.cause).into_bytes(),
+    );
 }
 
 fn answer(mode: Mode, tag: &str, own: &Table, syn: Syn) {
@@ -48,6 +57,16 @@ fn answer(mode: Mode, tag: &str, own: &Table, syn: Syn) {
             naive::encode(&Message::Ack(naive::answer_syn(own, &cluster(), &syn).unwrap()))
         },
         |b| b.clone(),
+    );
+    let (own, out) = (packed::of_naive(own), RefCell::new(Vec::new()));
+    case(
+        mode,
+        &format!("packed_answer_syn_bytes_{tag}"),
+        || {
+            let syn = packed::check(black_box(&frame)).unwrap().unwrap();
+            packed::answer_syn(&own, b"c1", syn, &mut out.borrow_mut()).unwrap();
+        },
+        |()| out.borrow().clone(),
     );
 }
 
@@ -65,6 +84,17 @@ fn take(mode: Mode, tag: &str, own: &Table, ack: Ack) {
             (after, naive::encode(&Message::Ack2(ack2)))
         },
         |(after, ack2)| [held(after), ack2.clone()].concat(),
+    );
+    let (table, kept) = (packed::of_naive(own), RefCell::new((Vec::new(), Vec::new())));
+    case(
+        mode,
+        &format!("packed_take_ack_bytes_{tag}"),
+        || {
+            let ack = packed::check(black_box(&frame)).unwrap().unwrap();
+            let (outcomes, ack2) = &mut *kept.borrow_mut();
+            packed::take_ack(&table, ack, outcomes, ack2).unwrap()
+        },
+        |after| [packed::held(after), kept.borrow().1.clone()].concat(),
     );
     take_ack2(mode, &format!("take_ack2_{tag}"), own, ack2);
 }
@@ -84,12 +114,20 @@ fn exchange(mode: Mode, tag: &str, opener: &Table, answerer: &Table) {
         || naive::exchanged(opener, answerer),
         |(one, other)| [held(one), held(other)].concat(),
     );
+    let tables = (packed::of_naive(opener), packed::of_naive(answerer));
     let (opener, answerer) = (shared::of_naive(opener), shared::of_naive(answerer));
     case(
         mode,
         &format!("shared_exchange_{tag}"),
         || shared::exchanged(&opener, &answerer),
         |(one, other)| [shared::held(one), shared::held(other)].concat(),
+    );
+    let kept = RefCell::new(packed::Kept::default());
+    case(
+        mode,
+        &format!("packed_exchange_{tag}"),
+        || packed::exchanged(black_box(&tables.0), black_box(&tables.1), &mut kept.borrow_mut()),
+        |(one, other)| [packed::held(one), packed::held(other)].concat(),
     );
 }
 
@@ -214,6 +252,13 @@ fn small(mode: Mode) {
         || naive::encode(&Message::Syn(naive::syn(black_box(&full), &cluster()))),
         |b| b.clone(),
     );
+    let (full, out) = (packed::of_naive(&full), RefCell::new(Vec::new()));
+    case(
+        mode,
+        "packed_make_syn_256",
+        || packed::write_syn(black_box(&full), b"c1", &mut out.borrow_mut()),
+        |()| out.borrow().clone(),
+    );
 }
 
 fn rings(mode: Mode) {
@@ -272,7 +317,7 @@ fn windows(mode: Mode) {
 fn limits(mode: Mode) {
     for size in [290_000, 4_230_000] {
         let source = vec![7u8; size];
-        let kept = std::cell::RefCell::new(vec![0u8; size]);
+        let kept = RefCell::new(vec![0u8; size]);
         case(
             mode,
             &format!("limit_memcpy_{size}"),
