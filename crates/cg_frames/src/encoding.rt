@@ -1,8 +1,6 @@
 //! Messages written as frames.
 
-ghost use Rattle.std.specs.Prelude.{◌≡◌, ◌++◌, ◌∷◌, ◌<◌, ◌≤◌, ◌^◌, length, IfOk, OnOk};
-ghost use Rattle.cg_types.specs.declared.limits.TheConstants.{STATE_LIMIT};
-ghost use Rattle.cg_types.specs.Numbers.{address_of};
+ghost use Rattle.std.specs.Prelude.{◌≡◌, ◌++◌, ◌∷◌, [], ◌<◌, ◌^◌, length, IfOk, OnOk};
 ghost use Rattle.cg_entry.specs.State.{pair, pairs};
 ghost use Rattle.std.specs.List.{AllByRecursion, flat_map};
 ghost use Rattle.cg_exchange.specs.declared.message.Message.TheVariants as messages;
@@ -20,7 +18,7 @@ use bytes::{BufMut, Bytes};
 use cg_entry::State;
 use cg_exchange::{Ack, Ack2, Lent, Message, OwnerDelta, Request, Syn};
 use cg_table::Digest;
-use cg_types::{Cluster, Endpoint, StateText};
+use cg_types::{Cluster, Endpoint};
 use std::alloc::{AllocError, Global};
 
 #[tactic(auto, unfolding(crate::specs::Spelling::two_bytes))]
@@ -37,37 +35,37 @@ fn put_four(out: &mut Vec<u8>, n: u32) -> Result<(), AllocError>
     out.put_u32(n)
 }
 
-#[tactic(auto, unfolding(crate::specs::Spelling::four_bytes))]
-fn put_address(out: &mut Vec<u8>, endpoint: Endpoint) -> Result<(), AllocError>
-    ensures { OnOk result (out.new.items ≡ out.old.items ++ spelling.four_bytes (address_of endpoint)) }
+// An endpoint and two numbers: what is put at once is put in a fraction of the time.
+#[tactic(auto, unfolding(crate::specs::Spelling::two_bytes, crate::specs::Spelling::four_bytes))]
+fn member_bytes(endpoint: Endpoint, first: u32, second: u32) -> [u8; 14]
+    ensures { result ≡ spelling.endpoint endpoint ++ spelling.four_bytes first ++ spelling.four_bytes second }
 {
-    out.put_slice(&endpoint.address())
-}
-
-fn put_endpoint(out: &mut Vec<u8>, endpoint: Endpoint) -> Result<(), AllocError>
-    ensures { OnOk result (out.new.items ≡ out.old.items ++ spelling.endpoint endpoint) }
-{
-    put_address(out, endpoint)?;
-    put_two(out, endpoint.port())?;
-    Ok(())
+    let mut bytes = [0u8; 14];
+    bytes[..4].copy_from_slice(&endpoint.address());
+    bytes[4..6].copy_from_slice(&endpoint.port().to_be_bytes());
+    bytes[6..10].copy_from_slice(&first.to_be_bytes());
+    bytes[10..].copy_from_slice(&second.to_be_bytes());
+    bytes
 }
 
 fn put_digest(out: &mut Vec<u8>, digest: &Digest) -> Result<(), AllocError>
     ensures { OnOk result (out.new.items ≡ out.old.items ++ spelling.digest digest.now) }
 {
-    put_endpoint(out, digest.endpoint)?;
-    put_four(out, digest.generation.get())?;
-    put_four(out, digest.newest.get())?;
-    Ok(())
+    out.put_slice(&member_bytes(
+        digest.endpoint,
+        digest.generation.get(),
+        digest.newest.get(),
+    ))
 }
 
 fn put_request(out: &mut Vec<u8>, request: Request) -> Result<(), AllocError>
     ensures { OnOk result (out.new.items ≡ out.old.items ++ spelling.request request) }
 {
-    put_endpoint(out, request.endpoint())?;
-    put_four(out, request.generation().get())?;
-    put_four(out, request.version())?;
-    Ok(())
+    out.put_slice(&member_bytes(
+        request.endpoint(),
+        request.generation().get(),
+        request.version(),
+    ))
 }
 
 fn put_cluster(out: &mut Vec<u8>, cluster: &Cluster) -> Result<(), AllocError>
@@ -101,44 +99,67 @@ fn put_requests(out: &mut Vec<u8>, requests: &[Request]) -> Result<(), AllocErro
     Ok(())
 }
 
-fn put_text(out: &mut Vec<u8>, text: &StateText) -> Result<(), AllocError>
-    ensures { OnOk result (out.new.items ≡ out.old.items ++ spelling.text text.now) }
+// What stands before a state's text: the key, the version and the length.
+#[tactic(auto, unfolding(crate::specs::Spelling::two_bytes, crate::specs::Spelling::four_bytes))]
+fn state_head(key: u8, version: u32, size: u16) -> [u8; 7]
+    ensures { result ≡ key ∷ (spelling.four_bytes version ++ spelling.two_bytes size) }
 {
-    put_two(out, text.as_str().len() as u16)?;
-    out.put_slice(text.as_str().as_bytes())?;
-    Ok(())
+    let mut bytes = [key; 7];
+    bytes[1..5].copy_from_slice(&version.to_be_bytes());
+    bytes[5..].copy_from_slice(&size.to_be_bytes());
+    bytes
 }
 
 fn put_state(out: &mut Vec<u8>, state: &State) -> Result<(), AllocError>
     ensures { OnOk result (out.new.items ≡ out.old.items ++ spelling.state (pair state.now)) }
 {
-    out.put_u8(state.key.get())?;
-    put_four(out, state.version.get())?;
-    put_text(out, &state.text)?;
+    let text = state.text.as_str().as_bytes();
+    out.put_slice(&state_head(
+        state.key.get(),
+        state.version.get(),
+        text.len() as u16,
+    ))?;
+    out.put_slice(text)?;
     Ok(())
 }
 
 fn put_states(out: &mut Vec<u8>, states: &[State]) -> Result<(), AllocError>
-    requires { length states.now ≤ STATE_LIMIT }
-    ensures { OnOk result (out.new.items ≡ out.old.items
-        ++ (length states.now ∷ flat_map spelling.state (pairs states.now))) }
+    ensures { OnOk result (out.new.items ≡ out.old.items ++ flat_map spelling.state (pairs states.now)) }
 {
-    out.put_u8(states.len() as u8)?;
     for state in states {
         put_state(out, state)?;
     }
     Ok(())
 }
 
+// What stands before a delta's states: the endpoint, the generation, two versions and the count.
+#[tactic(auto, unfolding(crate::specs::Spelling::two_bytes, crate::specs::Spelling::four_bytes))]
+fn delta_head(endpoint: Endpoint, generation: u32, above: u32, heartbeat: u32, count: u8) -> [u8; 19]
+    ensures { result ≡ spelling.endpoint endpoint ++ (spelling.four_bytes generation ++ (spelling.four_bytes above
+        ++ (spelling.four_bytes heartbeat ++ (count ∷ [])))) }
+{
+    let mut bytes = [count; 19];
+    bytes[..4].copy_from_slice(&endpoint.address());
+    bytes[4..6].copy_from_slice(&endpoint.port().to_be_bytes());
+    bytes[6..10].copy_from_slice(&generation.to_be_bytes());
+    bytes[10..14].copy_from_slice(&above.to_be_bytes());
+    bytes[14..18].copy_from_slice(&heartbeat.to_be_bytes());
+    bytes
+}
+
 fn put_delta(out: &mut Vec<u8>, delta: &OwnerDelta) -> Result<(), AllocError>
     requires { IsOwnerDelta delta.now }
     ensures { OnOk result (out.new.items ≡ out.old.items ++ spelling.delta delta.now) }
 {
-    put_endpoint(out, delta.endpoint)?;
-    put_four(out, delta.delta.generation().get())?;
-    put_four(out, delta.delta.above())?;
-    put_four(out, delta.delta.heartbeat().get())?;
-    put_states(out, delta.delta.states())?;
+    let states = delta.delta.states();
+    out.put_slice(&delta_head(
+        delta.endpoint,
+        delta.delta.generation().get(),
+        delta.delta.above(),
+        delta.delta.heartbeat().get(),
+        states.len() as u8,
+    ))?;
+    put_states(out, states)?;
     Ok(())
 }
 
