@@ -29,8 +29,8 @@ fn fault_at(size: usize, misread: Misread) -> Fault
     }
 }
 
-// What stands behind the length. Faults are found before memory is asked for.
-fn read_inside(alloc: Global, layout: &Layout, inside: &[u8]) -> Result<Message, Fault>
+// As `read_inside`: all faults are found before memory is asked for.
+fn read_checked(alloc: Global, layout: &Layout, inside: &[u8]) -> Result<Message, Fault>
     requires short { length inside.now < 2 ^ 32 }
     requires layout { IsRead layout.now }
     ensures { Answers (λ m. m)
@@ -43,6 +43,36 @@ fn read_inside(alloc: Global, layout: &Layout, inside: &[u8]) -> Result<Message,
         Ok(message) => Ok(message),
         Err(ReadError::Memory) => Err(Fault::OutOfMemory),
         Err(ReadError::Misread(misread)) => Err(fault_at(inside.len(), misread)),
+    }
+}
+
+// As `read_inside`, in one pass: where memory is short, a second one tells whether a fault comes first.
+fn read_at_once(alloc: Global, layout: &Layout, inside: &[u8]) -> Result<Message, Fault>
+    requires short { length inside.now < 2 ^ 32 }
+    requires layout { IsRead layout.now }
+    ensures { Answers (λ m. m)
+        (spec.with_place (length inside.now) (spec.inside_at layout.now inside.now)) result }
+{
+    match read(alloc, layout, inside) {
+        Ok(message) => Ok(message),
+        Err(ReadError::Misread(misread)) => Err(fault_at(inside.len(), misread)),
+        Err(ReadError::Memory) => match check(layout, inside) {
+            Ok(()) => Err(Fault::OutOfMemory),
+            Err(misread) => Err(fault_at(inside.len(), misread)),
+        },
+    }
+}
+
+// What stands behind the length. A SYN, which has room for no more than a name and digests, is read at once.
+fn read_inside(alloc: Global, layout: &Layout, inside: &[u8]) -> Result<Message, Fault>
+    requires short { length inside.now < 2 ^ 32 }
+    requires layout { IsRead layout.now }
+    ensures { Answers (λ m. m)
+        (spec.with_place (length inside.now) (spec.inside_at layout.now inside.now)) result }
+{
+    match inside.get(1) {
+        Some(1) => read_at_once(alloc, layout, inside),
+        _ => read_checked(alloc, layout, inside),
     }
 }
 
@@ -94,8 +124,9 @@ pub(crate) fn decode_among(
 ///
 /// None where more bytes are needed: fewer than 4, or fewer than the length says. The byte behind the length names the
 /// layout; until it has come, the longest frames of all layouts are allowed. What follows the frame is not looked at.
-/// `BadFrame` has the first cause that is met, and its place, in bytes from the first byte of the length; it takes no
-/// memory to find. `OutOfMemory` comes only where the frame reads.
+/// `BadFrame` has the first cause that is met, and its place, in bytes from the first byte of the length; it is found
+/// whatever memory there is. `OutOfMemory` comes only where the frame reads. Of an ACK and an ACK2 nothing is asked for
+/// before all faults are ruled out; a SYN may have taken room for its name and digests, and gives it back.
 pub fn decode(alloc: Global, bytes: &[u8]) -> Result<Option<(Message, usize)>, Fault>
     ensures exact { Answers (λ x. x) (frame_among LAYOUTS bytes.now) result }
     ensures more { frame_among LAYOUTS bytes.now ≡ Ok None → result ≡ Ok None }

@@ -31,7 +31,7 @@ struct Cutting {
     taken: usize,
 }
 
-// Cuts off all messages at the front. Only memory may run out, and a fault at the front takes none.
+// Cuts off all messages at the front. Only memory may run out, and a fault at the front is found without any.
 fn cut(alloc: Global, layouts: &[Layout], bytes: &[u8]) -> Result<Cutting, Fault>
     requires { AreRead layouts.now }
     ensures ok { IfOk result (λ c. spec.IsCut layouts.now bytes.now c.fed.messages.items c.taken c.fed.fault) }
@@ -113,8 +113,8 @@ fn extend(alloc: Global, layouts: &[Layout], held: &mut Vec<u8>, piece: &[u8]) -
     Ok(cutting.fed)
 }
 
-// Cuts what is held and then the piece, and holds what is left; a refusal changes nothing. The empty piece takes no
-// memory, and where nothing is held a fault at the front takes none.
+// Cuts what is held and then the piece, and holds what is left; a refusal changes nothing. The empty piece needs no
+// memory, and where nothing is held a fault at the front needs none.
 fn take(alloc: Global, layouts: &[Layout], held: &mut Vec<u8>, piece: &[u8]) -> Result<Fed, Fault>
     requires layouts { AreRead layouts.now }
     requires partial { frame_among layouts.now held.old.items ≡ Ok None }
@@ -176,7 +176,7 @@ impl Feed {
     /// message and that fault. A piece no longer than `wants` gives at most one message, and if it gives one, nothing
     /// is held after it.
     /// `OutOfMemory` leaves the feed as it was; there is no other refusal. There is none for the empty piece, after a
-    /// fault, and where nothing is held and the piece begins with a fault: none of these takes memory.
+    /// fault, and where nothing is held and the piece begins with a fault: none of these needs memory.
     pub fn push(&mut self, piece: &[u8]) -> Result<Fed, Fault>
         ensures given { IfOk result (λ fed. fed.messages.items ≡ (spec.cut_of_piece LAYOUTS self.old piece.now).messages) }
         ensures rest { OnOk result (self.new ≡ (spec.cut_of_piece LAYOUTS self.old piece.now).rest) }
