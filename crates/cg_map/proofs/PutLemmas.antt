@@ -1,5 +1,5 @@
 -- A walk over rows and changes puts each change.
-use Rattle.std.proofs.Common.{◌≡◌, ℕ, suc, ◌+◌, ◌<◌, ◌≤◌, Bool, true, false, cond, List, [], ◌∷◌, ◌++◌, length, Option, Some, None, refl, sym, ap, ◌∙◌, arith, nat_lt, append_assoc, get_or, drop, drop-cons, add-one}
+use Rattle.std.proofs.Common.{◌≡◌, ℕ, ◌<◌, ◌≤◌, Bool, true, false, cond, List, [], ◌∷◌, ◌++◌, Option, Some, None, refl, sym, ap, ◌∙◌, arith, nat_lt, append_assoc}
 use Rattle.std.specs.List.{filter}
 use Rattle.std.specs.Ordering.{nat_cmp}
 use Rattle.std.specs.Cmp.{nat_cmp_is}
@@ -94,12 +94,11 @@ module _ {X : Type 0} where
   walk_step made rest its cs b a c is front back =
       rw (is, front, back) (append_assoc (made ++ before c.0 rest) (c ∷ []) (walked cs (after c.0 rest)) ∙ append_assoc made (before c.0 rest) (c ∷ walked cs (after c.0 rest)))
 
-  -- one turn of a walk over a slice of changes
-  pub rows_step : (made rest changes b a : List (ℕ × X)) (i k : ℕ) (row : ℕ × X) → i < length changes → row ≡ get_or changes i row → k ≡ row.0 → b ≡ before k rest → a ≡ after k rest → Rises (keys_of rest) → record { rise : Rises (keys_of a); so_far : ((made ++ b) ++ row ∷ []) ++ walked (drop (i + 1) changes) a ≡ made ++ walked (drop i changes) rest }
-  rows_step made rest changes b a i k row lt is key front back rise =
-      let at : drop i changes ≡ row ∷ drop (i + 1) changes = rw add-one (drop-cons changes i row lt ∙ ap (λ (r : ℕ × X). r ∷ drop (suc i) changes) (sym is)) in
+  -- one turn of a walk, which takes the next of the changes
+  pub rows_step : (made rest its cs b a : List (ℕ × X)) (k : ℕ) (row : ℕ × X) → its ≡ row ∷ cs → k ≡ row.0 → b ≡ before k rest → a ≡ after k rest → Rises (keys_of rest) → record { rise : Rises (keys_of a); so_far : ((made ++ b) ++ row ∷ []) ++ walked cs a ≡ made ++ walked its rest }
+  rows_step made rest its cs b a k row is key front back rise =
       let behind : a ≡ after row.0 rest = back ∙ ap (λ (n : ℕ). after n rest) key in
       record {
         rise = rw behind (rise_filter (λ r. nat_lt row.0 r.0) None rest rise);
-        so_far = walk_step made rest (drop i changes) (drop (i + 1) changes) b a row at (front ∙ ap (λ (n : ℕ). before n rest) key) behind;
+        so_far = walk_step made rest its cs b a row is (front ∙ ap (λ (n : ℕ). before n rest) key) behind;
       }

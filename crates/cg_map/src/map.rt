@@ -102,13 +102,24 @@ impl<T: Drop> SharedMap<T> {
     /// A map with each of the rows put, in one walk. It shares all values. The rows have to rise by endpoint, as
     /// `rows_rise` tells.
     /// `AllocError` where the list of rows finds no memory.
-    pub fn with_rows(&self, alloc: Global, changes: &[Row<T>]) -> Result<SharedMap<T>, AllocError>
-        requires { Rises (keys_of changes.now) }
-        ensures { IfOk result (λ m. m ≡ put_each changes.now self.now) }
+    pub fn put_rows(&self, alloc: Global, changes: Vec<Row<T>>) -> Result<SharedMap<T>, AllocError>
+        requires { Rises (keys_of changes.items) }
+        ensures { IfOk result (λ m. m ≡ put_each changes.items self.now) }
     {
         Ok(SharedMap {
             rows: walk_rows(alloc, &self.rows, changes)?,
         })
+    }
+
+    /// As `put_rows`, of rows that are lent: the map shares them. `AllocError` where one of the two lists finds no
+    /// memory.
+    pub fn with_rows(&self, alloc: Global, changes: &[Row<T>]) -> Result<SharedMap<T>, AllocError>
+        requires { Rises (keys_of changes.now) }
+        ensures { IfOk result (λ m. m ≡ put_each changes.now self.now) }
+    {
+        let mut rows = Vec::with_capacity(alloc, changes.len())?;
+        share_all(&mut rows, changes)?;
+        self.put_rows(alloc, rows)
     }
 
     /// The same map, which shares its values. `AllocError` where its list of rows finds no memory; an empty map needs

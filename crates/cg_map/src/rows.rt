@@ -76,13 +76,26 @@ pub fn rows_rise<T>(rows: &[Row<T>]) -> bool
     rows.is_sorted_by(|row, next| row.endpoint() < next.endpoint())
 }
 
-// Where the endpoint's row is, or where it would go.
-pub(crate) fn search<T>(rows: &[Row<T>], endpoint: Endpoint) -> Result<usize, usize>
+// Where the endpoint's row is, or where it would go, by halving.
+fn halve<T>(rows: &[Row<T>], endpoint: Endpoint) -> Result<usize, usize>
     requires { Rises (keys_of rows.now) }
     ensures found { IfOk result (λ at. IsRowAt rows.now endpoint at) }
     ensures absent { IfErr result (λ at. IsGapAt rows.now endpoint at) }
 {
     rows.binary_search_by_key(&endpoint, |row| row.endpoint())
+}
+
+// Where the endpoint's row is, or where it would go. It looks at the first row, where a walk finds most, and then
+// halves.
+pub(crate) fn search<T>(rows: &[Row<T>], endpoint: Endpoint) -> Result<usize, usize>
+    requires { Rises (keys_of rows.now) }
+    ensures found { IfOk result (λ at. IsRowAt rows.now endpoint at) }
+    ensures absent { IfErr result (λ at. IsGapAt rows.now endpoint at) }
+{
+    if !rows.is_empty() && rows[0].endpoint() == endpoint {
+        return Ok(0);
+    }
+    halve(rows, endpoint)
 }
 
 // The rows before an endpoint, and those after it.
@@ -114,17 +127,17 @@ pub(crate) fn share_all<T: Drop>(
 pub(crate) fn walk_rows<T: Drop>(
     alloc: Global,
     rows: &[Row<T>],
-    changes: &[Row<T>],
+    changes: Vec<Row<T>>,
 ) -> Result<Vec<Row<T>>, AllocError>
     requires { Rises (keys_of rows.now) }
-    ensures { IfOk result (λ made. made.items ≡ walked changes.now rows.now) }
+    ensures { IfOk result (λ made. made.items ≡ walked changes.items rows.now) }
 {
     let mut made = Vec::with_capacity(alloc, rows.len())?;
     let mut rest = rows;
     for row in changes {
         let (before, after) = around(rest, row.endpoint());
         share_all(&mut made, before)?;
-        made.push(row.share()?)?;
+        made.push(row)?;
         rest = after;
     }
     share_all(&mut made, rest)?;
