@@ -3,7 +3,7 @@
 ghost use Rattle.std.specs.Prelude.{◌≡◌, ◌≤◌, ◌↔◌, ℕ, true, false, IsTrue, IfOk, IfErr, is_some, length, option_copied};
 ghost use Rattle.cg_types.specs.Answer.{Answers};
 ghost use Rattle.cg_table.specs.Merge.{is_ahead as is_ahead_of, later_of, later_entries as later_entries_of, strangers as strangers_of, owners_together as owners_together_of, merging};
-ghost use Rattle.cg_table.specs.Taking.{change_of, with_row as with_row_of, needs_room as needs_room_for, putting_delta};
+ghost use Rattle.cg_table.specs.Taking.{change_at as change_at_of, change_of, with_row as with_row_of, needs_room as needs_room_for, putting_delta};
 ghost use Rattle.std.specs.FinMap as table;
 ghost use Rattle.std.specs.List.{AllByRecursion};
 ghost use Rattle.cg_types.specs.Rising.{Rises};
@@ -226,9 +226,32 @@ impl Table {
         self.with_row(alloc, Some(row))
     }
 
-    /// What a delta about an endpoint changes: the row that it leads to, if it is taken, and what becomes of it. None
-    /// changes the own entry. The table itself stays as it is: `with_rows` puts such rows. `AllocError` only where the
-    /// delta is taken, and the new entry or its row finds no memory.
+    /// What a delta about an endpoint changes, of which this is held: the row that it leads to, if it is taken, and
+    /// what becomes of it. None changes the own entry. The table itself stays as it is: `put_rows` puts such rows.
+    /// `AllocError` only where the delta is taken, and the new entry or its row finds no memory.
+    pub fn change_at(
+        &self,
+        alloc: Global,
+        endpoint: Endpoint,
+        held: Option<&Entry>,
+        delta: &Delta,
+    ) -> Result<(Option<Row<Entry>>, Took), AllocError>
+        ensures value { IfOk result (λ x. x ≡ change_at_of self.now.own endpoint (option_copied held.entry) delta.now) }
+        // Memory is short only where the delta is taken.
+        ensures refused { IfErr result (λ _.
+            is_some (change_at_of self.now.own endpoint (option_copied held.entry) delta.now).0 ≡ true) }
+    {
+        if endpoint == self.own {
+            return Ok((None, Took::Own));
+        }
+        Ok(match met(alloc, held, delta)? {
+            Absorbed::Taken(entry) => (Some(Row::new(alloc, endpoint, entry)?), Took::Taken),
+            Absorbed::Old => (None, Took::Old),
+            Absorbed::Gap => (None, Took::Gap),
+        })
+    }
+
+    /// As `change_at`, with what the table holds of the endpoint.
     pub fn delta_change(
         &self,
         alloc: Global,
@@ -236,17 +259,9 @@ impl Table {
         delta: &Delta,
     ) -> Result<(Option<Row<Entry>>, Took), AllocError>
         ensures value { IfOk result (λ x. x ≡ change_of self.now endpoint delta.now) }
-        // Memory is short only where the delta is taken.
         ensures refused { IfErr result (λ _. is_some (change_of self.now endpoint delta.now).0 ≡ true) }
     {
-        if endpoint == self.own {
-            return Ok((None, Took::Own));
-        }
-        Ok(match met(alloc, self.get(endpoint), delta)? {
-            Absorbed::Taken(entry) => (Some(Row::new(alloc, endpoint, entry)?), Took::Taken),
-            Absorbed::Old => (None, Took::Old),
-            Absorbed::Gap => (None, Took::Gap),
-        })
+        self.change_at(alloc, endpoint, self.get(endpoint), delta)
     }
 
     /// The table after a delta about an endpoint, and what became of the delta. No other owner's entry changes.
@@ -315,6 +330,21 @@ impl Table {
     /// A table with each of the rows put, in one walk over both lists. All entries are shared, the new ones too. The
     /// rows have to rise by endpoint, and with them at most `MEMBER_LIMIT` endpoints to be held: `rows_rise` and
     /// `has_room_for` tell. `AllocError` where the list of rows finds no memory.
+    pub fn put_rows(&self, alloc: Global, changes: Vec<Row<Entry>>) -> Result<Table, AllocError>
+        requires rise { Rises (keys_of changes.items) }
+        requires room { table.len (put_each changes.items self.now.entries) ≤ MEMBER_LIMIT }
+        ensures { IfOk result (λ t.
+            t ≡ record { own = self.now.own; entries = put_each changes.items self.now.entries }) }
+    {
+        show_all(&changes);
+        Ok(Table {
+            own: self.own,
+            entries: self.entries.put_rows(alloc, changes)?,
+        })
+    }
+
+    /// As `put_rows`, of rows that are lent: the table shares them. `AllocError` where one of the two lists finds no
+    /// memory.
     pub fn with_rows(&self, alloc: Global, changes: &[Row<Entry>]) -> Result<Table, AllocError>
         requires rise { Rises (keys_of changes.now) }
         requires room { table.len (put_each changes.now self.now.entries) ≤ MEMBER_LIMIT }
@@ -340,6 +370,6 @@ impl Table {
             return Err(Fault::TableFull);
         }
         let later = self.later_entries(alloc, other)?;
-        Ok(self.with_rows(alloc, &later)?)
+        Ok(self.put_rows(alloc, later)?)
     }
 }
