@@ -1,22 +1,64 @@
 -- What a walk over two lists whose owners rise makes, and one step of it.
-use Rattle.std.proofs.Common.{◌≡◌, ◌+◌, ◌<◌, ◌≤◌, ◌==◌, ℕ, suc, Bool, true, false, cond, List, [], ◌∷◌, ◌++◌, map, length, drop, get_or, drop-cons, add-one, append_assoc, Option, Some, None, refl, sym, ap, ◌∙◌, arith, nat_lt}
+use Rattle.std.proofs.Common.{◌≡◌, ◌+◌, ◌<◌, ◌≤◌, ◌==◌, ℕ, zero, suc, ◌-◌, Bool, true, false, cond, List, [], ◌∷◌, ◌++◌, map, length, length-drop, take, drop, get_or, drop-cons, add-one, append_assoc, Option, Some, None, refl, sym, ap, ◌∙◌, arith, nat_lt}
 use Rattle.std.specs.Prelude.{find}
 use Rattle.std.specs.List.{filter_map, cons_option}
+use Rattle.std.specs.List.Sorted.{IsNonDecreasingBy, IsPartitionedBy, IsPartitionPoint}
+use Rattle.std.proofs.lemmas.List.Sorted.{IsPartitionedBy-ltb}
 use Rattle.std.specs.Option.{option_map, option_to_list}
 use Rattle.std.specs.Ordering.{nat_cmp, eq_by_cmp}
 use Rattle.std.specs.FinMap as table
 use Rattle.std.specs.FinMap.Entries as entries
-use Rattle.std.proofs.lemmas.List.{drop_all, append-nil}
+use Rattle.std.proofs.lemmas.List.{take_all, drop_all, append-nil}
 use Rattle.std.proofs.lemmas.Bool.{ltb-true, ltb-false}
 use Rattle.std.proofs.lemmas.Bool.Decides.{nat_tests}
 use Rattle.cg_types.specs.Rising.{is_past, rise_past, Rises}
 use Rattle.cg_types.proofs.RisingLemmas.{first_of, second_of, past_trans, rise_earlier, rise_sorted}
 use Rattle.cg_entry.specs.Values.{EntryValue}
 use Rattle.cg_table.specs.declared.digest.Digest.{Digest}
-use Rattle.cg_table.specs.Values.{Entries}
-use Rattle.cg_exchange.specs.Members.{endpoints_of_digests}
+use Rattle.cg_table.specs.Values.{TableValue, Entries}
+use Rattle.cg_table.specs.Taking.{change_at, change_of}
+use Rattle.cg_exchange.specs.declared.owner_delta.OwnerDelta.{OwnerDelta}
+use Rattle.cg_exchange.specs.Members.{endpoints_of_digests, endpoints_of_deltas}
+use Rattle.cg_exchange.specs.Taking.{outcome_of}
+use Rattle.cg_exchange.specs.Changes.{changed_by, row_by, outcome_by, row_changed}
 use Rattle.cg_exchange.specs.Answering.{request_by, requests_for, deltas_for}
 use Rattle.cg_exchange.specs.Walking.{from_owner, first_about, asked_by, sent_by}
+
+-- the members from an owner on stand behind those before it
+pub from_point : {X : Type 0} (owner : X → ℕ) (k : ℕ) (xs : List X) (at : ℕ) → at ≤ length xs → IsPartitionPoint (λ x. nat_lt (owner x) k ≡ true) (λ x. nat_lt (owner x) k ≡ false) xs at → drop at xs ≡ from_owner owner k xs
+from_point owner k [] zero le point = refl
+from_point owner k [] (suc at) le point = refl
+from_point owner k (x ∷ xs) zero le point = let no : nat_lt (owner x) k ≡ false = point.1 0 x (omega arith) (omega arith) in rw no refl
+from_point owner k (x ∷ xs) (suc at) le point =
+    let yes : nat_lt (owner x) k ≡ true = point.0 0 x (omega arith) (omega arith) in
+    rw yes (from_point owner k xs at (omega (arith, le)) (λ j d lo lt. point.0 (suc j) d (omega arith) (omega arith), λ j d lo lt. point.1 (suc j) d (omega arith) (omega arith)))
+
+-- what `&xs[n..]` is
+pub rest_from : {X : Type 0} (xs : List X) (n : ℕ) → take (length xs - n) (drop n xs) ≡ drop n xs
+rest_from xs n = take_all (length xs - n) (drop n xs) (omega (arith, length-drop n xs))
+
+module _ {X : Type 0} (owner : X → ℕ) where
+  later_owner : (n : ℕ) (xs : List X) → rise_past (Some n) (map owner xs) ≡ true → (j : ℕ) (d : X) → j < length xs → n < owner (get_or xs j d)
+  later_owner n [] h j d lt = absurd (omega (arith, lt))
+  later_owner n (x ∷ xs) h zero d lt = ltb-true n (owner x) (first_of (nat_lt n (owner x)) (rise_past (Some (owner x)) (map owner xs)) h)
+  later_owner n (x ∷ xs) h (suc j) d lt =
+      let here = first_of (nat_lt n (owner x)) (rise_past (Some (owner x)) (map owner xs)) h in
+      let rest = second_of (nat_lt n (owner x)) (rise_past (Some (owner x)) (map owner xs)) h in
+      later_owner n xs (rise_earlier (Some n) (owner x) (map owner xs) here rest) j d (omega (arith, lt))
+
+  owners_up : (last : Option ℕ) (xs : List X) → rise_past last (map owner xs) ≡ true → IsNonDecreasingBy owner xs
+  owners_up last [] h i j d le lt = absurd (omega (arith, lt))
+  owners_up last (x ∷ xs) h zero zero d le lt = omega arith
+  owners_up last (x ∷ xs) h zero (suc j) d le lt =
+      let later = later_owner (owner x) xs (second_of (is_past last (owner x)) (rise_past (Some (owner x)) (map owner xs)) h) j d (omega (arith, lt)) in
+      omega (arith, later)
+  owners_up last (x ∷ xs) h (suc i) zero d le lt = absurd (omega (arith, le))
+  owners_up last (x ∷ xs) h (suc i) (suc j) d le lt =
+      owners_up (Some (owner x)) xs (second_of (is_past last (owner x)) (rise_past (Some (owner x)) (map owner xs)) h) i j d (omega (arith, le)) (omega (arith, lt))
+
+  -- those before an owner stand in front
+  pub parted_at : (k : ℕ) (xs : List X) → Rises (map owner xs) → IsPartitionedBy (λ x. nat_lt (owner x) k) xs
+  parted_at k xs rise = IsPartitionedBy-ltb owner xs k (owners_up None xs rise)
 
 less_differs : (x k : ℕ) → x < k → (x == k) ≡ false
 less_differs x k lt = grind (arith, nat_tests)
@@ -68,7 +110,7 @@ module _ {X : Type 0} (owner : X → ℕ) where
   find_later k q [] lt = refl
   find_later k q (y ∷ ys) lt = find_later_by k q y ys lt (find_later k q ys lt) (nat_lt (owner y) k) refl
 
-  rise_from : (k : ℕ) (last : Option ℕ) (ys : List X) → rise_past last (map owner ys) ≡ true → rise_past last (map owner (from_owner owner k ys)) ≡ true
+  pub rise_from : (k : ℕ) (last : Option ℕ) (ys : List X) → rise_past last (map owner ys) ≡ true → rise_past last (map owner (from_owner owner k ys)) ≡ true
   rise_from k last [] h = refl
   rise_from k last (y ∷ ys) h =
       let here = first_of (is_past last (owner y)) (rise_past (Some (owner y)) (map owner ys)) h in
@@ -132,6 +174,25 @@ pub requests_walked : (m : Entries) (digests : List Digest) → Rises (endpoints
 requests_walked m digests rise =
     walked_is (λ d. d.endpoint) (λ r. r.0) asked_by digests (table.entries m) rise (rise_sorted (table.entries m) (table.entries_sorted m))
     ∙ (λ i. filter_map (λ d. request_by d ((row_found d.endpoint (table.entries m) ∙ sym (table.get-entries m d.endpoint)) i)) digests)
+
+changed_at : (t : TableValue) (d : OwnerDelta) → changed_by t d (find (λ r. r.0 == d.endpoint) (table.entries t.entries)) ≡ change_of t d.endpoint d.delta
+changed_at t d = λ i. change_at t.own d.endpoint ((row_found d.endpoint (table.entries t.entries) ∙ sym (table.get-entries t.entries d.endpoint)) i) d.delta
+
+all_some : {X Y : Type 0} (f : X → Y) (xs : List X) → filter_map (λ x. Some (f x)) xs ≡ map f xs
+all_some f [] = refl
+all_some f (x ∷ xs) = ap (λ ys. f x ∷ ys) (all_some f xs)
+
+-- the rows that deltas change, in one walk over deltas and rows
+pub rows_walked : (t : TableValue) (ds : List OwnerDelta) → Rises (endpoints_of_deltas ds) → side_by_side (λ d. d.endpoint) (λ r. r.0) (row_by t) ds (table.entries t.entries) ≡ filter_map (row_changed t) ds
+rows_walked t ds rise =
+    walked_is (λ d. d.endpoint) (λ r. r.0) (row_by t) ds (table.entries t.entries) rise (rise_sorted (table.entries t.entries) (table.entries_sorted t.entries))
+    ∙ (λ i. filter_map (λ d. (changed_at t d i).0) ds)
+
+-- what becomes of deltas, in one walk over deltas and rows
+pub outcomes_walked : (t : TableValue) (ds : List OwnerDelta) → Rises (endpoints_of_deltas ds) → side_by_side (λ d. d.endpoint) (λ r. r.0) (outcome_by t) ds (table.entries t.entries) ≡ map (outcome_of t) ds
+outcomes_walked t ds rise =
+    walked_is (λ d. d.endpoint) (λ r. r.0) (outcome_by t) ds (table.entries t.entries) rise (rise_sorted (table.entries t.entries) (table.entries_sorted t.entries))
+    ∙ (λ i. filter_map (λ (d : OwnerDelta). Some (record { endpoint = d.endpoint; took = (changed_at t d i).1 })) ds) ∙ all_some (outcome_of t) ds
 
 pub deltas_walked : (m : Entries) (digests : List Digest) → Rises (endpoints_of_digests digests) → side_by_side (λ r. r.0) (λ d. d.endpoint) sent_by (table.entries m) digests ≡ deltas_for m digests
 deltas_walked m digests rise = walked_is (λ r. r.0) (λ d. d.endpoint) sent_by (table.entries m) digests (rise_sorted (table.entries m) (table.entries_sorted m)) rise

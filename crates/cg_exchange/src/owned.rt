@@ -1,7 +1,7 @@
 //! What the members of a message's lists have in common.
 
 ghost use Rattle.std.specs.Prelude.{◌≡◌, ℕ, None, map, option_copied};
-ghost use Rattle.cg_types.specs.Rising.{rise_past};
+ghost use Rattle.cg_types.specs.Rising.{Rises, rise_past};
 ghost use Rattle.cg_exchange.specs.Members.{is_member_list};
 ghost use Rattle.cg_exchange.specs.Walking.{from_owner as from_owner_of, first_about as first_about_of};
 
@@ -76,6 +76,17 @@ pub(crate) fn from_owner<M: Owned>(members: &[M], owner: Endpoint) -> &[M]
         }
     }
     &members[members.len()..]
+}
+
+/// As `from_owner`, of members whose owners rise. It looks at the first two, and then halves.
+pub(crate) fn rising_from<M: Owned>(members: &[M], owner: Endpoint) -> &[M]
+    requires { Rises (map M.owner_of members.now) }
+    ensures { result.now ≡ from_owner_of M.owner_of owner members.now }
+{
+    if members.len() > 1 && members[1].owner() >= owner {
+        return from_owner(members, owner);
+    }
+    &members[members.partition_point(|member| member.owner() < owner)..]
 }
 
 /// The first member, where it is about this owner.

@@ -6,16 +6,17 @@ ghost use Rattle.cg_types.specs.Answer.{Answers};
 ghost use Rattle.cg_types.specs.Rising.{Rises};
 ghost use Rattle.cg_exchange.specs.Members.{endpoints_of_deltas};
 ghost use Rattle.cg_exchange.specs.Taking.{table_after, outcome_of, outcomes_of, held_after as held_after_of, grant_of as granted_of, delta_granted as delta_granted_of, deltas_granted as deltas_granted_of, taking_ack, taking_ack2};
-ghost use Rattle.cg_exchange.specs.Changes.{row_changed, endpoints_of_outcomes};
+ghost use Rattle.cg_exchange.specs.Changes.{changed_by as changed_by_of, row_changed, endpoints_of_outcomes};
 
 use crate::ack::Ack;
 use crate::ack2::Ack2;
 use crate::outcome::Outcome;
+use crate::owned::{first_about, rising_from};
 use crate::owner_delta::OwnerDelta;
 use crate::request::Request;
 use cg_entry::{Delta, Entry};
 use cg_map::{Row, push_some};
-use cg_table::Table;
+use cg_table::{Table, Took};
 use cg_types::{Fault, MEMBER_LIMIT};
 use std::alloc::{AllocError, Global};
 
@@ -34,20 +35,38 @@ fn held_after(table: &Table, deltas: &[OwnerDelta]) -> usize
     count
 }
 
-// The rows that the deltas change, and what becomes of each delta.
+// What a delta changes, by the row of its endpoint.
+fn changed_by(
+    alloc: Global,
+    table: &Table,
+    sent: &OwnerDelta,
+    row: Option<&Row<Entry>>,
+) -> Result<(Option<Row<Entry>>, Took), AllocError>
+    ensures { IfOk result (λ x. x ≡ changed_by_of table.now sent.now (option_copied row.entry)) }
+{
+    match row {
+        Some(row) => table.change_at(alloc, sent.endpoint, Some(row.value()), &sent.delta),
+        None => table.change_at(alloc, sent.endpoint, None, &sent.delta),
+    }
+}
+
+// The rows that the deltas change, and what becomes of each delta: in one walk over deltas and rows, since both rise.
 fn changes(
     alloc: Global,
     table: &Table,
     deltas: &[OwnerDelta],
 ) -> Result<(Vec<Row<Entry>>, Vec<Outcome>), AllocError>
+    requires { Rises (endpoints_of_deltas deltas.now) }
     ensures rows { IfOk result (λ x. x.0.items ≡ filter_map (row_changed table.now) deltas.now) }
     ensures outcomes { IfOk result (λ x. x.1.items ≡ map (outcome_of table.now) deltas.now) }
 {
-    let mut rows = Vec::new(alloc);
-    let mut outcomes = Vec::new(alloc);
+    let mut rows = Vec::with_capacity(alloc, deltas.len())?;
+    let mut outcomes = Vec::with_capacity(alloc, deltas.len())?;
+    let mut held = table.owners();
     for sent in deltas {
         let endpoint = sent.endpoint;
-        let (row, took) = table.delta_change(alloc, endpoint, &sent.delta)?;
+        held = rising_from(held, endpoint);
+        let (row, took) = changed_by(alloc, table, sent, first_about(held, endpoint))?;
         push_some(&mut rows, row)?;
         outcomes.push(Outcome { endpoint, took })?;
     }
@@ -67,7 +86,7 @@ fn take_deltas(
     ensures outcomes { IfOk result (λ x. x.1.items ≡ outcomes_of table.now deltas.now) }
 {
     let (rows, outcomes) = changes(alloc, table, deltas)?;
-    Ok((table.with_rows(alloc, &rows)?, outcomes))
+    Ok((table.put_rows(alloc, rows)?, outcomes))
 }
 
 // What a request is sent of an entry, or of none.
