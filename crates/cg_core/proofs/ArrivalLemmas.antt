@@ -1,5 +1,5 @@
 -- Windows show all moments at which deltas of their endpoint were taken.
-use Rattle.std.proofs.Common.{◌≡◌, ℕ, ◌==◌, Bool, true, false, cond, List, [], ◌∷◌, ◌++◌, map, Option, Some, None, refl, sym, ap, ◌∙◌, append_assoc, eqb-true, Result, Ok, Err}
+use Rattle.std.proofs.Common.{◌≡◌, ℕ, ◌==◌, Bool, true, false, cond, List, [], ◌∷◌, ◌++◌, map, Option, Some, refl, sym, ap, ◌∙◌, append_assoc, eqb-true, Result, Ok, Err}
 use Rattle.std.specs.Prelude.{◌&&◌, filter}
 use Rattle.std.specs.Ordering.{nat_cmp}
 use Rattle.std.specs.Cmp.{nat_cmp_total, eq_by_cmp_equiv}
@@ -19,7 +19,7 @@ use Rattle.cg_core.specs.declared.reply.Reply.{Reply}
 use Rattle.cg_core.specs.declared.reply.Reply.TheVariants as reply
 use Rattle.cg_core.specs.Values.{Heard, SettingsValue, NodeValue}
 use Rattle.cg_core.specs.Windows.{is_taken, tells_taken, with_arrival, arrivals}
-use Rattle.cg_core.specs.Step.{Step, starting_node, then, next_of, beating, setting, opening, round_of, after_taking, node_step, left, after_event, after_events}
+use Rattle.cg_core.specs.Step.{starting_node, then, next_of, beating, setting, opening, round_of, after_taking, node_step, left, after_event, after_events}
 use Rattle.cg_core.specs.Arrivals.{outcomes_in, outcomes_told, moment_of, moments_told, moments_taken, window_of}
 use Rattle.cg_core.specs.Laws.{WindowsShowAllTaken}
 use Rattle.cg_core.proofs.HearingLemmas.{other_arrival}
