@@ -6,7 +6,7 @@ ghost use Rattle.cg_world.specs.World.{act as act_of};
 ghost use Rattle.cg_world.specs.Acting.{showing};
 ghost use Rattle.cg_sim.specs.Script.{first_play, action_lines, view_lines, after_line, line_text, text_of, world_after};
 
-use crate::printing::{add_shown, node_text};
+use crate::printing::{add_shown, new_text, node_text};
 use cg_script::{Line, View, read_line, settings_with};
 use cg_types::{Endpoint, Fault};
 use cg_world::{Action, World};
@@ -26,7 +26,7 @@ fn act(alloc: Global, world: &mut World, action: &Action) -> Result<String, Allo
 {
     match world.act(alloc, action) {
         Ok(shown) => {
-            let mut text = String::new(alloc);
+            let mut text = new_text(alloc)?;
             add_shown(&mut text, action, &shown)?;
             Ok(text)
         }
