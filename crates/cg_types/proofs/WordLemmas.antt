@@ -1,16 +1,16 @@
 -- Laws of parts and numbers.
-use Rattle.std.proofs.Common.{◌≡◌, ◌≢◌, ℕ, ◌^◌, ◌<◌, ◌≤◌, Bool, true, false, cond, List, ◌++◌, length, get_or, Option, Some, None, refl, sym, ap, ◌∙◌, arith, decimal, rules, inl, inr, IfSome, IfNone}
-use Rattle.std.specs.Prelude.{◌&&◌, nat_le, nat_lt, Result, Err, IsUtf8}
+use Rattle.std.proofs.Common.{◌≡◌, ◌≢◌, ℕ, ◌+◌, ◌-◌, ◌*◌, ◌^◌, ◌<◌, ◌≤◌, Bool, true, false, cond, List, ◌++◌, length, take, get_or, Option, Some, None, refl, sym, ap, ◌∙◌, arith, decimal, rules, inl, inr, IfSome, IfNone}
+use Rattle.std.specs.Prelude.{◌&&◌, nat_le, nat_lt}
 use Rattle.std.specs.List.{list_all}
-use Rattle.std.specs.Char.{is_ascii_digit}
-use Rattle.std.specs.Str.Parse.{ParsesUnsigned, digits_value}
+use Rattle.std.specs.Char.{is_ascii_digit, digit_value}
+use Rattle.std.specs.Str.Parse.{digits_value}
 use Rattle.std.proofs.lemmas.Bool.{cases_lt, and_parts, ltb-false, le-ltb}
-use Rattle.std.proofs.lemmas.Fmt.{IsAscii-from_digits, decimal-digits_value, digits_decimal, digits_value-decimal, decimal_nonempty, first_decimal, decimal_digit}
+use Rattle.std.proofs.lemmas.Fmt.{decimal-digits_value, digits_decimal, digits_value-decimal, decimal_nonempty, first_decimal, decimal_digit}
 use Rattle.std.proofs.lemmas.Grind.{common_steps}
 use Rattle.std.proofs.lemmas.Option.{same_Some}
-use Rattle.std.proofs.lemmas.Result.{OkIff-at_err}
-use Rattle.std.proofs.lemmas.Str.{IsUtf8-from_ascii}
-use Rattle.std.proofs.lemmas.Str.Parse.{IsNumeralModel, IsDigitsTest, numerals_by_value, parse_digits}
+use Rattle.std.proofs.lemmas.Int.Digits.{digits_value_more}
+use Rattle.std.proofs.lemmas.List.Folds.{list_all_more}
+use Rattle.std.proofs.lemmas.Str.Parse.{IsNumeralModel, IsDigitsTest, numerals_by_value, digits_value-take-le}
 use Rattle.cg_types.specs.OptionSteps.{◌>>=◌}
 use Rattle.cg_types.specs.Words.{number_of, is_number, number_between}
 
@@ -26,9 +26,6 @@ tells = search rules
 own : IsNumeralModel (λ ds. list_all is_ascii_digit ds ≡ true) (digits_value 10)
 own = numerals_by_value _ tells
 
-pub IsUtf8-digits : (text : List ℕ) → list_all is_ascii_digit text ≡ true → IsUtf8 text
-IsUtf8-digits text h = IsUtf8-from_ascii text (IsAscii-from_digits text (own.to text h))
-
 -- what a number is
 pub record Canonical (text : List ℕ) : Type 0 where
   pub digits : list_all is_ascii_digit text ≡ true
@@ -41,21 +38,52 @@ is_number-parts text h = record { digits = (and_parts _ _ h).0; some = grind (ar
 pub is_number-from : (text : List ℕ) → Canonical text → is_number text ≡ true
 is_number-from text h = let d = h.digits in let s = h.some in let f = h.first in grind (arith, common_steps)
 
--- what a parse of a number that fails says
-pub number_of-err : {E : Type 0} (most : ℕ) (text : List ℕ) (r : Result ℕ E) (d : E) → most < 2 ^ 64 → ParsesUnsigned 64 10 text r → is_number text ≡ true → r ≡ Err d
-    → number_of most text ≡ None
-unfolding number_of
-number_of-err most text r d small h is e =
-    let c = is_number-parts text is in
-    let p = OkIff-at_err r _ _ d (parse_digits own 64 text r h c.digits) e in
-    elim (cases_lt (digits_value 10 text) (2 ^ 64)) [
-      | inl lt ↦ absurd (p (c.some, lt))
-      | inr le ↦ grind (arith, common_steps)
-    ]
+-- ---- the number of some digits, one after the other
 
 some_guard : (b : Bool) (x n : ℕ) → cond b (Some x) None ≡ Some n → (b ≡ true) × (x ≡ n)
 some_guard true x n e = (refl, cc)
 some_guard false x n e = absurd cc
+
+digit_here : (b : ℕ) → is_ascii_digit b ≡ true → digit_value b ≡ b - 48
+digit_here b h = grind (arith, common_steps)
+
+-- one more digit
+pub value_more : (text : List ℕ) (i value byte digit : ℕ) → i < length text → list_all is_ascii_digit (take i text) ≡ true
+    → value ≡ digits_value 10 (take i text) → byte ≡ get_or text i 0 → is_ascii_digit byte ≡ true → digit ≡ byte - 48
+    → (list_all is_ascii_digit (take (i + 1) text) ≡ true) × (value * 10 + digit ≡ digits_value 10 (take (i + 1) text))
+value_more text i value byte digit inside all is at ascii same =
+    let here : is_ascii_digit (get_or text i 0) ≡ true = ap is_ascii_digit (sym at) ∙ ascii in
+    let one : digit ≡ digit_value (get_or text i 0) = same ∙ sym (digit_here byte ascii) ∙ ap digit_value at in (
+      list_all_more is_ascii_digit text i 0 inside ∙ rw (all, here) refl,
+      rw (is, one) (sym (digits_value_more 10 text i inside)),
+    )
+
+-- what fits is kept
+pub digit_kept : (sum most n : ℕ) (r : Option ℕ) → r ≡ cond (nat_le sum most) (Some sum) None → r ≡ Some n → (n ≡ sum) × (n ≤ most)
+digit_kept sum most n r e is =
+    let g = some_guard (nat_le sum most) sum n (sym e ∙ is) in
+    let same = g.1 in
+    let fits = g.0 in
+    let le : sum ≤ most = grind (arith, common_steps) in
+    (sym same, omega arith)
+
+no_value : {X : Type 0} (a b : Bool) (x : X) → b ≡ false → cond (a && b) (Some x) None ≡ None
+no_value true b x e = rw e refl
+no_value false b x e = refl
+
+-- once the digits are too many, so they stay
+pub value_past : (text : List ℕ) (i sum most : ℕ) (r : Option ℕ) → r ≡ cond (nat_le sum most) (Some sum) None → r ≡ None
+    → sum ≡ digits_value 10 (take i text)
+    → None ≡ cond (list_all is_ascii_digit text && nat_le (digits_value 10 text) most) (Some (digits_value 10 text)) None
+value_past text i sum most r e is same =
+    let lost : cond (nat_le sum most) (Some sum) None ≡ None = sym e ∙ is in
+    let more : digits_value 10 (take i text) ≤ digits_value 10 text = digits_value-take-le 10 text i (omega arith) in
+    let high : most < sum = elim (cases_lt most sum) [
+      | inl lt ↦ lt
+      | inr le ↦ grind (arith, common_steps)
+    ] in
+    let none : nat_le (digits_value 10 text) most ≡ false = grind (arith, common_steps) in
+    sym (no_value (list_all is_ascii_digit text) (nat_le (digits_value 10 text) most) (digits_value 10 text) none)
 
 -- a number is the decimal of its value
 pub number_of-some : (most : ℕ) (text : List ℕ) (n : ℕ) → most < 2 ^ 64 → number_of most text ≡ Some n → (text ≡ decimal n) × (n ≤ most)

@@ -1,9 +1,10 @@
 //! Parts of a line, and numbers in decimal digits.
 
-ghost use Rattle.std.specs.Prelude.{◌≡◌, ◌≢◌, ℕ, ◌≤◌, decimal, IfSome, IfNone, IsTrue, ◌↔◌, option_map, ◌+◌, ◌*◌, ◌<◌, ◌^◌, slice_index, take, Some, None, Option};
+ghost use Rattle.std.specs.Prelude.{◌≡◌, ◌≢◌, ℕ, ◌≤◌, decimal, IfSome, IfNone, option_map, ◌+◌, ◌*◌, ◌==◌, ◌&&◌, ◌||◌, not, nat_lt, nat_le, if◌then◌else◌, slice_index, length, Some, None};
 ghost use Rattle.std.specs.List.{list_all};
 ghost use Rattle.std.specs.Char.{is_ascii_digit};
-ghost use Rattle.cg_types.specs.Words.{cut_at, number_of, number_between as text_number_between, is_number as text_is_number};
+ghost use Rattle.std.specs.Str.Parse.{digits_value};
+ghost use Rattle.cg_types.specs.Words.{cut_at, number_of, number_between as text_number_between};
 
 /// What stands before the first byte `at`, and what stands behind it.
 pub fn cut(bytes: &[u8], at: u8) -> Option<(&[u8], &[u8])>
@@ -47,27 +48,48 @@ fn read_between(text: &[u8], least: u64, most: u64) -> Option<u64>
 fn read_number(text: &[u8], most: u64) -> Option<u64>
     ensures { result ≡ number_of most text.now }
 {
-    if !is_number(text) {
+    if !begins_well(text) {
         return None;
     }
-    match std::str::from_utf8(text) {
-        Ok(text) => match text.parse::<u64>() {
-            Ok(number) if number <= most => Some(number),
-            _ => None,
-        },
-        Err(_) => None,
+    value_of(text, most)
+}
+
+// Whether there is a byte, and no zero leads others.
+fn begins_well(text: &[u8]) -> bool
+    ensures { result ≡ (nat_lt 0 (length text.now) && (not (slice_index text.now 0 == 48) || length text.now == 1)) }
+{
+    !text.is_empty() && (text[0] != b'0' || text.len() == 1)
+}
+
+// The number of at most `most` that digits write, also with zeros before it.
+fn value_of(text: &[u8], most: u64) -> Option<u64>
+    ensures { result ≡ (if list_all is_ascii_digit text.now && nat_le (digits_value 10 text.now) most
+        then Some (digits_value 10 text.now) else None) }
+{
+    let mut value = 0;
+    for byte in text {
+        if !byte.is_ascii_digit() {
+            return None;
+        }
+        let Some(next) = with_digit(value, u64::from(*byte - b'0'), most) else {
+            return None;
+        };
+        value = next;
     }
+    Some(value)
 }
 
-// Whether a text is digits with no leading zero.
-fn is_number(text: &[u8]) -> bool
-    ensures { result ≡ text_is_number text.now }
+// A number with one more digit, if that is at most `most`.
+fn with_digit(number: u64, digit: u64, most: u64) -> Option<u64>
+    requires { number ≤ most }
+    ensures { result ≡ (if nat_le (number * 10 + digit) most then Some (number * 10 + digit) else None) }
 {
-    are_digits(text) && !text.is_empty() && (text[0] != b'0' || text.len() == 1)
-}
-
-fn are_digits(text: &[u8]) -> bool
-    ensures { result ≡ list_all is_ascii_digit text.now }
-{
-    text.iter().all(|byte| byte.is_ascii_digit())
+    if number > most / 10 {
+        return None;
+    }
+    let tens = number * 10;
+    if digit > most - tens {
+        return None;
+    }
+    Some(tens + digit)
 }
