@@ -1,11 +1,13 @@
 -- A text is an endpoint's exactly where it is the one that the endpoint writes.
-use Rattle.std.proofs.Common.{◌≡◌, ◌≢◌, IfSome, IfNone, ℕ, ◌+◌, ◌*◌, ◌/◌, ◌%◌, ◌<◌, ◌≤◌, Bool, true, false, cond, ◌==◌, List, [], ◌∷◌, ◌++◌, Option, Some, None, refl, sym, ap, ◌∙◌, subst, arith, decimal, eq-eqb, eqb-true}
-use Rattle.std.specs.Prelude.{nat_lt}
+use Rattle.std.proofs.Common.{◌≡◌, ◌≢◌, IfSome, IfNone, ℕ, ◌+◌, ◌*◌, ◌/◌, ◌%◌, ◌<◌, ◌≤◌, Bool, true, false, cond, ◌==◌, suc, zero, List, [], ◌∷◌, ◌++◌, Option, Some, None, refl, sym, ap, ◌∙◌, subst, arith, decimal, eq-eqb, eqb-true}
+use Rattle.std.specs.Prelude.{nat_lt, IsUtf8, IsAscii}
 use Rattle.std.specs.List.{list_all}
 use Rattle.std.specs.Char.{is_ascii_digit}
 use Rattle.std.proofs.lemmas.Bool.{and_parts}
+use Rattle.std.proofs.lemmas.Fmt.{IsAscii-decimal}
 use Rattle.std.proofs.lemmas.Grind.{common_steps}
 use Rattle.std.proofs.lemmas.Option.{same_Some}
+use Rattle.std.proofs.lemmas.Str.{IsAscii-append, IsUtf8-from_ascii}
 use Rattle.cg_types.specs.Words.{cut_at, with_first, number_of}
 use Rattle.cg_types.specs.Numbers.{IsEndpoint, address_of, port_of}
 use Rattle.cg_types.specs.EndpointText.{text_of_parts, endpoint_of_parts, endpoint_text, endpoint_in, octet_before, port_in}
@@ -140,6 +142,22 @@ endpoint_in-some text e found =
     let parted = joined_parted a.0.0 b.0.0 c.0.0 d.0.0 p.0 pa.1 pb.1 pc.1 pd.1 (omega (arith, pp.2)) in
     let valid = joined_valid a.0.0 b.0.0 c.0.0 d.0.0 p.0 pa.1 pb.1 pc.1 pd.1 pp.1 (omega (arith, pp.2)) in
     subst (λ (x : ℕ). IsEndpoint x × (text ≡ endpoint_text x)) same (valid, whole ∙ sym (text_of_parted a.0.0 b.0.0 c.0.0 d.0.0 p.0 _ parted))
+
+-- its bytes are all ASCII
+mark_ascii : (c : ℕ) (rest : List ℕ) → c < 128 → IsAscii rest → IsAscii (c ∷ rest)
+mark_ascii c rest lt h zero = lt
+mark_ascii c rest lt h (suc i) = h i
+
+part_ascii : (n c : ℕ) (rest : List ℕ) → n < 256 → c < 128 → IsAscii rest → IsAscii (decimal n ++ (c ∷ rest))
+part_ascii n c rest small lt h = IsAscii-append (decimal n) (c ∷ rest) (IsAscii-decimal n (omega arith)) (mark_ascii c rest lt h)
+
+pub endpoint_text-utf8 : (e : ℕ) → IsEndpoint e → IsUtf8 (endpoint_text e)
+unfolding endpoint_text
+endpoint_text-utf8 e is =
+    IsUtf8-from_ascii (endpoint_text e)
+    (part_ascii (address_of e / 16777216) 46 _ (omega (arith, is.0)) (omega arith) (part_ascii (address_of e / 65536 % 256) 46 _ (omega arith) (omega arith)
+    (part_ascii (address_of e / 256 % 256) 46 _ (omega arith) (omega arith) (part_ascii (address_of e % 256) 58 _ (omega arith) (omega arith)
+    (IsAscii-decimal (port_of e) (omega arith))))))
 
 -- what a caller sees of an endpoint that is there, or is not
 pub endpoint_found : (text : List ℕ) (r : Option ℕ) → r ≡ endpoint_in text → IfSome r (λ e. text ≡ endpoint_text e)

@@ -1,6 +1,6 @@
 //! Where a member is reached.
 
-ghost use Rattle.std.specs.Prelude.{◌≡◌, ◌≢◌, ◌↔◌, ◌<◌, ℕ, IsSome, IfSome, IfNone, IfOk, IfErr, OnErr, MatchResult, Some, None, nat_eq, option_map};
+ghost use Rattle.std.specs.Prelude.{◌≡◌, ◌≢◌, ◌↔◌, ◌<◌, ◌≤◌, ◌+◌, ◌∷◌, ◌++◌, drop, decimal, ℕ, IsSome, IfSome, IfNone, IfOk, IfErr, OnErr, MatchResult, Some, None, nat_eq, option_map};
 ghost use Rattle.std.specs.Ordering.{nat_cmp};
 ghost use Rattle.std.specs.Cmp.{nat_eq_equiv, nat_cmp_total, unsigned_po, partial_equiv_from_equiv};
 ghost use Rattle.std.specs.Cmp.Rules.{comparing};
@@ -12,6 +12,7 @@ ghost use Rattle.cg_types.specs.declared.fault.Fault.TheVariants.{BadText};
 
 use crate::fault::Fault;
 use crate::words::{cut, number};
+use itoa::write_digits;
 use std::cmp::Ordering;
 use std::fmt;
 use std::marker::Model;
@@ -82,12 +83,55 @@ impl Ord for Endpoint {
 impl fmt::Display for Endpoint {
     ghost output = { λ e. Some (endpoint_text e) };
 
-    #[tactic(auto, unfolding(crate::specs::EndpointText::endpoint_text))]
     fn fmt<W: fmt::Write>(&self, f: &mut fmt::Formatter<W>) -> fmt::Result {
-        let [a, b, c, d] = self.address.to_be_bytes();
-        let port = self.port;
-        write!(f, "{a}.{b}.{c}.{d}:{port}")
+        let mut text = [0u8; LONGEST];
+        let start = put_endpoint(*self, &mut text);
+        match std::str::from_utf8(&text[start..]) {
+            Ok(text) => f.write_str(text),
+            // This never comes, and is proved so: the text is digits, dots and a colon.
+            Err(_) => Ok(()),
+        }
     }
+}
+
+// The bytes of the longest text, `255.255.255.255:65535`.
+const LONGEST: usize = 21;
+
+// Puts a number and the byte behind it before what begins at `end`, and tells where it begins.
+fn put_part(part: u8, mark: u8, text: &mut [u8; LONGEST], end: usize) -> usize
+    requires room { 4 ≤ end }
+    requires within { end ≤ 21 }
+    ensures start { result ≤ end }
+    ensures short { end ≤ result + 4 }
+    ensures text { drop result text.new ≡ decimal part ++ (mark ∷ drop end text.old) }
+{
+    text[end - 1] = mark;
+    write_digits(u64::from(part), text, end - 1)
+}
+
+// Puts an endpoint's text at the end of some bytes, and tells where it begins. What is put last comes first, so that the
+// whole text is written at once.
+#[tactic(auto, unfolding(crate::specs::EndpointText::endpoint_text))]
+fn put_endpoint(endpoint: Endpoint, text: &mut [u8; LONGEST]) -> usize
+    ensures start { result ≤ 21 }
+    ensures text { drop result text.new ≡ endpoint_text endpoint }
+    ensures valid { IsEndpoint endpoint }
+{
+    let [a, b, c, d] = endpoint.address.to_be_bytes();
+    let at = put_port(endpoint.port, text);
+    let at = put_part(d, b':', text, at);
+    let at = put_part(c, b'.', text, at);
+    let at = put_part(b, b'.', text, at);
+    put_part(a, b'.', text, at)
+}
+
+// Puts a port at the end of some bytes, and tells where it begins.
+fn put_port(port: u16, text: &mut [u8; LONGEST]) -> usize
+    ensures start { result ≤ 21 }
+    ensures short { 16 ≤ result }
+    ensures text { drop result text.new ≡ decimal port }
+{
+    write_digits(u64::from(port), text, LONGEST)
 }
 
 impl Endpoint {

@@ -24,13 +24,13 @@ loop-sent-preserved c =
     record {
       rise = rw from (rise_from owner d.endpoint None held c.loop-sent.invariant.rise);
       rows = rw c.in_ok-push_some.ensures.ok (
-        (λ i. (c.loop-sent.rows.items ++ option_to_list ((made i).0)) ++ side_by_side key owner (row_by t) (drop (at + 1) ds) (from i))
-            ∙ walk_step key owner (row_by t) c.loop-sent.rows.items ds held at d c.loop-sent-test.true c.sent-item.is ∙ c.loop-sent.invariant.rows
-      );
+          (λ i. (c.loop-sent.rows.items ++ option_to_list ((made i).0)) ++ side_by_side key owner (row_by t) (drop (at + 1) ds) (from i))
+          ∙ walk_step key owner (row_by t) c.loop-sent.rows.items ds held at d c.loop-sent-test.true c.sent-item.is ∙ c.loop-sent.invariant.rows
+          );
       outcomes = rw c.in_ok-push.ensures.items (
-        (λ i. (c.loop-sent.outcomes.items ++ told (made i)) ++ side_by_side key owner (outcome_by t) (drop (at + 1) ds) (from i))
-            ∙ walk_step key owner (outcome_by t) c.loop-sent.outcomes.items ds held at d c.loop-sent-test.true c.sent-item.is ∙ c.loop-sent.invariant.outcomes
-      );
+          (λ i. (c.loop-sent.outcomes.items ++ told (made i)) ++ side_by_side key owner (outcome_by t) (drop (at + 1) ds) (from i))
+          ∙ walk_step key owner (outcome_by t) c.loop-sent.outcomes.items ds held at d c.loop-sent-test.true c.sent-item.is ∙ c.loop-sent.invariant.outcomes
+          );
     }
 
 pub returns-clause-rows : goal.returns-clause-rows
