@@ -9,7 +9,7 @@ use Rattle.std.specs.declared.cmp.Ordering.{Ordering}
 use Rattle.std.specs.declared.cmp.Ordering.TheVariants.{Less, Equal, Greater}
 use Rattle.std.specs.FinMap.Entries.{put, by_order, find, find-put, is_sorted-put}
 use Rattle.std.specs.FinMap as map
-use Rattle.std.specs.FinMap.{get, entries, from_sorted, same_entries_map, entries-insert, same_map, nat_cmp-IsAntisymmetric, get-from_entries, get-from_sorted, get-entries}
+use Rattle.std.specs.FinMap.{get, entries, from_sorted, same_entries_map, entries-insert, same_map, nat_cmp-IsAntisymmetric, get-from_entries, get-from_sorted, get-entries, get-empty}
 use Rattle.std.proofs.lemmas.Bool.{ltb-true, ltb-false}
 use Rattle.cg_types.specs.Rising.{is_past, rise_past}
 use Rattle.cg_types.proofs.RisingLemmas.{keys_of, rise_sorted, sorted_rising, find_past, find-before, second_of}
@@ -78,6 +78,12 @@ pub get-overlay : (old new : States) (q : ℕ) → get (overlay old new) q ≡ o
 get-overlay old new q =
     get-from_entries nat_cmp_total (entries new ++ entries old) q ∙ find-before q (entries new) (entries old)
     ∙ ap (λ (o : Option Versioned). option_or o (find nat_cmp q (entries old))) (sym (get-entries new q)) ∙ ap (option_or (get new q)) (sym (get-entries old q))
+
+-- no states leave all as they were
+pub overlay_none : (old : States) → overlay old map.empty ≡ old
+overlay_none old =
+    same_map nat_cmp_total nat_cmp-IsAntisymmetric (overlay old map.empty) old (λ q.
+    get-overlay old map.empty q ∙ ap (λ (o : Option Versioned). option_or o (get old q)) (get-empty nat_cmp q))
 
 pub overlay-pairs : (made news olds : List State) → KeysRise made → KeysRise news → KeysRise olds → pairs made ≡ put_all (pairs news) (pairs olds) → from_sorted {R = nat_cmp} (pairs made) ≡ overlay (from_sorted (pairs olds)) (from_sorted (pairs news))
 overlay-pairs made news olds rm rn ro e =

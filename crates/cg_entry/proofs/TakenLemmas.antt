@@ -1,5 +1,5 @@
 -- What a delta that is taken leads to, key by key.
-use Rattle.std.proofs.Common.{◌≡◌, ℕ, Bool, true, false, cond, Option, Some, None, refl, sym, ap, subst, arith, nat_lt, ◌==◌, IfOk}
+use Rattle.std.proofs.Common.{◌≡◌, Bool, true, false, cond, Option, Some, None, refl, sym, subst, arith, nat_lt, ◌==◌, IfOk}
 use Rattle.std.specs.Prelude.{nat_le, Result, Ok, Err}
 use Rattle.std.specs.Option.{option_or}
 use Rattle.std.specs.Ordering.{nat_cmp}
@@ -7,10 +7,9 @@ use Rattle.std.specs.FinMap.{get, empty, get-empty}
 use Rattle.std.proofs.lemmas.Bool.{ltb-true, ltb-false, ne_eqb, eq-eqb}
 use Rattle.cg_entry.specs.declared.entry.Absorbed.{Absorbed}
 use Rattle.cg_entry.specs.declared.entry.Absorbed.TheVariants.{Taken, Old, Gap}
-use Rattle.cg_entry.specs.Versioned.{Versioned, States}
 use Rattle.cg_entry.specs.Values.{EntryValue, DeltaValue}
 use Rattle.cg_entry.specs.Entry.{newest, greatest}
-use Rattle.cg_entry.specs.Taking.{whole_entry, taken_or_gap, advanced_entry, absorption, meeting, states_under, IsTakenEntry, IfTaken}
+use Rattle.cg_entry.specs.Taking.{whole_entry, taken_or_gap, advanced_entry, meeting, states_under, IsTakenEntry, IfTaken}
 use Rattle.cg_entry.proofs.PutLemmas.{get-overlay}
 
 or_none : {X : Type 0} (o p : Option X) → p ≡ None → o ≡ option_or o p

@@ -3,6 +3,7 @@ pub mod State
 pub mod Values
 pub mod Entry
 pub mod Contents
+pub mod Held
 pub mod Taking
 pub mod History
 pub mod Place

@@ -11,8 +11,8 @@ ghost use Rattle.cg_entry.specs.State.{KeysRise, pairs};
 ghost use Rattle.cg_entry.specs.Taking.{whole_entry, taken_or_gap, advanced_entry, absorption, is_taken, meeting as met_of, IsTakenEntry, IfTaken};
 
 use crate::delta::Delta;
+use crate::held::Held;
 use crate::state::State;
-use crate::states::States;
 use cg_types::{Fault, Generation, StateKey, StateText, Version};
 use cg_version::Versions;
 use std::alloc::{AllocError, Global};
@@ -26,7 +26,7 @@ pub struct Entry {
     heartbeat: Version,
     // The greatest version of all, so that a digest costs no walk over the states.
     newest: Version,
-    states: States,
+    states: Held,
 }
 
 impl Model for Entry {
@@ -74,8 +74,9 @@ fn outcome_of(alloc: Global, held: Option<&Entry>, delta: &Delta) -> Result<Abso
     }
 }
 
-/// What a delta makes of what is held of its endpoint, if anything is. Texts are shared; `AllocError` only where the
-/// delta is to be taken and the new list of states finds no memory.
+/// What a delta makes of what is held of its endpoint, if anything is. Texts are shared, and where the delta brings no
+/// state the whole list of states is; `AllocError` only where the delta is to be taken and the new list of states
+/// finds no memory.
 pub fn met(alloc: Global, held: Option<&Entry>, delta: &Delta) -> Result<Absorbed, AllocError>
     ensures value { IfOk result (λ a. a ≡ met_of (option_copied held.entry) delta.now) }
     ensures each { IfOk result (λ a. IfTaken a (IsTakenEntry (option_copied held.entry) delta.now)) }
@@ -89,13 +90,13 @@ impl Entry {
     pub fn start(alloc: Global, generation: Generation) -> Entry
         ensures { result ≡ starting_entry generation }
     {
-        Entry::of_parts(generation, Version::first(), States::empty(alloc))
+        Entry::of_parts(generation, Version::first(), Held::none(alloc))
     }
 
-    fn of_parts(generation: Generation, heartbeat: Version, states: States) -> Entry
+    fn of_parts(generation: Generation, heartbeat: Version, states: Held) -> Entry
         ensures { result ≡ record { generation = generation; heartbeat = heartbeat; states = states } }
     {
-        let newest = states.greatest(heartbeat);
+        let newest = states.list().greatest(heartbeat);
         Entry {
             generation,
             heartbeat,
@@ -113,7 +114,7 @@ impl Entry {
         if delta.above() != 0 {
             return Ok(None);
         }
-        let states = delta.held().copy(alloc)?;
+        let states = Held::of(alloc, delta.held().copy(alloc)?)?;
         Ok(Some(Entry::of_parts(delta.generation(), delta.heartbeat(), states)))
     }
 
@@ -130,7 +131,7 @@ impl Entry {
     {
         let version = versions.next()?;
         self.heartbeat = version;
-        self.newest = self.states.greatest(version);
+        self.newest = self.states.list().greatest(version);
         Ok(version)
     }
 
@@ -153,7 +154,7 @@ impl Entry {
         let mut after = *versions;
         let version = after.next()?;
         self.states.put(State { key, version, text })?;
-        self.newest = self.states.greatest(self.heartbeat);
+        self.newest = self.states.list().greatest(self.heartbeat);
         *versions = after;
         Ok(version)
     }
@@ -162,7 +163,7 @@ impl Entry {
     pub fn get(&self, key: StateKey) -> Option<(&StateText, Version)>
         ensures { option_map (λ s. record { text = s.0.now; version = s.1 }) result ≡ map.get self.now.states key }
     {
-        match self.states.get(key) {
+        match self.states.list().get(key) {
             Some(state) => Some((&state.text, state.version)),
             None => None,
         }
@@ -176,7 +177,7 @@ impl Entry {
     {
         let _generation = self.generation.get();
         let _heartbeat = self.heartbeat.get();
-        self.states.as_slice()
+        self.states.list().as_slice()
     }
 
     // The entry with a delta of its generation.
@@ -206,8 +207,9 @@ impl Entry {
         Ok(Absorbed::Taken(self.advance(alloc, delta)?))
     }
 
-    /// What taking a delta about this endpoint makes of the entry, which stays as it is. Texts are shared; `AllocError`
-    /// only where the delta is to be taken and the new list of states finds no memory.
+    /// What taking a delta about this endpoint makes of the entry, which stays as it is. Texts are shared, and where the
+    /// delta brings no state the whole list of states is; `AllocError` only where the delta is to be taken and the new
+    /// list of states finds no memory.
     pub fn absorb(&self, alloc: Global, delta: &Delta) -> Result<Absorbed, AllocError>
         ensures value { IfOk result (λ a. a ≡ absorption self.now delta.now) }
         ensures each { IfOk result (λ a. IfTaken a (IsTakenEntry (Some self.now) delta.now)) }
@@ -243,7 +245,7 @@ impl Entry {
     {
         other.generation == self.generation
             && self.heartbeat == other.heartbeat
-            && self.states.is_same(&other.states)
+            && self.states.list().is_same(other.states.list())
     }
 
     /// Whether it is later than another entry of this endpoint: of a greater generation, or in the same one with a
@@ -266,11 +268,12 @@ impl Entry {
         if self.newest().get() <= above {
             return Ok(None);
         }
-        let states = self.states.newer_than(alloc, above)?;
+        let states = self.states.list().newer_than(alloc, above)?;
         Ok(Some(Delta::of_parts(self.generation, above, self.heartbeat, states)))
     }
 
-    /// The same entry, which shares the texts of its states. `AllocError` where its list of states finds no memory.
+    /// The same entry, which shares its list of states. `AllocError` where the states of an entry that has just started
+    /// find no memory to be shared in.
     pub fn copy(&self, alloc: Global) -> Result<Entry, AllocError>
         ensures { IfOk result (λ e. e ≡ self.now) }
     {

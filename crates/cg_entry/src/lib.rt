@@ -8,6 +8,7 @@
 
 mod delta;
 mod entry;
+mod held;
 pub mod laws;
 mod state;
 mod states;

@@ -164,8 +164,25 @@ impl States {
         state_of(&self.items, key)
     }
 
+    // Whether there is none.
+    pub(crate) fn is_empty(&self) -> bool
+        ensures { IsTrue result → self.now ≡ map.empty }
+    {
+        self.items.as_slice().is_empty()
+    }
+
+    // A copy with a state put, in place of one with its key, and the allocator of both.
+    pub(crate) fn with(&self, state: State) -> Result<(Global, States), AllocError>
+        ensures { IfOk result (λ x. x.1 ≡ map.insert self.now state.key (value_at_key state)) }
+    {
+        let alloc = self.items.allocator().clone()?;
+        let mut states = self.copy(alloc)?;
+        states.put(state)?;
+        Ok((alloc, states))
+    }
+
     // Puts a state, in place of one with its key.
-    pub(crate) fn put(&mut self, state: State) -> Result<(), AllocError>
+    fn put(&mut self, state: State) -> Result<(), AllocError>
         ensures ok { OnOk result (self.new ≡ map.insert self.old state.key (value_at_key state)) }
         ensures err { OnErr result (self.new ≡ self.old) }
     {

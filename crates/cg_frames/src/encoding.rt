@@ -114,11 +114,7 @@ fn put_state(out: &mut Vec<u8>, state: &State) -> Result<(), AllocError>
     ensures { OnOk result (out.new.items ≡ out.old.items ++ spelling.state (pair state.now)) }
 {
     let text = state.text.as_str().as_bytes();
-    out.put_slice(&state_head(
-        state.key.get(),
-        state.version.get(),
-        text.len() as u16,
-    ))?;
+    out.put_slice(&state_head(state.key.get(), state.version.get(), text.len() as u16))?;
     out.put_slice(text)?;
     Ok(())
 }
@@ -134,7 +130,13 @@ fn put_states(out: &mut Vec<u8>, states: &[State]) -> Result<(), AllocError>
 
 // What stands before a delta's states: the endpoint, the generation, two versions and the count.
 #[tactic(auto, unfolding(crate::specs::Spelling::two_bytes, crate::specs::Spelling::four_bytes))]
-fn delta_head(endpoint: Endpoint, generation: u32, above: u32, heartbeat: u32, count: u8) -> [u8; 19]
+fn delta_head(
+    endpoint: Endpoint,
+    generation: u32,
+    above: u32,
+    heartbeat: u32,
+    count: u8,
+) -> [u8; 19]
     ensures { result ≡ spelling.endpoint endpoint ++ (spelling.four_bytes generation ++ (spelling.four_bytes above
         ++ (spelling.four_bytes heartbeat ++ (count ∷ [])))) }
 {
