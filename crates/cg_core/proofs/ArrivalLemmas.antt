@@ -18,7 +18,7 @@ use Rattle.cg_core.specs.declared.event.Event.TheVariants as event
 use Rattle.cg_core.specs.declared.reply.Reply.{Reply}
 use Rattle.cg_core.specs.declared.reply.Reply.TheVariants as reply
 use Rattle.cg_core.specs.Values.{Heard, SettingsValue, NodeValue}
-use Rattle.cg_core.specs.Windows.{is_taken, tells_taken, with_arrival, arrivals}
+use Rattle.cg_core.specs.Windows.{was_taken, tells_taken, with_arrival, arrivals}
 use Rattle.cg_core.specs.Step.{starting_node, then, next_of, beating, setting, opening, round_of, after_taking, node_step, left, after_event, after_events}
 use Rattle.cg_core.specs.Arrivals.{outcomes_in, outcomes_told, moment_of, moments_told, moments_taken, window_of}
 use Rattle.cg_core.specs.Laws.{WindowsShowAllTaken}
@@ -48,7 +48,7 @@ module _ (s : SilenceValue) where
 
   arrivals_show : (now q : ℕ) (windows : Heard) (os : List Outcome) (past : List ℕ) → get windows q ≡ window_of s past → get (arrivals s now windows os) q ≡ window_of s (past ++ moments_told q now os)
   arrivals_show now q windows [] past is = is ∙ ap (window_of s) (sym (append-nil past))
-  arrivals_show now q windows (o ∷ os) past is = one_more now q windows o os past (o.endpoint == q) (is_taken o.took) refl is (λ w p here. arrivals_show now q w os p here)
+  arrivals_show now q windows (o ∷ os) past is = one_more now q windows o os past (o.endpoint == q) (was_taken o.took) refl is (λ w p here. arrivals_show now q w os p here)
 
 module _ (n : NodeValue) (q : ℕ) (past : List ℕ) (is : get n.windows q ≡ window_of n.settings.silence past) where
   step_shows : {A : Type 0} (now : ℕ) (r : Result A Fault) (go : A → NodeValue × Reply) → ((x : A) → (go x).0.windows ≡ arrivals n.settings.silence now n.windows (outcomes_in (go x).1))

@@ -38,7 +38,7 @@ use Rattle.cg_core.specs.declared.event.Event.TheVariants as event
 use Rattle.cg_core.specs.declared.reply.Reply.{Reply}
 use Rattle.cg_core.specs.declared.reply.Reply.TheVariants as reply
 use Rattle.cg_core.specs.Values.{NodeValue}
-use Rattle.cg_core.specs.Windows.{is_taken}
+use Rattle.cg_core.specs.Windows.{was_taken}
 use Rattle.cg_core.specs.Step.{next_of, beating, setting, opening, round_of, after_taking}
 use Rattle.cg_core.specs.Laws.{Leads}
 use Rattle.cg_core.specs.Changes.{deltas_in, taken_owners, changed_owners, PutsAreTheChangedRows}
@@ -150,7 +150,7 @@ taken_rise last [] rise = refl
 taken_rise last (o ∷ os) rise =
     let here = first_of (is_past last o.endpoint) (rise_past (Some o.endpoint) (endpoints_of_outcomes os)) rise in
     let rest = second_of (is_past last o.endpoint) (rise_past (Some o.endpoint) (endpoints_of_outcomes os)) rise in
-    elim (is_taken o.took) as (λ b. rise_past last (map (λ (o : Outcome). o.endpoint) (cond b (o ∷ filter (λ (o : Outcome). is_taken o.took) os) (filter (λ (o : Outcome). is_taken o.took) os))) ≡ true) [
+    elim (was_taken o.took) as (λ b. rise_past last (map (λ (o : Outcome). o.endpoint) (cond b (o ∷ filter (λ (o : Outcome). was_taken o.took) os) (filter (λ (o : Outcome). was_taken o.took) os))) ≡ true) [
       | true ↦ both _ _ here (taken_rise (Some o.endpoint) os rest)
       | false ↦ taken_rise last os (rise_earlier last o.endpoint (endpoints_of_outcomes os) here rest)
     ]

@@ -12,7 +12,7 @@ use Rattle.cg_core.specs.declared.event.Event.TheVariants as event
 use Rattle.cg_core.specs.declared.reply.Reply.{Reply}
 use Rattle.cg_core.specs.declared.reply.Reply.TheVariants as reply
 use Rattle.cg_core.specs.Values.{NodeValue}
-use Rattle.cg_core.specs.Windows.{is_taken}
+use Rattle.cg_core.specs.Windows.{was_taken}
 use Rattle.cg_core.specs.Step.{node_step, then}
 use Rattle.cg_core.specs.Laws.{IsSmall, Leads}
 
@@ -32,7 +32,7 @@ deltas_in (event.Ack2 now ack2) = ack2.deltas
 
 -- whom the deltas that were taken are about
 abbrev pub taken_owners : List Outcome → List ℕ
-taken_owners outcomes = map (λ o. o.endpoint) (filter (λ o. is_taken o.took) outcomes)
+taken_owners outcomes = map (λ o. o.endpoint) (filter (λ o. was_taken o.took) outcomes)
 
 -- the owners whose entry a step changes, by what it answers: the own one, nobody, or those of the deltas that were
 -- taken

@@ -86,9 +86,9 @@ abbrev pub SplitsFrom : List Layout → Standing → List ℕ → Cut → Type 0
 SplitsFrom layouts (Ok held) piece c = Splits layouts (held ++ piece) c
 SplitsFrom layouts (Err f) piece c = c ≡ record { messages = []; rest = Err f }
 
-abbrev pub fault_of : Standing → Option Fault
-fault_of (Ok held) = None
-fault_of (Err f) = Some f
+abbrev pub fault_standing : Standing → Option Fault
+fault_standing (Ok held) = None
+fault_standing (Err f) = Some f
 
 abbrev pub standing_of : List ℕ → Option Fault → Standing
 standing_of held None = Ok held

@@ -31,9 +31,9 @@ abbrev pub Fails : {Y : Type 0} → ReadError → Result Y Misread → Type 0
 Fails errors.Memory read = Unit {0}
 Fails (errors.Misread m) read = read ≡ Err m
 
-abbrev pub Gives : {X Y : Type 0} → (X → Y) → Result X ReadError → List ℕ → Field Y → Type 0
-Gives view (Ok x) rest read = read ≡ Ok (view x, rest)
-Gives view (Err e) rest read = Fails e read
+abbrev pub GivesField : {X Y : Type 0} → (X → Y) → Result X ReadError → List ℕ → Field Y → Type 0
+GivesField view (Ok x) rest read = read ≡ Ok (view x, rest)
+GivesField view (Err e) rest read = Fails e read
 
 -- Nothing is left, or the fault is a rest.
 abbrev pub FindsEnd : {X : Type 0} → Result X Misread → List ℕ → Type 0

@@ -106,7 +106,7 @@ fn cluster_of(alloc: Global, name: &str, partitioner: u8) -> Result<Cluster, Rea
 #[tactic(auto, unfolding(crate::specs::Reading::syn_at))]
 fn syn_of(alloc: Global, layout: &Layout, reader: &mut Reader<'_>) -> Result<Syn, ReadError>
     requires { IsRead layout.now }
-    ensures { spec.Gives (λ s. s) result reader.new (spec.syn_at layout.now reader.old) }
+    ensures { spec.GivesField (λ s. s) result reader.new (spec.syn_at layout.now reader.old) }
 {
     let name = reader.name()?;
     let partitioner = reader.byte()?;
@@ -124,7 +124,7 @@ fn listed_requests_of(
     layout: &Layout,
     reader: &mut Reader<'_>,
 ) -> Result<Vec<Request>, ReadError>
-    ensures { spec.Gives (λ v. v.items) result reader.new (spec.listed_requests_at layout.now reader.old) }
+    ensures { spec.GivesField (λ v. v.items) result reader.new (spec.listed_requests_at layout.now reader.old) }
 {
     let count = reader.count(layout)?;
     requests_of(alloc, reader, count)
@@ -136,7 +136,7 @@ fn listed_deltas_of(
     reader: &mut Reader<'_>,
 ) -> Result<Vec<OwnerDelta>, ReadError>
     requires { IsRead layout.now }
-    ensures { spec.Gives (λ v. v.items) result reader.new (spec.listed_deltas_at layout.now reader.old) }
+    ensures { spec.GivesField (λ v. v.items) result reader.new (spec.listed_deltas_at layout.now reader.old) }
 {
     let count = reader.count(layout)?;
     deltas_of(alloc, layout, reader, count)
@@ -145,7 +145,7 @@ fn listed_deltas_of(
 #[tactic(auto, unfolding(crate::specs::Reading::ack_at))]
 fn ack_of(alloc: Global, layout: &Layout, reader: &mut Reader<'_>) -> Result<Ack, ReadError>
     requires { IsRead layout.now }
-    ensures { spec.Gives (λ a. a) result reader.new (spec.ack_at layout.now reader.old) }
+    ensures { spec.GivesField (λ a. a) result reader.new (spec.ack_at layout.now reader.old) }
 {
     let requests = listed_requests_of(alloc, layout, reader)?;
     let deltas = listed_deltas_of(alloc, layout, reader)?;
@@ -158,7 +158,7 @@ fn ack_of(alloc: Global, layout: &Layout, reader: &mut Reader<'_>) -> Result<Ack
 #[tactic(auto, unfolding(crate::specs::Reading::ack2_at))]
 fn ack2_of(alloc: Global, layout: &Layout, reader: &mut Reader<'_>) -> Result<Ack2, ReadError>
     requires { IsRead layout.now }
-    ensures { spec.Gives (λ a. a) result reader.new (spec.ack2_at layout.now reader.old) }
+    ensures { spec.GivesField (λ a. a) result reader.new (spec.ack2_at layout.now reader.old) }
 {
     let deltas = listed_deltas_of(alloc, layout, reader)?;
     match Ack2::new(deltas) {

@@ -107,7 +107,7 @@ fn state_of(
     last: Option<StateKey>,
 ) -> Result<State, ReadError>
     requires { IsRead layout.now }
-    ensures { spec.Gives (λ s. s) result reader.new (spec.state_at layout.now above last reader.old) }
+    ensures { spec.GivesField (λ s. s) result reader.new (spec.state_at layout.now above last reader.old) }
 {
     let key = reader.key(last)?;
     let version = reader.version_above(above)?;
@@ -125,7 +125,7 @@ fn states_of(
     count: u8,
 ) -> Result<Vec<State>, ReadError>
     requires { IsRead layout.now }
-    ensures { spec.Gives (λ v. v.items) result reader.new (spec.states_at layout.now above count None reader.old) }
+    ensures { spec.GivesField (λ v. v.items) result reader.new (spec.states_at layout.now above count None reader.old) }
 {
     let mut states = Vec::with_capacity(alloc, usize::from(count))?;
     let mut last: Option<StateKey> = None;
@@ -146,7 +146,7 @@ fn delta_of(
     last: Option<Endpoint>,
 ) -> Result<OwnerDelta, ReadError>
     requires { IsRead layout.now }
-    ensures { spec.Gives (λ d. d) result reader.new (spec.delta_at layout.now last reader.old) }
+    ensures { spec.GivesField (λ d. d) result reader.new (spec.delta_at layout.now last reader.old) }
 {
     let left = reader.left();
     let endpoint = reader.endpoint(last)?;
@@ -172,7 +172,7 @@ pub(crate) fn deltas_of(
     count: u16,
 ) -> Result<Vec<OwnerDelta>, ReadError>
     requires { IsRead layout.now }
-    ensures { spec.Gives (λ v. v.items) result reader.new (spec.deltas_at layout.now count None reader.old) }
+    ensures { spec.GivesField (λ v. v.items) result reader.new (spec.deltas_at layout.now count None reader.old) }
 {
     let mut deltas = Vec::with_capacity(alloc, usize::from(count))?;
     let mut last: Option<Endpoint> = None;

@@ -178,9 +178,10 @@ impl Feed {
     /// `OutOfMemory` leaves the feed as it was; there is no other refusal. There is none for the empty piece, after a
     /// fault, and where nothing is held and the piece begins with a fault: none of these needs memory.
     pub fn push(&mut self, piece: &[u8]) -> Result<Fed, Fault>
-        ensures given { IfOk result (λ fed. fed.messages.items ≡ (spec.cut_of_piece LAYOUTS self.old piece.now).messages) }
+        ensures given { IfOk result (λ fed. fed.messages.items
+            ≡ (spec.cut_of_piece LAYOUTS self.old piece.now).messages) }
         ensures rest { OnOk result (self.new ≡ (spec.cut_of_piece LAYOUTS self.old piece.now).rest) }
-        ensures fault { IfOk result (λ fed. fed.fault ≡ spec.fault_of self.new) }
+        ensures fault { IfOk result (λ fed. fed.fault ≡ spec.fault_standing self.new) }
         ensures bad { IfOk result (λ fed. IfSome fed.fault IsBadFrame) }
         ensures spelled { IfOk result (λ fed. spec.SplitsFrom LAYOUTS self.old piece.now
             (record { messages = fed.messages.items; rest = self.new })) }

@@ -28,7 +28,7 @@ pub(crate) fn digests_of(
     reader: &mut Reader<'_>,
     count: u16,
 ) -> Result<Vec<Digest>, ReadError>
-    ensures { spec.Gives (λ v. v.items) result reader.new (spec.digests_at count None reader.old) }
+    ensures { spec.GivesField (λ v. v.items) result reader.new (spec.digests_at count None reader.old) }
 {
     let mut digests = Vec::with_capacity(alloc, usize::from(count))?;
     let mut last: Option<Endpoint> = None;
@@ -58,7 +58,7 @@ pub(crate) fn requests_of(
     reader: &mut Reader<'_>,
     count: u16,
 ) -> Result<Vec<Request>, ReadError>
-    ensures { spec.Gives (λ v. v.items) result reader.new (spec.requests_at count None reader.old) }
+    ensures { spec.GivesField (λ v. v.items) result reader.new (spec.requests_at count None reader.old) }
 {
     let mut requests = Vec::with_capacity(alloc, usize::from(count))?;
     let mut last: Option<Endpoint> = None;

@@ -33,7 +33,12 @@ impl<'a, N: Name, R: Wait> Model for SeatGate<'a, N, R> {
 
     ghost coded = { seat_code };
 
-    ghost view = { λ g. record { caller = g.seat.caller; parts = g.seat.share.parts; receipts = g.receipts.items; told = g.told } };
+    ghost view = { λ g. record {
+      caller = g.seat.caller;
+      parts = g.seat.share.parts;
+      receipts = g.receipts.items;
+      told = g.told;
+    } };
 
     ghost invariant = { λ g. (g.seat.share.amount ≡ length g.receipts.items) × AreOf g.seat.caller g.receipts.items };
 }

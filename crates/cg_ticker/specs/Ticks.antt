@@ -75,7 +75,8 @@ missing false = 0
 -- The gate has more receipts, all of ticks at moments that the clock showed: first those whose rounds were put in, then,
 -- where the ticker stopped, one whose round was not. Where it did not stop, ticks and refused ticks are as many as rounds
 -- were wanted; where no tick was refused, the words of the ticks are the generator's.
-pub record Ticks (shows : ℕ → Type 0) (rounds : ℕ) (s : Stream) (g : SeatValue) (before : List Round) (left : Ticked) (h : SeatValue) (after : List Round) : Type 0 where
+pub record Ticks (shows : ℕ → Type 0) (rounds : ℕ) (s : Stream) (g : SeatValue) (before : List Round) (left : Ticked)
+    (h : SeatValue) (after : List Round) : Type 0 where
   pub passed : List Receipt
   pub rest : List Receipt
   pub receipts : h.receipts ≡ g.receipts ++ (passed ++ rest)

@@ -31,7 +31,8 @@ pub(crate) fn round_of(alloc: Global, receipt: &Receipt) -> Result<Round, AllocE
 pub(crate) fn pass_on<R: Wait>(rt: &R, alloc: Global, receipt: &Receipt, to: &mut Putting) -> bool
     requires { IsRound receipt.now.reply }
     ensures channel { PutsWhere to.new to.old }
-    ensures put { MatchBool result (put_by to.new ≡ put_by to.old ++ round_in receipt.now) (put_by to.new ≡ put_by to.old) }
+    ensures put { MatchBool result (put_by to.new ≡ put_by to.old ++ round_in receipt.now)
+        (put_by to.new ≡ put_by to.old) }
 {
     match round_of(alloc, receipt) {
         Ok(round) => to.put(rt, round).is_ok(),

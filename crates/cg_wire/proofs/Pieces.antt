@@ -14,7 +14,7 @@ use Rattle.cg_frames.specs.declared.layout.Layout.{Layout}
 use Rattle.cg_frames.specs.declared.layout.TheConstants.{LAYOUT_1, LAYOUTS}
 use Rattle.cg_frames.specs.Choosing.{due, frame_among}
 use Rattle.cg_frames.specs.Reading.{size_of, frame_at, with_size}
-use Rattle.cg_frames.specs.Feeding.{Standing, SplitsFrom, HasAtMostOne, IsSpellable, fault_of, lack_of, spelling, wants_of}
+use Rattle.cg_frames.specs.Feeding.{Standing, SplitsFrom, HasAtMostOne, IsSpellable, fault_standing, lack_of, spelling, wants_of}
 use Rattle.cg_frames.proofs.ChoosingLemmas.{due_all}
 use Rattle.cg_frames.proofs.FrontLemmas.{over_is, whole_is}
 use Rattle.cg_wire.specs.declared.receiving.TheConstants.{MOST_TURNS, PIECE_LIMIT}
@@ -32,7 +32,7 @@ whole_of_none bytes rest [] none whole = whole
 whole_of_none bytes rest (s ∷ ss) none whole = absurd cc
 
 -- Nothing was whole and no fault stood: all is held.
-pub all_held : (s t : Standing) (piece : List ℕ) → IsOk s → SplitsFrom LAYOUTS s piece (record { messages = []; rest = t }) → fault_of t ≡ None
+pub all_held : (s t : Standing) (piece : List ℕ) → IsOk s → SplitsFrom LAYOUTS s piece (record { messages = []; rest = t }) → fault_standing t ≡ None
     → (t ≡ Ok (held_of s ++ piece)) × NeedsMore (held_of s ++ piece)
 all_held (Err f) t piece sound splits none = absurd cc
 all_held (Ok held) (Err f) piece sound splits none = absurd cc
@@ -75,7 +75,7 @@ popped s t piece (x ∷ []) (r ∷ q ∷ rs) (Some m) sound splits few is = absu
 popped s t piece (x ∷ (y ∷ ms)) rest (Some m) sound splits few is = absurd few
 
 -- A fault stands behind no message.
-pub fault_found : (s t : Standing) (piece : List ℕ) (f : Fault) → IsOk s → SplitsFrom LAYOUTS s piece (record { messages = []; rest = t }) → fault_of t ≡ Some f
+pub fault_found : (s t : Standing) (piece : List ℕ) (f : Fault) → IsOk s → SplitsFrom LAYOUTS s piece (record { messages = []; rest = t }) → fault_standing t ≡ Some f
     → frame_among LAYOUTS (held_of s ++ piece) ≡ Err f
 fault_found (Err f) t piece g sound splits is = absurd cc
 fault_found (Ok held) (Ok now) piece g sound splits is = absurd cc
@@ -84,7 +84,7 @@ fault_found (Ok held) (Err f) piece g sound splits is =
     ap (frame_among LAYOUTS) (whole_of_none _ _ _ splits.messages splits.whole) ∙ splits.stands ∙ ap Err same
 
 -- No message stands before a fault where there is one at most.
-pub none_before : (ms : List Message) (t : Standing) (f : Fault) → HasAtMostOne ms t → fault_of t ≡ Some f → ms ≡ []
+pub none_before : (ms : List Message) (t : Standing) (f : Fault) → HasAtMostOne ms t → fault_standing t ≡ Some f → ms ≡ []
 none_before [] t f few is = refl
 none_before (m ∷ []) (Ok held) f few is = absurd cc
 none_before (m ∷ []) (Err g) f few is = absurd cc
