@@ -1,12 +1,13 @@
 -- What is newer than a version.
-use Rattle.std.proofs.Common.{◌≡◌, ℕ, zero, suc, ◌<◌, ◌≤◌, get_or, Bool, true, false, cond, List, [], ◌∷◌, length, None, refl, sym, ap, subst, ◌∙◌, arith, nat_lt}
-use Rattle.std.specs.Prelude.{max, not, ◌||◌, ◌&&◌, ◌==◌, nat_le, Option, Result, Ok, Err, IfSome, is_some}
+use Rattle.std.proofs.Common.{◌≡◌, ℕ, suc, ◌<◌, ◌≤◌, Bool, true, false, cond, List, [], ◌∷◌, length, None, refl, sym, ap, subst, ◌∙◌, arith, nat_lt}
+use Rattle.std.specs.Prelude.{count_by, max, not, ◌||◌, ◌&&◌, ◌==◌, nat_le, Option, Result, Ok, Err, IfSome, is_some}
 use Rattle.std.specs.Result.{result_ok}
 use Rattle.std.specs.List.{filter}
 use Rattle.std.specs.Ordering.{nat_cmp}
-use Rattle.std.specs.FinMap.{entries, entries_sorted, from_sorted, empty, len-entries, len-empty}
+use Rattle.std.specs.FinMap.{entries, entries_sorted, from_sorted, empty, empty_of_len, len, len-entries, len-empty, same_entries_map}
 use Rattle.std.proofs.lemmas.Bool.{ltb-true, ltb-false, lt-ltb, le-ltb, leb-true, leb-false}
 use Rattle.std.proofs.lemmas.Bool.Decides.{nat_tests}
+use Rattle.std.proofs.lemmas.List.Sums.{length-filter, count_by-le-length}
 use Rattle.cg_types.proofs.RisingLemmas.{entries_rising, rise_sorted, rise_filter, both, first_of, second_of}
 use Rattle.cg_entry.specs.declared.state.State.{State}
 use Rattle.cg_types.specs.declared.fault.Cause.{Cause}
@@ -129,25 +130,41 @@ module _ (v heartbeat : ℕ) (items : List State) where
   delta_value g r o is ok =
       subst (λ (p : Option DeltaValue). IfSome p (λ d. d ≡ delta_of g v heartbeat items)) (sym (ok ∙ ap result_ok is)) (value_by (all_newer v items) (keys_rise items) nothing (delta_of g v heartbeat items))
 
--- ---- where nothing is newer
+-- ---- how many there are, and how many are newer
 
-kept_some : {X : Type 0} (p : X → Bool) (xs : List X) (i : ℕ) (x : X) → i < length xs → x ≡ get_or xs i x → p x ≡ true → 0 < length (filter p xs)
-kept_some p [] i x lt is h = absurd (omega arith)
-kept_some p (y ∷ ys) zero x lt is h = rw (ap p (sym is) ∙ h) (omega arith)
-kept_some p (y ∷ ys) (suc i) x lt is h =
-    elim (p y) as (λ b. 0 < length (cond b (y ∷ filter p ys) (filter p ys))) [ true ↦ omega arith | false ↦ kept_some p ys i x (omega arith) is h ]
-
-length-pairs : (items : List State) → length (pairs items) ≡ length items
+pub length-pairs : (items : List State) → length (pairs items) ≡ length items
 length-pairs [] = refl
 length-pairs (s ∷ ss) = ap suc (length-pairs ss)
 
--- a list with a newer state has something newer
-pub none_newer : (v i : ℕ) (s : State) (xs all : List State) (states : States) → i < length xs → s ≡ get_or xs i s → xs ≡ all → v < s.version
-    → KeysRise all → from_sorted {R = nat_cmp} (pairs all) ≡ states → newer_than v states ≡ empty → ⊥
-none_newer v i s xs all states lt is same over rise seen e =
-    let some : 0 < length (newer v all) =
-    subst (λ (ys : List State). 0 < length (newer v ys)) same (kept_some (λ (t : State). nat_lt v t.version) xs i s lt is (lt-ltb v s.version over)) in
-    let whole : pairs (newer v all) ≡ entries (empty {X = Versioned} {R = nat_cmp}) =
-    sym (entries-pairs (newer v all) (newer_rise v all rise)) ∙ ap entries (newer_than-pairs v all rise ∙ ap (newer_than v) seen ∙ e) in
-    let none : length (pairs (newer v all)) ≡ 0 = ap length whole ∙ sym (len-entries (empty {X = Versioned} {R = nat_cmp})) ∙ len-empty nat_cmp Versioned in
-    omega (arith, length-pairs (newer v all))
+pub len-pairs : (items : List State) (states : States) → KeysRise items → from_sorted {R = nat_cmp} (pairs items) ≡ states → length items ≡ len states
+len-pairs items states rise seen =
+    sym (length-pairs items) ∙ ap length (sym (entries-pairs items rise)) ∙ sym (len-entries (from_sorted {R = nat_cmp} (pairs items))) ∙ ap len seen
+
+pub none_listed : (items : List State) (states : States) → KeysRise items → from_sorted {R = nat_cmp} (pairs items) ≡ states → states ≡ empty → length items ≡ 0
+none_listed items states rise seen none = len-pairs items states rise seen ∙ ap len none ∙ len-empty nat_cmp Versioned
+
+pub len-newer_than : (v : ℕ) (given items : List State) (states : States) → given ≡ items → KeysRise items → from_sorted {R = nat_cmp} (pairs items) ≡ states
+    → count_by (λ (s : State). nat_lt v s.version) given ≡ len (newer_than v states)
+len-newer_than v given items states same rise seen =
+    ap (count_by (λ (s : State). nat_lt v s.version)) same ∙ sym (length-filter (λ (s : State). nat_lt v s.version) items)
+    ∙ len-pairs (newer v items) (newer_than v states) (newer_rise v items rise) (newer_than-pairs v items rise ∙ ap (newer_than v) seen)
+
+-- where all are counted, all are kept
+filter_all : {X : Type 0} (p : X → Bool) (xs : List X) → length (filter p xs) ≡ length xs → filter p xs ≡ xs
+filter_all p [] e = refl
+filter_all p (x ∷ xs) e =
+    elim (p x) as (λ b. length (cond b (x ∷ filter p xs) (filter p xs)) ≡ suc (length xs) → cond b (x ∷ filter p xs) (filter p xs) ≡ x ∷ xs) [
+      | true ↦ λ e. ap (λ ys. x ∷ ys) (filter_all p xs (omega arith))
+      | false ↦ λ e. absurd (omega (arith, length-filter p xs, count_by-le-length p xs))
+    ] e
+
+pub all_newer_than : (v : ℕ) (states : States) → len (newer_than v states) ≡ len states → newer_than v states ≡ states
+all_newer_than v states e =
+    let kept = filter_all (is_newer v) (entries states) (ap length (sym (entries-newer_than v states)) ∙ sym (len-entries (newer_than v states)) ∙ e ∙ len-entries states) in
+    same_entries_map (newer_than v states) states (entries-newer_than v states ∙ kept)
+
+pub none_newer_than : (v : ℕ) (states : States) → len (newer_than v states) ≡ 0 → newer_than v states ≡ empty
+none_newer_than v states e = empty_of_len (newer_than v states) e
+
+pub none_counted : (v : ℕ) (states : States) → newer_than v states ≡ empty → len (newer_than v states) ≡ 0
+none_counted v states e = ap len e ∙ len-empty nat_cmp Versioned

@@ -1,6 +1,8 @@
 pub mod StateLemmas
 pub mod DeltaLemmas
+pub mod FewLemmas
 pub mod PutLemmas
+pub mod CoverLemmas
 pub mod ContentLemmas
 pub mod PlaceLemmas
 pub mod KeyLemmas

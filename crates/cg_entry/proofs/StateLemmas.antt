@@ -65,7 +65,7 @@ found_by : (b : Bool) (s : State) (ss : List State) (q : ℕ) → option_map val
 found_by true s ss q h = refl
 found_by false s ss q h = h
 
-find-pairs : (q : ℕ) (ss : List State) → option_map value_at_key (find (λ (t : State). t.key == q) ss) ≡ find_entry nat_cmp q (pairs ss)
+pub find-pairs : (q : ℕ) (ss : List State) → option_map value_at_key (find (λ (t : State). t.key == q) ss) ≡ find_entry nat_cmp q (pairs ss)
 find-pairs q [] = refl
 find-pairs q (s ∷ ss) = found_by (s.key == q) s ss q (find-pairs q ss) ∙ ap (λ (b : Bool). cond b (Some (value_at_key s)) (find_entry nat_cmp q (pairs ss))) (sym (same_keys q s.key))
 

@@ -1,5 +1,5 @@
 -- What is held of an endpoint.
-use Rattle.std.specs.Prelude.{ℕ, ◌+◌, ◌≡◌, ◌<◌, Bool, ◌&&◌, ◌||◌, ◌==◌, ◌++◌, List, [], ◌∷◌, nat_lt, nat_le, max, Option, Some, None, if◌then◌else◌}
+use Rattle.std.specs.Prelude.{ℕ, ◌+◌, ◌≡◌, ◌<◌, Bool, ◌&&◌, ◌||◌, ◌==◌, ◌++◌, List, [], ◌∷◌, length, sum_by, nat_lt, nat_le, max, Option, Some, None, if◌then◌else◌}
 use Rattle.std.specs.List.{filter}
 use Rattle.std.specs.FinMap as map
 use Rattle.cg_entry.specs.Values.{EntryValue, DeltaValue}
@@ -13,6 +13,10 @@ greatest_of n (s ∷ ss) = greatest_of (max n s.1.version) ss
 -- the greatest of a heartbeat version and the versions of states
 abbrev pub greatest : ℕ → States → ℕ
 greatest heartbeat states = greatest_of heartbeat (map.entries states)
+
+-- how many bytes the texts of states have
+abbrev pub text_bytes : States → ℕ
+text_bytes states = sum_by (λ s. length s.1.text) (map.entries states)
 
 -- the states with a version greater than v
 abbrev pub newer_than : ℕ → States → States

@@ -1,5 +1,5 @@
 -- States in a list, as a finite map.
-use Rattle.std.specs.Prelude.{ℕ, suc, Bool, ◌&&◌, ◌||◌, not, ◌==◌, List, [], ◌∷◌, length, map, nat_lt, nat_le, None, Result, Ok, Err, if◌then◌else◌}
+use Rattle.std.specs.Prelude.{◌≡◌, ℕ, suc, Bool, ◌&&◌, ◌||◌, not, ◌==◌, List, [], ◌∷◌, length, map, sum_by, nat_lt, nat_le, None, Result, Ok, Err, if◌then◌else◌}
 use Rattle.std.specs.FinMap.{from_sorted}
 use Rattle.cg_types.specs.declared.fault.Cause.{Cause}
 use Rattle.cg_types.specs.declared.fault.Cause.TheVariants as cause
@@ -27,10 +27,15 @@ pairs items = map pair items
 abbrev pub KeysRise : List State → Type 0
 KeysRise items = Rises (map (λ s. s.key) items)
 
--- The keys rise strictly, and each state is in range.
-pub record IsStateList (items : List State) : Type 0 where
+-- how many bytes the texts of listed states have
+abbrev pub listed_bytes : List State → ℕ
+listed_bytes items = sum_by (λ s. length s.text) items
+
+-- The keys rise strictly, each state is in range, and the texts have so many bytes.
+pub record IsStateList (items : List State) (bytes : ℕ) : Type 0 where
   pub rise : KeysRise items
   pub valid : AllByRecursion IsState (pairs items)
+  pub counted : bytes ≡ listed_bytes items
 
 -- whether the keys rise strictly
 abbrev pub keys_rise : List State → Bool

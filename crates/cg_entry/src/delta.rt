@@ -1,12 +1,13 @@
 //! What a message carries of one endpoint.
 
-ghost use Rattle.std.specs.Prelude.{◌≡◌, ◌↔◌, IsTrue, IfSome, IfOk, is_some};
+ghost use Rattle.std.specs.Prelude.{◌≡◌, ◌↔◌, IsTrue, IfSome, IfOk, IsOk, is_some};
 ghost use Rattle.std.specs.FinMap as map;
 ghost use Rattle.cg_types.specs.Numbers.{IsVersionHeld};
 ghost use Rattle.cg_entry.specs.State.{KeysRise, pairs, all_newer as all_newer_of, delta_of, makes_delta, delta_from};
 ghost use Rattle.cg_entry.specs.Contents.{IsDeltaOfEntry};
-ghost use Rattle.cg_entry.specs.Entry.{greatest, IsDelta};
+ghost use Rattle.cg_entry.specs.Entry.{greatest, text_bytes, IsDelta};
 
+use crate::held::Held;
 use crate::state::State;
 use crate::states::{States, keys_rise};
 use cg_types::{Cause, Generation, Version};
@@ -20,7 +21,7 @@ pub struct Delta {
     generation: Generation,
     above: u32,
     heartbeat: Version,
-    states: States,
+    states: Held,
 }
 
 impl Model for Delta {
@@ -79,14 +80,14 @@ impl Delta {
         if states.greatest(heartbeat).get() <= above {
             return Err(Cause::Empty);
         }
-        Ok(Delta::of_parts(generation, above, heartbeat, states))
+        Ok(Delta::of_parts(generation, above, heartbeat, Held::own(states)))
     }
 
     pub(crate) fn of_parts(
         generation: Generation,
         above: u32,
         heartbeat: Version,
-        states: States,
+        states: Held,
     ) -> Delta
         requires range { IsVersionHeld above }
         requires valid { IsDelta above heartbeat states }
@@ -127,10 +128,27 @@ impl Delta {
     pub fn newest(&self) -> Version
         ensures { result ≡ greatest self.now.heartbeat self.now.states }
     {
-        self.states.greatest(self.heartbeat)
+        self.states.list().greatest(self.heartbeat)
     }
 
-    pub(crate) fn held(&self) -> &States
+    /// The same delta, whose list of states its copies, and the entries that take it, will share. Without states no
+    /// memory is asked for; `AllocError` where the sharing of a list finds none.
+    pub fn shared(self, alloc: Global) -> Result<Delta, AllocError>
+        ensures value { IfOk result (λ d. d ≡ self) }
+        ensures bare { self.states ≡ map.empty → IsOk result }
+    {
+        let states = self.states.shared(alloc)?;
+        Ok(Delta::of_parts(self.generation, self.above, self.heartbeat, states))
+    }
+
+    /// How many bytes the texts of its states have, which their list keeps.
+    pub fn text_bytes(&self) -> usize
+        ensures { result ≡ text_bytes self.now.states }
+    {
+        self.states.list().text_bytes()
+    }
+
+    pub(crate) fn held(&self) -> &Held
         ensures { result.now ≡ self.now.states }
     {
         &self.states
@@ -144,7 +162,7 @@ impl Delta {
     {
         let _generation = self.generation.get();
         let _heartbeat = self.heartbeat.get();
-        self.states.as_slice()
+        self.states.list().as_slice()
     }
 
     /// Whether it is the same delta: generation, version that it stands above, heartbeat version and states.
@@ -154,10 +172,11 @@ impl Delta {
         other.generation == self.generation
             && self.above == other.above
             && self.heartbeat == other.heartbeat
-            && self.states.is_same(&other.states)
+            && self.states.list().is_same(other.states.list())
     }
 
-    /// The same delta, which shares the texts of its states. `AllocError` where its list of states finds no memory.
+    /// The same delta, which shares its list of states. Where that list was given to `new` or `try_new`, it shares the
+    /// texts alone, and `AllocError` comes where a new list finds no memory.
     pub fn copy(&self, alloc: Global) -> Result<Delta, AllocError>
         ensures { IfOk result (λ d. d ≡ self.now) }
     {

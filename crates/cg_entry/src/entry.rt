@@ -74,10 +74,10 @@ fn outcome_of(alloc: Global, held: Option<&Entry>, delta: &Delta) -> Result<Abso
     }
 }
 
-/// What a delta makes of what is held of its endpoint, if anything is. Texts are shared, and where the delta brings no
-/// state the whole list of states is; `AllocError` only where the delta is to be taken and the new list of states
-/// finds no memory.
-pub fn met(alloc: Global, held: Option<&Entry>, delta: &Delta) -> Result<Absorbed, AllocError>
+/// What a delta makes of what is held of its endpoint, if anything is. Texts are shared; the whole list of states is the
+/// entry's where the delta brings no state, and the delta's where it brings each key that the entry has. `AllocError`
+/// only where the delta is to be taken and a new list of states finds no memory.
+pub fn meet(alloc: Global, held: Option<&Entry>, delta: &Delta) -> Result<Absorbed, AllocError>
     ensures value { IfOk result (λ a. a ≡ met_of (option_copied held.entry) delta.now) }
     ensures each { IfOk result (λ a. IfTaken a (IsTakenEntry (option_copied held.entry) delta.now)) }
     ensures refused { IfErr result (λ _. is_taken (met_of (option_copied held.entry) delta.now) ≡ true) }
@@ -105,8 +105,8 @@ impl Entry {
         }
     }
 
-    /// The entry that a whole delta carries; `None` where the delta stands above a version. It shares the texts of the
-    /// delta's states; `AllocError` where a whole delta's list of states finds no memory.
+    /// The entry that a whole delta carries; `None` where the delta stands above a version. It has the delta's list of
+    /// states, as a copy of the delta has; `AllocError` where a whole delta's list finds no memory.
     pub fn of_delta(alloc: Global, delta: &Delta) -> Result<Option<Entry>, AllocError>
         ensures value { IfOk result (λ e. e ≡ whole_entry delta.now) }
         ensures none { whole_entry delta.now ≡ None → result ≡ Ok None }
@@ -114,7 +114,7 @@ impl Entry {
         if delta.above() != 0 {
             return Ok(None);
         }
-        let states = Held::of(alloc, delta.held().copy(alloc)?)?;
+        let states = delta.held().copy(alloc)?;
         Ok(Some(Entry::of_parts(delta.generation(), delta.heartbeat(), states)))
     }
 
@@ -207,15 +207,13 @@ impl Entry {
         Ok(Absorbed::Taken(self.advance(alloc, delta)?))
     }
 
-    /// What taking a delta about this endpoint makes of the entry, which stays as it is. Texts are shared, and where the
-    /// delta brings no state the whole list of states is; `AllocError` only where the delta is to be taken and the new
-    /// list of states finds no memory.
+    /// What taking a delta about this endpoint makes of the entry, which stays as it is; shared and refused as by `meet`.
     pub fn absorb(&self, alloc: Global, delta: &Delta) -> Result<Absorbed, AllocError>
         ensures value { IfOk result (λ a. a ≡ absorption self.now delta.now) }
         ensures each { IfOk result (λ a. IfTaken a (IsTakenEntry (Some self.now) delta.now)) }
         ensures refused { IfErr result (λ _. is_taken (absorption self.now delta.now) ≡ true) }
     {
-        met(alloc, Some(self), delta)
+        meet(alloc, Some(self), delta)
     }
 
     /// Which start of the endpoint the entry tells of.
@@ -258,7 +256,8 @@ impl Entry {
     }
 
     /// What a holder of this generation at version `above` lacks; 0 stands for a holder of nothing. `None` where
-    /// it lacks nothing; else `AllocError` where a list of newer states finds no memory.
+    /// it lacks nothing. Where it lacks all states, the delta shares their list; else `AllocError` where a list of newer
+    /// states finds no memory.
     pub fn above(&self, alloc: Global, above: u32) -> Result<Option<Delta>, AllocError>
         ensures value { IfOk result (λ d. d ≡ delta_above above self.now) }
         ensures none { delta_above above self.now ≡ None → result ≡ Ok None }
@@ -268,12 +267,11 @@ impl Entry {
         if self.newest().get() <= above {
             return Ok(None);
         }
-        let states = self.states.list().newer_than(alloc, above)?;
+        let states = self.states.newer_than(alloc, above)?;
         Ok(Some(Delta::of_parts(self.generation, above, self.heartbeat, states)))
     }
 
-    /// The same entry, which shares its list of states. `AllocError` where the states of an entry that has just started
-    /// find no memory to be shared in.
+    /// The same entry, which shares its list of states. Refused as `StateText::copy` is.
     pub fn copy(&self, alloc: Global) -> Result<Entry, AllocError>
         ensures { IfOk result (λ e. e ≡ self.now) }
     {

@@ -1,8 +1,8 @@
-//! The states of an entry, in one list that its copies share.
+//! The states of an entry or of a delta, in one list that its copies share.
 
-ghost use Rattle.std.specs.Prelude.{◌≡◌, IfOk, OnOk, OnErr};
+ghost use Rattle.std.specs.Prelude.{◌≡◌, IfOk, IsOk, OnOk, OnErr};
 ghost use Rattle.std.specs.FinMap as map;
-ghost use Rattle.cg_entry.specs.Entry.{overlay};
+ghost use Rattle.cg_entry.specs.Entry.{newer_than, overlay};
 ghost use Rattle.cg_entry.specs.State.{value_at_key};
 
 use crate::state::State;
@@ -12,7 +12,7 @@ use std::marker::Model;
 use std::ops::Deref;
 use std::sync::Arc;
 
-// The states of an entry that starts are its own and take no memory.
+// A list that nothing has shared yet is its holder's own; where it is empty, it takes no memory.
 #[derive(Debug, Drop)]
 enum Kept {
     Own(States),
@@ -38,15 +38,21 @@ impl Model for Held {
 }
 
 impl Held {
-    pub(crate) fn none(alloc: Global) -> Held
-        ensures { result ≡ map.empty }
+    pub(crate) fn own(states: States) -> Held
+        ensures { result ≡ states }
     {
         Held {
-            kept: Kept::Own(States::empty(alloc)),
+            kept: Kept::Own(states),
         }
     }
 
-    pub(crate) fn of(alloc: Global, states: States) -> Result<Held, AllocError>
+    pub(crate) fn none(alloc: Global) -> Held
+        ensures { result ≡ map.empty }
+    {
+        Held::own(States::empty(alloc))
+    }
+
+    fn of(alloc: Global, states: States) -> Result<Held, AllocError>
         ensures { IfOk result (λ h. h ≡ states) }
     {
         Ok(Held {
@@ -63,13 +69,31 @@ impl Held {
         }
     }
 
+    // Shares the list where it is shared already; an own one that is empty takes no memory.
     pub(crate) fn copy(&self, alloc: Global) -> Result<Held, AllocError>
         ensures { IfOk result (λ h. h ≡ self.now) }
     {
         match &self.kept {
+            Kept::Own(states) if states.is_empty() => Ok(Held::none(alloc)),
             Kept::Own(states) => Held::of(alloc, states.copy(alloc)?),
             Kept::Shared(states) => Ok(Held {
                 kept: Kept::Shared(Arc::try_clone(states)?),
+            }),
+        }
+    }
+
+    // The same states in a list that copies share; one that is empty takes no memory.
+    pub(crate) fn shared(self, alloc: Global) -> Result<Held, AllocError>
+        ensures value { IfOk result (λ h. h ≡ self) }
+        ensures bare { self ≡ map.empty → IsOk result }
+    {
+        if self.list().is_empty() {
+            return Ok(self);
+        }
+        match self.kept {
+            Kept::Own(states) => Held::of(alloc, states),
+            Kept::Shared(states) => Ok(Held {
+                kept: Kept::Shared(states),
             }),
         }
     }
@@ -84,13 +108,33 @@ impl Held {
         Ok(())
     }
 
-    // Those of `newer`, and at every other key these.
-    pub(crate) fn overlaid(&self, alloc: Global, newer: &States) -> Result<Held, AllocError>
-        ensures { IfOk result (λ h. h ≡ overlay self.now newer.now) }
+    // The states with a version greater than `above`.
+    pub(crate) fn newer_than(&self, alloc: Global, above: u32) -> Result<Held, AllocError>
+        ensures value { IfOk result (λ h. h ≡ newer_than above self.now) }
+        ensures bare { newer_than above self.now ≡ map.empty → IsOk result }
     {
-        if newer.is_empty() {
+        let states = self.list();
+        let count = states.count_newer(above);
+        if count == 0 {
+            return Ok(Held::none(alloc));
+        }
+        if count == states.len() {
             return self.copy(alloc);
         }
-        Held::of(alloc, self.list().overlaid(alloc, newer)?)
+        Held::of(alloc, states.newer_than(alloc, above, count)?)
+    }
+
+    // Those of `newer`, and at every other key these. Where one list shows all of that, it is shared.
+    pub(crate) fn overlaid(&self, alloc: Global, newer: &Held) -> Result<Held, AllocError>
+        ensures { IfOk result (λ h. h ≡ overlay self.now newer.now) }
+    {
+        let (ours, theirs) = (self.list(), newer.list());
+        if theirs.is_empty() {
+            return self.copy(alloc);
+        }
+        if ours.is_covered(theirs) {
+            return newer.copy(alloc);
+        }
+        Held::of(alloc, ours.overlaid(alloc, theirs)?)
     }
 }

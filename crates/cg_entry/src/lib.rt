@@ -14,5 +14,5 @@ mod state;
 mod states;
 
 pub use delta::Delta;
-pub use entry::{Absorbed, Entry, met};
+pub use entry::{Absorbed, Entry, meet};
 pub use state::State;

@@ -1,14 +1,14 @@
 //! A finite map from keys to texts with their versions, kept in the order of the keys.
 
-ghost use Rattle.std.specs.Prelude.{◌≡◌, ◌==◌, ◌↔◌, IsTrue, IfOk, IsOk, OnOk, OnErr, find, option_copied};
+ghost use Rattle.std.specs.Prelude.{◌≡◌, ◌<◌, ◌^◌, ◌==◌, ◌↔◌, IsTrue, IfOk, OnOk, OnErr, count_by, find, is_some, length, nat_lt, option_copied};
 ghost use Rattle.std.specs.FinMap as map;
 ghost use Rattle.std.specs.FinMap.Entries.{put};
 ghost use Rattle.std.specs.Option.{option_map};
 ghost use Rattle.std.specs.Ordering.{nat_cmp};
-ghost use Rattle.std.specs.List.{AllByRecursion};
+ghost use Rattle.std.specs.List.{AllByRecursion, list_all};
 ghost use Rattle.cg_entry.specs.Contents.{IsState, AreStates};
-ghost use Rattle.cg_entry.specs.Entry.{greatest, newer_than, overlay};
-ghost use Rattle.cg_entry.specs.State.{KeysRise, keys_rise as keys_rise_of, pair, pairs, count_below, value_at_key};
+ghost use Rattle.cg_entry.specs.Entry.{greatest, newer_than, overlay, text_bytes as text_bytes_of};
+ghost use Rattle.cg_entry.specs.State.{KeysRise, keys_rise as keys_rise_of, pair, pairs, count_below, listed_bytes, value_at_key};
 
 use crate::state::State;
 use cg_types::{StateKey, Version};
@@ -18,6 +18,8 @@ use std::marker::Model;
 #[derive(Debug, Drop)]
 pub(crate) struct States {
     items: Vec<State>,
+    // How many bytes the texts have, so that the length of a spelling costs no walk.
+    text_bytes: usize,
 }
 
 impl Model for States {
@@ -33,7 +35,7 @@ impl Model for States {
 
     ghost view = { λ s. map.from_sorted (pairs s.items.items) };
 
-    ghost invariant = { λ s. IsStateList s.items.items };
+    ghost invariant = { λ s. IsStateList s.items.items s.text_bytes };
 }
 
 // Whether the keys rise strictly.
@@ -96,14 +98,54 @@ fn show_states(items: &[State])
     }
 }
 
-fn copies(alloc: Global, items: &[State]) -> Result<Vec<State>, AllocError>
+fn text_size(state: &State) -> usize
+    ensures { result ≡ length state.now.text }
+{
+    state.text.as_str().len()
+}
+
+fn size_of_texts(items: &[State]) -> usize
+    requires { listed_bytes items.now < 2 ^ 32 }
+    ensures { result ≡ listed_bytes items.now }
+{
+    let mut bytes = 0;
+    for state in items {
+        bytes += text_size(state);
+    }
+    bytes
+}
+
+// In a list with room for so many.
+fn copies(alloc: Global, items: &[State], room: usize) -> Result<Vec<State>, AllocError>
     ensures { IfOk result (λ v. v.items ≡ items.now) }
 {
-    let mut copies = Vec::with_capacity(alloc, items.len())?;
+    let mut copies = Vec::with_capacity(alloc, room)?;
     for state in items {
         copies.push(state.copy()?)?;
     }
     Ok(copies)
+}
+
+// Whether each key of these stands in another list.
+fn keys_stand_in(items: &[State], other: &[State]) -> bool
+    ensures { result ≡ list_all (λ s. is_some (find (λ t. t.key == s.key) other.now)) items.now }
+{
+    items
+        .iter()
+        .all(|state| state_of(other, state.key).is_some())
+}
+
+// How many states have a version greater than `above`.
+fn count_newer(items: &[State], above: u32) -> usize
+    ensures { result ≡ count_by (λ s. nat_lt above s.version) items.now }
+{
+    let mut count = 0;
+    for state in items {
+        if above < state.version.get() {
+            count += 1;
+        }
+    }
+    count
 }
 
 impl States {
@@ -112,7 +154,18 @@ impl States {
     {
         States {
             items: Vec::new(alloc),
+            text_bytes: 0,
         }
+    }
+
+    // There are no more states than keys, so that their texts have few bytes.
+    fn of(items: Vec<State>) -> States
+        requires rise { KeysRise items.items }
+        requires valid { AllByRecursion IsState (pairs items.items) }
+        ensures { result ≡ map.from_sorted (pairs items.items) }
+    {
+        let text_bytes = size_of_texts(&items);
+        States { items, text_bytes }
     }
 
     // Each state is read, which tells that it is in range.
@@ -121,7 +174,7 @@ impl States {
         ensures { result ≡ map.from_sorted (pairs items.items) }
     {
         show_states(&items);
-        States { items }
+        States::of(items)
     }
 
     // The greatest of the heartbeat and the versions of the states.
@@ -135,25 +188,51 @@ impl States {
         most
     }
 
-    // The states with a version greater than `above`.
-    pub(crate) fn newer_than(&self, alloc: Global, above: u32) -> Result<States, AllocError>
-        ensures value { IfOk result (λ s. s ≡ newer_than above self.now) }
-        ensures bare { newer_than above self.now ≡ map.empty → IsOk result }
+    // How many there are.
+    pub(crate) fn len(&self) -> usize
+        ensures { result ≡ map.len self.now }
     {
-        let mut items = Vec::new(alloc);
+        self.items.as_slice().len()
+    }
+
+    // How many bytes the texts have.
+    pub(crate) fn text_bytes(&self) -> usize
+        ensures { result ≡ text_bytes_of self.now }
+    {
+        self.text_bytes
+    }
+
+    // How many have a version greater than `above`.
+    pub(crate) fn count_newer(&self, above: u32) -> usize
+        ensures { result ≡ map.len (newer_than above self.now) }
+    {
+        count_newer(&self.items, above)
+    }
+
+    // The states with a version greater than `above`, in a list with room for so many.
+    pub(crate) fn newer_than(
+        &self,
+        alloc: Global,
+        above: u32,
+        room: usize,
+    ) -> Result<States, AllocError>
+        ensures { IfOk result (λ s. s ≡ newer_than above self.now) }
+    {
+        let mut items = Vec::with_capacity(alloc, room)?;
         for state in &self.items {
             if state.version.get() > above {
                 items.push(state.copy()?)?;
             }
         }
-        Ok(States { items })
+        Ok(States::of(items))
     }
 
     pub(crate) fn copy(&self, alloc: Global) -> Result<States, AllocError>
         ensures { IfOk result (λ s. s ≡ self.now) }
     {
         Ok(States {
-            items: copies(alloc, &self.items)?,
+            items: copies(alloc, &self.items, self.items.len())?,
+            text_bytes: self.text_bytes,
         })
     }
 
@@ -166,7 +245,7 @@ impl States {
 
     // Whether there is none.
     pub(crate) fn is_empty(&self) -> bool
-        ensures { IsTrue result → self.now ≡ map.empty }
+        ensures { IsTrue result ↔ (self.now ≡ map.empty) }
     {
         self.items.as_slice().is_empty()
     }
@@ -175,31 +254,30 @@ impl States {
     pub(crate) fn with(&self, state: State) -> Result<(Global, States), AllocError>
         ensures { IfOk result (λ x. x.1 ≡ map.insert self.now state.key (value_at_key state)) }
     {
+        show_state(&state);
         let alloc = self.items.allocator().clone()?;
-        let mut states = self.copy(alloc)?;
-        states.put(state)?;
-        Ok((alloc, states))
+        let mut items = copies(alloc, &self.items, self.items.len() + 1)?;
+        put_state(&mut items, state)?;
+        Ok((alloc, States::of(items)))
     }
 
-    // Puts a state, in place of one with its key.
-    fn put(&mut self, state: State) -> Result<(), AllocError>
-        ensures ok { OnOk result (self.new ≡ map.insert self.old state.key (value_at_key state)) }
-        ensures err { OnErr result (self.new ≡ self.old) }
+    // Whether each key stands in `newer`, so that nothing of these shows beside it.
+    pub(crate) fn is_covered(&self, newer: &States) -> bool
+        ensures { IsTrue result → overlay self.now newer.now ≡ newer.now }
     {
-        show_state(&state);
-        put_state(&mut self.items, state)?;
-        Ok(())
+        self.items.len() <= newer.items.len() && keys_stand_in(&self.items, &newer.items)
     }
 
     // Those of `newer`, and at every other key these.
     pub(crate) fn overlaid(&self, alloc: Global, newer: &States) -> Result<States, AllocError>
         ensures { IfOk result (λ s. s ≡ overlay self.now newer.now) }
     {
-        let mut items = copies(alloc, &self.items)?;
+        let room = self.items.len() + newer.items.len();
+        let mut items = copies(alloc, &self.items, room)?;
         for state in &newer.items {
             put_state(&mut items, state.copy()?)?;
         }
-        Ok(States { items })
+        Ok(States::of(items))
     }
 
     // Whether both are the same map.

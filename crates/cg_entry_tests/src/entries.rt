@@ -1,6 +1,6 @@
 //! Entries and deltas: what is held after starts, beats and sets, what stands above a version, and what is taken.
 
-use cg_entry::{Absorbed, Delta, Entry, State, met};
+use cg_entry::{Absorbed, Delta, Entry, State, meet};
 use cg_samples::{bare_delta, delta, entry_at_start, generation, key, state, version};
 use cg_types::{Cause, Fault, StateKey, StateText};
 use cg_version::Versions;
@@ -55,6 +55,21 @@ fn a_delta_has_its_parts(rt: HostRuntime) -> Result<(), Fail> {
     let states = two_states(rt.alloc(), (2, 4), (3, 6))?;
     let copy = delta((9, 2, 5), states)?.copy(rt.alloc())?;
     assert_eq!(rt; parts_of(&copy), (9, 2, 5, 6, 2));
+    Ok(())
+}
+
+#[test]
+fn a_shared_delta_is_the_same(rt: HostRuntime) -> Result<(), Fail> {
+    let shared = delta_with_key_2(rt.alloc(), 2, 5)?.shared(rt.alloc())?;
+    assert_eq!(rt; parts_of(&shared), (9, 2, 5, 5, 1));
+    Ok(())
+}
+
+#[test]
+fn texts_are_counted_in_bytes(rt: HostRuntime) -> Result<(), Fail> {
+    let mut states = one_state(rt.alloc(), 2, 4)?;
+    states.push(state(rt.alloc(), 3, 6, "é")?)?;
+    assert_eq!(rt; delta((9, 2, 5), states)?.text_bytes(), 3);
     Ok(())
 }
 
@@ -283,7 +298,7 @@ fn name_of(what: &Absorbed) -> &'static str {
 // Where nothing is held, of a delta of generation 9 with no states.
 fn met_by_nothing(alloc: Global, above: u32) -> Result<&'static str, Fail> {
     let delta = bare_delta(alloc, (9, above, 5))?;
-    Ok(name_of(&met(alloc, None, &delta)?))
+    Ok(name_of(&meet(alloc, None, &delta)?))
 }
 
 #[test]

@@ -28,7 +28,7 @@ use Rattle.cg_frames.specs.Layouts.{IsRead, IsWritten}
 use Rattle.cg_frames.specs.Fits.{AreFew, HasShortTexts, AreWithin, Fits}
 use Rattle.cg_frames.proofs.FitsFields.{FitsState, FitsDelta, FitsMembers, FitsFields}
 use Rattle.cg_frames.proofs.SpelledIsReadLemmas.{length_keys}
-use Rattle.cg_frames.proofs.SpelledIsReadDeltas.{states_few}
+use Rattle.cg_entry.proofs.FewLemmas.{states_few}
 
 -- there are no more states than keys
 pub few_states : (d : OwnerDelta) (ss : List State) → IsOwnerDelta d → pairs ss ≡ entries d.delta.states → length ss ≤ STATE_LIMIT

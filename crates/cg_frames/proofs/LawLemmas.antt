@@ -39,7 +39,7 @@ use Rattle.cg_frames.specs.Choosing.{layout_with_byte, frame_among, IsOneOf, Are
 use Rattle.cg_frames.specs.Laws.{GivesEachSpelled, NoSpellingBeginsAnother, EachIsShort}
 use Rattle.cg_frames.proofs.ChoosingLemmas.{named_all, due_of_frame}
 use Rattle.cg_frames.proofs.SpelledIsReadLemmas.{byte_again, length_keys, syn_again}
-use Rattle.cg_frames.proofs.SpelledIsReadDeltas.{states_few}
+use Rattle.cg_entry.proofs.FewLemmas.{states_few}
 use Rattle.cg_frames.proofs.SpelledIsReadLists.{ack_again, ack2_again}
 use Rattle.cg_frames.proofs.LengthLemmas.{length-two_bytes, length-four_bytes, length-state, length-delta, length-digests, length-requests}
 use Rattle.cg_frames.proofs.FrameLemmas.{frame_again}

@@ -1,7 +1,9 @@
 -- How long spellings are.
 use Rattle.std.proofs.Common.{◌≡◌, ℕ, ◌+◌, ◌*◌, ◌<◌, ◌≤◌, List, [], ◌∷◌, ◌++◌, length, get_or, zero, suc, refl, sym, ap, ◌∙◌, take, arith, length-append}
+use Rattle.std.specs.Prelude.{sum_by}
 use Rattle.std.specs.FinMap.{entries}
 use Rattle.std.proofs.lemmas.List.{take_all}
+use Rattle.std.proofs.lemmas.List.Sums.{sum_by-cons}
 use Rattle.cg_entry.specs.declared.state.State.{State}
 use Rattle.cg_entry.specs.State.{pair, pairs}
 use Rattle.std.specs.List.{flat_map}
@@ -62,6 +64,14 @@ length-delta d =
       length-four_bytes d.delta.above,
       length-four_bytes d.delta.heartbeat,
     )
+
+-- of each state seven bytes, and its text
+pub length-states : (es : List (ℕ × Versioned)) → length (flat_map state es) ≡ 7 * length es + sum_by (λ (e : ℕ × Versioned). length e.1.text) es
+length-states [] = refl
+length-states (e ∷ es) =
+    let size : ℕ × Versioned → ℕ = λ e. length e.1.text in
+    let step : length (state e) + length (flat_map state es) ≡ 7 * suc (length es) + (length e.1.text + sum_by size es) = omega (arith, length-state e, length-states es) in
+    ap length (flat_map-cons state e es) ∙ length-append (state e) (flat_map state es) ∙ step ∙ ap (λ (n : ℕ). 7 * suc (length es) + n) (sym (sum_by-cons size e es))
 
 -- ---- counted members
 

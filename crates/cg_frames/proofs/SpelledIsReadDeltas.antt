@@ -4,15 +4,15 @@ use Rattle.std.specs.Prelude.{nat_lt, ◌==◌, not, ◌||◌}
 use Rattle.std.specs.List.{flat_map, AllByRecursion}
 use Rattle.std.specs.FinMap.{entries, entries_sorted, from_sorted, entries-from_sorted, same_entries_map}
 use Rattle.std.specs.Ordering.{nat_cmp}
-use Rattle.std.proofs.lemmas.Bool.{le-ltb, lt-ltb, ltb-true, ne_eqb}
+use Rattle.std.proofs.lemmas.Bool.{le-ltb, lt-ltb, ne_eqb}
 use Rattle.cg_types.specs.declared.fault.Cause.TheVariants as causes
-use Rattle.cg_types.specs.Numbers.{IsKey}
 use Rattle.cg_types.specs.Rising.{is_past, rise_past, Rises}
 use Rattle.cg_types.proofs.RisingLemmas.{first_of, second_of, rise_sorted}
 use Rattle.cg_entry.specs.declared.state.State.{State}
 use Rattle.cg_entry.specs.State.{pair, pairs}
 use Rattle.cg_entry.specs.Versioned.{Versioned, States}
 use Rattle.cg_entry.specs.Entry.{greatest_of}
+use Rattle.cg_entry.proofs.FewLemmas.{states_few}
 use Rattle.cg_exchange.specs.declared.owner_delta.OwnerDelta.{OwnerDelta}
 use Rattle.cg_frames.specs.declared.layout.Layout.{Layout}
 use Rattle.cg_types.specs.declared.limits.TheConstants.{STATE_LIMIT}
@@ -43,28 +43,6 @@ keys_unpair (e ∷ es) = ap (λ (ks : List ℕ). e.0 ∷ ks) (keys_unpair es)
 fits_unpair : (layout : Layout) (above : ℕ) (es : List (ℕ × Versioned)) → AllByRecursion (FitsState layout above) es → AllByRecursion (λ (s : State). FitsState layout above (pair s)) (map unpair es)
 fits_unpair layout above [] all = tt
 fits_unpair layout above (e ∷ es) all = (all.0, fits_unpair layout above es all.1)
-
--- keys of states, whatever else holds of each
-abbrev keys : List (ℕ × Versioned) → List ℕ
-keys es = map (λ (e : ℕ × Versioned). e.0) es
-
-module _ (P : ℕ × Versioned → Type 0) (key : (e : ℕ × Versioned) → P e → IsKey e.0) where
-  keys_few : (last : ℕ) (es : List (ℕ × Versioned)) → AllByRecursion P es → rise_past (Some last) (keys es) ≡ true
-      → last ≤ STATE_LIMIT → last + length es ≤ STATE_LIMIT
-  keys_few last [] all rise le = omega arith
-  keys_few last (e ∷ es) all rise le =
-      let lt : last < e.0 = ltb-true last e.0 (first_of (nat_lt last e.0) (rise_past (Some e.0) (keys es)) rise) in
-      let here : IsKey e.0 = key e all.0 in
-      let others = keys_few e.0 es all.1 (second_of (nat_lt last e.0) (rise_past (Some e.0) (keys es)) rise) here.1 in
-      omega arith
-
-  -- there are no more states than keys
-  pub states_few : (es : List (ℕ × Versioned)) → AllByRecursion P es → Rises (map (λ (e : ℕ × Versioned). e.0) es) → length es ≤ STATE_LIMIT
-  states_few [] all rise = omega arith
-  states_few (e ∷ es) all rise =
-      let here : IsKey e.0 = key e all.0 in
-      let others = keys_few e.0 es all.1 (second_of true (rise_past (Some e.0) (keys es)) rise) here.1 in
-      omega (arith, others, here.0)
 
 or_true : (b : Bool) → (b || true) ≡ true
 or_true true = refl

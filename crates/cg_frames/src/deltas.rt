@@ -137,7 +137,7 @@ fn states_of(
     Ok(states)
 }
 
-// A delta; where it would carry nothing, the fault stands at its first byte.
+// A delta, whose list of states what takes it will share; where it would carry nothing, the fault stands at its first byte.
 #[tactic(auto, unfolding(crate::specs::Lists::delta_at))]
 fn delta_of(
     alloc: Global,
@@ -156,7 +156,10 @@ fn delta_of(
     let count = reader.state_count()?;
     let states = states_of(alloc, layout, above, reader, count)?;
     match Delta::new(generation, above, heartbeat, states) {
-        Some(delta) => Ok(OwnerDelta { endpoint, delta }),
+        Some(delta) => {
+            let delta = delta.shared(alloc)?;
+            Ok(OwnerDelta { endpoint, delta })
+        }
         None => Err(ReadError::Misread(Misread {
             cause: Cause::Empty,
             left,

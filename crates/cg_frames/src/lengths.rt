@@ -1,13 +1,10 @@
 //! How long the spellings of messages are. None of this takes memory.
 
 ghost use Rattle.std.specs.Prelude.{◌≡◌, ◌<◌, ◌+◌, ◌^◌, length};
-ghost use Rattle.std.specs.List.{AllByRecursion, flat_map};
-ghost use Rattle.cg_entry.specs.State.{pair, pairs};
 ghost use Rattle.cg_exchange.specs.declared.message.Message.TheVariants as messages;
 ghost use Rattle.cg_exchange.specs.Lent.{lent_message};
 ghost use Rattle.cg_frames.specs.Spelling as spelling;
 
-use cg_entry::State;
 use cg_exchange::{Ack, Ack2, Lent, OwnerDelta, Request, Syn};
 use cg_table::Digest;
 
@@ -25,30 +22,11 @@ fn requests_length(requests: &[Request]) -> usize
     2 + 14 * requests.len()
 }
 
-fn state_length(state: &State) -> usize
-    requires { length (spelling.state (pair state.now)) < 2 ^ 32 }
-    ensures { result ≡ length (spelling.state (pair state.now)) }
-{
-    7 + state.text.as_str().len()
-}
-
-// The states and their count.
-fn states_length(states: &[State]) -> usize
-    requires { 1 + length (flat_map spelling.state (pairs states.now)) < 2 ^ 32 }
-    ensures { result ≡ 1 + length (flat_map spelling.state (pairs states.now)) }
-{
-    let mut length = 1;
-    for state in states {
-        length += state_length(state);
-    }
-    length
-}
-
 fn delta_length(delta: &OwnerDelta) -> usize
     requires { length (spelling.delta delta.now) < 2 ^ 32 }
     ensures { result ≡ length (spelling.delta delta.now) }
 {
-    18 + states_length(delta.delta.states())
+    19 + 7 * delta.delta.states().len() + delta.delta.text_bytes()
 }
 
 fn deltas_length(deltas: &[OwnerDelta]) -> usize

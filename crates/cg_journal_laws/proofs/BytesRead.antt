@@ -21,7 +21,7 @@ use Rattle.cg_frames.specs.Spelling.{two_bytes, four_bytes, endpoint, digest, re
 use Rattle.cg_frames.specs.Fits.{Fits}
 use Rattle.cg_frames.proofs.FitsFields.{FitsState, FitsDelta, FitsFields}
 use Rattle.cg_frames.proofs.FitsLemmas.{fields_of}
-use Rattle.cg_frames.proofs.SpelledIsReadDeltas.{states_few}
+use Rattle.cg_entry.proofs.FewLemmas.{states_few}
 
 -- each is the value of a byte
 abbrev pub AreSmall : List ℕ → Type 0

@@ -16,7 +16,7 @@ ghost use Rattle.cg_table.specs.Values.{AreOwnerEntries, IsOwnerRow};
 
 use crate::digest::Digest;
 use crate::took::Took;
-use cg_entry::{Absorbed, Delta, Entry, met};
+use cg_entry::{Absorbed, Delta, Entry, meet};
 use cg_map::{Row, SharedMap};
 use cg_types::{Endpoint, Fault, MEMBER_LIMIT};
 use std::alloc::{AllocError, Global};
@@ -244,7 +244,7 @@ impl Table {
         if endpoint == self.own {
             return Ok((None, Took::Own));
         }
-        Ok(match met(alloc, held, delta)? {
+        Ok(match meet(alloc, held, delta)? {
             Absorbed::Taken(entry) => (Some(Row::new(alloc, endpoint, entry)?), Took::Taken),
             Absorbed::Old => (None, Took::Old),
             Absorbed::Gap => (None, Took::Gap),

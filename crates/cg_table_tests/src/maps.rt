@@ -23,17 +23,43 @@ fn what_is_put_is_got(rt: HostRuntime) -> Result<(), Fail> {
     Ok(())
 }
 
+// What changes them: 21 at endpoint 2, and 40 at endpoint 4.
+fn two_changes(alloc: Global) -> Result<Vec<Row<u32>>, Fail> {
+    let first = Row::new(alloc, endpoint(2), 21)?;
+    let second = Row::new(alloc, endpoint(4), 40)?;
+    Ok(vec![in alloc; first, second]?)
+}
+
+// Whether a map has these rows and no others: the last part of an endpoint, and its value.
+fn has_rows(map: &SharedMap<u32>, wanted: [(u16, u32); 3]) -> bool {
+    let rows = map.rows();
+    for (row, (last, value)) in rows.iter().zip(wanted) {
+        if row.endpoint() != endpoint(last) || *row.value() != value {
+            return false;
+        }
+    }
+    rows.len() == wanted.len()
+}
+
+// The two values with the changes put: as they are handed over, and as they are lent.
+fn changed(alloc: Global) -> Result<(SharedMap<u32>, SharedMap<u32>), Fail> {
+    let map = two_values(alloc)?;
+    let changes = two_changes(alloc)?;
+    if !rows_rise(&changes) {
+        return Err(Fail::from("the changes don't rise"));
+    }
+    let lent = map.with_rows(alloc, &changes)?;
+    Ok((map.put_rows(alloc, changes)?, lent))
+}
+
 #[test]
 fn a_row_is_put_in_place_of_one_with_its_endpoint(rt: HostRuntime) -> Result<(), Fail> {
-    let alloc = rt.alloc();
-    let changed = Row::new(alloc, endpoint(2), 21)?;
-    let map = two_values(alloc)?.with_rows(alloc, &vec![in alloc; changed.share()?]?)?;
-    let wanted = [(2, 21), (3, 30)];
-    assert_eq!(rt; map.rows().len(), wanted.len());
-    for (row, (last, value)) in map.rows().iter().zip(wanted) {
-        assert_eq!(rt; row.endpoint(), endpoint(last));
-        assert_eq!(rt; *row.value(), value);
-    }
+    let wanted = [(2, 21), (3, 30), (4, 40)];
+    let (put, lent) = changed(rt.alloc())?;
+    assert_eq!(rt;
+        (has_rows(&put, wanted), has_rows(&lent, wanted)),
+        (true, true)
+    );
     Ok(())
 }
 

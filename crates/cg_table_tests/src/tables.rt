@@ -1,7 +1,7 @@
 //! Tables: deltas put, tables merged, and the limit of owners.
 
-use cg_entry::Delta;
-use cg_map::{push_some, rows_rise};
+use cg_entry::{Delta, Entry};
+use cg_map::{Row, push_some, rows_rise};
 use cg_samples::{bare_delta, bare_entry, endpoint, entry_at_start, generation};
 use cg_table::{Digest, Table, Took};
 use cg_types::{Endpoint, Fault, Version};
@@ -291,6 +291,69 @@ fn what_deltas_change(rt: HostRuntime) -> Result<(), Fail> {
     let alloc = rt.alloc();
     assert_eq!(rt; change(alloc, (9, 0, 3))?, (None, Took::Old, true));
     assert_eq!(rt; change(alloc, (9, 3, 5))?, (Some(5), Took::Taken, true));
+    Ok(())
+}
+
+// What becomes of a delta about an endpoint, of which an entry of generation 9 with this version is held, or nothing.
+fn took_at(
+    alloc: Global,
+    last: u16,
+    newest: Option<u32>,
+    delta_of: (u32, u32, u32),
+) -> Result<Took, Fail> {
+    let table = table(alloc)?;
+    let delta = bare_delta(alloc, delta_of)?;
+    let Some(newest) = newest else {
+        return Ok(table.change_at(alloc, endpoint(last), None, &delta)?.1);
+    };
+    let entry = bare_entry(alloc, 9, newest)?;
+    let (_row, took) = table.change_at(alloc, endpoint(last), Some(&entry), &delta)?;
+    Ok(took)
+}
+
+// What the caller holds decides, and not what the table does.
+#[test]
+fn what_deltas_change_by_what_is_held(rt: HostRuntime) -> Result<(), Fail> {
+    for (last, newest, delta_of, took) in [
+        (1, None, (9, 3, 5), Took::Gap),
+        (1, None, (9, 0, 5), Took::Taken),
+        (1, Some(5), (9, 3, 5), Took::Old),
+        (1, Some(3), (9, 3, 5), Took::Taken),
+        (2, Some(3), (9, 3, 5), Took::Own),
+    ] {
+        assert_eq!(rt; took_at(rt.alloc(), last, newest, delta_of)?, took);
+    }
+    Ok(())
+}
+
+// What whole deltas about endpoints 1 and 3 change where nothing of these is held.
+fn changed_rows(alloc: Global, table: &Table) -> Result<Vec<Row<Entry>>, Fail> {
+    let delta = bare_delta(alloc, (9, 0, 3))?;
+    let mut rows = Vec::new(alloc);
+    for number in [1, 3] {
+        let (row, _took) = table.change_at(alloc, endpoint(number), None, &delta)?;
+        push_some(&mut rows, row)?;
+    }
+    Ok(rows)
+}
+
+// The table of endpoint 2 with these rows put: as they are handed over, and as they are lent.
+fn with_changed_rows(alloc: Global) -> Result<(Table, Table), Fail> {
+    let table = table(alloc)?;
+    let rows = changed_rows(alloc, &table)?;
+    if !rows_rise(&rows) || !table.has_room_for(&rows) {
+        return Err(Fail::from("the rows can't be put"));
+    }
+    let lent = table.with_rows(alloc, &rows)?;
+    Ok((table.put_rows(alloc, rows)?, lent))
+}
+
+#[test]
+fn rows_that_are_put_are_held(rt: HostRuntime) -> Result<(), Fail> {
+    let (put, lent) = with_changed_rows(rt.alloc())?;
+    let shown = (held(&put, 3), held_of_both(&put), put.same_entries(&lent));
+    let whole = Some((9, 3));
+    assert_eq!(rt; shown, (whole, (whole, Some((5, 1))), true));
     Ok(())
 }
 

@@ -1,8 +1,15 @@
 use Rattle.std.proofs.Common.{ap, arith, length}
-use Rattle.std.specs.List.{flat_map}
-use Rattle.cg_frames.specs.Spelling.{state}
-use Rattle.cg_frames.proofs.LengthLemmas.{length-delta}
+use Rattle.std.specs.FinMap.{entries}
+use Rattle.cg_entry.proofs.DeltaLemmas.{length-pairs}
+use Rattle.cg_frames.proofs.LengthLemmas.{length-delta, length-states}
 use Rattle.cg_frames.proofs.lengths.delta_length.Goals as goal
 
+pub overflow_add-result-2 : goal.overflow_add-result-2
+overflow_add-result-2 c =
+    let es = entries c.args.delta.now.delta.states in
+    omega (arith, c.requires, length-delta c.args.delta.now, length-states es, length-pairs c.states.result.now, ap length c.states.ensures.value, c.text_bytes.ensures)
+
 pub returns : goal.returns
-returns c = omega (arith, length-delta c.args.delta.now, c.states_length.ensures, ap (λ es. length (flat_map state es)) c.states.ensures.value)
+returns c =
+    let es = entries c.args.delta.now.delta.states in
+    omega (arith, length-delta c.args.delta.now, length-states es, length-pairs c.states.result.now, ap length c.states.ensures.value, c.text_bytes.ensures)

@@ -6,4 +6,4 @@ use Rattle.cg_entry.proofs.entry.Entry.above.Goals as goal
 pub of_parts-requires-clause-valid : goal.of_parts-requires-clause-valid
 of_parts-requires-clause-valid c =
     let is : c.get.result ≡ greatest c.self.inside.heartbeat c.self.inside.states = c.get.ensures.value ∙ c.newest.ensures ∙ ap newest (sym c.self.view_is) in
-    rw (c.in_ok-states.ensures.value, c.list.ensures) (above_is_delta c.args.above c.self.inside.heartbeat c.self.inside.states (omega arith))
+    rw c.in_ok-states.ensures.value (above_is_delta c.args.above c.self.inside.heartbeat c.self.inside.states (omega arith))

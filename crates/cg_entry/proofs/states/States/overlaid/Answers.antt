@@ -18,19 +18,19 @@ loop-state-preserved c =
       so_far = put_all_next c.deref-state-items.result.now c.loop-state.state-index s c.loop-state.items.items c.put_state.new.items.items c.loop-state-test.true c.state-item.is step ∙ c.loop-state.invariant.so_far;
     }
 
-pub invariant_of-result : goal.invariant_of-result
-invariant_of-result c =
+pub of-requires-clause-rise : goal.of-requires-clause-rise
+of-requires-clause-rise c = c.loop-state.invariant.rise
+
+pub of-requires-clause-valid : goal.of-requires-clause-valid
+of-requires-clause-valid c =
     let olds = c.self.inside.items.items in
     let news = c.newer.inside.items.items in
     let whole = put_all_whole c.loop-state.state-index c.loop-state.items.items c.in_ok-items.items.items olds c.deref-state-items.result.now news c.loop-state-test.false c.loop-state.invariant.so_far c.deref-state-items.ensures.value (c.in_ok-items.ensures ∙ c.deref.ensures.value) in
-    record {
-      rise = c.loop-state.invariant.rise;
-      valid = rw whole (put_all_valid (pairs news) (pairs olds) c.newer.invariant.valid c.self.invariant.valid);
-    }
+    rw whole (put_all_valid (pairs news) (pairs olds) c.newer.invariant.valid c.self.invariant.valid)
 
 pub returns : goal.returns
 returns c =
     let olds = c.self.inside.items.items in
     let news = c.newer.inside.items.items in
     let whole = put_all_whole c.loop-state.state-index c.loop-state.items.items c.in_ok-items.items.items olds c.deref-state-items.result.now news c.loop-state-test.false c.loop-state.invariant.so_far c.deref-state-items.ensures.value (c.in_ok-items.ensures ∙ c.deref.ensures.value) in
-    overlay-pairs c.loop-state.items.items news olds c.loop-state.invariant.rise c.newer.invariant.rise c.self.invariant.rise whole ∙ (λ i. overlay (c.self.view_is i) (c.newer.view_is i))
+    c.of.ensures ∙ overlay-pairs c.loop-state.items.items news olds c.loop-state.invariant.rise c.newer.invariant.rise c.self.invariant.rise whole ∙ (λ i. overlay (c.self.view_is i) (c.newer.view_is i))

@@ -1,0 +1,6 @@
+use Rattle.std.proofs.Common.{◌∙◌}
+use Rattle.cg_entry.proofs.FewLemmas.{bytes_listed}
+use Rattle.cg_entry.proofs.states.States.text_bytes.Goals as goal
+
+pub returns : goal.returns
+returns c = c.self.invariant.counted ∙ bytes_listed c.self.inside.items.items c.args.self.now c.self.invariant.rise c.self.view_is
