@@ -109,7 +109,7 @@ fn opening(alloc: Global, node: Node, first: &Syn, input: &[u8]) -> Part {
 
 // How both sides ended, what each left of its input, the most that their reads asked for, how long the ACK is, and
 // whether both hold the same, of so many endpoints.
-type Met = (
+type Meeting = (
     [Result<Ended, Broken>; 2],
     [usize; 2],
     [usize; 2],
@@ -119,7 +119,7 @@ type Met = (
 
 // The first side holds so many endpoints, and the other side the rest. Each is run over what the other wrote, and two
 // bytes behind it: B first over the SYN alone, for its ACK.
-fn met(alloc: Global, split: u16) -> Result<Met, Fail> {
+fn meeting(alloc: Global, split: u16) -> Result<Meeting, Fail> {
     let a = holding(alloc, 1, split.saturating_add(1))?;
     let b = holding(alloc, split.saturating_add(1), 257)?;
     let first = syn(alloc, a.table(), a.settings().cluster())?;
@@ -146,9 +146,9 @@ const WHOLE: [Result<Ended, Broken>; 2] = [Ok(Ended::Whole), Ok(Ended::Whole)];
 // A delta has 19 bytes and 16 states of 1,031; an ACK 10 beside its members, and a request 14.
 #[test]
 fn a_newcomer_takes_a_full_table(rt: HostRuntime) -> Result<(), Fail> {
-    let met = met(rt.alloc(), 1)?;
+    let shown = meeting(rt.alloc(), 1)?;
     assert_eq!(rt;
-        met,
+        shown,
         (
             WHOLE,
             [2, 2],
@@ -162,9 +162,9 @@ fn a_newcomer_takes_a_full_table(rt: HostRuntime) -> Result<(), Fail> {
 
 #[test]
 fn two_halves_make_a_full_table(rt: HostRuntime) -> Result<(), Fail> {
-    let met = met(rt.alloc(), 128)?;
+    let shown = meeting(rt.alloc(), 128)?;
     assert_eq!(rt;
-        met,
+        shown,
         (
             WHOLE,
             [2, 2],

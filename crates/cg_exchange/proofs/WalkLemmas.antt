@@ -22,7 +22,7 @@ use Rattle.cg_exchange.specs.Members.{endpoints_of_digests, endpoints_of_deltas}
 use Rattle.cg_exchange.specs.Taking.{outcome_of}
 use Rattle.cg_exchange.specs.Changes.{changed_by, row_by, outcome_by, row_changed}
 use Rattle.cg_exchange.specs.Answering.{request_by, requests_for, deltas_for}
-use Rattle.cg_exchange.specs.Walking.{from_owner, first_about, asked_by, sent_by}
+use Rattle.cg_exchange.specs.Walking.{from_owner, first_about, begin_before, next_of, behind_next, of_member, row_request, row_delta}
 
 -- the members from an owner on stand behind those before it
 pub from_point : {X : Type 0} (owner : X → ℕ) (k : ℕ) (xs : List X) (at : ℕ) → at ≤ length xs → IsPartitionPoint (λ x. nat_lt (owner x) k ≡ true) (λ x. nat_lt (owner x) k ≡ false) xs at → drop at xs ≡ from_owner owner k xs
@@ -157,7 +157,67 @@ module _ {X Y Z : Type 0} (key : X → ℕ) (owner : Y → ℕ) (f : X → Optio
   pub walk_end : (made all : List Z) (xs : List X) (rest : List Y) (i : ℕ) → length xs ≤ i → made ++ side_by_side key owner f (drop i xs) rest ≡ all → made ≡ all
   walk_end made all xs rest i le is = sym (append-nil made) ∙ sym (ap (λ its. made ++ side_by_side key owner f its rest) (drop_all i xs le)) ∙ is
 
--- ---- the two walks of an answer to a SYN
+-- ---- one walk over both lists, which takes what is about the least owner
+
+same_passes : (x k : ℕ) → k ≤ x → x ≤ k → (x == k) ≡ true
+same_passes x k le ge = grind (arith, nat_tests)
+
+module _ {X Y : Type 0} (key : X → ℕ) (owner : Y → ℕ) where
+  pub rise_behind : (xs : List X) (ys : List Y) → Rises (map key xs) → Rises (map key (behind_next key owner xs ys))
+  rise_behind [] ys h = h
+  rise_behind (x ∷ xs) ys h =
+      elim (begin_before owner (key x) ys) as (λ b. rise_past None (map key (cond b (x ∷ xs) xs)) ≡ true) [ true ↦ h | false ↦ rise_earlier None (key x) (map key xs) refl h ]
+
+  shorter_by : (x : X) (xs : List X) (y : Y) (ys : List Y) (b : Bool) → nat_lt (owner y) (key x) ≡ b → (c : Bool) → nat_lt (key x) (owner y) ≡ c
+      → length (cond b (x ∷ xs) xs) + length (cond c (y ∷ ys) ys) < length (x ∷ xs) + length (y ∷ ys)
+  shorter_by x xs y ys true e true d = absurd (omega (arith, ltb-true (owner y) (key x) e, ltb-true (key x) (owner y) d))
+  shorter_by x xs y ys true e false d = omega arith
+  shorter_by x xs y ys false e true d = omega arith
+  shorter_by x xs y ys false e false d = omega arith
+
+  pub walk_shorter : (xs : List X) (ys : List Y) → 0 < length xs + length ys → length (behind_next key owner xs ys) + length (behind_next owner key ys xs) < length xs + length ys
+  walk_shorter [] [] lt = absurd (omega (arith, lt))
+  walk_shorter [] (y ∷ ys) lt = omega arith
+  walk_shorter (x ∷ xs) [] lt = omega arith
+  walk_shorter (x ∷ xs) (y ∷ ys) lt = shorter_by x xs y ys (nat_lt (owner y) (key x)) refl (nat_lt (key x) (owner y)) refl
+
+module _ {X Y Z : Type 0} (key : X → ℕ) (owner : Y → ℕ) (f : X → Option Y → Option Z) where
+  -- a member that all keys are past is walked past
+  walked_behind : (n : ℕ) (xs : List X) (y : Y) (ys : List Y) → owner y ≤ n → rise_past (Some n) (map key xs) ≡ true → side_by_side key owner f xs (y ∷ ys) ≡ side_by_side key owner f xs ys
+  walked_behind n [] y ys le h = refl
+  walked_behind n (x ∷ xs) y ys le h =
+      let past = ltb-true n (key x) (first_of (nat_lt n (key x)) (rise_past (Some (key x)) (map key xs)) h) in
+      rw (is_less (owner y) (key x) (omega (arith, le, past))) refl
+
+  joined_by : (x : X) (xs : List X) (y : Y) (ys : List Y) → rise_past (Some (key x)) (map key xs) ≡ true → (b : Bool) → nat_lt (owner y) (key x) ≡ b → (c : Bool) → nat_lt (key x) (owner y) ≡ c
+      → side_by_side key owner f (x ∷ xs) (y ∷ ys) ≡ cons_option (of_member f (cond b None (Some x)) (cond c None (Some y))) (side_by_side key owner f (cond b (x ∷ xs) xs) (cond c (y ∷ ys) ys))
+  joined_by x xs y ys h true e true d = absurd (omega (arith, ltb-true (owner y) (key x) e, ltb-true (key x) (owner y) d))
+  joined_by x xs y ys h true e false d = rw e refl
+  joined_by x xs y ys h false e true d = rw (e, more_differs (owner y) (key x) (ltb-true (key x) (owner y) d)) refl
+  joined_by x xs y ys h false e false d =
+      let le = ltb-false (key x) (owner y) d in
+      rw (e, same_passes (owner y) (key x) (ltb-false (owner y) (key x) e) le) (ap (λ zs. cons_option (f x (Some y)) zs) (walked_behind (key x) xs y ys le h))
+
+  joined : (xs : List X) (ys : List Y) → Rises (map key xs)
+      → side_by_side key owner f xs ys ≡ cons_option (of_member f (next_of key owner xs ys) (next_of owner key ys xs)) (side_by_side key owner f (behind_next key owner xs ys) (behind_next owner key ys xs))
+  joined [] ys h = refl
+  joined (x ∷ xs) [] h = refl
+  joined (x ∷ xs) (y ∷ ys) h = joined_by x xs y ys h (nat_lt (owner y) (key x)) refl (nat_lt (key x) (owner y)) refl
+
+  -- one step of a walk over both lists
+  pub join_step : (made : List Z) (xs : List X) (ys : List Y) → Rises (map key xs)
+      → (made ++ option_to_list (of_member f (next_of key owner xs ys) (next_of owner key ys xs))) ++ side_by_side key owner f (behind_next key owner xs ys) (behind_next owner key ys xs)
+      ≡ made ++ side_by_side key owner f xs ys
+  join_step made xs ys h =
+      put_first key owner f (of_member f (next_of key owner xs ys) (next_of owner key ys xs)) made (side_by_side key owner f (behind_next key owner xs ys) (behind_next owner key ys xs))
+      ∙ ap (λ its. made ++ its) (sym (joined xs ys h))
+
+  -- its end
+  pub join_end : (made all : List Z) (xs : List X) (ys : List Y) → length xs ≡ 0 → made ++ side_by_side key owner f xs ys ≡ all → made ≡ all
+  join_end made all [] ys e is = sym (append-nil made) ∙ is
+  join_end made all (x ∷ xs) ys e is = absurd (omega (arith, e))
+
+-- ---- the two lists of an answer to a SYN
 
 pub same_test : (x k : ℕ) → (x == k) ≡ eq_by_cmp nat_cmp k x
 same_test x k = grind (arith, nat_tests)
@@ -170,9 +230,9 @@ row_found k (r ∷ rows) =
       | false ↦ row_found k rows
     ])
 
-pub requests_walked : (m : Entries) (digests : List Digest) → Rises (endpoints_of_digests digests) → side_by_side (λ d. d.endpoint) (λ r. r.0) asked_by digests (table.entries m) ≡ requests_for m digests
+pub requests_walked : (m : Entries) (digests : List Digest) → Rises (endpoints_of_digests digests) → side_by_side (λ d. d.endpoint) (λ r. r.0) row_request digests (table.entries m) ≡ requests_for m digests
 requests_walked m digests rise =
-    walked_is (λ d. d.endpoint) (λ r. r.0) asked_by digests (table.entries m) rise (rise_sorted (table.entries m) (table.entries_sorted m))
+    walked_is (λ d. d.endpoint) (λ r. r.0) row_request digests (table.entries m) rise (rise_sorted (table.entries m) (table.entries_sorted m))
     ∙ (λ i. filter_map (λ d. request_by d ((row_found d.endpoint (table.entries m) ∙ sym (table.get-entries m d.endpoint)) i)) digests)
 
 changed_at : (t : TableValue) (d : OwnerDelta) → changed_by t d (find (λ r. r.0 == d.endpoint) (table.entries t.entries)) ≡ change_of t d.endpoint d.delta
@@ -194,5 +254,5 @@ outcomes_walked t ds rise =
     walked_is (λ d. d.endpoint) (λ r. r.0) (outcome_by t) ds (table.entries t.entries) rise (rise_sorted (table.entries t.entries) (table.entries_sorted t.entries))
     ∙ (λ i. filter_map (λ (d : OwnerDelta). Some (record { endpoint = d.endpoint; took = (changed_at t d i).1 })) ds) ∙ all_some (outcome_of t) ds
 
-pub deltas_walked : (m : Entries) (digests : List Digest) → Rises (endpoints_of_digests digests) → side_by_side (λ r. r.0) (λ d. d.endpoint) sent_by (table.entries m) digests ≡ deltas_for m digests
-deltas_walked m digests rise = walked_is (λ r. r.0) (λ d. d.endpoint) sent_by (table.entries m) digests (rise_sorted (table.entries m) (table.entries_sorted m)) rise
+pub deltas_walked : (m : Entries) (digests : List Digest) → Rises (endpoints_of_digests digests) → side_by_side (λ r. r.0) (λ d. d.endpoint) row_delta (table.entries m) digests ≡ deltas_for m digests
+deltas_walked m digests rise = walked_is (λ r. r.0) (λ d. d.endpoint) row_delta (table.entries m) digests (rise_sorted (table.entries m) (table.entries_sorted m)) rise

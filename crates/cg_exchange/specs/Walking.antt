@@ -1,5 +1,5 @@
 -- Two lists whose owners rise, walked side by side.
-use Rattle.std.specs.Prelude.{ℕ, ◌==◌, nat_lt, List, [], ◌∷◌, Option, Some, None, if◌then◌else◌}
+use Rattle.std.specs.Prelude.{ℕ, Bool, false, ◌==◌, nat_lt, List, [], ◌∷◌, Option, Some, None, if◌then◌else◌}
 use Rattle.std.specs.Option.{option_map}
 use Rattle.cg_entry.specs.Values.{EntryValue}
 use Rattle.cg_table.specs.declared.digest.Digest.{Digest}
@@ -19,10 +19,31 @@ module _ {X : Type 0} (owner : X → ℕ) where
   first_about k [] = None
   first_about k (x ∷ xs) = if owner x == k then Some x else None
 
+  -- whether the first member is about an earlier owner
+  abbrev pub begin_before : ℕ → List X → Bool
+  begin_before k [] = false
+  begin_before k (x ∷ xs) = nat_lt (owner x) k
+
+module _ {X Y : Type 0} (key : X → ℕ) (owner : Y → ℕ) where
+  -- the first member, unless the first of the others is about an earlier owner
+  abbrev pub next_of : List X → List Y → Option X
+  next_of [] ys = None
+  next_of (x ∷ xs) ys = if begin_before owner (key x) ys then None else Some x
+
+  -- the members behind that one
+  abbrev pub behind_next : List X → List Y → List X
+  behind_next [] ys = []
+  behind_next (x ∷ xs) ys = if begin_before owner (key x) ys then x ∷ xs else xs
+
+-- what f gives of a member, if there is one
+abbrev pub of_member : {X Y Z : Type 0} → (X → Option Y → Option Z) → Option X → Option Y → Option Z
+of_member f None y = None
+of_member f (Some x) y = f x y
+
 -- what is asked of the sender of a digest, by the row of its endpoint
-abbrev pub asked_by : Digest → Option (ℕ × EntryValue) → Option RequestValue
-asked_by d row = request_by d (option_map (λ r. r.1) row)
+abbrev pub row_request : Digest → Option (ℕ × EntryValue) → Option RequestValue
+row_request d row = request_by d (option_map (λ r. r.1) row)
 
 -- what is sent of a row, by the digest that names its endpoint
-abbrev pub sent_by : ℕ × EntryValue → Option Digest → Option OwnerDelta
-sent_by row named = option_map (about row.0) (delta_by row.1 named)
+abbrev pub row_delta : ℕ × EntryValue → Option Digest → Option OwnerDelta
+row_delta row named = option_map (about row.0) (delta_by row.1 named)

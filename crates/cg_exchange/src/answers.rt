@@ -4,12 +4,12 @@ ghost use Rattle.std.specs.Prelude.{◌≡◌, IfOk, option_copied};
 ghost use Rattle.cg_types.specs.Answer.{Answers};
 ghost use Rattle.cg_types.specs.Rising.{Rises};
 ghost use Rattle.cg_exchange.specs.Members.{AreListed, endpoints_of_digests, endpoints_of_deltas};
-ghost use Rattle.cg_exchange.specs.Answering.{request_by as asked_of, delta_by as sent_of, requests_for as requests_of, deltas_for as deltas_of, answer_to_syn, syn_of};
-ghost use Rattle.cg_exchange.specs.Walking.{asked_by as asked_by_of, sent_by as sent_by_of};
+ghost use Rattle.cg_exchange.specs.Answering.{request_by, delta_by, requests_for as requests_of, deltas_for as deltas_of, answer_to_syn, syn_of};
+ghost use Rattle.cg_exchange.specs.Walking.{of_member, row_request, row_delta};
 
 use crate::ack::Ack;
 use crate::opening::Syn;
-use crate::owned::{first_about, from_owner};
+use crate::owned::next;
 use crate::owner_delta::OwnerDelta;
 use crate::request::Request;
 use cg_entry::{Delta, Entry};
@@ -19,8 +19,8 @@ use cg_types::{Cluster, Fault};
 use std::alloc::{AllocError, Global};
 
 // What is asked of the sender of a digest, by what is held of its endpoint.
-fn asked(digest: &Digest, held: Option<&Entry>) -> Option<Request>
-    ensures { result ≡ asked_of digest.now (option_copied held.entry) }
+fn request_of_digest(digest: &Digest, held: Option<&Entry>) -> Option<Request>
+    ensures { result ≡ request_by digest.now (option_copied held.entry) }
 {
     let Some(entry) = held else {
         return Request::new(digest.endpoint, digest.generation, 0);
@@ -35,8 +35,12 @@ fn asked(digest: &Digest, held: Option<&Entry>) -> Option<Request>
 }
 
 // What is sent of an entry, by the digest that names its endpoint, if there is one.
-fn sent(alloc: Global, entry: &Entry, named: Option<&Digest>) -> Result<Option<Delta>, AllocError>
-    ensures { IfOk result (λ d. d ≡ sent_of entry.now (option_copied named.entry)) }
+fn delta_of_entry(
+    alloc: Global,
+    entry: &Entry,
+    named: Option<&Digest>,
+) -> Result<Option<Delta>, AllocError>
+    ensures { IfOk result (λ d. d ≡ delta_by entry.now (option_copied named.entry)) }
 {
     let Some(digest) = named else {
         return entry.above(alloc, 0);
@@ -44,75 +48,87 @@ fn sent(alloc: Global, entry: &Entry, named: Option<&Digest>) -> Result<Option<D
     if digest.generation < entry.generation() {
         return entry.above(alloc, 0);
     }
-    if entry.generation() == digest.generation {
+    if entry.generation() == digest.generation && digest.newest < entry.newest() {
         return entry.above(alloc, digest.newest.get());
     }
     Ok(None)
 }
 
 // What is asked of the sender of a digest, by the row of its endpoint.
-fn asked_by(digest: &Digest, row: Option<&Row<Entry>>) -> Option<Request>
-    ensures { result ≡ asked_by_of digest.now (option_copied row.entry) }
+fn request_of_row(digest: &Digest, row: Option<&Row<Entry>>) -> Option<Request>
+    ensures { result ≡ row_request digest.now (option_copied row.entry) }
 {
     match row {
-        Some(row) => asked(digest, Some(row.value())),
-        None => asked(digest, None),
+        Some(row) => request_of_digest(digest, Some(row.value())),
+        None => request_of_digest(digest, None),
     }
 }
 
 // What is sent of a row, by the digest that names its endpoint, if there is one.
-fn sent_by(
+fn delta_of_row(
     alloc: Global,
     row: &Row<Entry>,
     named: Option<&Digest>,
 ) -> Result<Option<OwnerDelta>, AllocError>
-    ensures { IfOk result (λ d. d ≡ sent_by_of row.now (option_copied named.entry)) }
+    ensures { IfOk result (λ d. d ≡ row_delta row.now (option_copied named.entry)) }
 {
     let endpoint = row.endpoint();
-    match sent(alloc, row.value(), named)? {
+    match delta_of_entry(alloc, row.value(), named)? {
         Some(delta) => Ok(Some(OwnerDelta { endpoint, delta })),
         None => Ok(None),
     }
 }
 
-// In one walk over digests and rows, since both rise.
-fn requests_for(
-    alloc: Global,
-    table: &Table,
-    digests: &[Digest],
-) -> Result<Vec<Request>, AllocError>
-    requires { Rises (endpoints_of_digests digests.now) }
-    ensures { IfOk result (λ v. v.items ≡ requests_of table.now.entries digests.now) }
+// What is asked of the sender of a digest, if there is one.
+fn request_of_next(digest: Option<&Digest>, row: Option<&Row<Entry>>) -> Option<Request>
+    ensures { result ≡ of_member row_request (option_copied digest.entry) (option_copied row.entry) }
 {
-    let mut requests = Vec::new(alloc);
-    let mut rows = table.owners();
-    for digest in digests {
-        rows = from_owner(rows, digest.endpoint);
-        let request = asked_by(digest, first_about(rows, digest.endpoint));
-        push_some(&mut requests, request)?;
+    match digest {
+        Some(digest) => request_of_row(digest, row),
+        None => None,
     }
-    Ok(requests)
 }
 
-// In one walk over rows and digests, since both rise.
-fn deltas_for(
+// What is sent of a row, if there is one.
+fn delta_of_next(
+    alloc: Global,
+    row: Option<&Row<Entry>>,
+    digest: Option<&Digest>,
+) -> Result<Option<OwnerDelta>, AllocError>
+    ensures { IfOk result (λ d. d ≡ of_member row_delta (option_copied row.entry) (option_copied digest.entry)) }
+{
+    match row {
+        Some(row) => delta_of_row(alloc, row, digest),
+        None => Ok(None),
+    }
+}
+
+// What is asked for and what is sent, in one walk over digests and rows, since both rise.
+fn lists_for(
     alloc: Global,
     table: &Table,
     digests: &[Digest],
-) -> Result<Vec<OwnerDelta>, AllocError>
+) -> Result<(Vec<Request>, Vec<OwnerDelta>), AllocError>
     requires { Rises (endpoints_of_digests digests.now) }
-    ensures value { IfOk result (λ v. v.items ≡ deltas_of table.now.entries digests.now) }
-    ensures listed { IfOk result (λ v. AreListed (endpoints_of_deltas v.items)) }
+    ensures requests { IfOk result (λ x. x.0.items ≡ requests_of table.now.entries digests.now) }
+    ensures deltas { IfOk result (λ x. x.1.items ≡ deltas_of table.now.entries digests.now) }
+    ensures listed { IfOk result (λ x. AreListed (endpoints_of_deltas x.1.items)) }
 {
-    let owners = table.owners();
+    let mut requests = Vec::new(alloc);
     let mut deltas = Vec::new(alloc);
+    let mut rows = table.owners();
     let mut named = digests;
-    for row in owners {
-        named = from_owner(named, row.endpoint());
-        let delta = sent_by(alloc, row, first_about(named, row.endpoint()))?;
+    while !rows.is_empty() || !named.is_empty() {
+        let (row, rows_behind) = next(rows, named);
+        let (digest, named_behind) = next(named, rows);
+        let request = request_of_next(digest, row);
+        push_some(&mut requests, request)?;
+        let delta = delta_of_next(alloc, row, digest)?;
         push_some(&mut deltas, delta)?;
+        rows = rows_behind;
+        named = named_behind;
     }
-    Ok(deltas)
+    Ok((requests, deltas))
 }
 
 /// What the member that holds `table` and is in `cluster` opens an exchange with: a digest of each entry, rising by
@@ -136,7 +152,6 @@ pub fn answer_syn(alloc: Global, table: &Table, cluster: &Cluster, syn: &Syn) ->
     if cluster != syn.cluster() {
         return Err(Fault::OtherCluster);
     }
-    let requests = requests_for(alloc, table, syn.digests())?;
-    let deltas = deltas_for(alloc, table, syn.digests())?;
+    let (requests, deltas) = lists_for(alloc, table, syn.digests())?;
     Ok(Ack::of_parts(requests, deltas))
 }

@@ -3,7 +3,7 @@
 ghost use Rattle.std.specs.Prelude.{◌≡◌, ℕ, None, map, option_copied};
 ghost use Rattle.cg_types.specs.Rising.{Rises, rise_past};
 ghost use Rattle.cg_exchange.specs.Members.{is_member_list};
-ghost use Rattle.cg_exchange.specs.Walking.{from_owner as from_owner_of, first_about as first_about_of};
+ghost use Rattle.cg_exchange.specs.Walking.{from_owner as from_owner_of, first_about as first_about_of, begin_before as begin_before_of, next_of, behind_next};
 
 use crate::owner_delta::OwnerDelta;
 use crate::request::Request;
@@ -66,8 +66,8 @@ pub(crate) fn are_listed<M: Owned>(members: &[M]) -> bool
     members.len() <= MEMBER_LIMIT && owners_rise(members)
 }
 
-/// The members from an owner on. It looks at those that it leaves out, and at one more.
-pub(crate) fn from_owner<M: Owned>(members: &[M], owner: Endpoint) -> &[M]
+// The members from an owner on. It looks at those that it leaves out, and at one more.
+fn from_owner<M: Owned>(members: &[M], owner: Endpoint) -> &[M]
     ensures { result.now ≡ from_owner_of M.owner_of owner members.now }
 {
     for i in 0..members.len() {
@@ -78,7 +78,7 @@ pub(crate) fn from_owner<M: Owned>(members: &[M], owner: Endpoint) -> &[M]
     &members[members.len()..]
 }
 
-/// As `from_owner`, of members whose owners rise. It looks at the first two, and then halves.
+/// The members from an owner on, where owners rise. It looks at the first two, and then halves.
 pub(crate) fn rising_from<M: Owned>(members: &[M], owner: Endpoint) -> &[M]
     requires { Rises (map M.owner_of members.now) }
     ensures { result.now ≡ from_owner_of M.owner_of owner members.now }
@@ -96,5 +96,36 @@ pub(crate) fn first_about<M: Owned>(members: &[M], owner: Endpoint) -> Option<&M
     match members.first() {
         Some(first) if first.owner() == owner => Some(first),
         _ => None,
+    }
+}
+
+// Whether the first of the members is about an earlier owner.
+fn begin_before<M: Owned>(members: &[M], owner: Endpoint) -> bool
+    ensures { result ≡ begin_before_of M.owner_of owner members.now }
+{
+    match members.first() {
+        Some(first) => first.owner() < owner,
+        None => false,
+    }
+}
+
+/// The first member and those behind it, unless the first of the others is about an earlier owner: then no member, and
+/// all of them.
+pub(crate) fn next<'a, M: Owned, N: Owned>(
+    members: &'a [M],
+    others: &[N],
+) -> (Option<&'a M>, &'a [M])
+    ensures first { option_copied result.0 ≡ next_of M.owner_of N.owner_of members.now others.now }
+    ensures behind { result.1.now ≡ behind_next M.owner_of N.owner_of members.now others.now }
+{
+    match members.split_first() {
+        Some((first, behind)) => {
+            if begin_before(others, first.owner()) {
+                (None, members)
+            } else {
+                (Some(first), behind)
+            }
+        }
+        None => (None, members),
     }
 }

@@ -5,7 +5,7 @@ ghost use Rattle.std.specs.List.{filter_map};
 ghost use Rattle.cg_types.specs.Answer.{Answers};
 ghost use Rattle.cg_types.specs.Rising.{Rises};
 ghost use Rattle.cg_exchange.specs.Members.{endpoints_of_deltas};
-ghost use Rattle.cg_exchange.specs.Taking.{table_after, outcome_of, outcomes_of, held_after as held_after_of, grant_of as granted_of, delta_granted as delta_granted_of, deltas_granted as deltas_granted_of, taking_ack, taking_ack2};
+ghost use Rattle.cg_exchange.specs.Taking.{table_after, outcome_of, outcomes_of, held_after as held_after_of, grant_of, delta_granted as delta_granted_of, deltas_granted as deltas_granted_of, taking_ack, taking_ack2};
 ghost use Rattle.cg_exchange.specs.Changes.{changed_by as changed_by_of, row_changed, endpoints_of_outcomes};
 
 use crate::ack::Ack;
@@ -90,12 +90,8 @@ fn take_deltas(
 }
 
 // What a request is sent of an entry, or of none.
-fn granted(
-    alloc: Global,
-    request: Request,
-    held: Option<&Entry>,
-) -> Result<Option<Delta>, AllocError>
-    ensures { IfOk result (λ d. d ≡ granted_of request (option_copied held.entry)) }
+fn grant(alloc: Global, request: Request, held: Option<&Entry>) -> Result<Option<Delta>, AllocError>
+    ensures { IfOk result (λ d. d ≡ grant_of request (option_copied held.entry)) }
 {
     let Some(entry) = held else {
         return Ok(None);
@@ -117,7 +113,7 @@ fn delta_granted(
     ensures { IfOk result (λ d. d ≡ delta_granted_of table.now.entries request) }
 {
     let endpoint = request.endpoint();
-    match granted(alloc, request, table.get(endpoint))? {
+    match grant(alloc, request, table.get(endpoint))? {
         Some(delta) => Ok(Some(OwnerDelta { endpoint, delta })),
         None => Ok(None),
     }

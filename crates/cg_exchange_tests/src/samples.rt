@@ -28,7 +28,7 @@ pub(crate) fn delta(alloc: Global, owner: u16, of: (u32, u32, u32)) -> Result<Ow
 }
 
 // What a member holds that started at a generation and met nobody.
-pub(crate) fn alone(alloc: Global, owner: u16, at: u32) -> Result<Table, Fail> {
+pub(crate) fn table_alone(alloc: Global, owner: u16, at: u32) -> Result<Table, Fail> {
     Ok(Table::new(alloc, endpoint(owner), entry_at_start(alloc, at))?)
 }
 
@@ -52,7 +52,7 @@ pub(crate) fn ack2_of(deltas: Vec<OwnerDelta>) -> Result<Ack2, Fail> {
 
 // What B at generation 5, alone in its table and in the cluster c1, answers.
 pub(crate) fn answer_of_b(alloc: Global, syn: &Syn) -> Result<Result<Ack, Fault>, Fail> {
-    let table = alone(alloc, B, 5)?;
+    let table = table_alone(alloc, B, 5)?;
     let cluster = Cluster::with(alloc, "c1", 1)?;
     Ok(answer_syn(alloc, &table, &cluster, syn))
 }

@@ -1,6 +1,6 @@
 //! What an ACK and an ACK2 make of a table.
 
-use crate::samples::{ack_of, ack2_of, alone, answer_of_b, delta, digest, request, syn_of};
+use crate::samples::{ack_of, ack2_of, answer_of_b, delta, digest, request, syn_of, table_alone};
 use cg_exchange::{Ack, Ack2, Outcome, OwnerDelta, Syn, syn, take_ack, take_ack2};
 use cg_samples::{A, B, C, endpoint};
 use cg_table::{Table, Took};
@@ -20,7 +20,7 @@ fn after(alloc: Global, table: &Table, ack2: &Ack2) -> Result<Table, Fail> {
 
 // What an owner's table is after one delta about A.
 fn with_a(alloc: Global, owner: u16, of: (u32, u32, u32)) -> Result<Table, Fail> {
-    let table = alone(alloc, owner, 5)?;
+    let table = table_alone(alloc, owner, 5)?;
     let ack2 = one(alloc, A, of)?;
     after(alloc, &table, &ack2)
 }
@@ -77,7 +77,7 @@ fn opening(alloc: Global, table: &Table) -> Result<Syn, Fail> {
 
 #[test]
 fn first_exchange_opens(rt: HostRuntime) -> Result<(), Fail> {
-    let opening = opening(rt.alloc(), &alone(rt.alloc(), A, 9)?)?;
+    let opening = opening(rt.alloc(), &table_alone(rt.alloc(), A, 9)?)?;
     assert_eq!(rt; opening, first_syn(rt.alloc())?);
     Ok(())
 }
@@ -97,7 +97,7 @@ fn sent_for(alloc: Global, table: &Table, ack: &Ack) -> Result<Ack2, Fail> {
 
 #[test]
 fn first_exchange_sends_what_is_asked_for(rt: HostRuntime) -> Result<(), Fail> {
-    let a = alone(rt.alloc(), A, 9)?;
+    let a = table_alone(rt.alloc(), A, 9)?;
     let ack2 = sent_for(rt.alloc(), &a, &first_ack(rt.alloc())?)?;
     assert_eq!(rt; ack2, first_ack2(rt.alloc())?);
     Ok(())
@@ -106,7 +106,7 @@ fn first_exchange_sends_what_is_asked_for(rt: HostRuntime) -> Result<(), Fail> {
 #[test]
 fn first_exchange_is_taken(rt: HostRuntime) -> Result<(), Fail> {
     let (endpoint, took) = (endpoint(B), Took::Taken);
-    let a = alone(rt.alloc(), A, 9)?;
+    let a = table_alone(rt.alloc(), A, 9)?;
     let (a, _ack2, outcomes) = take_ack(rt.alloc(), &a, &first_ack(rt.alloc())?)?;
     let shown = (became(&outcomes), held(&a, endpoint));
     assert_eq!(rt; shown, (Some(Outcome { endpoint, took }), Some((5, 1))));
@@ -116,7 +116,7 @@ fn first_exchange_is_taken(rt: HostRuntime) -> Result<(), Fail> {
 #[test]
 fn first_exchange_ends(rt: HostRuntime) -> Result<(), Fail> {
     let (endpoint, took) = (endpoint(A), Took::Taken);
-    let b = alone(rt.alloc(), B, 5)?;
+    let b = table_alone(rt.alloc(), B, 5)?;
     let (b, outcomes) = take_ack2(rt.alloc(), &b, &first_ack2(rt.alloc())?)?;
     let shown = (became(&outcomes), held(&b, endpoint));
     assert_eq!(rt; shown, (Some(Outcome { endpoint, took }), Some((9, 1))));
@@ -125,7 +125,7 @@ fn first_exchange_ends(rt: HostRuntime) -> Result<(), Fail> {
 
 // A's table after B's ACK, and the ACK2 that it sends.
 fn a_answered(alloc: Global) -> Result<(Table, Ack2), Fail> {
-    let a = alone(alloc, A, 9)?;
+    let a = table_alone(alloc, A, 9)?;
     let (a, ack2, _outcomes) = take_ack(alloc, &a, &first_ack(alloc)?)?;
     Ok((a, ack2))
 }
@@ -133,7 +133,7 @@ fn a_answered(alloc: Global) -> Result<(Table, Ack2), Fail> {
 #[test]
 fn first_exchange_equals_the_tables(rt: HostRuntime) -> Result<(), Fail> {
     let (a, ack2) = a_answered(rt.alloc())?;
-    let b = after(rt.alloc(), &alone(rt.alloc(), B, 5)?, &ack2)?;
+    let b = after(rt.alloc(), &table_alone(rt.alloc(), B, 5)?, &ack2)?;
     assert!(rt; a.same_entries(&b));
     Ok(())
 }
@@ -170,7 +170,7 @@ fn request_by_version(rt: HostRuntime) -> Result<(), Fail> {
 
 #[test]
 fn request_of_what_is_not_held(rt: HostRuntime) -> Result<(), Fail> {
-    let table = alone(rt.alloc(), C, 5)?;
+    let table = table_alone(rt.alloc(), C, 5)?;
     let ack2 = sent_for(rt.alloc(), &table, &asks(rt.alloc(), A, 9, 2)?)?;
     assert!(rt; ack2.deltas().is_empty());
     Ok(())
@@ -189,7 +189,7 @@ fn others(alloc: Global) -> Result<Ack2, Fail> {
 
 // B with all of these.
 fn crowded(alloc: Global) -> Result<Table, Fail> {
-    let table = alone(alloc, B, 5)?;
+    let table = table_alone(alloc, B, 5)?;
     let ack2 = others(alloc)?;
     after(alloc, &table, &ack2)
 }
@@ -239,7 +239,7 @@ fn a_full_table_takes_what_needs_no_room(rt: HostRuntime) -> Result<(), Fail> {
 #[test]
 fn a_delta_about_the_receiver(rt: HostRuntime) -> Result<(), Fail> {
     let (endpoint, took) = (endpoint(B), Took::Own);
-    let table = alone(rt.alloc(), B, 5)?;
+    let table = table_alone(rt.alloc(), B, 5)?;
     let (after, outcomes) = take_ack2(rt.alloc(), &table, &one(rt.alloc(), B, (9, 0, 7))?)?;
     let shown = (became(&outcomes), after.same_entries(&table));
     assert_eq!(rt; shown, (Some(Outcome { endpoint, took }), true));
@@ -261,7 +261,7 @@ fn sent_of_itself(
 // Of B at generation 5: the generation and the version that are asked for, and what is sent.
 #[test]
 fn a_request_about_the_receiver(rt: HostRuntime) -> Result<(), Fail> {
-    let table = alone(rt.alloc(), B, 5)?;
+    let table = table_alone(rt.alloc(), B, 5)?;
     for (at, version, sent) in [
         (4, 7, Some((5, 0, 1))),
         (5, 0, Some((5, 0, 1))),
@@ -296,7 +296,7 @@ fn asked_and_sent(alloc: Global) -> Result<Ack, Fail> {
 
 #[test]
 fn deltas_are_taken_first(rt: HostRuntime) -> Result<(), Fail> {
-    let table = alone(rt.alloc(), B, 5)?;
+    let table = table_alone(rt.alloc(), B, 5)?;
     let ack = asked_and_sent(rt.alloc())?;
     let ack2 = sent_for(rt.alloc(), &table, &ack)?;
     assert_eq!(rt; only(&ack2), Some((9, 0, 4)));
