@@ -4,6 +4,7 @@ ghost use Rattle.std.specs.Prelude.{◌≡◌, ◌++◌, OnOk, string_bytes};
 ghost use Rattle.cg_printed.specs.Printed.{started_line, version_line, message_line, round_line, outcome_line, outcome_lines, peer_word};
 ghost use Rattle.std.specs.List.{flat_map};
 
+use crate::parts::{add_number, add_peer};
 use cg_exchange::{Kind, Outcome};
 use cg_types::{Endpoint, Generation, Version};
 use std::alloc::AllocError;
@@ -27,8 +28,9 @@ pub fn add_started(
 pub fn add_version(text: &mut String, version: Version) -> Result<(), AllocError>
     ensures { OnOk result (string_bytes text.new ≡ string_bytes text.old ++ version_line version) }
 {
-    let version = version.get();
-    writeln!(text, "version {version}")
+    text.push_str("version ")?;
+    add_number(text, u64::from(version.get()))?;
+    text.push_str("\n")
 }
 
 /// Adds `message 1 syn`: a message of a number and a kind was sent.
@@ -36,16 +38,11 @@ pub fn add_version(text: &mut String, version: Version) -> Result<(), AllocError
 pub fn add_message(text: &mut String, number: u64, kind: Kind) -> Result<(), AllocError>
     ensures { OnOk result (string_bytes text.new ≡ string_bytes text.old ++ message_line number kind) }
 {
-    let name = kind.name();
-    writeln!(text, "message {number} {name}")
-}
-
-// Adds an endpoint behind a space.
-#[tactic(auto, unfolding(crate::specs::Printed::peer_word))]
-fn add_peer(text: &mut String, peer: Endpoint) -> Result<(), AllocError>
-    ensures { OnOk result (string_bytes text.new ≡ string_bytes text.old ++ peer_word peer) }
-{
-    write!(text, " {peer}")
+    text.push_str("message ")?;
+    add_number(text, number)?;
+    text.push_str(" ")?;
+    text.push_str(kind.name())?;
+    text.push_str("\n")
 }
 
 fn add_peers(text: &mut String, peers: &[Endpoint]) -> Result<(), AllocError>
@@ -68,13 +65,13 @@ pub fn add_round(text: &mut String, peers: &[Endpoint]) -> Result<(), AllocError
 }
 
 // Adds what became of the delta about an endpoint.
-#[tactic(auto, unfolding(crate::specs::Printed::outcome_line))]
+#[tactic(auto, unfolding(crate::specs::Printed::outcome_line, crate::specs::Printed::peer_word))]
 fn add_outcome(text: &mut String, outcome: Outcome) -> Result<(), AllocError>
     ensures { OnOk result (string_bytes text.new ≡ string_bytes text.old ++ outcome_line outcome) }
 {
-    let word = outcome.took.name();
-    let endpoint = outcome.endpoint;
-    writeln!(text, "{word} {endpoint}")
+    text.push_str(outcome.took.name())?;
+    add_peer(text, outcome.endpoint)?;
+    text.push_str("\n")
 }
 
 /// Adds a line for each delta of a message, as `took 10.0.0.1:7000`: `took`, `old`, `gap` or `own`, and the endpoint that

@@ -5,6 +5,7 @@ ghost use Rattle.std.specs.List.{flat_map};
 ghost use Rattle.std.specs.FinMap as map;
 ghost use Rattle.cg_printed.specs.Printed.{state_line, owner_line, generation_line, heartbeat_line, entry_lines, gossipinfo, digest_line, digest_lines, position_line, ring_lines, endpoint_line, replica_lines};
 
+use crate::parts::add_number_word;
 use cg_entry::{Entry, State};
 use cg_map::Row;
 use cg_table::Table;
@@ -91,7 +92,10 @@ fn add_digest(text: &mut String, row: &Row<Entry>) -> Result<(), AllocError>
     let endpoint = row.endpoint();
     let generation = row.value().generation().get();
     let newest = row.value().newest().get();
-    writeln!(text, "{endpoint} {generation} {newest}")
+    write!(text, "{endpoint}")?;
+    add_number_word(text, u64::from(generation))?;
+    add_number_word(text, u64::from(newest))?;
+    text.push_str("\n")
 }
 
 /// Adds a line for each entry of a table, rising by endpoint: the endpoint, its generation and its newest version.

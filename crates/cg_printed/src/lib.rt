@@ -7,6 +7,7 @@
 
 mod done;
 mod held;
+mod parts;
 mod runs;
 
 pub use done::{add_message, add_outcomes, add_round, add_started, add_version};

@@ -1,12 +1,13 @@
 //! A script as far as it was read.
 
-ghost use Rattle.std.specs.Prelude.{◌≡◌, OnOk, IfOk, string_bytes};
+ghost use Rattle.std.specs.Prelude.{◌≡◌, ◌++◌, OnOk, IfOk, string_bytes};
 ghost use Rattle.std.specs.FinMap as map;
+ghost use Rattle.cg_types.specs.Fault.{fault_text};
 ghost use Rattle.cg_world.specs.World.{act as act_of};
 ghost use Rattle.cg_world.specs.Acting.{showing};
 ghost use Rattle.cg_sim.specs.Script.{first_play, action_lines, view_lines, after_line, line_text, text_of, world_after};
 
-use crate::printing::{add_shown, new_text, node_text};
+use crate::printing::{add_shown, add_view};
 use cg_script::{Line, View, read_line, settings_with};
 use cg_types::{Endpoint, Fault};
 use cg_world::{Action, World};
@@ -19,29 +20,46 @@ pub(crate) struct Play {
     pub is_begun: bool,
 }
 
-// Does an action, and tells what that prints.
-fn act(alloc: Global, world: &mut World, action: &Action) -> Result<String, AllocError>
-    ensures text { IfOk result (λ text. string_bytes text ≡ action_lines action.now (showing world.old action.now)) }
+// Adds the line of a fault.
+fn add_fault(alloc: Global, text: &mut String, fault: Fault) -> Result<(), AllocError>
+    ensures { OnOk result (string_bytes text.new ≡ string_bytes text.old ++ fault_text fault) }
+{
+    let line = fault.line(alloc)?;
+    text.push_str(&line)
+}
+
+// Does an action, and adds what that prints.
+fn act(
+    alloc: Global,
+    world: &mut World,
+    text: &mut String,
+    action: &Action,
+) -> Result<(), AllocError>
+    ensures text { OnOk result (string_bytes text.new
+        ≡ string_bytes text.old ++ action_lines action.now (showing world.old action.now)) }
     ensures after { OnOk result (world.new ≡ act_of world.old action.now) }
 {
     match world.act(alloc, action) {
-        Ok(shown) => {
-            let mut text = new_text(alloc)?;
-            add_shown(&mut text, action, &shown)?;
-            Ok(text)
-        }
+        Ok(shown) => add_shown(text, action, &shown),
         Err(Fault::OutOfMemory) => Err(AllocError),
-        Err(fault) => fault.line(alloc),
+        Err(fault) => add_fault(alloc, text, fault),
     }
 }
 
-// What is printed of a node.
-fn show(alloc: Global, world: &World, node: Endpoint, view: View) -> Result<String, AllocError>
-    ensures { IfOk result (λ text. string_bytes text ≡ view_lines (map.get world.now.nodes node) view) }
+// Adds what is printed of a node.
+fn show(
+    alloc: Global,
+    world: &World,
+    text: &mut String,
+    node: Endpoint,
+    view: View,
+) -> Result<(), AllocError>
+    ensures { OnOk result (string_bytes text.new
+        ≡ string_bytes text.old ++ view_lines (map.get world.now.nodes node) view) }
 {
     match world.node(node) {
-        Some(node) => node_text(alloc, node, view),
-        None => Fault::NoSuchNode.line(alloc),
+        Some(node) => add_view(alloc, text, node, view),
+        None => add_fault(alloc, text, Fault::NoSuchNode),
     }
 }
 
@@ -59,37 +77,42 @@ impl Play {
         })
     }
 
-    // Does what a line asks for, and tells what that prints.
-    fn ask(&mut self, alloc: Global, line: Line) -> Result<String, AllocError>
-        ensures text { IfOk result (λ text. string_bytes text ≡ text_of self.old (Ok line)) }
+    // Does what a line asks for, and adds what that prints.
+    fn ask(&mut self, alloc: Global, text: &mut String, line: Line) -> Result<(), AllocError>
+        ensures text { OnOk result (string_bytes text.new ≡ string_bytes text.old ++ text_of self.old (Ok line)) }
         ensures world { OnOk result (self.new.world ≡ world_after self.old (Ok line)) }
         ensures begun { self.new.is_begun ≡ self.old.is_begun }
     {
         match line {
             Line::Seeds(settings) => {
                 if self.is_begun {
-                    return Fault::BadText.line(alloc);
+                    return add_fault(alloc, text, Fault::BadText);
                 }
                 self.world = World::new(alloc, settings);
-                Ok(String::new(alloc))
+                Ok(())
             }
-            Line::Act(action) => act(alloc, &mut self.world, &action),
-            Line::Show(node, view) => show(alloc, &self.world, node, view),
+            Line::Act(action) => act(alloc, &mut self.world, text, &action),
+            Line::Show(node, view) => show(alloc, &self.world, text, node, view),
         }
     }
 
-    /// Does a line, and tells what it prints. `AllocError` where memory runs out.
+    /// Does a line, and adds what it prints. `AllocError` where memory runs out.
     #[tactic(auto, unfolding(crate::specs::Script::line_text, crate::specs::Script::after_line))]
-    pub(crate) fn line(&mut self, alloc: Global, line: &[u8]) -> Result<String, AllocError>
-        ensures text { IfOk result (λ text. string_bytes text ≡ line_text self.old line.now) }
+    pub(crate) fn line(
+        &mut self,
+        alloc: Global,
+        text: &mut String,
+        line: &[u8],
+    ) -> Result<(), AllocError>
+        ensures text { OnOk result (string_bytes text.new ≡ string_bytes text.old ++ line_text self.old line.now) }
         ensures after { OnOk result (self.new ≡ after_line self.old line.now) }
     {
-        let text = match read_line(alloc, line) {
-            Ok(line) => self.ask(alloc, line)?,
+        match read_line(alloc, line) {
+            Ok(line) => self.ask(alloc, text, line)?,
             Err(Fault::OutOfMemory) => return Err(AllocError),
-            Err(fault) => fault.line(alloc)?,
-        };
+            Err(fault) => add_fault(alloc, text, fault)?,
+        }
         self.is_begun = true;
-        Ok(text)
+        Ok(())
     }
 }

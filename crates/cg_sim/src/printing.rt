@@ -1,6 +1,6 @@
 //! What actions show, and what is shown of nodes.
 
-ghost use Rattle.std.specs.Prelude.{◌≡◌, [], ◌++◌, OnOk, IfOk, string_bytes, option_map};
+ghost use Rattle.std.specs.Prelude.{◌≡◌, ◌++◌, OnOk, string_bytes, option_map};
 ghost use Rattle.cg_steps.specs.Step.{message_of};
 ghost use Rattle.cg_exchange.specs.Kind.{kind_of};
 ghost use Rattle.cg_sim.specs.Script.{reply_lines, sent_lines, answer_lines, shown_lines, node_lines};
@@ -14,16 +14,6 @@ use cg_printed::{
 use cg_script::View;
 use cg_world::{Action, Shown};
 use std::alloc::{AllocError, Global};
-
-// Room for what most lines print, in bytes: a text that grows to them little by little is moved again and again.
-const ROOM: usize = 1000;
-
-/// An empty text, with room for what most lines print.
-pub(crate) fn new_text(alloc: Global) -> Result<String, AllocError>
-    ensures { IfOk result (λ text. string_bytes text ≡ []) }
-{
-    String::with_capacity(alloc, ROOM)
-}
 
 // Adds what a node answered, but for the message that it sends.
 fn add_reply(text: &mut String, reply: &Reply) -> Result<(), AllocError>
@@ -85,18 +75,21 @@ pub(crate) fn add_shown(text: &mut String, action: &Action, shown: &Shown) -> Re
     }
 }
 
-/// What is shown of a node.
-pub(crate) fn node_text(alloc: Global, node: &Node, view: View) -> Result<String, AllocError>
-    ensures { IfOk result (λ text. string_bytes text ≡ node_lines node.now view) }
+/// Adds what is shown of a node.
+pub(crate) fn add_view(
+    alloc: Global,
+    text: &mut String,
+    node: &Node,
+    view: View,
+) -> Result<(), AllocError>
+    ensures { OnOk result (string_bytes text.new ≡ string_bytes text.old ++ node_lines node.now view) }
 {
-    let mut text = new_text(alloc)?;
     match view {
-        View::Gossipinfo => add_gossipinfo(&mut text, node.table())?,
-        View::Ring => add_ring(&mut text, node.ring())?,
-        View::Digests => add_digests(&mut text, node.table())?,
+        View::Gossipinfo => add_gossipinfo(text, node.table()),
+        View::Ring => add_ring(text, node.ring()),
+        View::Digests => add_digests(text, node.table()),
         View::Replicas { token, rf } => {
-            add_replicas(alloc, &mut text, node.ring(), token, rf as usize)?
+            add_replicas(alloc, text, node.ring(), token, rf as usize)
         }
     }
-    Ok(text)
 }

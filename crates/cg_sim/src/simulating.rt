@@ -21,6 +21,7 @@ use std::io::{Read, Write};
 fn tell_last<W: Write>(
     alloc: Global,
     play: &mut Play,
+    text: &mut String,
     writer: &mut Counted<W>,
     line: &[u8],
 ) -> Result<(), Fault>
@@ -34,7 +35,7 @@ fn tell_last<W: Write>(
     if line.is_empty() {
         return Ok(());
     }
-    tell_line(alloc, play, writer, line)
+    tell_line(alloc, play, text, writer, line)
 }
 
 // Does and tells each line of a script, of which nothing was read.
@@ -42,6 +43,7 @@ fn tell_pieces<R: Read, W: Write>(
     alloc: Global,
     play: &mut Play,
     front: &mut Vec<u8>,
+    text: &mut String,
     reader: &mut Counted<R>,
     writer: &mut Counted<W>,
 ) -> Result<(), Fault>
@@ -60,8 +62,8 @@ fn tell_pieces<R: Read, W: Write>(
     let mut piece = [0u8; 4096];
     for _ in 0..MOST_READS {
         match reader.read(&mut piece) {
-            Ok(0) => return tell_last(alloc, play, writer, front),
-            Ok(n) => match tell_piece(alloc, play, front, writer, &piece[..n]) {
+            Ok(0) => return tell_last(alloc, play, text, writer, front),
+            Ok(n) => match tell_piece(alloc, play, front, text, writer, &piece[..n]) {
                 Ok(()) => {}
                 Err(fault) => return Err(fault),
             },
@@ -91,7 +93,8 @@ fn tell_script<R: Read, W: Write>(
         return Err(Fault::OutOfMemory);
     };
     let mut front = Vec::new(alloc);
-    tell_pieces(alloc, &mut play, &mut front, reader, writer)
+    let mut text = String::new(alloc);
+    tell_pieces(alloc, &mut play, &mut front, &mut text, reader, writer)
 }
 
 // Writes a line, whether or not the writer fails.
@@ -151,7 +154,7 @@ fn sim_links<R: Read, W: Write>(
 /// `TableFull`, `NoSuchMessage`, `NoSuchNode` or `VersionsSpent`; the script goes on. The status is 0 at the script's
 /// end. It is 1 after `fault 1 OutOfMemory`, where memory runs out; after `fault 14 ReadFault`, where a read fails or
 /// 4,294,967,295 reads were made; and where the writer fails or takes no byte, which leaves a front of the text.
-/// What a script takes of memory is its world (nodes and messages), its longest line, and that line's text.
+/// What a script takes of memory is its world (nodes and messages), its longest line, and the longest text of a line.
 pub fn sim<R: Read, W: Write>(alloc: Global, reader: &mut Counted<R>, writer: &mut Counted<W>) -> u8
     // Which text is due, and how much of it was written.
     ensures played { Simulates

@@ -32,10 +32,11 @@ pub(crate) fn write_text<W: Write>(writer: &mut Counted<W>, text: &[u8]) -> Resu
     }
 }
 
-/// Does a line, and writes its text.
+/// Does a line, and writes its text, which `text` then holds.
 pub(crate) fn tell_line<W: Write>(
     alloc: Global,
     play: &mut Play,
+    text: &mut String,
     writer: &mut Counted<W>,
     line: &[u8],
 ) -> Result<(), Fault>
@@ -46,8 +47,9 @@ pub(crate) fn tell_line<W: Write>(
         ⊎ BreaksOff play.old (line.now ∷ [])
         (W.contents (link_of writer.old)) (W.contents (link_of writer.new)) writer.old writer.new f) }
 {
-    match play.line(alloc, line) {
-        Ok(text) => write_text(writer, text.as_bytes()),
+    text.clear();
+    match play.line(alloc, text, line) {
+        Ok(()) => write_text(writer, text.as_bytes()),
         Err(_) => Err(Fault::OutOfMemory),
     }
 }
@@ -64,11 +66,12 @@ fn hold(front: &mut Vec<u8>, part: &[u8]) -> Result<(), Fault>
 }
 
 /// Does and tells each line that ends in a piece of a script. `front` is what stands before the piece in its line, and
-/// then what stands behind the last line feed.
+/// then what stands behind the last line feed. `text` has the room for a line's text, from one line to the next.
 pub(crate) fn tell_piece<W: Write>(
     alloc: Global,
     play: &mut Play,
     front: &mut Vec<u8>,
+    text: &mut String,
     writer: &mut Counted<W>,
     piece: &[u8],
 ) -> Result<(), Fault>
@@ -87,7 +90,7 @@ pub(crate) fn tell_piece<W: Write>(
             Ok(()) => {}
             Err(fault) => return Err(fault),
         }
-        match tell_line(alloc, play, writer, front) {
+        match tell_line(alloc, play, text, writer, front) {
             Ok(()) => {}
             Err(fault) => return Err(fault),
         }

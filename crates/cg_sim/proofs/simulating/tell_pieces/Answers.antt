@@ -1,5 +1,6 @@
-use Rattle.std.proofs.Common.{take, refl, inl, inr, arith}
-use Rattle.cg_sim.proofs.ReadingLemmas.{reading_none, reading_more, reading_stops, reading_ends_all, reading_fails}
+use Rattle.std.proofs.Common.{◌≡◌, take, refl, inl, inr, arith}
+use Rattle.cg_sim.proofs.ReadingLemmas.{reading_none, reading_more, reading_stops, reading_ends_all, reading_fails, reading_tires}
+use Rattle.cg_links.specs.declared.transfer.TheConstants.{MOST_READS}
 use Rattle.cg_sim.proofs.simulating.tell_pieces.Goals as goal
 
 pub loop-init : goal.loop-init
@@ -23,3 +24,8 @@ pub loop-preserved : goal.loop-preserved
 loop-preserved g c =
     reading_more _ _ _ _ _ (take c.in-Ok.n c.read.new.buf) _ _ _ _ _ _ _ _ _ _ _ _ _ c.loop.invariant c.in-Ok.ensures.bytes.0 c.in-Ok.ensures.counts c.in-Ok.ensures.calls
     c.in-Ok-tell_piece.ensures.told c.in-Ok-tell_piece.ensures.unended refl
+
+pub returns : goal.returns
+returns g c =
+    let all : c.loop.counter ≡ MOST_READS = omega arith in
+    inr (inr (reading_tires _ _ _ _ _ _ _ _ _ _ _ (rw all at c.loop.invariant) refl))
