@@ -279,6 +279,9 @@ fn rings(mode: Mode) {
         replicas.last().unwrap()
     };
     case(mode, "naive_1000_keys_to_replicas_rf3", keys, |e| shown(e));
+    // Each MD5 is of the one before, so that all are needed.
+    let digests = || (0..1000).fold(black_box([0u8; 16]), |digest, _| md5::digest(&digest));
+    case(mode, "naive_1000_digests_md5", digests, |digest| digest.to_vec());
 }
 
 /// The last of a thousand verdicts. The moment of each rests on the one before, so that all are needed.

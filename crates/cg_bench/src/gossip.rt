@@ -3,7 +3,7 @@
 use crate::answers::{answer, take};
 use crate::frames::frames;
 use crate::inputs::{
-    Newer, Shape, alone, bringing, cluster, empty_syn, full, lacking, opening, single,
+    Newer, Shape, bringing, cluster, empty_syn, full, lacking, opening, single, table_alone,
 };
 use crate::measure::{Mode, Name, case, named};
 use crate::work::Work;
@@ -37,7 +37,7 @@ struct Halves {
 
 fn plain_tables(alloc: Global, shape: Shape) -> Result<Plain> {
     Ok(Plain {
-        alone: alone(alloc, 0, shape)?,
+        alone: table_alone(alloc, 0, shape)?,
         full: full(alloc, 0, shape, Newer::Nothing)?,
         other: full(alloc, 255, shape, Newer::Nothing)?,
     })

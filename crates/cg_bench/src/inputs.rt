@@ -115,7 +115,7 @@ fn with_whole(
 }
 
 /// A table that holds its own endpoint alone.
-pub(crate) fn alone(alloc: Global, own: usize, shape: Shape) -> Result<Table> {
+pub(crate) fn table_alone(alloc: Global, own: usize, shape: Shape) -> Result<Table> {
     table_of(alloc, own, &whole(alloc, own, shape, Newer::Nothing)?)
 }
 

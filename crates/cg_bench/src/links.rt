@@ -71,7 +71,7 @@ fn opener_meets(alloc: Global, opener: &Node, answerer: &Node) -> Result<(Node, 
 }
 
 // Both nodes after an exchange.
-fn met(alloc: Global, opener: &Node, answerer: &Node) -> Result<(Node, Node)> {
+fn both_meet(alloc: Global, opener: &Node, answerer: &Node) -> Result<(Node, Node)> {
     let (opener, m) = opener_meets(alloc, opener, answerer)?;
     let answerer = after(alloc, answerer, &Event::Ack2 { now: 1000, m })?;
     Ok((opener, answerer))
@@ -81,7 +81,7 @@ fn met(alloc: Global, opener: &Node, answerer: &Node) -> Result<(Node, Node)> {
 fn equal_nodes(alloc: Global, shape: Shape) -> Result<(Node, Node)> {
     let opener = joined(alloc, shape)?;
     let answerer = started(alloc, 255, 6)?;
-    met(alloc, &opener, &answerer)
+    both_meet(alloc, &opener, &answerer)
 }
 
 // The frames of an exchange: SYN, ACK and ACK2.

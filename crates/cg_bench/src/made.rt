@@ -27,6 +27,7 @@ pub(crate) enum Made {
     Node(Node),
     Ring(Ring),
     Replicas(Vec<Endpoint>),
+    Digest([u8; 16]),
     Verdict(Verdict),
     History(History),
     Stray(Option<usize>),
@@ -149,6 +150,10 @@ fn add(alloc: Global, hasher: &mut Md5, made: &Made) -> Result<()> {
         Made::Node(node) => add_table(alloc, hasher, node.table()),
         Made::Ring(ring) => add_ring(alloc, hasher, ring),
         Made::Replicas(endpoints) => add_endpoints(alloc, hasher, endpoints),
+        Made::Digest(digest) => {
+            hasher.update(digest);
+            Ok(())
+        }
         Made::Verdict(verdict) => {
             hasher.update(verdict_name(*verdict).as_bytes());
             Ok(())

@@ -8,6 +8,7 @@ use anyhow::{Context, Result};
 use cg_silence::{Silence, Verdict, Window};
 use cg_table::Table;
 use cg_tokens::{Ring, Token, token_of};
+use md5::{Digest, Md5};
 use std::alloc::Global;
 use std::hint::black_box;
 use std::rt::Clock;
@@ -45,6 +46,15 @@ pub(crate) fn replicas_of_keys(alloc: Global, ring: &Ring) -> Result<Made> {
     Ok(Made::Replicas(last))
 }
 
+/// The last of a thousand MD5s, each of the one before, by the library alone.
+pub(crate) fn digests() -> [u8; 16] {
+    let mut digest = [0u8; 16];
+    for _ in 0..1000 {
+        digest = Md5::digest(&digest);
+    }
+    digest
+}
+
 fn lookups(rt: &(impl Clock + Print + Alloc<A = Global>), mode: Mode, ring: &Ring) -> Result<()> {
     let tokens = tokens(rt.alloc())?;
     let name = named("1000", "replicas", "rf1");
@@ -55,7 +65,8 @@ fn lookups(rt: &(impl Clock + Print + Alloc<A = Global>), mode: Mode, ring: &Rin
 
 fn keys(rt: &(impl Clock + Print + Alloc<A = Global>), mode: Mode, ring: &Ring) -> Result<()> {
     let name = named("1000", "keys_to_replicas", "rf3");
-    case(rt, mode, name, &Work::Keys(ring))
+    case(rt, mode, name, &Work::Keys(ring))?;
+    case(rt, mode, named("1000", "digests", "md5"), &Work::Digests)
 }
 
 // Looks up replicas on the ring of a table.

@@ -6,7 +6,7 @@ use crate::histories::{confirmed, recorded, stepped};
 use crate::links::{Side, linked, received};
 use crate::made::Made;
 use crate::nodes::after;
-use crate::rings::{last_verdict, replicas, replicas_of_keys, ring, verdicts};
+use crate::rings::{digests, last_verdict, replicas, replicas_of_keys, ring, verdicts};
 use crate::scripts::{acted, printed};
 use anyhow::Result;
 use cg_core::{Event, Node};
@@ -44,6 +44,8 @@ pub(crate) enum Work<'a, 'b, 'c> {
     Replicas(&'a Ring, &'b [Token], usize),
     /// Finds three replicas of each of a thousand keys, and keeps those of the last.
     Keys(&'a Ring),
+    /// A thousand MD5s, each of the one before, of which the last is kept.
+    Digests,
     /// Two thousand arrivals at a new window, and a verdict.
     Arrivals(Silence),
     /// A thousand verdicts of a window, of which the last is kept.
@@ -82,6 +84,7 @@ pub(crate) fn turn(alloc: Global, work: &Work<'_, '_, '_>) -> Result<Made> {
         Work::Ring(table) => ring(alloc, table).map(Made::Ring),
         Work::Replicas(ring, tokens, rf) => replicas(alloc, ring, tokens, *rf),
         Work::Keys(ring) => replicas_of_keys(alloc, ring),
+        Work::Digests => Ok(Made::Digest(digests())),
         Work::Arrivals(silence) => last_verdict(alloc, *silence).map(Made::Verdict),
         Work::Verdicts(window) => Ok(Made::Verdict(verdicts(window))),
         Work::Step(node, event) => after(alloc, node, event).map(Made::Node),
