@@ -24,7 +24,8 @@ same_by c x y = same_code (c.code x) (c.code y)
 
 -- ---- that it is an equality: an `impl` cites its laws, and cites only what stands in `specs/`
 
-both_tell : {a b c d : Gv} (s t : Bool) → (s ≡ true → a ≡ c) → (t ≡ true → b ≡ d) → (s && t) ≡ true → gcons a b ≡ gcons c d
+both_tell : {a b c d : Gv} (s t : Bool) → (s ≡ true → a ≡ c) → (t ≡ true → b ≡ d) → (s && t) ≡ true
+    → gcons a b ≡ gcons c d
 both_tell true t f g e = λ i. gcons (f refl i) (g e i)
 both_tell false t f g e = absurd cc
 
@@ -48,12 +49,17 @@ code_itself (gcons a b) = rw (code_itself a) (code_itself b)
 
 module _ {A : Type 0} (c : Coded A) where
   pub same_by-Decides : (x y : A) → Decides (same_by c x y) (x ≡ y)
-  same_by-Decides x y = (λ e. c.inj x y (code_tells (c.code x) (c.code y) e), λ e. subst (λ z. same_by c x z ≡ true) e (code_itself (c.code x)))
+  same_by-Decides x y = (
+    λ e. c.inj x y (code_tells (c.code x) (c.code y) e),
+    λ e. subst (λ z. same_by c x z ≡ true) e (code_itself (c.code x)),
+  )
 
   pub same_by-laws : IsEquivalence (same_by c)
   same_by-laws = record {
     refl = λ x. (same_by-Decides x x).1 refl;
-    symm = λ x y. both_ways (same_by c x y) (same_by c y x) (λ e. (same_by-Decides y x).1 (sym ((same_by-Decides x y).0 e))) (λ e. (same_by-Decides x y).1 (sym ((same_by-Decides y x).0 e)));
+    symm = λ x y. both_ways (same_by c x y) (same_by c y x)
+        (λ e. (same_by-Decides y x).1 (sym ((same_by-Decides x y).0 e)))
+        (λ e. (same_by-Decides x y).1 (sym ((same_by-Decides y x).0 e)));
     congr = λ x y z e. ap (λ w. same_by c w z) ((same_by-Decides x y).0 e);
   }
 
@@ -62,4 +68,5 @@ module _ {A : Type 0} (c : Coded A) where
 
   -- a test that tells whether two values are the same is sameness by their code
   pub same_by-is : (x y : A) (r : Bool) → Decides r (x ≡ y) → r ≡ same_by c x y
-  same_by-is x y r d = both_ways r (same_by c x y) (λ e. (same_by-Decides x y).1 (d.0 e)) (λ e. d.1 ((same_by-Decides x y).0 e))
+  same_by-is x y r d = both_ways r (same_by c x y)
+      (λ e. (same_by-Decides x y).1 (d.0 e)) (λ e. d.1 ((same_by-Decides x y).0 e))

@@ -8,6 +8,7 @@ ghost use Rattle.std.proofs.Common.{rules};
 ghost use Rattle.std.specs.Int.{w32, to_be_bytes, from_be_bytes};
 ghost use Rattle.cg_types.specs.Numbers.{IsEndpoint, endpoint_of, address_of, port_of};
 ghost use Rattle.cg_types.specs.EndpointText.{endpoint_text, endpoint_in, octet_before as text_octet_before, port_in as text_port_in};
+ghost use Rattle.cg_types.specs.Rising.{rise_past};
 ghost use Rattle.cg_types.specs.declared.fault.Fault.TheVariants.{BadText};
 
 use crate::fault::Fault;
@@ -16,6 +17,7 @@ use itoa::write_digits;
 use std::cmp::Ordering;
 use std::fmt;
 use std::marker::Model;
+use std::str::from_utf8_unchecked;
 
 /// An IPv4 address and a port from 1 on. Endpoints are ordered by the address's four bytes, then the port.
 #[derive(Clone, Copy, Debug)]
@@ -38,7 +40,10 @@ impl Model for Endpoint {
 
     ghost inverse = { λ n. record { address = address_of n; port = port_of n } };
 
-    ghost inverse_ok = { λ a h i. record { address = address-endpoint a.address a.port h.2 i; port = port-endpoint a.address a.port h.2 i } };
+    ghost inverse_ok = { λ a h i. record {
+      address = address-endpoint a.address a.port h.2 i;
+      port = port-endpoint a.address a.port h.2 i;
+    } };
 }
 
 impl PartialEq for Endpoint {
@@ -86,11 +91,8 @@ impl fmt::Display for Endpoint {
     fn fmt<W: fmt::Write>(&self, f: &mut fmt::Formatter<W>) -> fmt::Result {
         let mut text = [0u8; LONGEST];
         let start = put_endpoint(*self, &mut text);
-        match std::str::from_utf8(&text[start..]) {
-            Ok(text) => f.write_str(text),
-            // This never comes, and is proved so: the text is digits, dots and a colon.
-            Err(_) => Ok(()),
-        }
+        // That the text is UTF-8 is proved: it is digits, dots and a colon.
+        f.write_str(unsafe { from_utf8_unchecked(&text[start..]) })
     }
 }
 
@@ -233,4 +235,11 @@ fn port_in(text: &[u8]) -> Option<u16>
 {
     let port = number(text, 65535)?;
     if port > 0 { Some(port as u16) } else { None }
+}
+
+/// Whether endpoints rise strictly, as the calls want it that take a list of owners or seeds.
+pub fn endpoints_rise(endpoints: &[Endpoint]) -> bool
+    ensures { result ≡ rise_past None endpoints.now }
+{
+    endpoints.is_sorted_by(|endpoint, next| *endpoint < *next)
 }

@@ -11,7 +11,7 @@ mod text;
 mod version;
 mod words;
 
-pub use endpoint::Endpoint;
+pub use endpoint::{Endpoint, endpoints_rise};
 pub use fault::{Cause, Fault};
 pub use generation::Generation;
 pub use limits::{
