@@ -16,16 +16,16 @@ use Rattle.cg_script.specs.declared.word.Word.TheVariants as word
 -- the first word of a line, by its letters
 unfoldable pub word_named : List ℕ → Option Word
 word_named name =
-    if bytes_eq name (codes "seeds") then Some word.Seeds
-    else if bytes_eq name (codes "start") then Some word.Start
-    else if bytes_eq name (codes "beat") then Some word.Beat
-    else if bytes_eq name (codes "set") then Some word.Set
+    if bytes_eq name (codes "deliver") then Some word.Deliver
+    else if bytes_eq name (codes "digests") then Some word.Digests
     else if bytes_eq name (codes "open") then Some word.Open
+    else if bytes_eq name (codes "beat") then Some word.Beat
+    else if bytes_eq name (codes "seeds") then Some word.Seeds
+    else if bytes_eq name (codes "start") then Some word.Start
+    else if bytes_eq name (codes "set") then Some word.Set
     else if bytes_eq name (codes "tick") then Some word.Tick
-    else if bytes_eq name (codes "deliver") then Some word.Deliver
     else if bytes_eq name (codes "gossipinfo") then Some word.Gossipinfo
     else if bytes_eq name (codes "ring") then Some word.Ring
-    else if bytes_eq name (codes "digests") then Some word.Digests
     else if bytes_eq name (codes "replicas") then Some word.Replicas
     else None
 

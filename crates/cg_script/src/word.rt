@@ -31,35 +31,35 @@ pub fn is_word(name: &[u8], word: &str) -> bool
 pub(crate) fn word_named(name: &[u8]) -> Option<Word>
     ensures { result ≡ named name.now }
 {
+    if is_word(name, "deliver") {
+        return Some(Word::Deliver);
+    }
+    if is_word(name, "digests") {
+        return Some(Word::Digests);
+    }
+    if is_word(name, "open") {
+        return Some(Word::Open);
+    }
+    if is_word(name, "beat") {
+        return Some(Word::Beat);
+    }
     if is_word(name, "seeds") {
         return Some(Word::Seeds);
     }
     if is_word(name, "start") {
         return Some(Word::Start);
     }
-    if is_word(name, "beat") {
-        return Some(Word::Beat);
-    }
     if is_word(name, "set") {
         return Some(Word::Set);
     }
-    if is_word(name, "open") {
-        return Some(Word::Open);
-    }
     if is_word(name, "tick") {
         return Some(Word::Tick);
-    }
-    if is_word(name, "deliver") {
-        return Some(Word::Deliver);
     }
     if is_word(name, "gossipinfo") {
         return Some(Word::Gossipinfo);
     }
     if is_word(name, "ring") {
         return Some(Word::Ring);
-    }
-    if is_word(name, "digests") {
-        return Some(Word::Digests);
     }
     if is_word(name, "replicas") {
         return Some(Word::Replicas);
