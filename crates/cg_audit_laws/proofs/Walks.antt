@@ -13,7 +13,7 @@ use Rattle.cg_entry.specs.Entry.{starting_entry, entry_after_beat, with_state}
 use Rattle.cg_entry.specs.History.{at_place, generation_of as generation_in, generation_at}
 use Rattle.cg_table.specs.Values.{TableValue}
 use Rattle.cg_table.specs.Own.{own_entry, with_own}
-use Rattle.cg_table.specs.Table.{alone}
+use Rattle.cg_table.specs.Table.{lone_table}
 use Rattle.cg_exchange.specs.declared.message.Message.{Message}
 use Rattle.cg_exchange.specs.PlaceMessages.{PlaceMessage}
 use Rattle.cg_exchange.specs.Spelling.{outcome_about}
@@ -246,7 +246,7 @@ module _ (w : PlaceWorld) (gone : List RunItem) (sound : IsSound w) (knows : Kno
     unfolding after_action
     started = rw may refl
 
-    changed : IsChangedAt w u e (alone e (starting_entry g)).entries
+    changed : IsChangedAt w u e (lone_table e (starting_entry g)).entries
     changed = start_changes w e g
 
     abbrev first_now : Now
@@ -258,7 +258,7 @@ module _ (w : PlaceWorld) (gone : List RunItem) (sound : IsSound w) (knows : Kno
     after_start_is : IsGoing u e first_now h.records hs
     after_start_is = record {
       placed = record {
-        runs_here = running_here w u e (alone e (starting_entry g)).entries changed;
+        runs_here = running_here w u e (lone_table e (starting_entry g)).entries changed;
         own = ap (λ (n : NodeValue). n.table.own) life.begun;
         spells = subst (λ (n : NodeValue). SpellsNode u e n.table.entries) (sym life.begun) changed.here;
       };
@@ -280,7 +280,7 @@ module _ (w : PlaceWorld) (gone : List RunItem) (sound : IsSound w) (knows : Kno
       knows = subst KnowsOwners started (action_knows w (Start e g) knows);
       on = changed.histories;
       said = said_more w u (subst (Keeps w) started (action_keeps w (Start e g))) gone i said start_sends;
-      running = runs_on w u e (alone e (starting_entry g)).entries changed;
+      running = runs_on w u e (lone_table e (starting_entry g)).entries changed;
       places = changed.elsewhere;
       taken = λ other apart. start_leaves w e g other true apart;
       old = subst (OldOrLast w) started (action_old w (Start e g));

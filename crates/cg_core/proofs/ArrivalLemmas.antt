@@ -19,7 +19,7 @@ use Rattle.cg_core.specs.declared.reply.Reply.{Reply}
 use Rattle.cg_core.specs.declared.reply.Reply.TheVariants as reply
 use Rattle.cg_core.specs.Values.{Heard, SettingsValue, NodeValue}
 use Rattle.cg_core.specs.Windows.{was_taken, tells_taken, with_arrival, arrivals}
-use Rattle.cg_core.specs.Step.{starting_node, then, next_of, beating, setting, opening, round_of, after_taking, node_step, left, after_event, after_events}
+use Rattle.cg_core.specs.Step.{starting_node, then, next_of, beating, setting, opening, round_of, after_taking, node_step, node_left, after_event, after_events}
 use Rattle.cg_core.specs.Arrivals.{outcomes_in, outcomes_told, moment_of, moments_told, moments_taken, window_of}
 use Rattle.cg_core.specs.Laws.{WindowsShowAllTaken}
 use Rattle.cg_core.proofs.HearingLemmas.{other_arrival}
@@ -52,7 +52,7 @@ module _ (s : SilenceValue) where
 
 module _ (n : NodeValue) (q : ℕ) (past : List ℕ) (is : get n.windows q ≡ window_of n.settings.silence past) where
   step_shows : {A : Type 0} (now : ℕ) (r : Result A Fault) (go : A → NodeValue × Reply) → ((x : A) → (go x).0.windows ≡ arrivals n.settings.silence now n.windows (outcomes_in (go x).1))
-      → get (left n (then r go)).windows q ≡ window_of n.settings.silence (past ++ moments_told q now (outcomes_told (then r go)))
+      → get (node_left n (then r go)).windows q ≡ window_of n.settings.silence (past ++ moments_told q now (outcomes_told (then r go)))
   step_shows now (Ok x) go goes =
       ap (λ (w : Heard). get w q) (goes x) ∙ arrivals_show n.settings.silence now q n.windows (outcomes_in (go x).1) past is
   step_shows now (Err fault) go goes = is ∙ ap (window_of n.settings.silence) (sym (append-nil past))
@@ -68,7 +68,7 @@ module _ (n : NodeValue) (q : ℕ) (past : List ℕ) (is : get n.windows q ≡ w
   event_shows (event.Ack2 now ack2) = step_shows now (taking_ack2 n.table ack2) (λ x. (after_taking n now x.0 x.1, reply.Took x.1)) (λ x. refl)
 
 module _ (n : NodeValue) where
-  settings_stay : {A : Type 0} (r : Result A Fault) (go : A → NodeValue × Reply) → ((x : A) → (go x).0.settings ≡ n.settings) → (left n (then r go)).settings ≡ n.settings
+  settings_stay : {A : Type 0} (r : Result A Fault) (go : A → NodeValue × Reply) → ((x : A) → (go x).0.settings ≡ n.settings) → (node_left n (then r go)).settings ≡ n.settings
   settings_stay (Ok x) go stay = stay x
   settings_stay (Err fault) go stay = refl
 

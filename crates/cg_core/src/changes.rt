@@ -10,7 +10,7 @@ use crate::event::Event;
 use crate::node::Node;
 use crate::outcomes::Outcomes;
 use crate::reply::Reply;
-use crate::windows::is_taken;
+use crate::windows::was_taken;
 use cg_exchange::OwnerDelta;
 use cg_table::Puts;
 use cg_types::{Endpoint, Fault};
@@ -37,7 +37,7 @@ fn taken_owners(alloc: Global, outcomes: &Outcomes) -> Result<Vec<Endpoint>, All
     let outcomes = outcomes.as_slice();
     outcomes
         .iter()
-        .filter(|outcome| is_taken(outcome))
+        .filter(|outcome| was_taken(outcome))
         .map(|outcome| outcome.endpoint)
         .collect(alloc)
 }

@@ -14,7 +14,7 @@ use Rattle.cg_types.specs.declared.fault.Cause.{Cause}
 use Rattle.cg_types.specs.declared.fault.Cause.TheVariants as cause
 use Rattle.cg_entry.specs.Values.{DeltaValue}
 use Rattle.cg_entry.specs.Versioned.{Versioned, States}
-use Rattle.cg_entry.specs.State.{KeysRise, pairs, all_newer, keys_rise, delta_of, makes_delta, delta_from}
+use Rattle.cg_entry.specs.State.{KeysRise, pairs, all_newer, keys_rise, delta_of_parts, makes_delta, delta_from}
 use Rattle.cg_entry.specs.Entry.{greatest_of, greatest, newer_than, IsDelta}
 use Rattle.cg_entry.proofs.StateLemmas.{newer, newer_rise, entries-pairs, newer_than-pairs, greatest-pairs}
 
@@ -124,11 +124,11 @@ module _ (v heartbeat : ℕ) (items : List State) where
 
   -- what a caller sees of the delta that is made, or not
   pub delta_made : (g : ℕ) (r : Result DeltaValue Cause) (o : Option DeltaValue) → r ≡ delta_from g v heartbeat items → o ≡ result_ok r → is_some o ≡ makes_delta v heartbeat items
-  delta_made g r o is ok = ap is_some (ok ∙ ap result_ok is) ∙ made_by (all_newer v items) (keys_rise items) nothing (delta_of g v heartbeat items) refl refl refl
+  delta_made g r o is ok = ap is_some (ok ∙ ap result_ok is) ∙ made_by (all_newer v items) (keys_rise items) nothing (delta_of_parts g v heartbeat items) refl refl refl
 
-  pub delta_value : (g : ℕ) (r : Result DeltaValue Cause) (o : Option DeltaValue) → r ≡ delta_from g v heartbeat items → o ≡ result_ok r → IfSome o (λ d. d ≡ delta_of g v heartbeat items)
+  pub delta_value : (g : ℕ) (r : Result DeltaValue Cause) (o : Option DeltaValue) → r ≡ delta_from g v heartbeat items → o ≡ result_ok r → IfSome o (λ d. d ≡ delta_of_parts g v heartbeat items)
   delta_value g r o is ok =
-      subst (λ (p : Option DeltaValue). IfSome p (λ d. d ≡ delta_of g v heartbeat items)) (sym (ok ∙ ap result_ok is)) (value_by (all_newer v items) (keys_rise items) nothing (delta_of g v heartbeat items))
+      subst (λ (p : Option DeltaValue). IfSome p (λ d. d ≡ delta_of_parts g v heartbeat items)) (sym (ok ∙ ap result_ok is)) (value_by (all_newer v items) (keys_rise items) nothing (delta_of_parts g v heartbeat items))
 
 -- ---- how many there are, and how many are newer
 

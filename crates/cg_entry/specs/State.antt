@@ -51,8 +51,8 @@ makes_delta above heartbeat items =
     (nat_lt above heartbeat || not (length items == 0)) && (all_newer above items && keys_rise items)
 
 -- the delta of these parts
-abbrev pub delta_of : ℕ → ℕ → ℕ → List State → DeltaValue
-delta_of generation above heartbeat items =
+abbrev pub delta_of_parts : ℕ → ℕ → ℕ → List State → DeltaValue
+delta_of_parts generation above heartbeat items =
     record { generation = generation; above = above; heartbeat = heartbeat; states = from_sorted (pairs items) }
 
 -- the delta that these make, or what is wrong with them
@@ -61,7 +61,7 @@ delta_from generation above heartbeat items =
     if not (all_newer above items) then Err cause.Version
     else if not (keys_rise items) then Err cause.Order
     else if nat_le (greatest heartbeat (from_sorted (pairs items))) above then Err cause.Empty
-    else Ok (delta_of generation above heartbeat items)
+    else Ok (delta_of_parts generation above heartbeat items)
 
 -- how many entries stand before the first key that is not below k
 abbrev pub count_below : ℕ → List (ℕ × Versioned) → ℕ

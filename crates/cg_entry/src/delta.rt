@@ -3,7 +3,7 @@
 ghost use Rattle.std.specs.Prelude.{◌≡◌, ◌↔◌, IsTrue, IfSome, IfOk, IsOk, is_some};
 ghost use Rattle.std.specs.FinMap as map;
 ghost use Rattle.cg_types.specs.Numbers.{IsVersionHeld};
-ghost use Rattle.cg_entry.specs.State.{KeysRise, pairs, all_newer as all_newer_of, delta_of, makes_delta, delta_from};
+ghost use Rattle.cg_entry.specs.State.{KeysRise, pairs, all_newer as all_newer_of, delta_of_parts, makes_delta, delta_from};
 ghost use Rattle.cg_entry.specs.Contents.{IsDeltaOfEntry};
 ghost use Rattle.cg_entry.specs.Entry.{greatest, text_bytes, IsDelta};
 
@@ -55,7 +55,7 @@ impl Delta {
         states: Vec<State>,
     ) -> Option<Delta>
         ensures when { is_some result ≡ makes_delta above heartbeat states.items }
-        ensures value { IfSome result (λ d. d ≡ delta_of generation above heartbeat states.items) }
+        ensures value { IfSome result (λ d. d ≡ delta_of_parts generation above heartbeat states.items) }
     {
         Delta::try_new(generation, above, heartbeat, states).ok()
     }

@@ -184,7 +184,7 @@ impl Entry {
     fn advance(&self, alloc: Global, delta: &Delta) -> Result<Entry, AllocError>
         ensures { IfOk result (λ e. e ≡ advanced_entry self.now delta.now) }
     {
-        let states = self.states.overlaid(alloc, delta.held())?;
+        let states = self.states.overlay(alloc, delta.held())?;
         Ok(Entry::of_parts(self.generation, delta.heartbeat(), states))
     }
 

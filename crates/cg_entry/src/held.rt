@@ -125,7 +125,7 @@ impl Held {
     }
 
     // Those of `newer`, and at every other key these. Where one list shows all of that, it is shared.
-    pub(crate) fn overlaid(&self, alloc: Global, newer: &Held) -> Result<Held, AllocError>
+    pub(crate) fn overlay(&self, alloc: Global, newer: &Held) -> Result<Held, AllocError>
         ensures { IfOk result (λ h. h ≡ overlay self.now newer.now) }
     {
         let (ours, theirs) = (self.list(), newer.list());
@@ -135,6 +135,6 @@ impl Held {
         if ours.is_covered(theirs) {
             return newer.copy(alloc);
         }
-        Held::of(alloc, ours.overlaid(alloc, theirs)?)
+        Held::of(alloc, ours.overlay(alloc, theirs)?)
     }
 }

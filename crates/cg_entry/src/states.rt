@@ -269,7 +269,7 @@ impl States {
     }
 
     // Those of `newer`, and at every other key these.
-    pub(crate) fn overlaid(&self, alloc: Global, newer: &States) -> Result<States, AllocError>
+    pub(crate) fn overlay(&self, alloc: Global, newer: &States) -> Result<States, AllocError>
         ensures { IfOk result (λ s. s ≡ overlay self.now newer.now) }
     {
         let room = self.items.len() + newer.items.len();

@@ -63,6 +63,18 @@ fn endpoints_are_ordered(rt: HostRuntime) -> Result<(), Fail> {
 }
 
 #[test]
+fn endpoints_rise_strictly(rt: HostRuntime) -> Result<(), Fail> {
+    let a = Endpoint::read("10.0.0.1:7000")?;
+    let b = Endpoint::read("10.0.0.1:7001")?;
+    let c = Endpoint::read("10.0.0.2:1")?;
+    assert!(rt; endpoints_rise(&[]));
+    assert!(rt; endpoints_rise(&[a, b, c]));
+    assert!(rt; !endpoints_rise(&[a, b, b]));
+    assert!(rt; !endpoints_rise(&[a, c, b]));
+    Ok(())
+}
+
+#[test]
 fn ports_are_bounded(rt: HostRuntime) {
     assert!(rt; Endpoint::new([10, 0, 0, 1], 0).is_none());
     assert!(rt; Endpoint::new([10, 0, 0, 1], 1).is_some());

@@ -21,7 +21,7 @@ use Rattle.cg_types.proofs.RisingLemmas.{both}
 use Rattle.cg_types.proofs.WordLemmas.{number_of-decimal}
 use Rattle.cg_entry.specs.Entry.{starting_entry}
 use Rattle.cg_table.specs.Own.{own_entry}
-use Rattle.cg_table.specs.Table.{alone}
+use Rattle.cg_table.specs.Table.{lone_table}
 use Rattle.cg_table.specs.Values.{Entries}
 use Rattle.cg_silence.specs.declared.fault.SilenceFault.{SilenceFault}
 use Rattle.cg_silence.specs.declared.fault.SilenceFault.TheVariants as silence_fault
@@ -195,7 +195,7 @@ settings_again own generation s is =
 abbrev pub life_words : ℕ → ℕ → SettingsValue → List ℕ
 life_words own generation s = codes "life" ++ 32 ∷ (endpoint_text own ++ 32 ∷ (decimal generation ++ 32 ∷ settings_text s))
 
-own_of_start : (own generation : ℕ) → (own_entry (alone own (starting_entry generation))).generation ≡ generation
+own_of_start : (own generation : ℕ) → (own_entry (lone_table own (starting_entry generation))).generation ≡ generation
 own_of_start own generation =
     let none : Entries = empty in
     rw (get-insert nat_cmp_total none own (starting_entry generation) own, (eq_by_cmp_equiv nat_cmp_total).refl own) refl

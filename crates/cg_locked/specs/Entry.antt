@@ -31,8 +31,8 @@ ShowsSet puts own e answer = Unit {0}
 abbrev pub Answer : Type 0
 Answer = Receipt × Option (List Put)
 
--- The event was entered for the caller into some history, which replays from the start and has at least so many records;
--- and what is told is the puts of the history after it.
+-- The event was entered for the caller into some history, which replays from the start and has at least so many
+-- records; and what is told is the puts of the history after it.
 pub record IsEntry (start : NodeValue) (count caller : ℕ) (e : Event) (result : Result Answer Fault) : Type 0 where
   pub before : HistoryValue
   pub after : HistoryValue

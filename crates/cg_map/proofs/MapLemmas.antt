@@ -5,10 +5,10 @@ use Rattle.std.specs.Cmp.{nat_cmp_total}
 use Rattle.std.specs.FinMap.{FinMap, empty, entries, entries_sorted, insert, get, from_sorted, same_entries_map, entries-from_sorted, entries-insert}
 use Rattle.cg_types.specs.Rising.{Rises}
 use Rattle.cg_types.proofs.RisingLemmas.{entries_rising, from_sorted-none, get_rising, rise_sorted}
-use Rattle.cg_map.specs.Rows.{keys_of, before, after, walked, IsRowAt, IsGapAt}
+use Rattle.cg_map.specs.Rows.{keys_of, before, after, walk, IsRowAt, IsGapAt}
 use Rattle.cg_map.specs.Map.{put_each}
 use Rattle.cg_map.proofs.RowLemmas.{find_row, find_in_gap}
-use Rattle.cg_map.proofs.PutLemmas.{put_all, put_all-walked, walk_step}
+use Rattle.cg_map.proofs.PutLemmas.{put_all, put_all-walk, walk_step}
 
 module _ {X : Type 0} where
   pub from_sorted-entries : (m : FinMap nat_cmp X) → from_sorted (entries m) ≡ m
@@ -19,14 +19,14 @@ module _ {X : Type 0} where
   entries-put_each (c ∷ cs) m = entries-put_each cs (insert m c.0 c.1) ∙ ap (put_all cs) (entries-insert nat_cmp_total m c.0 c.1)
 
   module _ (cs rows : List (ℕ × X)) (m : FinMap nat_cmp X) (valid : Rises (keys_of rows)) (seen : from_sorted {R = nat_cmp} rows ≡ m) (rise : Rises (keys_of cs)) where
-    walked_entries : walked cs rows ≡ entries (put_each cs m)
-    walked_entries = put_all-walked None cs rows rise valid ∙ ap (put_all cs) (sym (ap entries (sym seen) ∙ entries_rising rows valid)) ∙ sym (entries-put_each cs m)
+    walked_entries : walk cs rows ≡ entries (put_each cs m)
+    walked_entries = put_all-walk None cs rows rise valid ∙ ap (put_all cs) (sym (ap entries (sym seen) ∙ entries_rising rows valid)) ∙ sym (entries-put_each cs m)
 
     -- a walk makes the rows of the map with each row put
-    pub walked_view : from_sorted {R = nat_cmp} (walked cs rows) ≡ put_each cs m
+    pub walked_view : from_sorted {R = nat_cmp} (walk cs rows) ≡ put_each cs m
     walked_view = ap (from_sorted {R = nat_cmp}) walked_entries ∙ from_sorted-entries (put_each cs m)
 
-    pub walked_valid : Rises (keys_of (walked cs rows))
+    pub walked_valid : Rises (keys_of (walk cs rows))
     walked_valid = rw walked_entries (rise_sorted (entries (put_each cs m)) (entries_sorted (put_each cs m)))
 
   pub listed : (rows given : List (ℕ × X)) (m : FinMap nat_cmp X) → given ≡ rows → Rises (keys_of rows) → from_sorted {R = nat_cmp} rows ≡ m → given ≡ entries m
@@ -51,5 +51,5 @@ module _ {X : Type 0} where
   is_empty rows m is none = same_entries_map empty m (entries-empty ∙ sym none ∙ is)
 
   -- what `put` makes of the rows around the key
-  pub put_rows : (rows given b a : List (ℕ × X)) (k : ℕ) (v : X) → given ≡ rows → b ≡ before k given → a ≡ after k given → ((b ++ (k, v) ∷ []) ++ a) ≡ walked ((k, v) ∷ []) rows
+  pub put_rows : (rows given b a : List (ℕ × X)) (k : ℕ) (v : X) → given ≡ rows → b ≡ before k given → a ≡ after k given → ((b ++ (k, v) ∷ []) ++ a) ≡ walk ((k, v) ∷ []) rows
   put_rows rows given b a k v same front back = walk_step [] rows ((k, v) ∷ []) [] b a (k, v) refl (front ∙ ap (before k) same) (back ∙ ap (after k) same)

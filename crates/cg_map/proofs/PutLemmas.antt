@@ -9,7 +9,7 @@ use Rattle.std.specs.FinMap.Entries.{put, by_order}
 use Rattle.std.proofs.lemmas.Bool.{ltb-true, ltb-false, lt-ltb, le-ltb}
 use Rattle.cg_types.specs.Rising.{is_past, rise_past, Rises}
 use Rattle.cg_types.proofs.RisingLemmas.{rise_earlier, first_of, second_of, rise_filter}
-use Rattle.cg_map.specs.Rows.{keys_of, before, after, walked}
+use Rattle.cg_map.specs.Rows.{keys_of, before, after, walk}
 use Rattle.cg_map.proofs.RowLemmas.{later, filter_none, filter_every}
 
 module _ {X : Type 0} where
@@ -78,24 +78,24 @@ module _ {X : Type 0} where
   ] refl
 
   -- one walk puts them all
-  pub put_all-walked : (last : Option ℕ) (cs rs : List (ℕ × X)) → rise_past last (keys_of cs) ≡ true → Rises (keys_of rs) → walked cs rs ≡ put_all cs rs
-  put_all-walked last [] rs h rise = refl
-  put_all-walked last (c ∷ cs) rs h rise =
+  pub put_all-walk : (last : Option ℕ) (cs rs : List (ℕ × X)) → rise_past last (keys_of cs) ≡ true → Rises (keys_of rs) → walk cs rs ≡ put_all cs rs
+  put_all-walk last [] rs h rise = refl
+  put_all-walk last (c ∷ cs) rs h rise =
       let more = second_of (is_past last c.0) (rise_past (Some c.0) (keys_of cs)) h in
       let rest = after c.0 rs in
-      let inner : walked cs rest ≡ put_all cs rest = put_all-walked (Some c.0) cs rest more (rise_filter (λ r. nat_lt c.0 r.0) None rs rise) in
+      let inner : walk cs rest ≡ put_all cs rest = put_all-walk (Some c.0) cs rest more (rise_filter (λ r. nat_lt c.0 r.0) None rs rise) in
       let moved : put_all cs ((before c.0 rs ++ c ∷ []) ++ rest) ≡ (before c.0 rs ++ c ∷ []) ++ put_all cs rest = put_all_front c.0 cs (before c.0 rs ++ c ∷ []) rest (up_to_before c.0 c.1 rs) more in
       ap (λ (xs : List (ℕ × X)). before c.0 rs ++ c ∷ xs) inner
       ∙ sym (append_assoc (before c.0 rs) (c ∷ []) (put_all cs rest)) ∙ sym moved
       ∙ ap (put_all cs) (append_assoc (before c.0 rs) (c ∷ []) rest ∙ sym (put_around c.0 c.1 None rs rise))
 
   -- one step of a walk
-  pub walk_step : (made rest its cs b a : List (ℕ × X)) (c : ℕ × X) → its ≡ c ∷ cs → b ≡ before c.0 rest → a ≡ after c.0 rest → ((made ++ b) ++ c ∷ []) ++ walked cs a ≡ made ++ walked its rest
+  pub walk_step : (made rest its cs b a : List (ℕ × X)) (c : ℕ × X) → its ≡ c ∷ cs → b ≡ before c.0 rest → a ≡ after c.0 rest → ((made ++ b) ++ c ∷ []) ++ walk cs a ≡ made ++ walk its rest
   walk_step made rest its cs b a c is front back =
-      rw (is, front, back) (append_assoc (made ++ before c.0 rest) (c ∷ []) (walked cs (after c.0 rest)) ∙ append_assoc made (before c.0 rest) (c ∷ walked cs (after c.0 rest)))
+      rw (is, front, back) (append_assoc (made ++ before c.0 rest) (c ∷ []) (walk cs (after c.0 rest)) ∙ append_assoc made (before c.0 rest) (c ∷ walk cs (after c.0 rest)))
 
   -- one turn of a walk, which takes the next of the changes
-  pub rows_step : (made rest its cs b a : List (ℕ × X)) (k : ℕ) (row : ℕ × X) → its ≡ row ∷ cs → k ≡ row.0 → b ≡ before k rest → a ≡ after k rest → Rises (keys_of rest) → record { rise : Rises (keys_of a); so_far : ((made ++ b) ++ row ∷ []) ++ walked cs a ≡ made ++ walked its rest }
+  pub rows_step : (made rest its cs b a : List (ℕ × X)) (k : ℕ) (row : ℕ × X) → its ≡ row ∷ cs → k ≡ row.0 → b ≡ before k rest → a ≡ after k rest → Rises (keys_of rest) → record { rise : Rises (keys_of a); so_far : ((made ++ b) ++ row ∷ []) ++ walk cs a ≡ made ++ walk its rest }
   rows_step made rest its cs b a k row is key front back rise =
       let behind : a ≡ after row.0 rest = back ∙ ap (λ (n : ℕ). after n rest) key in
       record {

@@ -16,9 +16,9 @@ module _ {X : Type 0} where
   after k rows = filter (λ r. nat_lt k r.0) rows
 
   -- each change in its place among the rows, in place of a row with its key
-  abbrev pub walked : List (ℕ × X) → List (ℕ × X) → List (ℕ × X)
-  walked [] rows = rows
-  walked (c ∷ cs) rows = before c.0 rows ++ c ∷ walked cs (after c.0 rows)
+  abbrev pub walk : List (ℕ × X) → List (ℕ × X) → List (ℕ × X)
+  walk [] rows = rows
+  walk (c ∷ cs) rows = before c.0 rows ++ c ∷ walk cs (after c.0 rows)
 
 -- the row at a place has the key
 pub record IsRowAt {X : Type 0} (rows : List (ℕ × X)) (k at : ℕ) : Type 0 where

@@ -2,7 +2,7 @@
 
 ghost use Rattle.std.specs.Prelude.{◌≡◌, ◌↔◌, ◌++◌, IsTrue, IfOk, IfErr, OnOk};
 ghost use Rattle.cg_types.specs.Rising.{Rises};
-ghost use Rattle.cg_map.specs.Rows.{keys_of, before, after, walked, IsRowAt, IsGapAt};
+ghost use Rattle.cg_map.specs.Rows.{keys_of, before, after, walk, IsRowAt, IsGapAt};
 
 use cg_types::Endpoint;
 use std::alloc::{AllocError, Global};
@@ -130,7 +130,7 @@ pub(crate) fn walk_rows<T: Drop>(
     changes: Vec<Row<T>>,
 ) -> Result<Vec<Row<T>>, AllocError>
     requires { Rises (keys_of rows.now) }
-    ensures { IfOk result (λ made. made.items ≡ walked changes.items rows.now) }
+    ensures { IfOk result (λ made. made.items ≡ walk changes.items rows.now) }
 {
     let mut made = Vec::with_capacity(alloc, rows.len())?;
     let mut rest = rows;

@@ -14,7 +14,7 @@ use Rattle.cg_orders.specs.declared.order.Order.{Order}
 use Rattle.cg_orders.specs.declared.order.Order.TheVariants.{Show, Set, Quit}
 use Rattle.cg_orders.specs.Orders.{order_in}
 use Rattle.cg_operator.specs.Doing.{Does, Sets}
-use Rattle.cg_operator.specs.Operating.{At, DoesLine, EndsAt, LacksMemory, ReadsNothing, WritesFront, Ends, Operates}
+use Rattle.cg_operator.specs.Operating.{At, DoesLine, EndsAt, LacksMemory, ReadsNothing, WritesFront, ReachesTheEnd, Operates}
 
 pub goes_nowhere : (g : SeatValue) → GoesOn g g
 goes_nowhere g = record { seat = (refl, refl); more = []; receipts = sym (append-nil g.receipts) }
@@ -144,7 +144,7 @@ module _ (start : NodeValue) where
             ]
           ]
 
-      pub ended_goes : Ends holds start opening before after old new s t → OnAt s t
+      pub ended_goes : ReachesTheEnd holds start opening before after old new s t → OnAt s t
       ended_goes h =
           elim h as (λ _. OnAt s t) [
             | inl k ↦ lines_go s t (lines_of k.text) k.taken

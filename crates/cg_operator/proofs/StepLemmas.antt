@@ -11,7 +11,7 @@ use Rattle.cg_lines.specs.Taken.{Takes, Refuses, Lacks, Stops, StopsLast, IsUnre
 use Rattle.cg_orders.specs.declared.order.Order.TheVariants.{Quit}
 use Rattle.cg_operator.specs.declared.operating.Operating.{Operating}
 use Rattle.cg_orders.specs.Orders.{order_in}
-use Rattle.cg_operator.specs.Operating.{At, DoesLine, EndsAt, Quits, Ends, Operates}
+use Rattle.cg_operator.specs.Operating.{At, DoesLine, EndsAt, Quits, ReachesTheEnd, Operates}
 use Rattle.cg_operator.specs.Steps.{at_of, HoldsSame, TakesStep, RefusesStep}
 
 module _ {W : Type 0} (holds : W → Option (List ℕ)) (start : NodeValue) (opening : TableValue) where
@@ -225,11 +225,11 @@ module _ {N R W : Type 0} (holds : W → Option (List ℕ)) (start : NodeValue) 
       taken = (chained s t (ended_lines [] h.text) h.taken).done;
     }
 
-    pub all_end : TakesAll steps stops before after old new s t → Ends holds start opening before after old new (at_of s) (at_of t)
+    pub all_end : TakesAll steps stops before after old new s t → ReachesTheEnd holds start opening before after old new (at_of s) (at_of t)
     all_end h = inl (all_taken h)
 
     quit_ends : (f : Fault) → s.has_quit ≡ false → t.has_quit ≡ true → Fails steps stops before after old new s t f
-        → Ends holds start opening before after old new (at_of s) (at_of t)
+        → ReachesTheEnd holds start opening before after old new (at_of s) (at_of t)
     quit_ends f was is h = inr (failed_quits f was is h)
 
     fault_ends : (f : Fault) → s.has_quit ≡ false → t.has_quit ≡ false → Fails steps stops before after old new s t f

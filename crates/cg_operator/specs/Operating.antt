@@ -85,9 +85,9 @@ module _ {W : Type 0} (holds : W → Option (List ℕ)) (start : NodeValue) (ope
       pub asked : order_in line ≡ Ok Quit
       pub done : Takes DoesLine EndsAt s front t
 
-    abbrev pub Ends : Type 0
-    Ends = TakesAll DoesLine EndsAt before after old new s t ⊎ Quits
+    abbrev pub ReachesTheEnd : Type 0
+    ReachesTheEnd = TakesAll DoesLine EndsAt before after old new s t ⊎ Quits
 
     -- The lines were done to the end of the input or to a quit, or to the line that ended the operator by a fault.
     abbrev pub Operates : {T : Type 0} → Result T Fault → Type 0
-    Operates result = MatchResult result (λ _. Ends) (Fails DoesLine EndsAt before after old new s t)
+    Operates result = MatchResult result (λ _. ReachesTheEnd) (Fails DoesLine EndsAt before after old new s t)

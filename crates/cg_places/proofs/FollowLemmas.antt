@@ -13,7 +13,7 @@ use Rattle.cg_entry.specs.Place.{Span, IsSpan}
 use Rattle.cg_entry.specs.Spelling.{version_of, version_at, delta_of}
 use Rattle.cg_entry.proofs.PlaceLemmas.{at_place_last}
 use Rattle.cg_table.specs.Values.{Entries}
-use Rattle.cg_table.specs.Table.{alone, digest_of}
+use Rattle.cg_table.specs.Table.{lone_table, digest_of}
 use Rattle.cg_table.specs.Spelling.{SpellsPlaces}
 use Rattle.cg_exchange.specs.Places.{Ask, IsAsk}
 use Rattle.cg_exchange.specs.PlaceMessages.{PlaceMessage, Stand, places_after}
@@ -110,12 +110,12 @@ entry_changes w node entry entries s = record {
   elsewhere = λ n apart. put_at_other w.places node (put_at (w.places node) node (length (w.histories node) + 1)) n apart;
 }
 
-pub start_changes : (w : PlaceWorld) (node generation : ℕ) → IsChangedAt w (with_start w node generation) node (alone node (starting_entry generation)).entries
+pub start_changes : (w : PlaceWorld) (node generation : ℕ) → IsChangedAt w (with_start w node generation) node (lone_table node (starting_entry generation)).entries
 unfolding with_start
 start_changes w node generation = record {
   histories = grown_continue w.histories node (starting_entry generation);
   running = grown_runs w node (starting_entry generation);
-  here = subst (SpellsPlaces (grown w.histories node (starting_entry generation)) (alone node (starting_entry generation)).entries) (sym (put_at_here w.places node (put_at (λ owner. 0) node (length (w.histories node) + 1))))
+  here = subst (SpellsPlaces (grown w.histories node (starting_entry generation)) (lone_table node (starting_entry generation)).entries) (sym (put_at_here w.places node (put_at (λ owner. 0) node (length (w.histories node) + 1))))
       (own_put w node (starting_entry generation) table.empty (λ owner. 0) (λ owner. omega arith) (λ owner apart. get-empty nat_cmp owner));
   elsewhere = λ n apart. put_at_other w.places node (put_at (λ owner. 0) node (length (w.histories node) + 1)) n apart;
 }

@@ -2,6 +2,7 @@
 use Rattle.std.proofs.Common.{◌≡◌, ℕ, suc, zero, ◌+◌, ◌<◌, ◌≤◌, List, [], ◌∷◌, ◌++◌, length, refl, sym, ◌∙◌, ap, subst, arith, Bool, true, false, Option, Some, None, inl, inr}
 use Rattle.std.specs.Prelude.{cond, nat_lt, Result, Ok, Err}
 use Rattle.std.proofs.lemmas.Bool.Decides.{nat_tests}
+use Rattle.cg_types.specs.Answer.{fault_of}
 use Rattle.cg_types.specs.declared.fault.Fault.{Fault}
 use Rattle.cg_types.specs.declared.fault.Fault.TheVariants.{TableFull, NotRising, VersionsSpent}
 use Rattle.cg_types.specs.declared.limits.TheConstants.{MEMBER_LIMIT, NUMBER_LIMIT}
@@ -12,7 +13,7 @@ use Rattle.cg_entry.specs.Place.{Span}
 use Rattle.cg_entry.proofs.HistoryLemmas.{newest_started, newest_beaten, newest_given}
 use Rattle.cg_exchange.specs.PlaceMessages.{PlaceMessage}
 use Rattle.cg_places.specs.PlaceWorld.{PlaceWorld, PlaceAction, Start, Beat, Set, Opening, Tick, Deliver, grown, nobody, runs, with_start, with_entry, with_message, with_spans, may_start, last_entry, after_action, after_actions, world_after}
-use Rattle.cg_places.specs.Refusals.{fault_of, change_refusal, start_refusal, refusal, AreDone}
+use Rattle.cg_places.specs.Refusals.{change_refusal, start_refusal, refusal, AreDone}
 use Rattle.cg_places.specs.Laws.{IsWithinLimits}
 use Rattle.cg_places.proofs.KeptLemmas.{IsKept, AfterChange, OwnPart, action_kept}
 use Rattle.cg_places.proofs.PutLemmas.{put_at-each, at_place_push}

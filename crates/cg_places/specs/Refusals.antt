@@ -1,9 +1,10 @@
 -- Why an action is refused where memory is ample, and what is done of a list. `act` itself knows no limit: what is
 -- refused is left out of the list.
-use Rattle.std.specs.Prelude.{◌≡◌, ⊤, ℕ, List, [], ◌∷◌, length, Option, Some, None, Result, Ok, Err, nat_lt, if◌then◌else◌}
+use Rattle.std.specs.Prelude.{◌≡◌, ⊤, ℕ, List, [], ◌∷◌, length, Option, Some, None, nat_lt, if◌then◌else◌}
 use Rattle.cg_types.specs.declared.fault.Fault.{Fault}
 use Rattle.cg_types.specs.declared.fault.Fault.TheVariants.{TableFull, NotRising, NoSuchMessage, NoSuchNode}
 use Rattle.cg_types.specs.declared.limits.TheConstants.{MEMBER_LIMIT}
+use Rattle.cg_types.specs.Answer.{fault_of}
 use Rattle.cg_version.specs.Version.{next_version}
 use Rattle.cg_entry.specs.Values.{EntryValue}
 use Rattle.cg_entry.specs.Entry.{newest}
@@ -18,10 +19,6 @@ start_refusal w node generation =
     if may_start w node generation
     then if runs w node then None else if nat_lt (length w.owners) MEMBER_LIMIT then None else Some TableFull
     else Some NotRising
-
-abbrev pub fault_of : {A : Type 0} → Result A Fault → Option Fault
-fault_of (Ok x) = None
-fault_of (Err fault) = Some fault
 
 -- no entry; or one with no next version
 abbrev pub change_refusal : Option EntryValue → Option Fault

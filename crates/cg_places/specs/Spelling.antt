@@ -6,7 +6,7 @@ use Rattle.cg_entry.specs.Entry.{starting_entry}
 use Rattle.cg_entry.specs.Place.{Span}
 use Rattle.cg_table.specs.declared.digest.Digest.{Digest}
 use Rattle.cg_table.specs.Values.{Entries}
-use Rattle.cg_table.specs.Table.{alone}
+use Rattle.cg_table.specs.Table.{lone_table}
 use Rattle.cg_table.specs.Spelling.{SpellsPlaces}
 use Rattle.cg_exchange.specs.declared.owner_delta.OwnerDelta.{OwnerDelta}
 use Rattle.cg_exchange.specs.Values.{RequestValue}
@@ -55,7 +55,7 @@ pub record IsReplaced (earlier later : ℕ → Option Entries) (node : ℕ) (ent
 pub record Follow (tables : ℕ → Option Entries) (w : PlaceWorld) : Type 0 where
   -- after a start the started entry alone
   pub start : (node generation : ℕ) (later : ℕ → Option Entries)
-      → IsReplaced tables later node (alone node (starting_entry generation)).entries
+      → IsReplaced tables later node (lone_table node (starting_entry generation)).entries
       → SpellsNodes later (with_start w node generation)
   -- after a change of the own entry the table with that entry
   pub entry : (node : ℕ) (entries : Entries) (entry : EntryValue) (later : ℕ → Option Entries)

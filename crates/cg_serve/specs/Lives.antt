@@ -68,8 +68,8 @@ IsLeft start l =
     (ran : Result Ran NotRun) × IfOk ran (λ r. IsRun start r.history r.rounds.items) × IfErr ran (IsNotRun start)
     × (left_after ran ≡ Ok l)
 
--- A node lived by settings that were told, at its own endpoint in the generation of a start, and its journal is to stand
--- where they say.
+-- A node lived by settings that were told, at its own endpoint in the generation of a start, and its journal is to
+-- stand where they say.
 pub record IsLived (l : Lived) : Type 0 where
   pub told : ServeValue
   pub are_told : AreTold told

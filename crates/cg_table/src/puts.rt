@@ -86,8 +86,8 @@ impl Puts {
         Ok(Puts { rows })
     }
 
-    /// What a table holds of some owners, which have to rise. It shares the entries with the table; an owner that the
-    /// table does not hold is left out. `AllocError` where the list of rows finds no memory.
+    /// What a table holds of some owners, which have to rise, as `endpoints_rise` tells. It shares the entries with the
+    /// table; an owner that the table does not hold is left out. `AllocError` where the list of rows finds no memory.
     pub fn of_owners(alloc: Global, table: &Table, owners: &[Endpoint]) -> Result<Puts, AllocError>
         requires { Rises owners.now }
         ensures { IfOk result (λ p. p ≡ rows_at table.now.entries owners.now) }

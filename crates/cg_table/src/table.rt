@@ -11,7 +11,7 @@ ghost use Rattle.cg_map.specs.Rows.{keys_of};
 ghost use Rattle.cg_map.specs.Map.{put_each};
 ghost use Rattle.cg_table.specs.Own.{own_entry as own_entry_of, with_own as with_own_of};
 ghost use Rattle.cg_table.specs.Puts.{row_at};
-ghost use Rattle.cg_table.specs.Table.{alone, digest_of, digests_of};
+ghost use Rattle.cg_table.specs.Table.{lone_table, digest_of, digests_of};
 ghost use Rattle.cg_table.specs.Values.{AreOwnerEntries, IsOwnerRow};
 
 use crate::digest::Digest;
@@ -102,7 +102,7 @@ fn is_same_row(ours: &Row<Entry>, theirs: &Row<Entry>) -> bool
 impl Table {
     /// A table that holds the own entry alone. `AllocError` where its one row finds no memory.
     pub fn new(alloc: Global, own: Endpoint, entry: Entry) -> Result<Table, AllocError>
-        ensures { IfOk result (λ t. t ≡ alone own entry) }
+        ensures { IfOk result (λ t. t ≡ lone_table own entry) }
     {
         let row = Row::new(alloc, own, entry)?;
         show(&row);

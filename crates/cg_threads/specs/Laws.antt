@@ -6,8 +6,8 @@ use Rattle.cg_history.specs.declared.item.Receipt.{Receipt}
 use Rattle.cg_history.specs.Confirming.{AreConfirmed}
 use Rattle.cg_threads.specs.Numbers.{numbers_in, numbers_on}
 
--- Where confirmed receipts are as many as the records, the receipts of a caller's events of a kind have, in their order,
--- the numbers of the records of these.
+-- Where confirmed receipts are as many as the records, the receipts of a caller's events of a kind have, in their
+-- order, the numbers of the records of these.
 abbrev pub ReceiptsHaveTheNumbers : Type 0
 ReceiptsHaveTheNumbers =
     (records : List Item) (receipts : List Receipt) (caller : ℕ) (kind : Event → Bool) → AreConfirmed records receipts

@@ -72,9 +72,9 @@ abbrev pub missing : Bool → ℕ
 missing true = 1
 missing false = 0
 
--- The gate has more receipts, all of ticks at moments that the clock showed: first those whose rounds were put in, then,
--- where the ticker stopped, one whose round was not. Where it did not stop, ticks and refused ticks are as many as rounds
--- were wanted; where no tick was refused, the words of the ticks are the generator's.
+-- The gate has more receipts, all of ticks at moments that the clock showed: first those whose rounds were put in,
+-- then, where the ticker stopped, one whose round was not. Where it did not stop, ticks and refused ticks are as many
+-- as rounds were wanted; where no tick was refused, the words of the ticks are the generator's.
 pub record Ticks (shows : ℕ → Type 0) (rounds : ℕ) (s : Stream) (g : SeatValue) (before : List Round) (left : Ticked)
     (h : SeatValue) (after : List Round) : Type 0 where
   pub passed : List Receipt

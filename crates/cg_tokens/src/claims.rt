@@ -120,7 +120,7 @@ pub(crate) fn all_claims(alloc: Global, table: &Table) -> Result<Vec<Claim>, All
 }
 
 /// The same claims, by their tokens, and those of one token with the winner first.
-pub(crate) fn ranked(mut claims: Vec<Claim>) -> Vec<Claim>
+pub(crate) fn sort_claims(mut claims: Vec<Claim>) -> Vec<Claim>
     ensures permutation { IsPermutation claims.items result.items }
     ensures sorted { IsSorted rank result.items }
 {

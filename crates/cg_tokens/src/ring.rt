@@ -7,7 +7,7 @@ ghost use Rattle.cg_map.specs.Rows.{keys_of};
 ghost use Rattle.cg_tokens.specs.Claims.{first_claims};
 ghost use Rattle.cg_tokens.specs.Ring.{ring, replicas, firsts_until, with_one, endpoints};
 
-use crate::claims::{Claim, all_claims, ranked};
+use crate::claims::{Claim, all_claims, sort_claims};
 use crate::token::Token;
 use cg_table::Table;
 use cg_types::Endpoint;
@@ -98,7 +98,7 @@ impl Ring {
     pub fn of_table(alloc: Global, table: &Table) -> Result<Ring, AllocError>
         ensures { IfOk result (λ r. r ≡ ring table.now.entries) }
     {
-        let claims = ranked(all_claims(alloc, table)?);
+        let claims = sort_claims(all_claims(alloc, table)?);
         Ok(Ring {
             positions: heads(alloc, &claims)?,
         })

@@ -102,7 +102,7 @@ fn are_tokens(text: &[u8]) -> bool
 }
 
 // The tokens of the pieces that are tokens.
-fn listed(alloc: Global, text: &[u8]) -> Result<Vec<Token>, AllocError>
+fn list_tokens(alloc: Global, text: &[u8]) -> Result<Vec<Token>, AllocError>
     ensures { IfOk result (λ tokens. tokens.items ≡ filter_map token_in (pieces text.now)) }
 {
     let mut tokens = Vec::new(alloc);
@@ -125,7 +125,7 @@ pub(crate) fn tokens_in(alloc: Global, text: &[u8]) -> Result<Option<Vec<Token>>
     if !are_tokens(text) {
         return Ok(None);
     }
-    Ok(Some(listed(alloc, text)?))
+    Ok(Some(list_tokens(alloc, text)?))
 }
 
 /// The tokens of an endpoint, as its state `TOKENS` has them: 1 to `TOKEN_COUNT_LIMIT` tokens of 32 lower-case

@@ -8,7 +8,7 @@ use Rattle.cg_types.specs.Fault.{fault_text}
 use Rattle.cg_types.specs.ResultSteps.{◌>>=◌}
 use Rattle.cg_entry.specs.Entry.{starting_entry}
 use Rattle.cg_table.specs.Values.{TableValue}
-use Rattle.cg_table.specs.Table.{alone}
+use Rattle.cg_table.specs.Table.{lone_table}
 use Rattle.cg_exchange.specs.declared.message.Message.{Message}
 use Rattle.cg_exchange.specs.declared.message.Message.TheVariants as messages
 use Rattle.cg_exchange.specs.Values.{SynValue}
@@ -33,7 +33,7 @@ syn_in bytes = alone_in bytes (frame_among LAYOUTS bytes)
 
 -- the table of a node that has just started
 abbrev pub started_table : Header → TableValue
-started_table h = alone h.endpoint (starting_entry h.generation)
+started_table h = lone_table h.endpoint (starting_entry h.generation)
 
 -- the frame of the ACK that the node answers a frame with
 unfoldable pub answer_to_frame : Header → List ℕ → Result (List ℕ) Fault

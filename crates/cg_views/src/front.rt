@@ -67,11 +67,11 @@ pub trait Naming {
 
 impl Naming for Brand {
     ghost use Rattle.cg_entry.specs.Entry.{starting_entry};
-    ghost use Rattle.cg_table.specs.Table.{alone};
+    ghost use Rattle.cg_table.specs.Table.{lone_table};
 
     ghost book = { record { number = 0; log_name = 0; cells_name = 0 } };
 
-    ghost opening = { alone 0 (starting_entry 0) };
+    ghost opening = { lone_table 0 (starting_entry 0) };
 }
 
 /// An empty book. Contracts see which book it is.

@@ -5,6 +5,7 @@ use Rattle.std.specs.Option.{option_map}
 use Rattle.std.specs.FinMap as map
 use Rattle.std.proofs.lemmas.Bool.Decides.{nat_tests}
 use Rattle.std.proofs.lemmas.Slice.Eq.{bytes_eq-Decides}
+use Rattle.cg_types.specs.Answer.{fault_of}
 use Rattle.cg_types.specs.declared.fault.Fault.{Fault}
 use Rattle.cg_types.specs.declared.fault.Fault.TheVariants.{TableFull, NotRising, NoSuchNode}
 use Rattle.cg_types.specs.declared.limits.TheConstants.{MEMBER_LIMIT}
@@ -35,7 +36,7 @@ use Rattle.cg_core.specs.Values.{NodeValue}
 use Rattle.cg_core.specs.Step.{Step, then, starting_node, next_of, node_step}
 use Rattle.cg_places.specs.PlaceWorld.{PlaceWorld, runs, with_start, may_start, last_entry, after_delivery, after_action}
 use Rattle.cg_places.specs.PlaceWorld as places
-use Rattle.cg_places.specs.Refusals.{fault_of, change_refusal, node_refusal, deliver_refusal, refusal}
+use Rattle.cg_places.specs.Refusals.{change_refusal, node_refusal, deliver_refusal, refusal}
 use Rattle.cg_places.specs.Spelling.{SpellsNode, SpellsNodes}
 use Rattle.cg_places.proofs.PutLemmas.{test_same, same_number}
 use Rattle.cg_places.proofs.GrowthLemmas.{grown_continue}

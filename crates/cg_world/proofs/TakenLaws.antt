@@ -3,6 +3,7 @@ use Rattle.std.proofs.Common.{◌≡◌, ◌≢◌, ◌==◌, ℕ, Bool, false, 
 use Rattle.std.specs.Prelude.{cond, IsOk}
 use Rattle.std.specs.Option.{option_map}
 use Rattle.std.specs.FinMap as map
+use Rattle.cg_types.specs.Answer.{fault_of}
 use Rattle.cg_types.specs.declared.fault.Fault.{Fault}
 use Rattle.cg_types.specs.declared.fault.Fault.TheVariants.{TableFull, NotRising}
 use Rattle.cg_types.specs.declared.limits.TheConstants.{MEMBER_LIMIT}
@@ -32,7 +33,7 @@ use Rattle.cg_core.specs.Values.{SettingsValue, NodeValue}
 use Rattle.cg_exchange.specs.Answering.{answer_to_syn}
 use Rattle.cg_places.specs.PlaceWorld.{PlaceWorld, nobody, runs, with_start, with_entry, with_message, with_spans, taken_with, may_start, last_entry, after_change, after_receipt, after_delivery, after_action, after_actions}
 use Rattle.cg_places.specs.PlaceWorld as places
-use Rattle.cg_places.specs.Refusals.{fault_of, start_refusal, refusal, unless_refused}
+use Rattle.cg_places.specs.Refusals.{start_refusal, refusal, unless_refused}
 use Rattle.cg_world.specs.World.{LocalEvent, Beat, Set, Opening, Tick, Action, Start, Local, Deliver, WorldValue, arrival_of, reply_of, step_of, step_at, reply_to, acting, run, plain, place_world}
 use Rattle.cg_steps.specs.Step.{IsSent}
 use Rattle.cg_world.specs.SingleActions.{outcomes_in}

@@ -3,6 +3,7 @@ use Rattle.std.proofs.Common.{◌≡◌, ◌⊎◌, inl, inr, ℕ, suc, ◌+◌,
 use Rattle.std.specs.Prelude.{IsOk, is_some, cond, nat_lt, map as map_list}
 use Rattle.std.specs.Option.{option_map, option_and_then, option_to_list}
 use Rattle.std.specs.FinMap as map
+use Rattle.cg_types.specs.Answer.{fault_of}
 use Rattle.cg_types.specs.declared.fault.Fault.{Fault}
 use Rattle.cg_types.specs.declared.fault.Fault.TheVariants.{TableFull, NotRising, NoSuchMessage, NoSuchNode}
 use Rattle.cg_types.specs.Text.{ClusterValue}
@@ -17,7 +18,7 @@ use Rattle.cg_core.specs.declared.reply.Reply.TheVariants as reply
 use Rattle.cg_core.specs.Step.{Step, then, next_of, starting_node, beating, opening, round_of}
 use Rattle.cg_core.specs.Values.{SettingsValue, NodeValue}
 use Rattle.cg_places.specs.PlaceWorld.{PlaceWorld, PlaceAction, nobody, runs, after_action, after_actions}
-use Rattle.cg_places.specs.Refusals.{fault_of, deliver_refusal, refusal, unless_refused, done_from}
+use Rattle.cg_places.specs.Refusals.{deliver_refusal, refusal, unless_refused, done_from}
 use Rattle.cg_places.specs.Spelling.{SpellsNode}
 use Rattle.cg_world.specs.World.{Action, Start, Local, Opening, Deliver, WorldValue, with_node, with_sent, message_of, after_step, generation_held, has_room, event_of, reply_of, message_to, acting, or_unchanged, act, run_from, run, new_world, plain, place_world, step_of, step_at}
 use Rattle.cg_world.specs.WorldLaws.{AllSent, Runs, ActionsOneByOne, MessagesAreNumbered, IsBeatAndOpening, TicksAreBeatsAndOpenings, NodesSpellPlaces, RefusalsAgree, DeliveriesFindRoom, DeliveriesAreDone, ReachedWorlds, TablesAreTheJoin, EqualSetsGiveEqualTables, EqualDigestsGiveEqualTables, MergesOfNodesAreTheJoin}

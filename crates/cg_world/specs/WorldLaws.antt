@@ -3,6 +3,7 @@
 use Rattle.std.specs.Prelude.{ℕ, ◌≡◌, ◌⊎◌, Result, Ok, Err, IsOk, true, is_some, ⊤, List, [], ◌∷◌, ◌++◌, length, Some}
 use Rattle.std.specs.Option.{option_and_then, option_to_list}
 use Rattle.std.specs.FinMap as map
+use Rattle.cg_types.specs.Answer.{fault_of}
 use Rattle.cg_types.specs.declared.fault.Fault.{Fault}
 use Rattle.cg_types.specs.declared.fault.Fault.TheVariants.{NoSuchMessage, NoSuchNode}
 use Rattle.cg_types.specs.Text.{ClusterValue}
@@ -17,7 +18,7 @@ use Rattle.cg_steps.specs.Step.{IsSent}
 use Rattle.cg_core.specs.Values.{SettingsValue, NodeValue}
 use Rattle.cg_places.specs.PlaceWorld.{PlaceWorld}
 use Rattle.cg_places.specs.Join.{sources, SamePlaces}
-use Rattle.cg_places.specs.Refusals.{fault_of, refusal}
+use Rattle.cg_places.specs.Refusals.{refusal}
 use Rattle.cg_places.specs.Spelling.{SpellsNodes}
 use Rattle.cg_places.specs.TableLaws.{IsJoined, AreEqual, IsMergedOf}
 use Rattle.cg_world.specs.World.{Action, Local, Beat, Opening, Tick, Deliver, WorldValue, new_world, tables_of, message_to, number_to, acting, act, run_from, run, plain, place_world}

@@ -6,7 +6,7 @@ use Rattle.cg_entry.specs.State.{pairs, value_at_key}
 use Rattle.cg_entry.specs.Entry.{overlay}
 use Rattle.cg_entry.proofs.ContentLemmas.{put_all_valid}
 use Rattle.cg_entry.proofs.PutLemmas.{overlay-pairs, put_rises, put_all_next, put_all_whole}
-use Rattle.cg_entry.proofs.states.States.overlaid.Goals as goal
+use Rattle.cg_entry.proofs.states.States.overlay.Goals as goal
 
 pub loop-state-preserved : goal.loop-state-preserved
 loop-state-preserved c =
