@@ -3,8 +3,8 @@
 use cg_samples::long_text;
 use cg_types::laws::limits_have_their_values;
 use cg_types::{
-    Cause, Cluster, Endpoint, Fault, Generation, StateKey, StateText, Version, cut, is_plain,
-    number, number_between,
+    Cause, Cluster, Endpoint, Fault, Generation, StateKey, StateText, Version, cut, endpoints_rise,
+    is_plain, number, number_between,
 };
 use std::alloc::{AllocError, Global};
 use std::test::Fail;
@@ -22,6 +22,17 @@ fn endpoints_are_read(rt: HostRuntime) -> Result<(), Fail> {
     assert_eq!(rt; Endpoint::from_bytes(b"10.0.0.1:7000"), Some(endpoint));
     let text = format!(in rt.alloc(); "{endpoint}")?;
     assert_eq!(rt; text.as_str(), "10.0.0.1:7000");
+    Ok(())
+}
+
+#[test]
+fn endpoints_are_added_to_texts(rt: HostRuntime) -> Result<(), Fail> {
+    let mut text = String::new(rt.alloc());
+    for endpoint in ["1.2.3.4:5", "255.255.255.255:65535"] {
+        text.push_str(" ")?;
+        Endpoint::read(endpoint)?.push_to(&mut text)?;
+    }
+    assert_eq!(rt; text.as_str(), " 1.2.3.4:5 255.255.255.255:65535");
     Ok(())
 }
 

@@ -92,7 +92,7 @@ fn add_digest(text: &mut String, row: &Row<Entry>) -> Result<(), AllocError>
     let endpoint = row.endpoint();
     let generation = row.value().generation().get();
     let newest = row.value().newest().get();
-    write!(text, "{endpoint}")?;
+    endpoint.push_to(text)?;
     add_number_word(text, u64::from(generation))?;
     add_number_word(text, u64::from(newest))?;
     text.push_str("\n")

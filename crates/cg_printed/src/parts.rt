@@ -6,7 +6,6 @@ ghost use Rattle.cg_printed.specs.Printed.{peer_word};
 use cg_types::Endpoint;
 use itoa::Buffer;
 use std::alloc::AllocError;
-use std::fmt::Write;
 
 /// Adds a number.
 pub(crate) fn add_number(text: &mut String, number: u64) -> Result<(), AllocError>
@@ -30,5 +29,5 @@ pub(crate) fn add_peer(text: &mut String, peer: Endpoint) -> Result<(), AllocErr
     ensures { OnOk result (string_bytes text.new ≡ string_bytes text.old ++ peer_word peer) }
 {
     text.push_str(" ")?;
-    write!(text, "{peer}")
+    peer.push_to(text)
 }

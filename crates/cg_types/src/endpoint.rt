@@ -1,6 +1,6 @@
 //! Where a member is reached.
 
-ghost use Rattle.std.specs.Prelude.{◌≡◌, ◌≢◌, ◌↔◌, ◌<◌, ◌≤◌, ◌+◌, ◌∷◌, ◌++◌, drop, decimal, ℕ, IsSome, IfSome, IfNone, IfOk, IfErr, OnErr, MatchResult, Some, None, nat_eq, option_map};
+ghost use Rattle.std.specs.Prelude.{◌≡◌, ◌≢◌, ◌↔◌, ◌<◌, ◌≤◌, ◌+◌, ◌∷◌, ◌++◌, drop, decimal, ℕ, IsSome, IfSome, IfNone, IfOk, IfErr, OnOk, OnErr, MatchResult, string_bytes, Some, None, nat_eq, option_map};
 ghost use Rattle.std.specs.Ordering.{nat_cmp};
 ghost use Rattle.std.specs.Cmp.{nat_eq_equiv, nat_cmp_total, unsigned_po, partial_equiv_from_equiv};
 ghost use Rattle.std.specs.Cmp.Rules.{comparing};
@@ -14,6 +14,7 @@ ghost use Rattle.cg_types.specs.declared.fault.Fault.TheVariants.{BadText};
 use crate::fault::Fault;
 use crate::words::{cut, number};
 use itoa::write_digits;
+use std::alloc::AllocError;
 use std::cmp::Ordering;
 use std::fmt;
 use std::marker::Model;
@@ -89,10 +90,7 @@ impl fmt::Display for Endpoint {
     ghost output = { λ e. Some (endpoint_text e) };
 
     fn fmt<W: fmt::Write>(&self, f: &mut fmt::Formatter<W>) -> fmt::Result {
-        let mut text = [0u8; LONGEST];
-        let start = put_endpoint(*self, &mut text);
-        // That the text is UTF-8 is proved: it is digits, dots and a colon.
-        f.write_str(unsafe { from_utf8_unchecked(&text[start..]) })
+        f.write_str(text_of(*self, &mut [0u8; LONGEST]))
     }
 }
 
@@ -125,6 +123,14 @@ fn put_endpoint(endpoint: Endpoint, text: &mut [u8; LONGEST]) -> usize
     let at = put_part(c, b'.', text, at);
     let at = put_part(b, b'.', text, at);
     put_part(a, b'.', text, at)
+}
+
+// The endpoint's text, in the room that is given for it. That it is UTF-8 is proved: it is digits, dots and a colon.
+fn text_of(endpoint: Endpoint, room: &mut [u8; LONGEST]) -> &str
+    ensures { result.now ≡ endpoint_text endpoint }
+{
+    let start = put_endpoint(endpoint, room);
+    unsafe { from_utf8_unchecked(&room[start..]) }
 }
 
 // Puts a port at the end of some bytes, and tells where it begins.
@@ -183,6 +189,14 @@ impl Endpoint {
         ensures none { IfNone result ((e : ℕ) → IsEndpoint e → text.now ≢ endpoint_text e) }
     {
         parts_in(text)
+    }
+
+    /// Adds the endpoint's text to another, as `write!` would, and with no format between. `AllocError` where that text
+    /// finds no room.
+    pub fn push_to(self, text: &mut String) -> Result<(), AllocError>
+        ensures { OnOk result (string_bytes text.new ≡ string_bytes text.old ++ endpoint_text self) }
+    {
+        text.push_str(text_of(self, &mut [0u8; LONGEST]))
     }
 
     /// The address's four bytes.

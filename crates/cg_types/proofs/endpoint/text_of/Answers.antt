@@ -1,10 +1,10 @@
 use Rattle.std.proofs.Common.{◌-◌, drop, sym, ◌∙◌, subst, arith, IsUtf8}
 use Rattle.std.proofs.lemmas.List.{length-drop, take_all}
 use Rattle.cg_types.proofs.EndpointLaws.{endpoint_text-utf8}
-use Rattle.cg_types.proofs.endpoint.EndpointDisplay.fmt.Goals as goal
+use Rattle.cg_types.proofs.endpoint.text_of.Goals as goal
 
 pub from_utf8_unchecked-requires : goal.from_utf8_unchecked-requires
-from_utf8_unchecked-requires g c =
+from_utf8_unchecked-requires c =
     let p = c.put_endpoint-start in
     let all = take_all (21 - p.result) (drop p.result p.new.text) (omega (arith, length-drop p.result p.new.text, p.array_long)) in
-    subst IsUtf8 (sym (all ∙ p.ensures.text)) (endpoint_text-utf8 c.args.self.now p.ensures.valid)
+    subst IsUtf8 (sym (all ∙ p.ensures.text)) (endpoint_text-utf8 c.args.endpoint p.ensures.valid)
