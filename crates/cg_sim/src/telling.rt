@@ -65,6 +65,39 @@ fn hold(front: &mut Vec<u8>, part: &[u8]) -> Result<(), Fault>
     }
 }
 
+// Does and tells a line that ends with `part`, and leaves nothing in `front`, which is what stood before that part. A line
+// that stands whole in a piece is done where it lies.
+fn tell_ended<W: Write>(
+    alloc: Global,
+    play: &mut Play,
+    front: &mut Vec<u8>,
+    text: &mut String,
+    writer: &mut Counted<W>,
+    part: &[u8],
+) -> Result<(), Fault>
+    ensures told { MatchResult result
+        (λ _. AreTold play.old play.new ((front.old.items ++ part.now) ∷ [])
+        (W.contents (link_of writer.old)) (W.contents (link_of writer.new)) writer.old writer.new)
+        (λ f. IsUntold (W.contents (link_of writer.old)) (W.contents (link_of writer.new)) writer.old writer.new f
+        ⊎ BreaksOff play.old ((front.old.items ++ part.now) ∷ [])
+        (W.contents (link_of writer.old)) (W.contents (link_of writer.new)) writer.old writer.new f) }
+    ensures none { OnOk result (front.new.items ≡ []) }
+{
+    if front.is_empty() {
+        return tell_line(alloc, play, text, writer, part);
+    }
+    match hold(front, part) {
+        Ok(()) => {}
+        Err(fault) => return Err(fault),
+    }
+    match tell_line(alloc, play, text, writer, front) {
+        Ok(()) => {}
+        Err(fault) => return Err(fault),
+    }
+    front.clear();
+    Ok(())
+}
+
 /// Does and tells each line that ends in a piece of a script. `front` is what stands before the piece in its line, and
 /// then what stands behind the last line feed. `text` has the room for a line's text, from one line to the next.
 pub(crate) fn tell_piece<W: Write>(
@@ -86,15 +119,10 @@ pub(crate) fn tell_piece<W: Write>(
 {
     let mut rest = piece;
     while let Some((part, behind)) = cut(rest, b'\n') {
-        match hold(front, part) {
+        match tell_ended(alloc, play, front, text, writer, part) {
             Ok(()) => {}
             Err(fault) => return Err(fault),
         }
-        match tell_line(alloc, play, text, writer, front) {
-            Ok(()) => {}
-            Err(fault) => return Err(fault),
-        }
-        front.clear();
         rest = behind;
     }
     hold(front, rest)
