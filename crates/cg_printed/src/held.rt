@@ -5,7 +5,7 @@ ghost use Rattle.std.specs.List.{flat_map};
 ghost use Rattle.std.specs.FinMap as map;
 ghost use Rattle.cg_printed.specs.Printed.{state_line, owner_line, generation_line, heartbeat_line, entry_lines, gossipinfo, digest_line, digest_lines, position_line, ring_lines, endpoint_line, replica_lines};
 
-use crate::parts::add_number_word;
+use crate::numbers::add_numbers;
 use cg_entry::{Entry, State};
 use cg_map::Row;
 use cg_table::Table;
@@ -93,9 +93,8 @@ fn add_digest(text: &mut String, row: &Row<Entry>) -> Result<(), AllocError>
     let generation = row.value().generation().get();
     let newest = row.value().newest().get();
     endpoint.push_to(text)?;
-    add_number_word(text, u64::from(generation))?;
-    add_number_word(text, u64::from(newest))?;
-    text.push_str("\n")
+    text.push_str(" ")?;
+    add_numbers(text, generation, newest)
 }
 
 /// Adds a line for each entry of a table, rising by endpoint: the endpoint, its generation and its newest version.

@@ -7,6 +7,7 @@
 
 mod done;
 mod held;
+mod numbers;
 mod parts;
 mod runs;
 

@@ -1,6 +1,6 @@
 //! Parts of lines, put into the text with no format between.
 
-ghost use Rattle.std.specs.Prelude.{◌≡◌, ◌++◌, OnOk, string_bytes, codes, decimal};
+ghost use Rattle.std.specs.Prelude.{◌≡◌, ◌++◌, OnOk, string_bytes, decimal};
 ghost use Rattle.cg_printed.specs.Printed.{peer_word};
 
 use cg_types::Endpoint;
@@ -13,14 +13,6 @@ pub(crate) fn add_number(text: &mut String, number: u64) -> Result<(), AllocErro
 {
     let mut buffer = Buffer::new();
     text.push_str(buffer.format(number))
-}
-
-/// Adds a number behind a space.
-pub(crate) fn add_number_word(text: &mut String, number: u64) -> Result<(), AllocError>
-    ensures { OnOk result (string_bytes text.new ≡ string_bytes text.old ++ (codes " " ++ decimal number)) }
-{
-    text.push_str(" ")?;
-    add_number(text, number)
 }
 
 /// Adds an endpoint behind a space.
