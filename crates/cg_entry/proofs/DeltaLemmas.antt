@@ -140,6 +140,15 @@ pub len-pairs : (items : List State) (states : States) → KeysRise items → fr
 len-pairs items states rise seen =
     sym (length-pairs items) ∙ ap length (sym (entries-pairs items rise)) ∙ sym (len-entries (from_sorted {R = nat_cmp} (pairs items))) ∙ ap len seen
 
+-- no states at all
+pub nothing_listed : from_sorted {R = nat_cmp} (pairs []) ≡ empty
+nothing_listed = empty_of_len (from_sorted {R = nat_cmp} (pairs [])) (sym (len-pairs [] (from_sorted {R = nat_cmp} (pairs [])) refl refl))
+
+pub bare_is_delta : (v heartbeat : ℕ) → v < heartbeat → IsDelta v heartbeat empty
+bare_is_delta v heartbeat lt =
+    let some : v < greatest heartbeat (from_sorted (pairs [])) = rw (sym (greatest-pairs heartbeat [] refl)) lt in
+    subst (λ (s : States). IsDelta v heartbeat s) nothing_listed (listed_is_delta v heartbeat [] refl refl some)
+
 pub none_listed : (items : List State) (states : States) → KeysRise items → from_sorted {R = nat_cmp} (pairs items) ≡ states → states ≡ empty → length items ≡ 0
 none_listed items states rise seen none = len-pairs items states rise seen ∙ ap len none ∙ len-empty nat_cmp Versioned
 

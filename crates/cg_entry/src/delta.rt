@@ -1,6 +1,6 @@
 //! What a message carries of one endpoint.
 
-ghost use Rattle.std.specs.Prelude.{◌≡◌, ◌↔◌, IsTrue, IfSome, IfOk, IsOk, is_some};
+ghost use Rattle.std.specs.Prelude.{◌≡◌, ◌↔◌, IsTrue, IfSome, IfOk, IsOk, is_some, nat_lt, []};
 ghost use Rattle.std.specs.FinMap as map;
 ghost use Rattle.cg_types.specs.Numbers.{IsVersionHeld};
 ghost use Rattle.cg_entry.specs.State.{KeysRise, pairs, all_newer as all_newer_of, delta_of_parts, makes_delta, delta_from};
@@ -81,6 +81,23 @@ impl Delta {
             return Err(Cause::Empty);
         }
         Ok(Delta::of_parts(generation, above, heartbeat, Held::own(states)))
+    }
+
+    /// The delta without states. `None` unless the heartbeat version is greater than `above`. `alloc` is kept for what
+    /// is made of it later.
+    pub fn bare(
+        alloc: Global,
+        generation: Generation,
+        above: u32,
+        heartbeat: Version,
+    ) -> Option<Delta>
+        ensures when { is_some result ≡ nat_lt above heartbeat }
+        ensures value { IfSome result (λ d. d ≡ delta_of_parts generation above heartbeat []) }
+    {
+        if heartbeat.get() <= above {
+            return None;
+        }
+        Some(Delta::of_parts(generation, above, heartbeat, Held::none(alloc)))
     }
 
     pub(crate) fn of_parts(

@@ -154,16 +154,23 @@ fn delta_of(
     let above = reader.held(Cause::Above)?;
     let heartbeat = reader.heartbeat()?;
     let count = reader.state_count()?;
+    let empty = Misread {
+        cause: Cause::Empty,
+        left,
+    };
+    if count == 0 {
+        return match Delta::bare(alloc, generation, above, heartbeat) {
+            Some(delta) => Ok(OwnerDelta { endpoint, delta }),
+            None => Err(ReadError::Misread(empty)),
+        };
+    }
     let states = states_of(alloc, layout, above, reader, count)?;
     match Delta::new(generation, above, heartbeat, states) {
         Some(delta) => {
             let delta = delta.shared(alloc)?;
             Ok(OwnerDelta { endpoint, delta })
         }
-        None => Err(ReadError::Misread(Misread {
-            cause: Cause::Empty,
-            left,
-        })),
+        None => Err(ReadError::Misread(empty)),
     }
 }
 
