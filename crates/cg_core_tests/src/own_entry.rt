@@ -1,6 +1,6 @@
 //! A node that starts, and changes of its own entry. Endpoint A is 10.0.0.1:7000.
 
-use crate::samples::{held, node, set_event};
+use crate::samples::{after, held, node, set_event};
 use cg_core::{Event, Node, Reply};
 use cg_samples::{A, endpoint, key};
 use cg_silence::Verdict;
@@ -85,8 +85,7 @@ const AT_16: &str = "00000000000000000000000000000010";
 // A node that set a key to a text.
 fn with_text(alloc: Global, node: &Node, number: u8, text: &str) -> Result<Node, Fail> {
     let set = set_event(alloc, number, text)?;
-    let (after, _reply) = node.stepped(alloc, &set)?;
-    Ok(after)
+    after(alloc, node, &set)
 }
 
 // A, which is a member of the ring at 16, and beat since.

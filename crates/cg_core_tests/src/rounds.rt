@@ -1,7 +1,7 @@
 //! Rounds: live, silent and seed peers, as four words choose them.
 
 use crate::samples::{hears, node, settings};
-use cg_core::{Event, Node, Peers, Reply};
+use cg_core::{Event, Node, Reply};
 use cg_samples::{A, B, C, endpoint, generation};
 use cg_silence::Verdict;
 use cg_types::Endpoint;
@@ -27,22 +27,20 @@ fn live_and_silent(rt: HostRuntime) -> Result<(), Fail> {
     Ok(())
 }
 
-// Whom a round with these words is for.
-fn round(alloc: Global, node: &Node, words: [u64; 4]) -> Result<Peers, Fail> {
-    let event = Event::Tick { now: 50001, words };
-    let (_after, reply) = node.stepped(alloc, &event)?;
+// Whom the round of a reply is for, or nobody.
+fn peers(reply: &Reply) -> &[Endpoint] {
     match reply {
-        Reply::Round { peers, .. } => Ok(peers),
-        _ => Ok(Peers::of(Vec::new(alloc))),
+        Reply::Round { peers, .. } => peers.endpoints(),
+        _ => &[],
     }
 }
 
-// Whether such a round of the node with a seed is for B alone, or for B and C.
+// Whether a round of the node with a seed, with these words, is for B alone, or for B and C.
 fn is_for(alloc: Global, seed: u16, words: [u64; 4], also_c: bool) -> Result<bool, Fail> {
     let node = heard(alloc, Some(seed))?;
-    let peers = round(alloc, &node, words)?;
+    let (_after, reply) = node.stepped(alloc, &Event::Tick { now: 50001, words })?;
     let (b, c) = (endpoint(B), endpoint(C));
-    Ok(match peers.endpoints() {
+    Ok(match peers(&reply) {
         [first] => *first == b && !also_c,
         [first, second] => *first == b && *second == c && also_c,
         _ => false,

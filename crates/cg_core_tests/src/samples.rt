@@ -40,16 +40,27 @@ pub(crate) fn about(alloc: Global, owner: u16, of: (u32, u32, u32)) -> Result<Ow
     })
 }
 
-/// The event that an ACK2 of one such delta comes at a moment.
+/// The event that an ACK2 of one delta comes at a moment.
+pub(crate) fn ack2(alloc: Global, now: u64, delta: OwnerDelta) -> Result<Event, Fail> {
+    let deltas = vec![in alloc; delta]?;
+    let m = Ack2::new(deltas).ok_or("an ACK2")?;
+    Ok(Event::Ack2 { now, m })
+}
+
+/// The same, of a delta with no states.
 pub(crate) fn comes(
     alloc: Global,
     now: u64,
     owner: u16,
     of: (u32, u32, u32),
 ) -> Result<Event, Fail> {
-    let deltas = vec![in alloc; about(alloc, owner, of)?]?;
-    let m = Ack2::new(deltas).ok_or("an ACK2")?;
-    Ok(Event::Ack2 { now, m })
+    ack2(alloc, now, about(alloc, owner, of)?)
+}
+
+/// A node as it is after an event.
+pub(crate) fn after(alloc: Global, node: &Node, event: &Event) -> Result<Node, Fail> {
+    let (after, _reply) = node.stepped(alloc, event)?;
+    Ok(after)
 }
 
 /// A node that heard such a delta.
@@ -61,8 +72,7 @@ pub(crate) fn hears(
     of: (u32, u32, u32),
 ) -> Result<Node, Fail> {
     let event = comes(alloc, now, owner, of)?;
-    let (after, _reply) = node.stepped(alloc, &event)?;
-    Ok(after)
+    after(alloc, node, &event)
 }
 
 /// The event that a key is to get a text.
@@ -103,9 +113,6 @@ pub(crate) fn refusal(
 ) -> Result<Option<Fault>, Fail> {
     let before = node.table().copy(alloc)?;
     let fault = node.step(alloc, event).err();
-    if node.table().same_entries(&before) {
-        Ok(fault)
-    } else {
-        Ok(None)
-    }
+    let is_same = node.table().same_entries(&before);
+    Ok(if is_same { fault } else { None })
 }

@@ -1,7 +1,7 @@
 //! Entries and deltas: what is held after starts, beats and sets, what stands above a version, and what is taken.
 
 use cg_entry::{Absorbed, Delta, Entry, State, meet};
-use cg_samples::{bare_delta, delta, entry_at_start, generation, key, state, version};
+use cg_samples::{bare_delta, bare_entry, delta, entry_at_start, generation, key, state, version};
 use cg_types::{Cause, Fault, StateKey, StateText};
 use cg_version::Versions;
 use std::alloc::Global;
@@ -65,11 +65,17 @@ fn a_shared_delta_is_the_same(rt: HostRuntime) -> Result<(), Fail> {
     Ok(())
 }
 
+// Of two texts, with a letter of one byte and one of two.
+fn bytes_of_two_texts(alloc: Global) -> Result<usize, Fail> {
+    let mut states = one_state(alloc, 2, 4)?;
+    states.push(state(alloc, 3, 6, "é")?)?;
+    let delta = delta((9, 2, 5), states)?;
+    Ok(delta.text_bytes())
+}
+
 #[test]
 fn texts_are_counted_in_bytes(rt: HostRuntime) -> Result<(), Fail> {
-    let mut states = one_state(rt.alloc(), 2, 4)?;
-    states.push(state(rt.alloc(), 3, 6, "é")?)?;
-    assert_eq!(rt; delta((9, 2, 5), states)?.text_bytes(), 3);
+    assert_eq!(rt; bytes_of_two_texts(rt.alloc())?, 3);
     Ok(())
 }
 
@@ -78,18 +84,18 @@ fn makes_a_delta(heartbeat: u32, states: Vec<State>) -> Result<bool, Fail> {
     Ok(Delta::new(generation(9), 2, version(heartbeat), states).is_some())
 }
 
+fn two_make_a_delta(alloc: Global, first: (u8, u32), second: (u8, u32)) -> Result<bool, Fail> {
+    let states = two_states(alloc, first, second)?;
+    makes_a_delta(1, states)
+}
+
 #[test]
 fn states_of_a_delta_rise_and_are_newer(rt: HostRuntime) -> Result<(), Fail> {
-    let rows = [
-        ((1, 4), (2, 3), true),
-        ((2, 4), (1, 3), false),
-        ((1, 4), (1, 3), false),
-        ((1, 4), (2, 2), false),
-    ];
-    for (first, second, made) in rows {
-        let states = two_states(rt.alloc(), first, second)?;
-        assert_eq!(rt; makes_a_delta(1, states)?, made);
-    }
+    let alloc = rt.alloc();
+    assert!(rt; two_make_a_delta(alloc, (1, 4), (2, 3))?);
+    assert!(rt; !two_make_a_delta(alloc, (2, 4), (1, 3))?);
+    assert!(rt; !two_make_a_delta(alloc, (1, 4), (1, 3))?);
+    assert!(rt; !two_make_a_delta(alloc, (1, 4), (2, 2))?);
     Ok(())
 }
 
@@ -98,17 +104,27 @@ fn cause_of(states: Vec<State>) -> Option<Cause> {
     Delta::try_new(generation(9), 2, version(1), states).err()
 }
 
+fn cause_of_two(alloc: Global, first: (u8, u32), second: (u8, u32)) -> Result<Option<Cause>, Fail> {
+    let states = two_states(alloc, first, second)?;
+    Ok(cause_of(states))
+}
+
 #[test]
 fn what_makes_no_delta_is_told(rt: HostRuntime) -> Result<(), Fail> {
-    let rows = [
-        ((1, 4), (2, 3), None),
-        ((2, 4), (1, 3), Some(Cause::Order)),
-        ((2, 4), (1, 2), Some(Cause::Version)),
-    ];
-    for (first, second, cause) in rows {
-        assert_eq!(rt; cause_of(two_states(rt.alloc(), first, second)?), cause);
-    }
-    assert_eq!(rt; cause_of(Vec::new(rt.alloc())), Some(Cause::Empty));
+    let alloc = rt.alloc();
+    let none = cause_of_two(alloc, (1, 4), (2, 3))?;
+    let order = cause_of_two(alloc, (2, 4), (1, 3))?;
+    let version = cause_of_two(alloc, (2, 4), (1, 2))?;
+    let empty = cause_of(Vec::new(alloc));
+    assert_eq!(rt;
+        (none, order, version, empty),
+        (
+            None,
+            Some(Cause::Order),
+            Some(Cause::Version),
+            Some(Cause::Empty)
+        )
+    );
     Ok(())
 }
 
@@ -120,10 +136,33 @@ fn a_delta_with_no_state_has_a_later_heartbeat(rt: HostRuntime) -> Result<(), Fa
     Ok(())
 }
 
+// The parts of the delta without states at generation 9 above version 2.
+fn parts_of_bare(alloc: Global, heartbeat: u32) -> Option<(u32, u32, u32, usize)> {
+    let delta = Delta::bare(alloc, generation(9), 2, version(heartbeat))?;
+    Some((
+        delta.generation().get(),
+        delta.above(),
+        delta.heartbeat().get(),
+        delta.states().len(),
+    ))
+}
+
+#[test]
+fn a_bare_delta_has_its_parts(rt: HostRuntime) {
+    assert_eq!(rt; parts_of_bare(rt.alloc(), 3), Some((9, 2, 3, 0)));
+    assert_eq!(rt; parts_of_bare(rt.alloc(), 2), None);
+}
+
+// Whether a delta is the same as one with key 2 at 4.
+fn is_same(alloc: Global, delta: &Delta) -> Result<bool, Fail> {
+    let one = delta_with_key_2(alloc, 2, 5)?;
+    Ok(delta.is_same(&one))
+}
+
 // Whether deltas at generation 9 above 2, with key 2 at this version and heartbeat 5, are the same as one at 4.
 fn is_like_one_at_4(alloc: Global, at: u32) -> Result<bool, Fail> {
     let like = delta((9, 2, 5), one_state(alloc, 2, at)?)?;
-    Ok(like.is_same(&delta_with_key_2(alloc, 2, 5)?))
+    is_same(alloc, &like)
 }
 
 #[test]
@@ -165,13 +204,19 @@ fn an_entry_starts_at_version_1(rt: HostRuntime) -> Result<(), Fail> {
     Ok(())
 }
 
+// Sets key 1, and beats.
+fn set_and_beat(entry: &mut Entry, text: StateText) -> Result<(), Fault> {
+    let mut versions = Versions::after(entry.newest());
+    entry.set(&mut versions, key(1), text)?;
+    entry.beat(&mut versions)?;
+    Ok(())
+}
+
 // Generation 9 sets key 1 to NORMAL, and beats.
 fn set_and_beaten(alloc: Global) -> Result<Entry, Fail> {
     let text = StateText::new(alloc, "NORMAL")?;
     let mut entry = entry_at_start(alloc, 9);
-    let mut versions = Versions::after(entry.newest());
-    entry.set(&mut versions, key(1), text)?;
-    entry.beat(&mut versions)?;
+    set_and_beat(&mut entry, text)?;
     Ok(entry)
 }
 
@@ -194,10 +239,8 @@ fn only_state(entry: &Entry) -> Option<(u8, u32, &str)> {
 
 #[test]
 fn states_are_listed(rt: HostRuntime) -> Result<(), Fail> {
-    assert_eq!(rt;
-        only_state(&set_and_beaten(rt.alloc())?),
-        Some((1, 2, "NORMAL"))
-    );
+    let entry = set_and_beaten(rt.alloc())?;
+    assert_eq!(rt; only_state(&entry), Some((1, 2, "NORMAL")));
     Ok(())
 }
 
@@ -209,44 +252,62 @@ fn above(alloc: Global, entry: &Entry, version: u32) -> Result<Option<Parts>, Fa
     }
 }
 
+// The same of an entry at its start.
+fn above_at_start(alloc: Global, version: u32) -> Result<Option<Parts>, Fail> {
+    let entry = entry_at_start(alloc, 9);
+    above(alloc, &entry, version)
+}
+
 #[test]
 fn above_a_start(rt: HostRuntime) -> Result<(), Fail> {
-    let entry = entry_at_start(rt.alloc(), 9);
-    for (version, parts) in [(0, Some((9, 0, 1, 1, 0))), (1, None)] {
-        assert_eq!(rt; above(rt.alloc(), &entry, version)?, parts);
-    }
+    let alloc = rt.alloc();
+    assert_eq!(rt; above_at_start(alloc, 0)?, Some((9, 0, 1, 1, 0)));
+    assert_eq!(rt; above_at_start(alloc, 1)?, None);
     Ok(())
+}
+
+// The same of an entry after a set and a beat.
+fn above_when_beaten(alloc: Global, version: u32) -> Result<Option<Parts>, Fail> {
+    let entry = set_and_beaten(alloc)?;
+    above(alloc, &entry, version)
 }
 
 #[test]
 fn above_by_version(rt: HostRuntime) -> Result<(), Fail> {
-    let entry = set_and_beaten(rt.alloc())?;
-    for (version, parts) in [
-        (0, Some((9, 0, 3, 3, 1))),
-        (2, Some((9, 2, 3, 3, 0))),
-        (3, None),
-    ] {
-        assert_eq!(rt; above(rt.alloc(), &entry, version)?, parts);
-    }
+    let alloc = rt.alloc();
+    assert_eq!(rt; above_when_beaten(alloc, 0)?, Some((9, 0, 3, 3, 1)));
+    assert_eq!(rt; above_when_beaten(alloc, 2)?, Some((9, 2, 3, 3, 0)));
+    assert_eq!(rt; above_when_beaten(alloc, 3)?, None);
     Ok(())
+}
+
+// The entry that a whole delta carries.
+fn carried(alloc: Global, whole: &Delta) -> Result<Entry, Fail> {
+    match Entry::of_delta(alloc, whole)? {
+        Some(entry) => Ok(entry),
+        None => Err(Fail::from("no entry")),
+    }
 }
 
 // Generation 9 at heartbeat 1 with key 1 at 2, as a whole delta carried it.
 fn held_entry(alloc: Global) -> Result<Entry, Fail> {
     let whole = delta((9, 0, 1), one_state(alloc, 1, 2)?)?;
-    Ok(Entry::of_delta(alloc, &whole)?.ok_or("an entry")?)
+    carried(alloc, &whole)
 }
 
 // An entry whose newest version is the last.
 fn spent_entry(alloc: Global) -> Result<Entry, Fail> {
-    let last = bare_delta(alloc, (9, 0, 2147483647))?;
-    Ok(Entry::of_delta(alloc, &last)?.ok_or("an entry")?)
+    bare_entry(alloc, 9, 2147483647)
+}
+
+fn carries_none(alloc: Global, delta: &Delta) -> Result<bool, Fail> {
+    Ok(Entry::of_delta(alloc, delta)?.is_none())
 }
 
 #[test]
 fn a_part_is_no_entry(rt: HostRuntime) -> Result<(), Fail> {
     let part = delta_with_key_2(rt.alloc(), 2, 5)?;
-    assert!(rt; Entry::of_delta(rt.alloc(), &part)?.is_none());
+    assert!(rt; carries_none(rt.alloc(), &part)?);
     Ok(())
 }
 
@@ -276,11 +337,18 @@ fn compared(one: &Entry, other: &Entry) -> (bool, bool, bool) {
     (one.is_later(other), other.is_later(one), one.is_same(other))
 }
 
+// Of an entry and the one that is held: how they compare, and whether the held one is the same as itself.
+type Beside = ((bool, bool, bool), bool);
+
+fn beside_held(alloc: Global, entry: &Entry) -> Result<Beside, Fail> {
+    let held = held_entry(alloc)?;
+    Ok((compared(entry, &held), held.is_same(&held)))
+}
+
 #[test]
 fn entries_are_compared(rt: HostRuntime) -> Result<(), Fail> {
-    let held = held_entry(rt.alloc())?;
     let beaten = set_and_beaten(rt.alloc())?;
-    let both = (compared(&beaten, &held), held.is_same(&held));
+    let both = beside_held(rt.alloc(), &beaten)?;
     assert_eq!(rt; both, ((true, false, false), true));
     Ok(())
 }
@@ -293,6 +361,11 @@ fn name_of(what: &Absorbed) -> &'static str {
         Absorbed::Old => "old",
         Absorbed::Gap => "gap",
     }
+}
+
+// What becomes of a delta at an entry.
+fn outcome(alloc: Global, entry: &Entry, delta: &Delta) -> Result<&'static str, Fail> {
+    Ok(name_of(&entry.absorb(alloc, delta)?))
 }
 
 // Where nothing is held, of a delta of generation 9 with no states.
@@ -316,10 +389,15 @@ fn taken(alloc: Global, entry: &Entry, delta: &Delta) -> Result<Entry, Fail> {
     }
 }
 
-// What is held after a part of generation 9 with key 2 at 4, heartbeat 5, above version 2.
+// What an entry is after a part of generation 9 with key 2 at 4, heartbeat 5, above version 2.
+fn after_a_part(alloc: Global, entry: &Entry) -> Result<Entry, Fail> {
+    taken(alloc, entry, &delta_with_key_2(alloc, 2, 5)?)
+}
+
+// What is held after the part.
 fn with_a_part(alloc: Global) -> Result<Entry, Fail> {
-    let part = delta_with_key_2(alloc, 2, 5)?;
-    taken(alloc, &held_entry(alloc)?, &part)
+    let held = held_entry(alloc)?;
+    after_a_part(alloc, &held)
 }
 
 #[test]
@@ -331,11 +409,15 @@ fn partial_delta_taken(rt: HostRuntime) -> Result<(), Fail> {
     Ok(())
 }
 
+// What becomes of the part at an entry.
+fn outcome_of_a_part(alloc: Global, entry: &Entry) -> Result<&'static str, Fail> {
+    outcome(alloc, entry, &delta_with_key_2(alloc, 2, 5)?)
+}
+
 #[test]
 fn partial_delta_taken_again(rt: HostRuntime) -> Result<(), Fail> {
     let after = with_a_part(rt.alloc())?;
-    let part = delta_with_key_2(rt.alloc(), 2, 5)?;
-    assert_eq!(rt; name_of(&after.absorb(rt.alloc(), &part)?), "old");
+    assert_eq!(rt; outcome_of_a_part(rt.alloc(), &after)?, "old");
     Ok(())
 }
 
@@ -343,21 +425,24 @@ fn partial_delta_taken_again(rt: HostRuntime) -> Result<(), Fail> {
 fn bare_outcome(alloc: Global, of: u32, above: u32, heartbeat: u32) -> Result<&'static str, Fail> {
     let held = held_entry(alloc)?;
     let bare = bare_delta(alloc, (of, above, heartbeat))?;
-    Ok(name_of(&held.absorb(alloc, &bare)?))
+    outcome(alloc, &held, &bare)
 }
 
 #[test]
 fn deltas_across_generations(rt: HostRuntime) -> Result<(), Fail> {
-    for (of, above, heartbeat, what) in [
-        (8, 0, 9, "old"),
-        (10, 0, 1, "taken"),
-        (10, 1, 2, "gap"),
-        (9, 3, 4, "gap"),
-        (9, 2, 4, "taken"),
-        (9, 0, 2, "old"),
-    ] {
-        assert_eq!(rt; bare_outcome(rt.alloc(), of, above, heartbeat)?, what);
-    }
+    let alloc = rt.alloc();
+    let other_generations = (
+        bare_outcome(alloc, 8, 0, 9)?,
+        bare_outcome(alloc, 10, 0, 1)?,
+        bare_outcome(alloc, 10, 1, 2)?,
+    );
+    assert_eq!(rt; other_generations, ("old", "taken", "gap"));
+    let same_generation = (
+        bare_outcome(alloc, 9, 3, 4)?,
+        bare_outcome(alloc, 9, 2, 4)?,
+        bare_outcome(alloc, 9, 0, 2)?,
+    );
+    assert_eq!(rt; same_generation, ("gap", "taken", "old"));
     Ok(())
 }
 

@@ -13,15 +13,20 @@ fn is_endpoint(text: &str) -> bool {
     Endpoint::read(text).is_ok()
 }
 
+// The text that an endpoint is written as.
+fn written(alloc: Global, endpoint: Endpoint) -> Result<String, AllocError> {
+    format!(in alloc; "{endpoint}")
+}
+
 #[test]
 fn endpoints_are_read(rt: HostRuntime) -> Result<(), Fail> {
     let endpoint = Endpoint::read("10.0.0.1:7000")?;
-    assert_eq!(rt; endpoint.address(), [10, 0, 0, 1]);
-    assert_eq!(rt; endpoint.port(), 7000);
-    assert_eq!(rt; Endpoint::new([10, 0, 0, 1], 7000), Some(endpoint));
-    assert_eq!(rt; Endpoint::from_bytes(b"10.0.0.1:7000"), Some(endpoint));
-    let text = format!(in rt.alloc(); "{endpoint}")?;
-    assert_eq!(rt; text.as_str(), "10.0.0.1:7000");
+    let parts = (endpoint.address(), endpoint.port());
+    assert_eq!(rt; parts, ([10, 0, 0, 1], 7000));
+    let made = Endpoint::new([10, 0, 0, 1], 7000);
+    let from_bytes = Endpoint::from_bytes(b"10.0.0.1:7000");
+    assert_eq!(rt; (made, from_bytes), (Some(endpoint), Some(endpoint)));
+    assert_eq!(rt; written(rt.alloc(), endpoint)?.as_str(), "10.0.0.1:7000");
     Ok(())
 }
 
@@ -182,14 +187,20 @@ fn texts_are_plain(rt: HostRuntime) -> Result<(), Fail> {
     Ok(())
 }
 
+fn text_equals_its_copy(text: &StateText) -> Result<bool, AllocError> {
+    Ok(text.copy()? == *text)
+}
+
+fn differs_from(alloc: Global, text: &StateText, other: &str) -> Result<bool, Fail> {
+    Ok(StateText::new(alloc, other)? != *text)
+}
+
 #[test]
 fn texts_are_copied(rt: HostRuntime) -> Result<(), Fail> {
     let text = StateText::new(rt.alloc(), "NORMAL")?;
-    assert_eq!(rt; text.as_str(), "NORMAL");
-    let same = text.copy()?;
-    assert!(rt; same == text);
-    let other = StateText::new(rt.alloc(), "LEAVING")?;
-    assert!(rt; other != text);
+    let same = text_equals_its_copy(&text)?;
+    let differs = differs_from(rt.alloc(), &text, "LEAVING")?;
+    assert_eq!(rt; (text.as_str(), same, differs), ("NORMAL", true, true));
     Ok(())
 }
 
@@ -211,16 +222,27 @@ fn names_are_bounded(rt: HostRuntime) -> Result<(), Fail> {
     Ok(())
 }
 
+fn cluster_equals_its_copy(cluster: &Cluster) -> Result<bool, AllocError> {
+    Ok(cluster.copy()? == *cluster)
+}
+
+// Of the cluster c1 with this partitioner: its partitioner, and whether it differs from another cluster.
+fn other_by_its_partitioner(
+    alloc: Global,
+    cluster: &Cluster,
+    partitioner: u8,
+) -> Result<(u8, bool), Fail> {
+    let other = Cluster::with(alloc, "c1", partitioner)?;
+    Ok((other.partitioner(), other != *cluster))
+}
+
 #[test]
 fn clusters_are_copied(rt: HostRuntime) -> Result<(), Fail> {
     let cluster = Cluster::new(rt.alloc(), "c1")?;
-    assert_eq!(rt; cluster.name(), "c1");
-    assert_eq!(rt; cluster.partitioner(), 1);
-    let same = cluster.copy()?;
-    assert!(rt; same == cluster);
-    let other = Cluster::with(rt.alloc(), "c1", 2)?;
-    assert_eq!(rt; other.partitioner(), 2);
-    assert!(rt; other != cluster);
+    let same = cluster_equals_its_copy(&cluster)?;
+    let other = other_by_its_partitioner(rt.alloc(), &cluster, 2)?;
+    let parts = (cluster.name(), cluster.partitioner());
+    assert_eq!(rt; (parts, same, other), (("c1", 1), true, (2, true)));
     Ok(())
 }
 

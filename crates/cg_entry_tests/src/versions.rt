@@ -13,16 +13,23 @@ fn versions_rise(rt: HostRuntime) {
     assert!(rt; !versions.is_spent());
 }
 
+// Of the versions after this one: the last, the next, and then the last, whether they are spent, and what refuses one
+// more.
+type After = (u32, Option<Version>, u32, bool, Option<Fault>);
+
+fn after(number: u32) -> After {
+    let mut versions = Version::new(number).map_or(Versions::new(), Versions::after);
+    let last = versions.last();
+    let given = versions.next().ok();
+    let spent = versions.is_spent();
+    (last, given, versions.last(), spent, versions.next().err())
+}
+
 #[test]
 fn versions_spent(rt: HostRuntime) {
+    let refused = Some(Fault::VersionsSpent);
     for (last, next) in [(2147483646, Version::new(2147483647)), (2147483647, None)] {
-        let mut versions = Version::new(last).map_or(Versions::new(), Versions::after);
-        assert_eq!(rt; versions.last(), last);
-        let given = versions.next();
-        assert_eq!(rt; given.ok(), next);
-        assert_eq!(rt; versions.last(), 2147483647);
-        assert!(rt; versions.is_spent());
-        assert_eq!(rt; versions.next().err(), Some(Fault::VersionsSpent));
+        assert_eq!(rt; after(last), (last, next, 2147483647, true, refused));
     }
 }
 

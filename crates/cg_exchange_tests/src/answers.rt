@@ -1,6 +1,6 @@
 //! What a SYN is answered with.
 
-use crate::samples::{ack_of, answer_of_b, delta, digest, syn_of};
+use crate::samples::{ack_of, answer_of_b, digest, one_delta, syn_of};
 use cg_exchange::Ack;
 use cg_samples::{B, endpoint};
 use cg_table::Digest;
@@ -45,8 +45,7 @@ fn what_is_held_is_answered_by_how_far_it_came(rt: HostRuntime) -> Result<(), Fa
 
 // B's whole entry, and no request.
 fn all_of_b(alloc: Global) -> Result<Ack, Fail> {
-    let deltas = vec![in alloc; delta(alloc, B, (5, 0, 1))?]?;
-    ack_of(Vec::new(alloc), deltas)
+    ack_of(Vec::new(alloc), one_delta(alloc, B, (5, 0, 1))?)
 }
 
 #[test]

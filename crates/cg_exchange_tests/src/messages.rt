@@ -58,9 +58,15 @@ fn digests_of_a_syn_are_few(rt: HostRuntime) -> Result<(), Fail> {
     Ok(())
 }
 
+// A SYN of a cluster with so many digests.
+fn syn_with(alloc: Global, name: &str, partitioner: u8, count: u16) -> Result<Syn, Fail> {
+    let digests = digests_below(alloc, count)?;
+    syn_of(alloc, name, partitioner, digests)
+}
+
 #[test]
 fn a_syn_has_its_parts(rt: HostRuntime) -> Result<(), Fail> {
-    let syn = syn_of(rt.alloc(), "c1", 1, digests_below(rt.alloc(), 256)?)?;
+    let syn = syn_with(rt.alloc(), "c1", 1, 256)?;
     let parts = (syn.cluster().name(), syn.digests().len());
     assert_eq!(rt; parts, ("c1", MEMBER_LIMIT));
     Ok(())
@@ -185,13 +191,12 @@ fn a_delta_equals_its_copy(rt: HostRuntime) -> Result<(), Fail> {
 }
 
 fn a_syn(alloc: Global) -> Result<Syn, Fail> {
-    syn_of(alloc, "c1", 1, digests_below(alloc, 2)?)
+    syn_with(alloc, "c1", 1, 2)
 }
 
 // Whether a SYN of a cluster with so many digests equals the one above.
 fn equals_a_syn(alloc: Global, name: &str, partitioner: u8, count: u16) -> Result<bool, Fail> {
-    let digests = digests_below(alloc, count)?;
-    Ok(syn_of(alloc, name, partitioner, digests)? == a_syn(alloc)?)
+    Ok(syn_with(alloc, name, partitioner, count)? == a_syn(alloc)?)
 }
 
 #[test]
@@ -203,10 +208,14 @@ fn equal_syns(rt: HostRuntime) -> Result<(), Fail> {
     Ok(())
 }
 
+fn syn_equals_its_copy(alloc: Global, syn: &Syn) -> Result<bool, Fail> {
+    Ok(syn.copy(alloc)? == *syn)
+}
+
 #[test]
 fn a_syn_equals_its_copy(rt: HostRuntime) -> Result<(), Fail> {
-    let syn = a_syn(rt.alloc())?;
-    assert_eq!(rt; syn.copy(rt.alloc())?, syn);
+    let equals = syn_equals_its_copy(rt.alloc(), &a_syn(rt.alloc())?)?;
+    assert!(rt; equals);
     Ok(())
 }
 
@@ -282,11 +291,15 @@ fn messages_differ_by_what_they_carry(rt: HostRuntime) -> Result<(), Fail> {
     Ok(())
 }
 
+fn kind_of(message: Message) -> Kind {
+    message.kind()
+}
+
 #[test]
 fn kinds_of_messages(rt: HostRuntime) -> Result<(), Fail> {
-    let syn = Message::Syn(a_syn(rt.alloc())?).kind();
-    let ack = Message::Ack(an_ack(rt.alloc(), 2, 3)?).kind();
-    let ack2 = Message::Ack2(an_ack2(rt.alloc(), 3)?).kind();
+    let syn = kind_of(Message::Syn(a_syn(rt.alloc())?));
+    let ack = kind_of(Message::Ack(an_ack(rt.alloc(), 2, 3)?));
+    let ack2 = kind_of(Message::Ack2(an_ack2(rt.alloc(), 3)?));
     assert_eq!(rt; (syn, ack, ack2), (Kind::Syn, Kind::Ack, Kind::Ack2));
     let names = (syn.name(), ack.name(), ack2.name());
     assert_eq!(rt; names, ("syn", "ack", "ack2"));

@@ -27,6 +27,26 @@ pub(crate) fn delta(alloc: Global, owner: u16, of: (u32, u32, u32)) -> Result<Ow
     })
 }
 
+// One such delta.
+pub(crate) fn one_delta(
+    alloc: Global,
+    owner: u16,
+    of: (u32, u32, u32),
+) -> Result<Vec<OwnerDelta>, Fail> {
+    let delta = delta(alloc, owner, of)?;
+    Ok(vec![in alloc; delta]?)
+}
+
+pub(crate) fn one_request(
+    alloc: Global,
+    owner: u16,
+    at: u32,
+    version: u32,
+) -> Result<Vec<Request>, Fail> {
+    let request = request(owner, at, version)?;
+    Ok(vec![in alloc; request]?)
+}
+
 // What a member holds that started at a generation and met nobody.
 pub(crate) fn table_alone(alloc: Global, owner: u16, at: u32) -> Result<Table, Fail> {
     Ok(Table::new(alloc, endpoint(owner), entry_at_start(alloc, at))?)

@@ -1,6 +1,8 @@
 //! What an ACK and an ACK2 make of a table.
 
-use crate::samples::{ack_of, ack2_of, answer_of_b, delta, digest, request, syn_of, table_alone};
+use crate::samples::{
+    ack_of, ack2_of, answer_of_b, delta, digest, one_delta, one_request, syn_of, table_alone,
+};
 use cg_exchange::{Ack, Ack2, Outcome, OwnerDelta, Syn, syn, take_ack, take_ack2};
 use cg_samples::{A, B, C, endpoint};
 use cg_table::{Table, Took};
@@ -10,12 +12,17 @@ use std::test::Fail;
 
 // An ACK2 of one delta.
 fn one(alloc: Global, owner: u16, of: (u32, u32, u32)) -> Result<Ack2, Fail> {
-    ack2_of(vec![in alloc; delta(alloc, owner, of)?]?)
+    ack2_of(one_delta(alloc, owner, of)?)
 }
 
 fn after(alloc: Global, table: &Table, ack2: &Ack2) -> Result<Table, Fail> {
     let (after, _outcomes) = take_ack2(alloc, table, ack2)?;
     Ok(after)
+}
+
+fn outcomes_of(alloc: Global, table: &Table, ack2: &Ack2) -> Result<Vec<Outcome>, Fail> {
+    let (_after, outcomes) = take_ack2(alloc, table, ack2)?;
+    Ok(outcomes)
 }
 
 // What an owner's table is after one delta about A.
@@ -50,12 +57,13 @@ fn only(ack2: &Ack2) -> Option<(u32, u32, u32)> {
 
 // The messages of the exchange that A at generation 9 opens with B at generation 5, where each holds only itself.
 fn first_syn(alloc: Global) -> Result<Syn, Fail> {
-    syn_of(alloc, "c1", 1, vec![in alloc; digest(A, 9, 1)]?)
+    let digests = vec![in alloc; digest(A, 9, 1)]?;
+    syn_of(alloc, "c1", 1, digests)
 }
 
 fn first_ack(alloc: Global) -> Result<Ack, Fail> {
-    let requests = vec![in alloc; request(A, 9, 0)?]?;
-    ack_of(requests, vec![in alloc; delta(alloc, B, (5, 0, 1))?]?)
+    let requests = one_request(alloc, A, 9, 0)?;
+    ack_of(requests, one_delta(alloc, B, (5, 0, 1))?)
 }
 
 fn first_ack2(alloc: Global) -> Result<Ack2, Fail> {
@@ -95,20 +103,42 @@ fn sent_for(alloc: Global, table: &Table, ack: &Ack) -> Result<Ack2, Fail> {
     Ok(ack2)
 }
 
+// What A sends for B's ACK.
+fn sent_by_a(alloc: Global) -> Result<Ack2, Fail> {
+    let a = table_alone(alloc, A, 9)?;
+    sent_for(alloc, &a, &first_ack(alloc)?)
+}
+
 #[test]
 fn first_exchange_sends_what_is_asked_for(rt: HostRuntime) -> Result<(), Fail> {
-    let a = table_alone(rt.alloc(), A, 9)?;
-    let ack2 = sent_for(rt.alloc(), &a, &first_ack(rt.alloc())?)?;
+    let ack2 = sent_by_a(rt.alloc())?;
     assert_eq!(rt; ack2, first_ack2(rt.alloc())?);
     Ok(())
+}
+
+// The only outcome, and what is then held of an endpoint.
+type Taken = (Option<Outcome>, Option<(u32, u32)>);
+
+fn taken_by_ack(alloc: Global, table: &Table, ack: &Ack, owner: Endpoint) -> Result<Taken, Fail> {
+    let (after, _ack2, outcomes) = take_ack(alloc, table, ack)?;
+    Ok((became(&outcomes), held(&after, owner)))
+}
+
+fn taken_by_ack2(
+    alloc: Global,
+    table: &Table,
+    ack2: &Ack2,
+    owner: Endpoint,
+) -> Result<Taken, Fail> {
+    let (after, outcomes) = take_ack2(alloc, table, ack2)?;
+    Ok((became(&outcomes), held(&after, owner)))
 }
 
 #[test]
 fn first_exchange_is_taken(rt: HostRuntime) -> Result<(), Fail> {
     let (endpoint, took) = (endpoint(B), Took::Taken);
     let a = table_alone(rt.alloc(), A, 9)?;
-    let (a, _ack2, outcomes) = take_ack(rt.alloc(), &a, &first_ack(rt.alloc())?)?;
-    let shown = (became(&outcomes), held(&a, endpoint));
+    let shown = taken_by_ack(rt.alloc(), &a, &first_ack(rt.alloc())?, endpoint)?;
     assert_eq!(rt; shown, (Some(Outcome { endpoint, took }), Some((5, 1))));
     Ok(())
 }
@@ -117,8 +147,7 @@ fn first_exchange_is_taken(rt: HostRuntime) -> Result<(), Fail> {
 fn first_exchange_ends(rt: HostRuntime) -> Result<(), Fail> {
     let (endpoint, took) = (endpoint(A), Took::Taken);
     let b = table_alone(rt.alloc(), B, 5)?;
-    let (b, outcomes) = take_ack2(rt.alloc(), &b, &first_ack2(rt.alloc())?)?;
-    let shown = (became(&outcomes), held(&b, endpoint));
+    let shown = taken_by_ack2(rt.alloc(), &b, &first_ack2(rt.alloc())?, endpoint)?;
     assert_eq!(rt; shown, (Some(Outcome { endpoint, took }), Some((9, 1))));
     Ok(())
 }
@@ -130,28 +159,35 @@ fn a_answered(alloc: Global) -> Result<(Table, Ack2), Fail> {
     Ok((a, ack2))
 }
 
+// Whether a table holds the same entries as B's does after an ACK2.
+fn equals_b_after(alloc: Global, table: &Table, ack2: &Ack2) -> Result<bool, Fail> {
+    let b = after(alloc, &table_alone(alloc, B, 5)?, ack2)?;
+    Ok(table.same_entries(&b))
+}
+
 #[test]
 fn first_exchange_equals_the_tables(rt: HostRuntime) -> Result<(), Fail> {
     let (a, ack2) = a_answered(rt.alloc())?;
-    let b = after(rt.alloc(), &table_alone(rt.alloc(), B, 5)?, &ack2)?;
-    assert!(rt; a.same_entries(&b));
+    assert!(rt; equals_b_after(rt.alloc(), &a, &ack2)?);
     Ok(())
 }
 
 // An ACK of one request.
 fn asks(alloc: Global, owner: u16, at: u32, version: u32) -> Result<Ack, Fail> {
-    ack_of(
-        vec![in alloc; request(owner, at, version)?]?,
-        Vec::new(alloc),
-    )
+    ack_of(one_request(alloc, owner, at, version)?, Vec::new(alloc))
 }
 
-// What C sends for a request of A at generation 9 above version 2, after one delta about A: how many deltas, and the
-// only one.
-fn granted(alloc: Global, of: (u32, u32, u32)) -> Result<(usize, Option<(u32, u32, u32)>), Fail> {
-    let table = with_a(alloc, C, of)?;
-    let ack2 = sent_for(alloc, &table, &asks(alloc, A, 9, 2)?)?;
+// What is sent for a request of A at generation 9 above version 2: how many deltas, and the only one.
+type Granted = (usize, Option<(u32, u32, u32)>);
+
+fn granted_by(alloc: Global, table: &Table) -> Result<Granted, Fail> {
+    let ack2 = sent_for(alloc, table, &asks(alloc, A, 9, 2)?)?;
     Ok((ack2.deltas().len(), only(&ack2)))
+}
+
+// What C sends for it after one delta about A.
+fn granted(alloc: Global, of: (u32, u32, u32)) -> Result<Granted, Fail> {
+    granted_by(alloc, &with_a(alloc, C, of)?)
 }
 
 #[test]
@@ -170,9 +206,14 @@ fn request_by_version(rt: HostRuntime) -> Result<(), Fail> {
 
 #[test]
 fn request_of_what_is_not_held(rt: HostRuntime) -> Result<(), Fail> {
-    let table = table_alone(rt.alloc(), C, 5)?;
-    let ack2 = sent_for(rt.alloc(), &table, &asks(rt.alloc(), A, 9, 2)?)?;
-    assert!(rt; ack2.deltas().is_empty());
+    let granted = granted_by(rt.alloc(), &table_alone(rt.alloc(), C, 5)?)?;
+    assert_eq!(rt; granted, (0, None));
+    Ok(())
+}
+
+// Adds a whole delta about an endpoint.
+fn push_whole(alloc: Global, deltas: &mut Vec<OwnerDelta>, owner: u16) -> Result<(), Fail> {
+    deltas.push(delta(alloc, owner, (5, 0, 1))?)?;
     Ok(())
 }
 
@@ -181,7 +222,7 @@ fn others(alloc: Global) -> Result<Ack2, Fail> {
     let mut deltas = Vec::new(alloc);
     for owner in 0..256 {
         if owner != B {
-            deltas.push(delta(alloc, owner, (5, 0, 1))?)?;
+            push_whole(alloc, &mut deltas, owner)?;
         }
     }
     ack2_of(deltas)
@@ -196,25 +237,35 @@ fn crowded(alloc: Global) -> Result<Table, Fail> {
 
 // A newer delta of A, and one about a 257th endpoint.
 fn crowding(alloc: Global, of: (u32, u32, u32)) -> Result<Vec<OwnerDelta>, Fail> {
-    Ok(vec![in alloc; delta(alloc, A, (5, 1, 3))?, delta(alloc, 256, of)?]?)
+    let mut deltas = one_delta(alloc, A, (5, 1, 3))?;
+    deltas.push(delta(alloc, 256, of)?)?;
+    Ok(deltas)
+}
+
+// What refuses an ACK2 with a whole delta about the 257th endpoint.
+fn refusal_of_ack2(alloc: Global, table: &Table) -> Result<Option<Fault>, Fail> {
+    let ack2 = ack2_of(crowding(alloc, (5, 0, 1))?)?;
+    Ok(take_ack2(alloc, table, &ack2).err())
 }
 
 #[test]
 fn table_full(rt: HostRuntime) -> Result<(), Fail> {
     let a = endpoint(A);
     let table = crowded(rt.alloc())?;
-    let ack2 = ack2_of(crowding(rt.alloc(), (5, 0, 1))?)?;
-    let refusal = take_ack2(rt.alloc(), &table, &ack2).err();
-    let shown = (refusal, held(&table, a));
+    let shown = (refusal_of_ack2(rt.alloc(), &table)?, held(&table, a));
     assert_eq!(rt; shown, (Some(Fault::TableFull), Some((5, 1))));
     Ok(())
 }
 
+// What refuses an ACK with such a delta.
+fn refusal_of_ack(alloc: Global, table: &Table) -> Result<Option<Fault>, Fail> {
+    let ack = ack_of(Vec::new(alloc), crowding(alloc, (5, 0, 1))?)?;
+    Ok(take_ack(alloc, table, &ack).err())
+}
+
 #[test]
 fn table_full_at_an_ack(rt: HostRuntime) -> Result<(), Fail> {
-    let table = crowded(rt.alloc())?;
-    let ack = ack_of(Vec::new(rt.alloc()), crowding(rt.alloc(), (5, 0, 1))?)?;
-    let refusal = take_ack(rt.alloc(), &table, &ack).err();
+    let refusal = refusal_of_ack(rt.alloc(), &crowded(rt.alloc())?)?;
     assert_eq!(rt; refusal, Some(Fault::TableFull));
     Ok(())
 }
@@ -246,6 +297,11 @@ fn a_delta_about_the_receiver(rt: HostRuntime) -> Result<(), Fail> {
     Ok(())
 }
 
+// The only delta that a table sends for an ACK.
+fn only_sent(alloc: Global, table: &Table, ack: &Ack) -> Result<Option<(u32, u32, u32)>, Fail> {
+    Ok(only(&sent_for(alloc, table, ack)?))
+}
+
 // What B sends for a request about B.
 fn sent_of_itself(
     alloc: Global,
@@ -253,9 +309,7 @@ fn sent_of_itself(
     at: u32,
     version: u32,
 ) -> Result<Option<(u32, u32, u32)>, Fail> {
-    let ack = asks(alloc, B, at, version)?;
-    let ack2 = sent_for(alloc, table, &ack)?;
-    Ok(only(&ack2))
+    only_sent(alloc, table, &asks(alloc, B, at, version)?)
 }
 
 // Of B at generation 5: the generation and the version that are asked for, and what is sent.
@@ -275,8 +329,7 @@ fn a_request_about_the_receiver(rt: HostRuntime) -> Result<(), Fail> {
 
 // What becomes of one delta about A.
 fn took(alloc: Global, table: &Table, of: (u32, u32, u32)) -> Result<Option<Took>, Fail> {
-    let ack2 = one(alloc, A, of)?;
-    let (_after, outcomes) = take_ack2(alloc, table, &ack2)?;
+    let outcomes = outcomes_of(alloc, table, &one(alloc, A, of)?)?;
     Ok(outcomes.first().map(|one| one.took))
 }
 
@@ -290,15 +343,14 @@ fn parts_across_generations(rt: HostRuntime) -> Result<(), Fail> {
 
 // A request of A, and a delta about A.
 fn asked_and_sent(alloc: Global) -> Result<Ack, Fail> {
-    let requests = vec![in alloc; request(A, 9, 0)?]?;
-    ack_of(requests, vec![in alloc; delta(alloc, A, (9, 0, 4))?]?)
+    let requests = one_request(alloc, A, 9, 0)?;
+    ack_of(requests, one_delta(alloc, A, (9, 0, 4))?)
 }
 
 #[test]
 fn deltas_are_taken_first(rt: HostRuntime) -> Result<(), Fail> {
     let table = table_alone(rt.alloc(), B, 5)?;
-    let ack = asked_and_sent(rt.alloc())?;
-    let ack2 = sent_for(rt.alloc(), &table, &ack)?;
-    assert_eq!(rt; only(&ack2), Some((9, 0, 4)));
+    let sent = only_sent(rt.alloc(), &table, &asked_and_sent(rt.alloc())?)?;
+    assert_eq!(rt; sent, Some((9, 0, 4)));
     Ok(())
 }

@@ -1,8 +1,8 @@
 //! Bytes in any pieces.
 
-use crate::messages::bytes_of;
+use crate::messages::{bytes_of, is_written_as, read_and_written};
 use cg_entry::State;
-use cg_frames::{Ack, Feed, Message, OwnerDelta, Request, decode, encode};
+use cg_frames::{Ack, Feed, Message, OwnerDelta, Request, encode};
 use cg_samples::{delta, endpoint, generation, long_text, state};
 use cg_types::{Cause, Fault, TEXT_LIMIT};
 use std::alloc::Global;
@@ -41,35 +41,51 @@ const OVER: Fault = Fault::BadFrame {
     cause: Cause::Length,
 };
 
-// How many messages the pieces gave, the last fault, and how the stream may end.
-fn fed_in(alloc: Global, pieces: &[&[u8]]) -> Result<(usize, Option<Fault>, Feed), Fail> {
+// How many messages bytes gave, the last fault, how many bytes are wanted then, and how the stream may end.
+type Given = (usize, Option<Fault>, usize, Result<(), Fault>);
+
+// What one more piece gives.
+fn pushed(feed: &mut Feed, piece: &[u8]) -> Result<Given, Fail> {
+    let fed = feed.push(piece)?;
+    Ok((fed.messages.len(), fed.fault, feed.wants(), feed.end()))
+}
+
+// The same of a piece in hexadecimal digits.
+fn pushed_text(alloc: Global, feed: &mut Feed, piece: &str) -> Result<Given, Fail> {
+    let bytes = bytes_of(alloc, piece)?;
+    pushed(feed, bytes.as_slice())
+}
+
+// What the pieces of a stream give.
+fn fed_in(alloc: Global, pieces: &[&[u8]]) -> Result<Given, Fail> {
     let mut feed = Feed::new(alloc);
     let mut count: usize = 0;
     let mut fault = None;
     for piece in pieces {
-        let fed = feed.push(piece)?;
-        count = count.saturating_add(fed.messages.len());
-        fault = fed.fault;
+        let (more, last, _, _) = pushed(&mut feed, piece)?;
+        count = count.saturating_add(more);
+        fault = last;
     }
-    Ok((count, fault, feed))
+    Ok((count, fault, feed.wants(), feed.end()))
 }
 
 #[test]
 fn first_exchange(rt: HostRuntime) -> Result<(), Fail> {
     for text in FIRST_EXCHANGE {
         let frame = bytes_of(rt.alloc(), text)?;
-        let (message, size) = decode(rt.alloc(), frame.as_slice())?.ok_or("a whole frame")?;
-        assert_eq!(rt; size, frame.len());
-        assert_eq!(rt; encode(rt.alloc(), &message)?.as_slice(), frame.as_slice());
+        assert_eq!(rt;
+            read_and_written(rt.alloc(), frame.as_slice())?,
+            (frame.len(), true)
+        );
     }
     Ok(())
 }
 
 // Whether the first piece gives nothing, and the second so many messages, or else a fault.
 fn gives_at_the_end(alloc: Global, front: &[u8], back: &[u8], count: usize) -> Result<bool, Fail> {
-    let (early, early_fault, begun) = fed_in(alloc, &[front])?;
-    let (late, late_fault, _) = fed_in(alloc, &[front, back])?;
-    let nothing_early = early == 0 && early_fault.is_none() && begun.end() == Err(Fault::Truncated);
+    let (early, early_fault, _, early_end) = fed_in(alloc, &[front])?;
+    let (late, late_fault, _, _) = fed_in(alloc, &[front, back])?;
+    let nothing_early = early == 0 && early_fault.is_none() && early_end == Err(Fault::Truncated);
     Ok(nothing_early && late == count && late_fault.is_none() == (count > 0))
 }
 
@@ -97,20 +113,27 @@ fn other_frames_cut_at_every_byte(rt: HostRuntime) -> Result<(), Fail> {
     Ok(())
 }
 
+// Whether a frame, one byte at a time, gives its message with the last byte and nothing before, and may end there.
+fn comes_with_its_last_byte(alloc: Global, frame: &[u8]) -> Result<bool, Fail> {
+    let mut feed = Feed::new(alloc);
+    for (i, byte) in frame.iter().enumerate() {
+        let (count, _, _, _) = pushed(&mut feed, &[*byte])?;
+        let last = i + 1 == frame.len();
+        if count != (if last { 1 } else { 0 }) {
+            return Ok(false);
+        }
+    }
+    Ok(feed.end() == Ok(()))
+}
+
 // Without its last byte the SYN is no message; one byte at a time, the last one gives it.
 #[test]
 fn cut_syn(rt: HostRuntime) -> Result<(), Fail> {
     let frame = bytes_of(rt.alloc(), FIRST_EXCHANGE[0])?;
     let (front, _) = frame.as_slice().split_at(frame.len().saturating_sub(1));
-    let (count, fault, cut) = fed_in(rt.alloc(), &[front])?;
-    assert_eq!(rt; (count, fault, cut.end()), (0, None, Err(Fault::Truncated)));
-    let mut feed = Feed::new(rt.alloc());
-    for (i, byte) in frame.as_slice().iter().enumerate() {
-        let fed = feed.push(&[*byte])?;
-        let last = i + 1 == frame.len();
-        assert_eq!(rt; fed.messages.len(), if last { 1 } else { 0 });
-    }
-    assert_eq!(rt; feed.end(), Ok(()));
+    let (count, fault, _, end) = fed_in(rt.alloc(), &[front])?;
+    assert_eq!(rt; (count, fault, end), (0, None, Err(Fault::Truncated)));
+    assert!(rt; comes_with_its_last_byte(rt.alloc(), frame.as_slice())?);
     Ok(())
 }
 
@@ -125,8 +148,8 @@ fn wants_what_is_lacking(rt: HostRuntime) -> Result<(), Fail> {
         ("01 026331 01 0001 0a0000011b58 00000009 000000", 1),
         ("01", 4),
     ] {
-        feed.push(bytes_of(rt.alloc(), piece)?.as_slice())?;
-        assert_eq!(rt; feed.wants(), wants, "after {piece}");
+        let (_, _, then, _) = pushed_text(rt.alloc(), &mut feed, piece)?;
+        assert_eq!(rt; then, wants, "after {piece}");
     }
     assert_eq!(rt; feed.end(), Ok(()));
     Ok(())
@@ -135,14 +158,12 @@ fn wants_what_is_lacking(rt: HostRuntime) -> Result<(), Fail> {
 #[test]
 fn a_fault_stands(rt: HostRuntime) -> Result<(), Fail> {
     let mut feed = Feed::new(rt.alloc());
-    let bytes = bytes_of(rt.alloc(), "00000008 0101 026331 01 0000 004c4b41")?;
-    let fed = feed.push(bytes.as_slice())?;
-    assert_eq!(rt; (fed.messages.len(), fed.fault), (1, Some(OVER)));
+    let bytes = "00000008 0101 026331 01 0000 004c4b41";
+    let (count, fault, _, _) = pushed_text(rt.alloc(), &mut feed, bytes)?;
+    assert_eq!(rt; (count, fault), (1, Some(OVER)));
     for piece in ["", "00", "00000008 0101 026331 01 0000"] {
-        let fed = feed.push(bytes_of(rt.alloc(), piece)?.as_slice())?;
-        assert_eq!(rt; (fed.messages.len(), fed.fault), (0, Some(OVER)));
-        assert_eq!(rt; feed.wants(), 0);
-        assert_eq!(rt; feed.end(), Err(OVER));
+        let given = pushed_text(rt.alloc(), &mut feed, piece)?;
+        assert_eq!(rt; given, (0, Some(OVER), 0, Err(OVER)));
     }
     Ok(())
 }
@@ -150,8 +171,8 @@ fn a_fault_stands(rt: HostRuntime) -> Result<(), Fail> {
 // Whether a feed answers this fault to the bytes, and to the same bytes again.
 fn stands_for_good(alloc: Global, text: &str, fault: Fault) -> Result<bool, Fail> {
     let bytes = bytes_of(alloc, text)?;
-    let (count, last, feed) = fed_in(alloc, &[bytes.as_slice(), bytes.as_slice()])?;
-    Ok(count == 0 && last == Some(fault) && feed.end() == Err(fault))
+    let (count, last, _, end) = fed_in(alloc, &[bytes.as_slice(), bytes.as_slice()])?;
+    Ok(count == 0 && last == Some(fault) && end == Err(fault))
 }
 
 #[test]
@@ -190,16 +211,22 @@ fn order_and_version_faults(rt: HostRuntime) -> Result<(), Fail> {
     Ok(())
 }
 
-#[test]
-fn three_at_once(rt: HostRuntime) -> Result<(), Fail> {
-    let mut bytes = Vec::new(rt.alloc());
+// The frames of the first exchange, one after the other, and one byte more.
+fn all_and_a_byte(alloc: Global) -> Result<Vec<u8>, Fail> {
+    let mut bytes = Vec::new(alloc);
     for text in FIRST_EXCHANGE {
-        bytes.extend_from_slice(bytes_of(rt.alloc(), text)?.as_slice())?;
+        bytes.extend_from_slice(bytes_of(alloc, text)?.as_slice())?;
     }
     bytes.push(0)?;
-    let (count, fault, feed) = fed_in(rt.alloc(), &[bytes.as_slice()])?;
+    Ok(bytes)
+}
+
+#[test]
+fn three_at_once(rt: HostRuntime) -> Result<(), Fail> {
+    let bytes = all_and_a_byte(rt.alloc())?;
+    let (count, fault, wants, _) = fed_in(rt.alloc(), &[bytes.as_slice()])?;
     assert_eq!(rt; (count, fault), (3, None));
-    assert_eq!(rt; feed.wants(), 3);
+    assert_eq!(rt; wants, 3);
     Ok(())
 }
 
@@ -227,17 +254,32 @@ fn longest(alloc: Global) -> Result<Message, Fail> {
     Ok(Message::Ack(Ack::new(requests, deltas).ok_or("an ACK")?))
 }
 
+// How the stream may end of which a frame comes in pieces, and the messages that they give.
+fn in_pieces(alloc: Global, frame: &[u8]) -> Result<(Result<(), Fault>, Vec<Message>), Fail> {
+    let mut feed = Feed::new(alloc);
+    let mut given = Vec::new(alloc);
+    for piece in frame.chunks(4096) {
+        given.append(&mut feed.push(piece)?.messages)?;
+    }
+    Ok((feed.end(), given))
+}
+
+// How the stream may end of which a frame comes in pieces, how many messages they give, and whether the last of them
+// is written as that frame.
+fn given_in_pieces(alloc: Global, frame: &[u8]) -> Result<(Result<(), Fault>, usize, bool), Fail> {
+    let (end, given) = in_pieces(alloc, frame)?;
+    let is_same = match given.last() {
+        Some(message) => is_written_as(alloc, message, frame)?,
+        None => false,
+    };
+    Ok((end, given.len(), is_same))
+}
+
 #[test]
 fn longest_message_in_pieces(rt: HostRuntime) -> Result<(), Fail> {
     let frame = encode(rt.alloc(), &longest(rt.alloc())?)?;
     assert_eq!(rt; frame.len(), 4 + 4_231_430);
-    let mut feed = Feed::new(rt.alloc());
-    let mut given = Vec::new(rt.alloc());
-    for piece in frame.as_slice().chunks(4096) {
-        given.append(&mut feed.push(piece)?.messages)?;
-    }
-    assert_eq!(rt; feed.end(), Ok(()));
-    assert_eq!(rt; given.len(), 1);
-    assert_eq!(rt; encode(rt.alloc(), &given[0])?.as_slice(), frame.as_slice());
+    let given = given_in_pieces(rt.alloc(), frame.as_slice())?;
+    assert_eq!(rt; given, (Ok(()), 1, true));
     Ok(())
 }

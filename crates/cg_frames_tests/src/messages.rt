@@ -1,5 +1,6 @@
 //! Messages as frames, both ways.
 
+use cg_entry::Delta;
 use cg_frames::{
     Ack, Ack2, Lent, Message, OwnerDelta, Request, Syn, decode, encode, encode_lent,
     every_message_fits,
@@ -47,6 +48,17 @@ fn size_of(alloc: Global, bytes: &[u8]) -> Result<Option<usize>, Fault> {
     Ok(decode(alloc, bytes)?.map(|found| found.1))
 }
 
+// Whether a message is written as these bytes.
+pub(crate) fn is_written_as(alloc: Global, message: &Message, bytes: &[u8]) -> Result<bool, Fail> {
+    Ok(encode(alloc, message)?.as_slice() == bytes)
+}
+
+// How many bytes the frame at the front has, and whether its message is written as all these bytes.
+pub(crate) fn read_and_written(alloc: Global, bytes: &[u8]) -> Result<(usize, bool), Fail> {
+    let (message, size) = decode(alloc, bytes)?.ok_or("a whole frame")?;
+    Ok((size, is_written_as(alloc, &message, bytes)?))
+}
+
 #[test]
 fn reads_and_writes_a_syn(rt: HostRuntime) -> Result<(), Fail> {
     for row in [
@@ -55,9 +67,7 @@ fn reads_and_writes_a_syn(rt: HostRuntime) -> Result<(), Fail> {
         b"\0\0\0\x07\x01\x01\x01c\xff\0\0",
         b"\0\0\0\x36\x01\x01\x30012345678901234567890123456789012345678901234567\x01\0\0",
     ] {
-        let (message, size) = decode(rt.alloc(), row)?.ok_or("a whole frame")?;
-        assert_eq!(rt; size, row.len());
-        assert_eq!(rt; encode(rt.alloc(), &message)?.as_slice(), row);
+        assert_eq!(rt; read_and_written(rt.alloc(), row)?, (row.len(), true));
     }
     Ok(())
 }
@@ -111,15 +121,18 @@ fn reads_as_many_as_it_writes(rt: HostRuntime) -> Result<(), Fail> {
     Ok(())
 }
 
+// An ACK2 of no deltas.
+fn empty_ack2(alloc: Global) -> Result<Message, Fail> {
+    let ack2 = Ack2::new(Vec::new(alloc)).ok_or("an ACK2")?;
+    Ok(Message::Ack2(ack2))
+}
+
 #[test]
 fn reads_and_writes_an_empty_ack2(rt: HostRuntime) -> Result<(), Fail> {
-    let empty = bytes_of(rt.alloc(), "00000004 0103 0000")?;
-    let (message, size) = decode(rt.alloc(), empty.as_slice())?.ok_or("a whole frame")?;
-    assert_eq!(rt; size, 8);
-    assert_eq!(rt; encode(rt.alloc(), &message)?.as_slice(), empty.as_slice());
-    let ack2 = Ack2::new(Vec::new(rt.alloc())).ok_or("an ACK2")?;
-    let frame = encode(rt.alloc(), &Message::Ack2(ack2))?;
-    assert_eq!(rt; frame.as_slice(), empty.as_slice());
+    let empty = b"\0\0\0\x04\x01\x03\0\0".as_slice();
+    assert_eq!(rt; read_and_written(rt.alloc(), empty)?, (8, true));
+    let ack2 = empty_ack2(rt.alloc())?;
+    assert!(rt; is_written_as(rt.alloc(), &ack2, empty)?);
     Ok(())
 }
 
@@ -131,26 +144,43 @@ fn each_message_fits(rt: HostRuntime) -> Result<(), Fail> {
     Ok(())
 }
 
+// An ACK with some requests, and a delta of B.
+fn ack_about_b(alloc: Global, requests: Vec<Request>, delta: Delta) -> Result<Ack, Fail> {
+    let endpoint = endpoint(B);
+    let deltas = vec![in alloc; OwnerDelta { endpoint, delta }]?;
+    Ok(Ack::new(requests, deltas).ok_or("an ACK")?)
+}
+
+// An ACK with nothing but B's heartbeat.
+fn ack_of_a_heartbeat(alloc: Global) -> Result<Ack, Fail> {
+    let delta = bare_delta(alloc, (5, 0, 1))?;
+    ack_about_b(alloc, Vec::new(alloc), delta)
+}
+
 #[test]
 fn writes_an_ack(rt: HostRuntime) -> Result<(), Fail> {
-    let delta = bare_delta(rt.alloc(), (5, 0, 1))?;
-    let endpoint = endpoint(B);
-    let deltas = vec![in rt.alloc(); OwnerDelta { endpoint, delta }]?;
-    let ack = Ack::new(Vec::new(rt.alloc()), deltas).ok_or("an ACK")?;
-    let frame = encode(rt.alloc(), &Message::Ack(ack))?;
+    let ack = Message::Ack(ack_of_a_heartbeat(rt.alloc())?);
     let bytes = b"\0\0\0\x19\x01\x02\0\0\0\x01\x0a\0\0\x02\x1b\x58\0\0\0\x05\0\0\0\0\0\0\0\x01\0";
-    assert_eq!(rt; frame.as_slice(), bytes.as_slice());
+    assert!(rt; is_written_as(rt.alloc(), &ack, bytes.as_slice())?);
     Ok(())
+}
+
+// B's delta of one state.
+fn delta_of_a_state(alloc: Global) -> Result<Delta, Fail> {
+    let states = vec![in alloc; state(alloc, 1, 2, "NORMAL")?]?;
+    delta((5, 0, 1), states)
+}
+
+// An ACK with a request of A, and that delta.
+fn ack_of_a_request_and_a_state(alloc: Global) -> Result<Ack, Fail> {
+    let request = Request::new(endpoint(A), generation(9), 0).ok_or("a request")?;
+    let requests = vec![in alloc; request]?;
+    ack_about_b(alloc, requests, delta_of_a_state(alloc)?)
 }
 
 #[test]
 fn writes_a_request_and_a_state(rt: HostRuntime) -> Result<(), Fail> {
-    let states = vec![in rt.alloc(); state(rt.alloc(), 1, 2, "NORMAL")?]?;
-    let delta = delta((5, 0, 1), states)?;
-    let request = Request::new(endpoint(A), generation(9), 0).ok_or("a request")?;
-    let endpoint = endpoint(B);
-    let deltas = vec![in rt.alloc(); OwnerDelta { endpoint, delta }]?;
-    let ack = Ack::new(vec![in rt.alloc(); request]?, deltas).ok_or("an ACK")?;
+    let ack = ack_of_a_request_and_a_state(rt.alloc())?;
     let frame = encode_lent(rt.alloc(), Lent::Ack(&ack))?;
     let bytes =
         b"\0\0\0\x34\x01\x02\0\x01\x0a\0\0\x01\x1b\x58\0\0\0\x09\0\0\0\0\0\x01\x0a\0\0\x02\x1b\x58\0\0\0\x05\0\0\0\0\0\0\0\x01\x01\x01\0\0\0\x02\0\x06NORMAL";

@@ -3,7 +3,7 @@
 
 use cg_core::{Event, Reply, Settings};
 use cg_exchange::{Ack2, OwnerDelta, syn};
-use cg_history::{History, Receipt};
+use cg_history::{History, Item, Receipt};
 use cg_samples::{A, B, bare_delta, cluster, endpoint, generation, key, version};
 use cg_silence::Silence;
 use cg_types::{Cluster, Fault, StateText};
@@ -16,11 +16,17 @@ fn begun(alloc: Global) -> Result<History, Fail> {
     Ok(History::begin(alloc, endpoint(A), generation(9), settings)?)
 }
 
-fn set_normal(alloc: Global) -> Result<Event, Fail> {
+// The event that a key is to get a text.
+fn set(alloc: Global, number: u8, text: &str) -> Result<Event, Fail> {
+    let text = StateText::new(alloc, text)?;
     Ok(Event::Set {
-        key: key(1),
-        text: StateText::new(alloc, "NORMAL")?,
+        key: key(number),
+        text,
     })
+}
+
+fn set_normal(alloc: Global) -> Result<Event, Fail> {
+    set(alloc, 1, "NORMAL")
 }
 
 // A caller, a number, and the version of a reply that is one.
@@ -130,17 +136,23 @@ fn changed_receipts_are_strangers(rt: HostRuntime) -> Result<(), Fail> {
     Ok(())
 }
 
-// So many beats, by two callers in turn: how many records there are, and what is confirmed of all receipts, and of
-// them with the last one's number changed.
-fn confirmed_of(
-    alloc: Global,
-    count: u32,
-) -> Result<(usize, Option<(usize, u8)>, Option<(usize, u8)>), Fail> {
+// So many beats, by two callers in turn, and their receipts.
+fn beats(alloc: Global, count: u32) -> Result<(History, Vec<Receipt>), Fail> {
     let mut history = begun(alloc)?;
     let mut receipts = Vec::new(alloc);
     for turn in 0..count {
         receipts.push(history.apply(alloc, turn % 2, Event::Beat)?)?;
     }
+    Ok((history, receipts))
+}
+
+// The same: how many records there are, and what is confirmed of all receipts, and of them with the last one's number
+// changed.
+fn confirmed_of(
+    alloc: Global,
+    count: u32,
+) -> Result<(usize, Option<(usize, u8)>, Option<(usize, u8)>), Fail> {
+    let (history, mut receipts) = beats(alloc, count)?;
     let all = stray(&history, &receipts);
     if let Some(last) = receipts.last_mut() {
         last.number = 1;
@@ -197,19 +209,24 @@ fn a_refused_event_makes_no_record(rt: HostRuntime) -> Result<(), Fail> {
 
 // ---- puts
 
-// How many owners the one record of an event puts, and whether its last put is B's.
-fn puts(alloc: Global, event: Event) -> Result<(usize, bool), Fail> {
-    let mut history = begun(alloc)?;
-    let _receipt = history.apply(alloc, 1, event)?;
-    let Some(item) = history.records().first() else {
-        return Ok((usize::MAX, false));
-    };
+// How many owners a record puts, and whether the last of them is B.
+fn owners_put(item: &Item) -> (usize, bool) {
     let rows = item.puts.rows();
     let last = match rows.last() {
         Some(row) => row.endpoint() == endpoint(B),
         None => false,
     };
-    Ok((rows.len(), last))
+    (rows.len(), last)
+}
+
+// The same of the one record of an event.
+fn puts(alloc: Global, event: Event) -> Result<(usize, bool), Fail> {
+    let mut history = begun(alloc)?;
+    let _receipt = history.apply(alloc, 1, event)?;
+    Ok(match history.records().first() {
+        Some(item) => owners_put(item),
+        None => (usize::MAX, false),
+    })
 }
 
 #[test]

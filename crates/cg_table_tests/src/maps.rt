@@ -7,19 +7,23 @@ use std::test::Fail;
 
 // 20 at endpoint 2 and 30 at endpoint 3
 fn two_values(alloc: Global) -> Result<SharedMap<u32>, Fail> {
-    let none = SharedMap::new(alloc);
-    Ok(
-        none.put(alloc, endpoint(3), 30)?
-            .put(alloc, endpoint(2), 20)?,
+    let one = SharedMap::new(alloc).put(alloc, endpoint(3), 30)?;
+    Ok(one.put(alloc, endpoint(2), 20)?)
+}
+
+// The values of endpoints 1, 2 and 3.
+fn got(map: &SharedMap<u32>) -> (Option<u32>, Option<u32>, Option<u32>) {
+    (
+        map.get(endpoint(1)).copied(),
+        map.get(endpoint(2)).copied(),
+        map.get(endpoint(3)).copied(),
     )
 }
 
 #[test]
 fn what_is_put_is_got(rt: HostRuntime) -> Result<(), Fail> {
-    let map = two_values(rt.alloc())?.copy(rt.alloc())?;
-    assert_eq!(rt; map.get(endpoint(1)).copied(), None);
-    assert_eq!(rt; map.get(endpoint(2)).copied(), Some(20));
-    assert_eq!(rt; map.get(endpoint(3)).copied(), Some(30));
+    let got = got(&two_values(rt.alloc())?.copy(rt.alloc())?);
+    assert_eq!(rt; got, (None, Some(20), Some(30)));
     Ok(())
 }
 

@@ -8,15 +8,20 @@ use cg_types::{Endpoint, Fault, Version};
 use std::alloc::Global;
 use std::test::Fail;
 
+// An endpoint with an entry, alone.
+fn alone(alloc: Global, last: u16, entry: Entry) -> Result<Table, Fail> {
+    Ok(Table::new(alloc, endpoint(last), entry)?)
+}
+
 // An endpoint at a generation, beaten to a version, alone.
 fn table_of(alloc: Global, last: u16, of: u32, heartbeat: u32) -> Result<Table, Fail> {
     let entry = bare_entry(alloc, of, heartbeat)?;
-    Ok(Table::new(alloc, endpoint(last), entry)?)
+    alone(alloc, last, entry)
 }
 
 // Endpoint 2 at generation 5, as it starts.
 fn table(alloc: Global) -> Result<Table, Fail> {
-    Ok(Table::new(alloc, endpoint(2), entry_at_start(alloc, 5))?)
+    alone(alloc, 2, entry_at_start(alloc, 5))
 }
 
 // The generation and the newest version that are held of an endpoint.
@@ -34,11 +39,15 @@ fn held_of_both(table: &Table) -> (Held, Held) {
     (held(table, 1), held(table, 2))
 }
 
+// The own endpoint, and what is held of endpoints 1 and 2.
+fn own_and_held(table: &Table) -> (Endpoint, (Held, Held)) {
+    (table.own(), held_of_both(table))
+}
+
 #[test]
 fn a_new_table_holds_its_own_entry(rt: HostRuntime) -> Result<(), Fail> {
     let own = endpoint(2);
-    let table = table(rt.alloc())?.copy(rt.alloc())?;
-    let shown = (table.own(), held_of_both(&table));
+    let shown = own_and_held(&table(rt.alloc())?.copy(rt.alloc())?);
     assert_eq!(rt; shown, (own, (None, Some((5, 1)))));
     Ok(())
 }
@@ -156,8 +165,7 @@ fn own_delta(rt: HostRuntime) -> Result<(), Fail> {
 
 // A table with a delta about one more endpoint.
 fn with_other(alloc: Global, table: &Table, number: u16, delta: &Delta) -> Result<Table, Fail> {
-    let (after, _) = table.put_delta(alloc, endpoint(number), delta)?;
-    Ok(after)
+    Ok(table.put_delta(alloc, endpoint(number), delta)?.0)
 }
 
 // The table of endpoint 2 with 255 others.
@@ -199,12 +207,14 @@ fn a_full_table_takes_what_needs_no_room(rt: HostRuntime) -> Result<(), Fail> {
     Ok(())
 }
 
+// How many owners a merge holds.
+fn owners_of_merge(alloc: Global, one: &Table, other: &Table) -> Result<usize, Fault> {
+    Ok(one.merge(alloc, other)?.owners().len())
+}
+
 // How many owners a merge of the full table holds.
 fn owners_merged(alloc: Global, other: &Table) -> Result<Result<usize, Fault>, Fail> {
-    match crowded(alloc)?.merge(alloc, other) {
-        Ok(merged) => Ok(Ok(merged.owners().len())),
-        Err(fault) => Ok(Err(fault)),
-    }
+    Ok(owners_of_merge(alloc, &crowded(alloc)?, other))
 }
 
 #[test]
@@ -249,29 +259,45 @@ fn merged(alloc: Global) -> Result<(Table, Table), Fail> {
     Ok((one.merge(alloc, &two)?, two.merge(alloc, &one)?))
 }
 
+// Of the two merges: the own endpoints, what the first holds of both, and whether the second holds the same.
+fn held_of_merges(alloc: Global) -> Result<((Endpoint, Endpoint), (Held, Held), bool), Fail> {
+    let (here, there) = merged(alloc)?;
+    let owns = (here.own(), there.own());
+    Ok((owns, held_of_both(&here), here.same_entries(&there)))
+}
+
 #[test]
 fn merged_tables_hold_the_later_entries(rt: HostRuntime) -> Result<(), Fail> {
     let owns = (endpoint(1), endpoint(2));
     let later = (Some((9, 3)), Some((5, 2)));
-    let (here, there) = merged(rt.alloc())?;
-    assert_eq!(rt; (here.own(), there.own()), owns);
-    assert_eq!(rt;
-        (held_of_both(&here), here.same_entries(&there)),
-        (later, true)
-    );
+    assert_eq!(rt; held_of_merges(rt.alloc())?, (owns, later, true));
     Ok(())
+}
+
+// The newest version of the own entry, and what is held of endpoint 1.
+fn own_newest(table: &Table) -> (u32, Held) {
+    (table.own_entry().newest().get(), held(table, 1))
+}
+
+// A table with the own entry of generation 5, version 4.
+fn with_newer_own(alloc: Global, table: &Table) -> Result<Table, Fail> {
+    let entry = bare_entry(alloc, 5, 4)?;
+    Ok(table.with_own(alloc, entry)?)
 }
 
 #[test]
 fn the_own_entry_is_replaced(rt: HostRuntime) -> Result<(), Fail> {
     let table = table_with(rt.alloc(), 3)?;
-    let after = table.with_own(rt.alloc(), bare_entry(rt.alloc(), 5, 4)?)?;
-    let newest = (
-        table.own_entry().newest().get(),
-        after.own_entry().newest().get(),
-    );
-    assert_eq!(rt; (newest, held(&after, 1)), ((1, 4), Some((9, 3))));
+    let after = own_newest(&with_newer_own(rt.alloc(), &table)?);
+    let other = Some((9, 3));
+    assert_eq!(rt; (own_newest(&table), after), ((1, other), (4, other)));
     Ok(())
+}
+
+// The newest version of the first row, if there is one.
+fn newest_of_first(rows: &[Row<Entry>]) -> Option<u32> {
+    let row = rows.first()?;
+    Some(row.value().newest().get())
 }
 
 // The row that a delta about endpoint 1 changes at the table of endpoint 2, and whether there is room for it.
@@ -281,9 +307,8 @@ fn change(alloc: Global, delta_of: (u32, u32, u32)) -> Result<(Option<u32>, Took
     let (row, took) = table.delta_change(alloc, endpoint(1), &delta)?;
     let mut rows = Vec::new(alloc);
     push_some(&mut rows, row)?;
-    let newest = rows.first().map(|row| row.value().newest().get());
     let fits = rows_rise(&rows) && table.has_room_for(&rows);
-    Ok((newest, took, fits))
+    Ok((newest_of_first(&rows), took, fits))
 }
 
 #[test]
@@ -294,21 +319,41 @@ fn what_deltas_change(rt: HostRuntime) -> Result<(), Fail> {
     Ok(())
 }
 
-// What becomes of a delta about an endpoint, of which an entry of generation 9 with this version is held, or nothing.
+// What becomes of a delta about an endpoint, where this is held of the endpoint.
+fn became(
+    alloc: Global,
+    table: &Table,
+    last: u16,
+    held: Option<&Entry>,
+    delta: &Delta,
+) -> Result<Took, Fail> {
+    Ok(table.change_at(alloc, endpoint(last), held, delta)?.1)
+}
+
+// The same at the table of endpoint 2.
+fn took_by(
+    alloc: Global,
+    last: u16,
+    held: Option<&Entry>,
+    delta_of: (u32, u32, u32),
+) -> Result<Took, Fail> {
+    let table = table(alloc)?;
+    let delta = bare_delta(alloc, delta_of)?;
+    became(alloc, &table, last, held, &delta)
+}
+
+// The same where an entry of generation 9 with this version is held, or nothing.
 fn took_at(
     alloc: Global,
     last: u16,
     newest: Option<u32>,
     delta_of: (u32, u32, u32),
 ) -> Result<Took, Fail> {
-    let table = table(alloc)?;
-    let delta = bare_delta(alloc, delta_of)?;
     let Some(newest) = newest else {
-        return Ok(table.change_at(alloc, endpoint(last), None, &delta)?.1);
+        return took_by(alloc, last, None, delta_of);
     };
     let entry = bare_entry(alloc, 9, newest)?;
-    let (_row, took) = table.change_at(alloc, endpoint(last), Some(&entry), &delta)?;
-    Ok(took)
+    took_by(alloc, last, Some(&entry), delta_of)
 }
 
 // What the caller holds decides, and not what the table does.
@@ -326,26 +371,42 @@ fn what_deltas_change_by_what_is_held(rt: HostRuntime) -> Result<(), Fail> {
     Ok(())
 }
 
+// Adds what a delta about an endpoint changes where nothing of it is held.
+fn push_change(
+    alloc: Global,
+    rows: &mut Vec<Row<Entry>>,
+    table: &Table,
+    last: u16,
+    delta: &Delta,
+) -> Result<(), Fail> {
+    let (row, _took) = table.change_at(alloc, endpoint(last), None, delta)?;
+    push_some(rows, row)?;
+    Ok(())
+}
+
 // What whole deltas about endpoints 1 and 3 change where nothing of these is held.
 fn changed_rows(alloc: Global, table: &Table) -> Result<Vec<Row<Entry>>, Fail> {
     let delta = bare_delta(alloc, (9, 0, 3))?;
     let mut rows = Vec::new(alloc);
-    for number in [1, 3] {
-        let (row, _took) = table.change_at(alloc, endpoint(number), None, &delta)?;
-        push_some(&mut rows, row)?;
-    }
+    push_change(alloc, &mut rows, table, 1, &delta)?;
+    push_change(alloc, &mut rows, table, 3, &delta)?;
     Ok(rows)
 }
 
-// The table of endpoint 2 with these rows put: as they are handed over, and as they are lent.
-fn with_changed_rows(alloc: Global) -> Result<(Table, Table), Fail> {
-    let table = table(alloc)?;
-    let rows = changed_rows(alloc, &table)?;
+// A table with rows put: as they are handed over, and as they are lent.
+fn with_rows(alloc: Global, table: &Table, rows: Vec<Row<Entry>>) -> Result<(Table, Table), Fail> {
     if !rows_rise(&rows) || !table.has_room_for(&rows) {
         return Err(Fail::from("the rows can't be put"));
     }
     let lent = table.with_rows(alloc, &rows)?;
     Ok((table.put_rows(alloc, rows)?, lent))
+}
+
+// The table of endpoint 2 with the changed rows.
+fn with_changed_rows(alloc: Global) -> Result<(Table, Table), Fail> {
+    let table = table(alloc)?;
+    let rows = changed_rows(alloc, &table)?;
+    with_rows(alloc, &table, rows)
 }
 
 #[test]
@@ -357,19 +418,17 @@ fn rows_that_are_put_are_held(rt: HostRuntime) -> Result<(), Fail> {
     Ok(())
 }
 
-// Whether a whole delta about one that is held needs room, and one about a stranger.
-fn needs(alloc: Global) -> Result<(bool, bool), Fail> {
+// Whether a whole delta about endpoint 1 needs room, and one about endpoint 3.
+fn needs(alloc: Global, table: &Table) -> Result<(bool, bool), Fail> {
     let whole = bare_delta(alloc, (9, 0, 1))?;
-    let table = table_with(alloc, 3)?;
-    Ok((
-        table.needs_room(endpoint(1), &whole),
-        table.needs_room(endpoint(3), &whole),
-    ))
+    let known = table.needs_room(endpoint(1), &whole);
+    Ok((known, table.needs_room(endpoint(3), &whole)))
 }
 
 #[test]
 fn a_stranger_needs_room(rt: HostRuntime) -> Result<(), Fail> {
-    assert_eq!(rt; needs(rt.alloc())?, (false, true));
+    let needs = needs(rt.alloc(), &table_with(rt.alloc(), 3)?)?;
+    assert_eq!(rt; needs, (false, true));
     Ok(())
 }
 

@@ -1,7 +1,7 @@
 //! Worked rings, and who keeps its claims.
 
 use crate::tokens::token;
-use cg_entry::Delta;
+use cg_entry::{Delta, Entry};
 use cg_samples::{endpoint, entry_at_start, state};
 use cg_table::Table;
 use cg_tokens::{Ring, TOKEN_LIMIT, keeps_claims};
@@ -68,6 +68,11 @@ fn lasts(endpoints: &[Endpoint]) -> [u8; 4] {
     lasts
 }
 
+// The last numbers of so many replicas from a token on.
+fn replicas_from(alloc: Global, ring: &Ring, number: u128, rf: usize) -> Result<[u8; 4], Fail> {
+    Ok(lasts(&ring.replicas(alloc, token(number)?, rf)?))
+}
+
 #[test]
 fn ring_and_replicas(rt: HostRuntime) -> Result<(), Fail> {
     let ring = ring(rt.alloc())?;
@@ -81,8 +86,8 @@ fn ring_and_replicas(rt: HostRuntime) -> Result<(), Fail> {
         (TOKEN_LIMIT, 3, [1, 2, 3, 0]),
         (0x40, usize::MAX, [1, 2, 3, 0]),
     ] {
-        let replicas = ring.replicas(rt.alloc(), token(number)?, rf)?;
-        assert_eq!(rt; lasts(&replicas), wanted, "{rf} from {number}");
+        let replicas = replicas_from(rt.alloc(), &ring, number, rf)?;
+        assert_eq!(rt; replicas, wanted, "{rf} from {number}");
     }
     Ok(())
 }
@@ -150,13 +155,18 @@ fn tokens_that_cannot_be_read_are_not_claimed(rt: HostRuntime) -> Result<(), Fai
     Ok(())
 }
 
+// Whether endpoint 1 keeps its claims where this stood, and the table now holds it.
+fn keeps_by(before: Option<&Entry>, table: &Table) -> bool {
+    table
+        .get(endpoint(1))
+        .is_some_and(|entry| keeps_claims(before, entry))
+}
+
 // Whether endpoint 1 keeps its claims where the first stood and the second is held.
 fn keeps(alloc: Global, before: Claiming, after: Claiming) -> Result<bool, Fail> {
-    let (first, second) = (holding(alloc, before)?, holding(alloc, after)?);
-    match second.get(endpoint(1)) {
-        Some(entry) => Ok(keeps_claims(first.get(endpoint(1)), entry)),
-        None => Ok(false),
-    }
+    let first = holding(alloc, before)?;
+    let second = holding(alloc, after)?;
+    Ok(keeps_by(first.get(endpoint(1)), &second))
 }
 
 // A table in which endpoint 1 has these.
@@ -167,11 +177,7 @@ fn holding(alloc: Global, claiming: Claiming) -> Result<Table, Fail> {
 // Whether endpoint 1 keeps its claims where nothing of it was held.
 fn begins(alloc: Global, after: Claiming) -> Result<bool, Fail> {
     let table = holding(alloc, after)?;
-    Ok(
-        table
-            .get(endpoint(1))
-            .is_some_and(|entry| keeps_claims(None, entry)),
-    )
+    Ok(keeps_by(None, &table))
 }
 
 #[test]

@@ -2,11 +2,17 @@
 
 use cg_tokens::{TOKEN_LIMIT, Token, read_tokens, token_of};
 use cg_types::Fault;
-use std::alloc::Global;
+use std::alloc::{AllocError, Global};
 use std::test::Fail;
 
 pub(crate) fn token(number: u128) -> Result<Token, Fail> {
     Ok(Token::new(number).ok_or("a token")?)
+}
+
+// The text that a key's token is written as.
+fn text_of_key(alloc: Global, key: &str) -> Result<String, AllocError> {
+    let token = token_of(key.as_bytes());
+    format!(in alloc; "{token}")
 }
 
 #[test]
@@ -29,20 +35,19 @@ fn tokens_of_keys(rt: HostRuntime) -> Result<(), Fail> {
             "57edf4a22be3c955ac49da2e2107b67a",
         ),
     ] {
-        let token = token_of(key.as_bytes());
-        let written = format!(in rt.alloc(); "{token}")?;
-        assert_eq!(rt; written.as_str(), text, "of {key}");
+        assert_eq!(rt; text_of_key(rt.alloc(), key)?.as_str(), text, "of {key}");
     }
     Ok(())
 }
 
 #[test]
 fn tokens_are_bounded_and_ordered(rt: HostRuntime) -> Result<(), Fail> {
-    assert_eq!(rt; token(0)?.number(), 0);
-    assert_eq!(rt; token(TOKEN_LIMIT)?.number(), TOKEN_LIMIT);
+    let numbers = (token(0)?.number(), token(TOKEN_LIMIT)?.number());
+    assert_eq!(rt; numbers, (0, TOKEN_LIMIT));
     assert!(rt; Token::new(TOKEN_LIMIT + 1).is_none());
-    assert!(rt; token(1)? < token(2)?);
-    assert!(rt; token(1)? != token(2)?);
+    let (one, two) = (token(1)?, token(2)?);
+    assert!(rt; one < two);
+    assert!(rt; one != two);
     Ok(())
 }
 
@@ -52,15 +57,23 @@ fn fault_of(alloc: Global, text: &str) -> Option<Fault> {
     read_tokens(alloc, text).err()
 }
 
+// How many tokens a text has, and the first two.
+type FirstTwo = (usize, Option<Token>, Option<Token>);
+
+fn first_two(alloc: Global, text: &str) -> Result<FirstTwo, Fault> {
+    let tokens = read_tokens(alloc, text)?;
+    Ok((tokens.len(), tokens.get(0).copied(), tokens.get(1).copied()))
+}
+
 #[test]
 fn texts_of_tokens_are_read(rt: HostRuntime) -> Result<(), Fail> {
-    let tokens = read_tokens(rt.alloc(), AT_16_AND_64)?;
-    assert_eq!(rt; tokens.len(), 2);
-    assert_eq!(rt; tokens[0], token(16)?);
-    assert_eq!(rt; tokens[1], token(64)?);
-    let greatest = read_tokens(rt.alloc(), "80000000000000000000000000000000")?;
-    assert_eq!(rt; greatest.len(), 1);
-    assert_eq!(rt; greatest[0], token(TOKEN_LIMIT)?);
+    let two = (2, Some(token(16)?), Some(token(64)?));
+    assert_eq!(rt; first_two(rt.alloc(), AT_16_AND_64)?, two);
+    let greatest = (1, Some(token(TOKEN_LIMIT)?), None);
+    assert_eq!(rt;
+        first_two(rt.alloc(), "80000000000000000000000000000000")?,
+        greatest
+    );
     Ok(())
 }
 
@@ -86,13 +99,18 @@ fn other_texts_are_bad(rt: HostRuntime) {
     }
 }
 
+// A text with one more token, after a comma where it isn't the first.
+fn with_token(alloc: Global, text: &str, number: u64) -> Result<String, Fail> {
+    let comma = if number > 1 { "," } else { "" };
+    let token = token(u128::from(number))?;
+    Ok(format!(in alloc; "{text}{comma}{token}")?)
+}
+
 // The tokens from 1 on, with commas between them.
 fn text_of(alloc: Global, count: u64) -> Result<String, Fail> {
     let mut text = String::new(alloc);
     for number in 1..=count {
-        let comma = if number > 1 { "," } else { "" };
-        let token = token(u128::from(number))?;
-        text = format!(in alloc; "{text}{comma}{token}")?;
+        text = with_token(alloc, text.as_str(), number)?;
     }
     Ok(text)
 }
