@@ -284,6 +284,22 @@ fn rings(mode: Mode) {
     case(mode, "naive_1000_digests_md5", digests, |digest| digest.to_vec());
 }
 
+/// So many texts as states have, made and dropped, and put one behind the other.
+fn texts(mode: Mode, tag: &str, count: usize, bytes: usize) {
+    let text = "0123456789".repeat(20)[..bytes].to_string();
+    let made = || (0..count).map(|_| String::from(black_box(text.as_str()))).collect::<Vec<_>>();
+    case(mode, &format!("naive_texts_made_{tag}"), made, |texts| texts.concat().into_bytes());
+    let texts = made();
+    let put = || {
+        let mut all = Vec::with_capacity(count * bytes);
+        for text in black_box(&texts) {
+            all.extend_from_slice(text.as_bytes());
+        }
+        all
+    };
+    case(mode, &format!("naive_texts_put_{tag}"), put, |all| all.clone());
+}
+
 /// The last of a thousand verdicts. The moment of each rests on the one before, so that all are needed.
 fn verdicts(window: &silence::Window) -> silence::Verdict {
     let mut now = 2_000_000;
@@ -340,6 +356,8 @@ fn main() {
         nodes(mode, tag, states, text);
     }
     rings(mode);
+    texts(mode, "256x200", 256, 200);
+    texts(mode, "4096x64", 4096, 64);
     windows(mode);
     links(mode, "16x64", 16, 64);
     messages(mode, "16x1024", 16, 1024);

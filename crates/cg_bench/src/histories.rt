@@ -19,7 +19,7 @@ use std::rt::Clock;
 fn beat_at(alloc: Global, before: u32) -> Result<Delta> {
     let generation = Generation::new(5).context("a generation")?;
     let heartbeat = Version::new(before.wrapping_add(1)).context("a version")?;
-    Delta::new(generation, before, heartbeat, Vec::new(alloc)).context("a delta")
+    Delta::bare(alloc, generation, before, heartbeat).context("a delta")
 }
 
 // The event of the next heartbeat: those of the 255 other endpoints come in turn, again and again.

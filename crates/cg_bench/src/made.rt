@@ -3,7 +3,7 @@
 use crate::frames::write;
 use crate::inputs::bringing;
 use anyhow::Result;
-use bytes::Bytes;
+use bytes::{ByteStr, Bytes};
 use cg_core::Node;
 use cg_exchange::Message;
 use cg_history::History;
@@ -33,6 +33,7 @@ pub(crate) enum Made {
     Stray(Option<usize>),
     Linked((Node, Vec<u8>), (Node, Vec<u8>)),
     Text(Vec<u8>),
+    Texts(Vec<ByteStr>),
     World(World),
 }
 
@@ -136,6 +137,12 @@ fn add_world(alloc: Global, hasher: &mut Md5, world: &World) -> Result<()> {
     Ok(())
 }
 
+fn add_texts(hasher: &mut Md5, texts: &[ByteStr]) {
+    for text in texts {
+        hasher.update(text.as_str().as_bytes());
+    }
+}
+
 fn add(alloc: Global, hasher: &mut Md5, made: &Made) -> Result<()> {
     match made {
         Made::Frame(frame) => {
@@ -163,6 +170,10 @@ fn add(alloc: Global, hasher: &mut Md5, made: &Made) -> Result<()> {
         Made::Linked(one, other) => add_parts(alloc, hasher, one, other),
         Made::Text(text) => {
             hasher.update(text);
+            Ok(())
+        }
+        Made::Texts(texts) => {
+            add_texts(hasher, texts);
             Ok(())
         }
         Made::World(world) => add_world(alloc, hasher, world),

@@ -15,6 +15,7 @@ mod measure;
 mod nodes;
 mod rings;
 mod scripts;
+mod texts;
 mod work;
 
 use crate::gossip::{gossip, small};
@@ -25,6 +26,7 @@ use crate::measure::Mode;
 use crate::nodes::nodes;
 use crate::rings::{rings, windows};
 use crate::scripts::scripts;
+use crate::texts::texts;
 use anyhow::Result;
 use std::alloc::Global;
 use std::env::Env;
@@ -44,6 +46,7 @@ fn all(rt: &(impl Clock + Print + Alloc<A = Global>), mode: Mode) -> Result<()> 
         nodes(rt, mode, tag, shape)?;
     }
     rings(rt, mode)?;
+    texts(rt, mode)?;
     windows(rt, mode)?;
     above(rt, mode)
 }

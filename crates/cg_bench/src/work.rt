@@ -8,7 +8,9 @@ use crate::made::Made;
 use crate::nodes::after;
 use crate::rings::{digests, last_verdict, replicas, replicas_of_keys, ring, verdicts};
 use crate::scripts::{acted, printed};
+use crate::texts::{copied, joined};
 use anyhow::Result;
+use bytes::ByteStr;
 use cg_core::{Event, Node};
 use cg_exchange::{Ack2, Message};
 use cg_history::{History, Receipt};
@@ -46,6 +48,10 @@ pub(crate) enum Work<'a, 'b, 'c> {
     Keys(&'a Ring),
     /// A thousand MD5s, each of the one before, of which the last is kept.
     Digests,
+    /// Makes so many texts.
+    Texts(&'a str, usize),
+    /// Puts texts one behind the other, in room for so many bytes.
+    Join(&'a [ByteStr], usize),
     /// Two thousand arrivals at a new window, and a verdict.
     Arrivals(Silence),
     /// A thousand verdicts of a window, of which the last is kept.
@@ -85,6 +91,8 @@ pub(crate) fn turn(alloc: Global, work: &Work<'_, '_, '_>) -> Result<Made> {
         Work::Replicas(ring, tokens, rf) => replicas(alloc, ring, tokens, *rf),
         Work::Keys(ring) => replicas_of_keys(alloc, ring),
         Work::Digests => Ok(Made::Digest(digests())),
+        Work::Texts(text, count) => copied(alloc, text, *count),
+        Work::Join(texts, bytes) => joined(alloc, texts, *bytes),
         Work::Arrivals(silence) => last_verdict(alloc, *silence).map(Made::Verdict),
         Work::Verdicts(window) => Ok(Made::Verdict(verdicts(window))),
         Work::Step(node, event) => after(alloc, node, event).map(Made::Node),
