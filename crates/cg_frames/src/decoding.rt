@@ -18,6 +18,10 @@ use cg_exchange::Message;
 use cg_types::{Cause, Fault};
 use std::alloc::Global;
 
+// The most bytes behind its length of a frame that is read in one pass. Before its fault is found such a frame takes less than
+// 160 KB, twenty times this. In layout 1 each SYN is shorter, and so are the heartbeats of as many members as a list can have.
+const SHORT: usize = 8_192;
+
 // The fault of a frame with so many bytes behind its length.
 fn fault_at(size: usize, misread: Misread) -> Fault
     requires { size < 2 ^ 32 }
@@ -63,16 +67,17 @@ fn read_at_once(alloc: Global, layout: &Layout, inside: &[u8]) -> Result<Message
     }
 }
 
-// What stands behind the length. A SYN, which has room for no more than a name and digests, is read at once.
+// What stands behind the length.
 fn read_inside(alloc: Global, layout: &Layout, inside: &[u8]) -> Result<Message, Fault>
     requires short { length inside.now < 2 ^ 32 }
     requires layout { IsRead layout.now }
     ensures { Answers (λ m. m)
         (spec.with_place (length inside.now) (spec.inside_at layout.now inside.now)) result }
 {
-    match inside.get(1) {
-        Some(1) => read_at_once(alloc, layout, inside),
-        _ => read_checked(alloc, layout, inside),
+    if inside.len() <= SHORT {
+        read_at_once(alloc, layout, inside)
+    } else {
+        read_checked(alloc, layout, inside)
     }
 }
 
@@ -125,8 +130,9 @@ pub(crate) fn decode_among(
 /// None where more bytes are needed: fewer than 4, or fewer than the length says. The byte behind the length names the
 /// layout; until it has come, the longest frames of all layouts are allowed. What follows the frame is not looked at.
 /// `BadFrame` has the first cause that is met, and its place, in bytes from the first byte of the length; it is found
-/// whatever memory there is. `OutOfMemory` comes only where the frame reads. Of an ACK and an ACK2 nothing is asked for
-/// before all faults are ruled out; a SYN may have taken room for its name and digests, and gives it back.
+/// whatever memory there is. `OutOfMemory` comes only where the frame reads. Of a frame of more than 8,192 bytes behind
+/// its length nothing is asked for before all faults are ruled out; a shorter one may have taken room for what is
+/// announced and read before its fault is found, and gives it back.
 pub fn decode(alloc: Global, bytes: &[u8]) -> Result<Option<(Message, usize)>, Fault>
     ensures exact { Answers (λ x. x) (frame_among LAYOUTS bytes.now) result }
     ensures more { frame_among LAYOUTS bytes.now ≡ Ok None → result ≡ Ok None }

@@ -71,11 +71,40 @@ fn fault_with(
 // A place, other bytes there, and the first fault of the frame that has them.
 type Row = (usize, &'static str, Option<(usize, Cause)>);
 
-// The first row that is not so of the frame, with the fault that it has instead.
+// A frame with 8,192 zeros behind its last field, and the length that this makes: so long that its faults are found before
+// it is read.
+fn lengthened(alloc: Global, frame: &[u8]) -> Result<Vec<u8>, Fail> {
+    let size = frame.len().saturating_add(8_192);
+    let mut bytes = Vec::new(alloc);
+    bytes.extend_from_slice(&u32::try_from(size.saturating_sub(4))?.to_be_bytes())?;
+    bytes.extend_from_slice(frame.get(4..).ok_or("a length")?)?;
+    bytes.resize(size, 0)?;
+    Ok(bytes)
+}
+
+// Whether a frame has its fault also where zeros stand behind it. Without one the zeros are its fault; what was Short may
+// find its bytes among them.
+fn is_same_lengthened(
+    alloc: Global,
+    frame: &[u8],
+    fault: Option<(usize, Cause)>,
+) -> Result<bool, Fail> {
+    let due = match fault {
+        Some((_, Cause::Short)) => return Ok(true),
+        Some(fault) => fault,
+        None => (frame.len(), Cause::Rest),
+    };
+    let long = lengthened(alloc, frame)?;
+    Ok(fault_of(alloc, &long) == Some(due))
+}
+
+// The first row that is not so of the frame, with the fault that it has instead; one that is not so of the lengthened frame
+// has its own. A row of the length itself is of the short frame alone.
 fn wrong_row(alloc: Global, frame: &str, rows: &[Row]) -> Result<Option<Row>, Fail> {
     for (place, part, fault) in rows {
-        let found = fault_with(alloc, frame, *place, part)?;
-        if found != *fault {
+        let bytes = with_part(alloc, frame, *place, part)?;
+        let found = fault_of(alloc, &bytes);
+        if found != *fault || *place >= 4 && !is_same_lengthened(alloc, &bytes, found)? {
             return Ok(Some((*place, *part, found)));
         }
     }
@@ -371,6 +400,26 @@ fn bytes_behind_the_last_field(rt: HostRuntime) -> Result<(), Fail> {
         let bytes = bytes_of(rt.alloc(), frame)?;
         let found = fault_of(rt.alloc(), bytes.as_slice());
         assert_eq!(rt; found, Some((place, Cause::Rest)), "{frame}");
+    }
+    Ok(())
+}
+
+// An ACK2 without deltas that says and has so many bytes behind its length, of which the last are zeros.
+fn padded(alloc: Global, size: u16) -> Result<Vec<u8>, Fail> {
+    let mut bytes = bytes_of(alloc, "0000")?;
+    bytes.extend_from_slice(&size.to_be_bytes())?;
+    bytes.extend_from_slice(&[1, 3, 0, 0])?;
+    bytes.resize(usize::from(size).saturating_add(4), 0)?;
+    Ok(bytes)
+}
+
+// A fault is the same in a frame that is read at once, of 8,192 bytes, and in one that is checked first.
+#[test]
+fn faults_of_short_and_of_long_frames(rt: HostRuntime) -> Result<(), Fail> {
+    for size in [8_192, 8_193] {
+        let frame = padded(rt.alloc(), size)?;
+        let found = fault_of(rt.alloc(), frame.as_slice());
+        assert_eq!(rt; found, Some((8, Cause::Rest)), "{size}");
     }
     Ok(())
 }
