@@ -1,15 +1,16 @@
 //! Texts of tokens.
 
 ghost use Rattle.std.specs.Prelude.{◌≡◌, ◌≢◌, ℕ, List, Err, ◌<◌, ◌≤◌, ◌∷◌, length, IfOk, OnErr, IfSome, IsSome, IsTrue, option_copied, option_map};
-ghost use Rattle.std.specs.List.{list_all, filter_map};
+ghost use Rattle.std.specs.List.{list_all};
 ghost use Rattle.std.specs.Char.{digit_value};
 ghost use Rattle.std.specs.Str.Parse.{digits_value};
 ghost use Rattle.cg_types.specs.Answer.{Answers};
-ghost use Rattle.cg_tokens.specs.Text.{is_lower_digit, token_in, pieces, pieces_of, are_tokens, tokens_of, read_as, tokens_text, AreTokens};
+ghost use Rattle.cg_tokens.specs.Text.{is_lower_digit, token_in, pieces, pieces_of, tokens_of, read_as, tokens_text, AreTokens};
 ghost use Rattle.cg_types.specs.declared.fault.Fault.TheVariants.{BadText};
 
 use crate::limits::{COMMA, TOKEN_COUNT_LIMIT, TOKEN_DIGITS};
 use crate::token::Token;
+use arrayvec::ArrayVec;
 use cg_types::{Fault, cut};
 use std::alloc::{AllocError, Global};
 
@@ -74,47 +75,30 @@ pub(crate) fn first_piece(text: &[u8]) -> (&[u8], Option<&[u8]>)
     }
 }
 
-// Whether a text is tokens that rise, with one comma between them.
-fn are_tokens(text: &[u8]) -> bool
-    ensures { result ≡ are_tokens (pieces text.now) }
+// The tokens of a text, if it is one of tokens.
+fn gather(text: &[u8]) -> Option<ArrayVec<Token, TOKEN_COUNT_LIMIT>>
+    ensures { option_map (λ v. v.items) result ≡ tokens_of text.now }
 {
-    let mut count = 0;
+    let mut tokens = ArrayVec::new();
     let mut last: Option<Token> = None;
     let mut rest = Some(text);
     while let Some(text) = rest {
         let (piece, behind) = first_piece(text);
         let Some(token) = token_in(piece) else {
-            return false;
+            return None;
         };
-        if count == TOKEN_COUNT_LIMIT {
-            return false;
-        }
         if let Some(before) = last
             && token <= before
         {
-            return false;
+            return None;
         }
-        count += 1;
+        if tokens.try_push(token).is_err() {
+            return None;
+        }
         last = Some(token);
         rest = behind;
     }
-    true
-}
-
-// The tokens of the pieces that are tokens.
-fn list_tokens(alloc: Global, text: &[u8]) -> Result<Vec<Token>, AllocError>
-    ensures { IfOk result (λ tokens. tokens.items ≡ filter_map token_in (pieces text.now)) }
-{
-    let mut tokens = Vec::new(alloc);
-    let mut rest = Some(text);
-    while let Some(text) = rest {
-        let (piece, behind) = first_piece(text);
-        if let Some(token) = token_in(piece) {
-            tokens.push(token)?;
-        }
-        rest = behind;
-    }
-    Ok(tokens)
+    Some(tokens)
 }
 
 // The tokens of a text, if it is one of tokens. Only then it takes memory.
@@ -122,10 +106,10 @@ pub(crate) fn tokens_in(alloc: Global, text: &[u8]) -> Result<Option<Vec<Token>>
     ensures ok { IfOk result (λ tokens. option_map (λ v. v.items) tokens ≡ tokens_of text.now) }
     ensures err { OnErr result (IsSome (tokens_of text.now)) }
 {
-    if !are_tokens(text) {
-        return Ok(None);
+    match gather(text) {
+        Some(tokens) => Ok(Some(tokens.as_slice().to_vec(alloc)?)),
+        None => Ok(None),
     }
-    Ok(Some(list_tokens(alloc, text)?))
 }
 
 /// The tokens of an endpoint, as its state `TOKENS` has them: 1 to `TOKEN_COUNT_LIMIT` tokens of 32 lower-case

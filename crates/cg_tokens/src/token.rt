@@ -14,7 +14,7 @@ use std::fmt;
 use std::marker::Model;
 
 /// A place on the ring, 0 to `TOKEN_LIMIT`. Tokens are ordered as their numbers.
-#[derive(Clone, Copy, Debug)]
+#[derive(Clone, Copy, Debug, Default)]
 pub struct Token {
     number: u128,
 }
