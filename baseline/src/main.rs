@@ -265,6 +265,8 @@ fn rings(mode: Mode) {
     let table = ring_table(256);
     let ring = ring::Ring::of_table(&table);
     let tokens: Vec<u128> = (0..1000u32).map(|i| md5::token(&i.to_be_bytes())).collect();
+    let places = || black_box(&tokens).iter().fold(0usize, |sum, token| sum.wrapping_add(ring.positions.partition_point(|p| p.0 < *token)));
+    case(mode, "naive_1000_searches_4096", places, |sum| sum.to_be_bytes().to_vec());
     let show = |ring: &ring::Ring| {
         let lines = ring.positions.iter().map(|(t, e)| format!("{t:032x} {e}\n"));
         lines.collect::<String>().into_bytes()
@@ -284,20 +286,31 @@ fn rings(mode: Mode) {
     case(mode, "naive_1000_digests_md5", digests, |digest| digest.to_vec());
 }
 
-/// So many texts as states have, made and dropped, and put one behind the other.
-fn texts(mode: Mode, tag: &str, count: usize, bytes: usize) {
-    let text = "0123456789".repeat(20)[..bytes].to_string();
-    let made = || (0..count).map(|_| String::from(black_box(text.as_str()))).collect::<Vec<_>>();
+/// So many texts as states have, made and dropped, put one behind the other, and each behind seven bytes.
+fn texts(mode: Mode, tag: &str, count: usize, text: &str) {
+    let made = || (0..count).map(|_| String::from(black_box(text))).collect::<Vec<_>>();
     case(mode, &format!("naive_texts_made_{tag}"), made, |texts| texts.concat().into_bytes());
     let texts = made();
     let put = || {
-        let mut all = Vec::with_capacity(count * bytes);
+        let mut all = Vec::with_capacity(count * text.len());
         for text in black_box(&texts) {
             all.extend_from_slice(text.as_bytes());
         }
         all
     };
     case(mode, &format!("naive_texts_put_{tag}"), put, |all| all.clone());
+    // Each as a state has it: behind a key, a version and a length.
+    let headed = || {
+        let mut all = Vec::with_capacity(count * (text.len() + 7));
+        for (version, text) in black_box(&texts).iter().enumerate() {
+            all.push(1);
+            all.extend_from_slice(&(version as u32).to_be_bytes());
+            all.extend_from_slice(&(text.len() as u16).to_be_bytes());
+            all.extend_from_slice(text.as_bytes());
+        }
+        all
+    };
+    case(mode, &format!("naive_texts_headed_{tag}"), headed, |all| all.clone());
 }
 
 /// The last of a thousand verdicts. The moment of each rests on the one before, so that all are needed.
@@ -356,8 +369,10 @@ fn main() {
         nodes(mode, tag, states, text);
     }
     rings(mode);
-    texts(mode, "256x200", 256, 200);
-    texts(mode, "4096x64", 4096, 64);
+    let digits = "0123456789".repeat(20);
+    texts(mode, "256x200", 256, &digits);
+    texts(mode, "4096x64", 4096, &digits[..64]);
+    texts(mode, "4096x1024", 4096, &digits[..64].repeat(16));
     windows(mode);
     links(mode, "16x64", 16, 64);
     messages(mode, "16x1024", 16, 1024);

@@ -36,6 +36,18 @@ pub(crate) fn replicas(alloc: Global, ring: &Ring, tokens: &[Token], rf: usize) 
     Ok(Made::Replicas(last))
 }
 
+/// Where on the ring each of a thousand tokens is looked for, by the library alone: the sum of the places.
+pub(crate) fn places(alloc: Global, ring: &Ring, tokens: &[Token]) -> Result<Made> {
+    let mut sum: usize = 0;
+    for token in tokens {
+        let place = ring
+            .positions()
+            .partition_point(|(position, _)| *position < *token);
+        sum = sum.wrapping_add(place);
+    }
+    Ok(Made::Text(sum.to_be_bytes().to_vec(alloc)?))
+}
+
 /// The replicas of a thousand keys of sixteen bytes, and those of the last.
 pub(crate) fn replicas_of_keys(alloc: Global, ring: &Ring) -> Result<Made> {
     let mut last = Vec::new(alloc);
@@ -57,6 +69,8 @@ pub(crate) fn digests() -> [u8; 16] {
 
 fn lookups(rt: &(impl Clock + Print + Alloc<A = Global>), mode: Mode, ring: &Ring) -> Result<()> {
     let tokens = tokens(rt.alloc())?;
+    let name = named("1000", "searches", "4096");
+    case(rt, mode, name, &Work::Places(ring, &tokens))?;
     let name = named("1000", "replicas", "rf1");
     case(rt, mode, name, &Work::Replicas(ring, &tokens, 1))?;
     let name = named("1000", "replicas", "rf3");

@@ -6,9 +6,9 @@ use crate::histories::{confirmed, recorded, stepped};
 use crate::links::{Side, linked, received};
 use crate::made::Made;
 use crate::nodes::after;
-use crate::rings::{digests, last_verdict, replicas, replicas_of_keys, ring, verdicts};
+use crate::rings::{digests, last_verdict, places, replicas, replicas_of_keys, ring, verdicts};
 use crate::scripts::{acted, printed};
-use crate::texts::{copied, joined};
+use crate::texts::{copied, headed, joined};
 use anyhow::Result;
 use bytes::ByteStr;
 use cg_core::{Event, Node};
@@ -44,6 +44,8 @@ pub(crate) enum Work<'a, 'b, 'c> {
     Ring(&'a Table),
     /// Finds the replicas of each token, and keeps those of the last.
     Replicas(&'a Ring, &'b [Token], usize),
+    /// Finds the place of each token, and sums them.
+    Places(&'a Ring, &'b [Token]),
     /// Finds three replicas of each of a thousand keys, and keeps those of the last.
     Keys(&'a Ring),
     /// A thousand MD5s, each of the one before, of which the last is kept.
@@ -52,6 +54,8 @@ pub(crate) enum Work<'a, 'b, 'c> {
     Texts(&'a str, usize),
     /// Puts texts one behind the other, in room for so many bytes.
     Join(&'a [ByteStr], usize),
+    /// Puts them so, each behind seven bytes, as a state has it.
+    Head(&'a [ByteStr], usize),
     /// Two thousand arrivals at a new window, and a verdict.
     Arrivals(Silence),
     /// A thousand verdicts of a window, of which the last is kept.
@@ -88,11 +92,13 @@ pub(crate) fn turn(alloc: Global, work: &Work<'_, '_, '_>) -> Result<Made> {
         Work::TakeAck2(table, ack2) => ended(alloc, table, ack2).map(Made::Table),
         Work::Exchange(opener, answerer, cluster) => exchanged(alloc, opener, answerer, cluster),
         Work::Ring(table) => ring(alloc, table).map(Made::Ring),
+        Work::Places(ring, tokens) => places(alloc, ring, tokens),
         Work::Replicas(ring, tokens, rf) => replicas(alloc, ring, tokens, *rf),
         Work::Keys(ring) => replicas_of_keys(alloc, ring),
         Work::Digests => Ok(Made::Digest(digests())),
         Work::Texts(text, count) => copied(alloc, text, *count),
         Work::Join(texts, bytes) => joined(alloc, texts, *bytes),
+        Work::Head(texts, bytes) => headed(alloc, texts, *bytes),
         Work::Arrivals(silence) => last_verdict(alloc, *silence).map(Made::Verdict),
         Work::Verdicts(window) => Ok(Made::Verdict(verdicts(window))),
         Work::Step(node, event) => after(alloc, node, event).map(Made::Node),
