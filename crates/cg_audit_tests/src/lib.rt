@@ -1,4 +1,4 @@
-//! Worked examples of audits, and each call with ample memory.
+//! Worked examples of audits and of the messages that were sent, and each call with ample memory.
 #![tactic(auto)]
 
 #[cfg(test)]
@@ -9,5 +9,7 @@ mod many;
 mod play;
 #[cfg(test)]
 mod runs;
+#[cfg(test)]
+mod sent;
 #[cfg(test)]
 mod worlds;

@@ -45,9 +45,8 @@ fn work_at<N: Name, R: Wait, O: Operate>(
     }
 }
 
-// How many records there are in the end, how many receipts are confirmed, and the number of the operator's fault, 0
-// for none.
-type Left = (usize, usize, u8);
+/// What is left when an operator has ended: its fault, if any, and how many records were kept and receipts confirmed.
+pub(crate) type Left = (Option<Fault>, usize, usize);
 
 fn left_by<N: Name, R: Wait, O: Operate>(
     rt: &R,
@@ -76,14 +75,15 @@ fn left_by<N: Name, R: Wait, O: Operate>(
         Ok(history) => (history.records().len(), receipts.len()),
         Err(left) => (left.history.records().len(), left.place),
     };
-    let fault = match ended {
-        Ok(()) => 0,
-        Err(fault) => fault.number(),
-    };
-    Ok((records, confirmed, fault))
+    Ok((ended.err(), records, confirmed))
 }
 
-fn left_after<R: Wait, O: Operate>(rt: &R, alloc: Global, operate: &mut O) -> Result<Left, Fail> {
+/// What an operator leaves at A.
+pub(crate) fn left_after<R: Wait, O: Operate>(
+    rt: &R,
+    alloc: Global,
+    operate: &mut O,
+) -> Result<Left, Fail> {
     let history = new_history(alloc)?;
     let table = history.node().table().copy(alloc)?;
     left_by::<Brand, R, O>(
@@ -104,7 +104,7 @@ fn a_set_is_told_once_and_read(rt: HostRuntime) -> Result<(), Fail> {
         version: 0,
     };
     let left = left_after(&rt, rt.alloc(), &mut work)?;
-    assert_eq!(rt; left, (1, 1, 0));
+    assert_eq!(rt; left, (None, 1, 1));
     assert_eq!(rt; (work.told, work.version), ((1, 0), 2));
     Ok(())
 }
@@ -117,7 +117,7 @@ fn a_refused_event_leaves_receipts_reply_and_what_is_told(rt: HostRuntime) -> Re
         told: 0,
     };
     let left = left_after(&rt, rt.alloc(), &mut work)?;
-    assert_eq!(rt; left, (1, 1, 15));
+    assert_eq!(rt; left, (Some(Fault::WriteFault), 1, 1));
     assert_eq!(rt; (work.fault, work.left, work.told), (9, (1, 2), 1));
     Ok(())
 }

@@ -6,12 +6,15 @@ ghost use Rattle.cg_seats.specs.Seats.{GoesOn, IsOperatorFault};
 use cg_core::{Event, Reply};
 use cg_engine::Gate;
 use cg_exchange::Syn;
+use cg_links::Counted;
 use cg_locked::Name;
+use cg_operator::operate;
 use cg_samples::key;
 use cg_seats::{Operate, SeatGate};
 use cg_types::{Cluster, Fault, StateText};
 use cg_views::Pass;
 use std::alloc::Global;
+use std::io::{Read, Write};
 use std::sync::Wait;
 
 // ---- calls of a gate
@@ -131,5 +134,23 @@ impl Operate for IsRefused {
         self.left = (gate.receipts().len(), last_version(gate));
         self.told = learn(gate, pass);
         Err(Fault::WriteFault)
+    }
+}
+
+/// Does the lines of a reader, and writes what is shown of them.
+#[derive(Drop)]
+pub(crate) struct DoesLines<I, O> {
+    pub(crate) reader: Counted<I>,
+    pub(crate) writer: Counted<O>,
+}
+
+impl<I: Read, O: Write> Operate for DoesLines<I, O> {
+    fn run<N: Name, R: Wait>(
+        &mut self,
+        alloc: Global,
+        gate: &mut SeatGate<'_, N, R>,
+        pass: &mut Pass<N>,
+    ) -> Result<(), Fault> {
+        operate(alloc, &mut self.reader, &mut self.writer, gate, pass)
     }
 }

@@ -5,10 +5,10 @@ use Rattle.cg_types.specs.declared.fault.Fault.TheVariants as fault
 use Rattle.cg_core.specs.Values.{NodeValue}
 use Rattle.cg_core.specs.Step.{starting_node}
 use Rattle.cg_settings.specs.Settings.{ServeValue, settings_in_bytes}
-use Rattle.cg_threads.specs.declared.ran.Ran.{Ran}
-use Rattle.cg_threads.specs.declared.ran.NotRun.{NotRun}
-use Rattle.cg_threads.specs.declared.ran.NotRun.TheVariants as not_run
-use Rattle.cg_threads.specs.Ran.{IsRun, IsNotRun}
+use Rattle.cg_ran.specs.declared.ran.Ran.{Ran}
+use Rattle.cg_ran.specs.declared.ran.NotRun.{NotRun}
+use Rattle.cg_ran.specs.declared.ran.NotRun.TheVariants as not_run
+use Rattle.cg_ran.specs.Ran.{IsRun, IsNotRun}
 use Rattle.cg_version.specs.Version.{generation_at_start}
 use Rattle.cg_serve.specs.declared.life.TheConstants.{SETTINGS_MOST}
 use Rattle.cg_serve.specs.declared.node.Birth.{Birth}

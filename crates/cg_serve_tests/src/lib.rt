@@ -1,5 +1,16 @@
-//! Lives of nodes that serve, over files in the folder of temporary files, on the loopback.
+//! Lives of nodes that serve on the loopback, the files that such nodes keep, in the folder where the tests run, and
+//! their connections, each side on a thread.
 #![tactic(auto)]
 
 #[cfg(test)]
+mod connections;
+#[cfg(test)]
+mod files;
+#[cfg(test)]
+mod generations;
+#[cfg(test)]
+mod limits;
+#[cfg(test)]
 mod lives;
+#[cfg(test)]
+mod ports;

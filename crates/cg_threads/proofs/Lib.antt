@@ -1,7 +1,1 @@
-pub mod SameNumbers
-pub mod ByCaller
-pub mod Joined
-pub mod Workers
-pub mod Finishing
 pub mod Gates
-pub mod Running

@@ -5,17 +5,15 @@
 //! receipts stand.
 #![tactic(auto)]
 
-pub mod laws;
-mod left;
+mod parts;
 mod promises;
-mod ran;
 mod run;
 mod scoped;
 mod seats;
 mod site;
 mod work;
 
+pub use cg_ran::{NotRun, Ran};
 pub use cg_settings::Turns;
-pub use ran::{NotRun, Parts, Ran};
+pub use parts::Parts;
 pub use run::run_node;
-pub use seats::{OPERATOR, RECEIVER, SENDER, TICKER};

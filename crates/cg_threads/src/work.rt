@@ -2,12 +2,12 @@
 
 ghost use Rattle.std.specs.Prelude.{◌≡◌, []};
 ghost use Rattle.cg_rounds.specs.Ends.{put_by, taken_by};
-ghost use Rattle.cg_threads.specs.Left.{IsLeft, HasTaken, HasPut, is_received, is_ack, is_tick, is_any};
+ghost use Rattle.cg_ran.specs.Left.{IsLeft, HasTaken, HasPut, is_received, is_ack, is_tick, is_any};
 
-use crate::left::{Left, Sent, Ticks};
 use crate::site::Site;
 use cg_clock::Milliseconds;
 use cg_locked::{Name, Seat};
+use cg_ran::{Left, Sent, Ticks};
 use cg_rounds::{Putting, Taking};
 use cg_seats::{Operate, SeatGate, operator};
 use cg_settings::Turns;

@@ -1,13 +1,11 @@
-//! The program's work, over readers and writers: `answer` stands here; scripts, audits, serving and the command line,
-//! in crates of their own, are passed on.
+//! The program's work, over readers and writers: each job stands in a crate of its own and is passed on; here one is chosen
+//! by the words of the command line.
 #![tactic(auto)]
 
-mod answering;
-mod request;
 mod running;
 mod showing;
 
-pub use answering::answer;
+pub use cg_answering::answer;
 pub use cg_auditing::audit_files;
 pub use cg_command::{Job, Subcommand, job_of};
 pub use cg_sim::sim;

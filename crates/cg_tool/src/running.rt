@@ -1,6 +1,6 @@
 //! A run of the program: its words, its streams and its status.
 
-use crate::answering::answer;
+use cg_answering::answer;
 use cg_auditing::{Journals, Unread, write_report, write_unread};
 use cg_command::{Error, ErrorKind, Job, Subcommand, job_of};
 use cg_links::Counted;

@@ -1,6 +1,6 @@
 use Rattle.std.proofs.Common.{subst}
 use Rattle.cg_seats.specs.Seats.{SeatValue}
-use Rattle.cg_threads.specs.Left.{is_ack}
+use Rattle.cg_ran.specs.Left.{is_ack}
 use Rattle.cg_threads.proofs.Gates.{More, left_more, sent_more}
 use Rattle.cg_threads.proofs.work.send.Goals as goal
 

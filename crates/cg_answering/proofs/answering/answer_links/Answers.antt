@@ -1,0 +1,22 @@
+use Rattle.std.proofs.Common.{◌≡◌, codes, refl, inl, inr, ◌∙◌, ap, Err}
+use Rattle.cg_types.specs.declared.fault.Fault.TheVariants as fault
+use Rattle.cg_printed.proofs.FaultLines.{out_of_memory_line, read_fault_line}
+use Rattle.cg_answering.proofs.answering.answer_links.Goals as goal
+
+pub returns-in-Ok : goal.returns-in-Ok
+returns-in-Ok g c =
+    (codes "fault 1 OutOfMemory\n", 1, inr (inl (record { kept = c.in-Ok.ensures.kept; text_is = out_of_memory_line; status_is = refl })), c.written-in-Err-text_due.ensures)
+
+pub returns-in-ReadFault : goal.returns-in-ReadFault
+returns-in-ReadFault g c =
+    let failed : c.read_all.result ≡ Err fault.ReadFault = c.in-Err.is ∙ ap Err c.in-ReadFault.is in
+    (codes "fault 14 ReadFault\n", 1, inr (inr (record { caused = c.read_all.ensures.caused failed; text_is = read_fault_line; status_is = refl })), c.written-in-ReadFault.ensures)
+
+pub returns : goal.returns
+returns g c =
+    let memory : c.read_all.result ≡ Err fault.OutOfMemory = c.in-Err.is ∙ ap Err (elim c.in-Err.ensures.fault [
+      | inl memory ↦ memory
+      | inr failed ↦ absurd (c.in_default.not-ReadFault failed)
+    ]) in
+    let kept = c.read_all.ensures.memory memory in
+    (codes "fault 1 OutOfMemory\n", 1, inr (inl (record { kept = kept; text_is = out_of_memory_line; status_is = refl })), c.written-in_default.ensures)

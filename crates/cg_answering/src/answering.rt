@@ -1,0 +1,145 @@
+//! `answer`: a node's answer to one SYN, from text to text.
+
+ghost use Rattle.std.specs.Prelude.{◌≡◌, ◌⊎◌, ℕ, ◌<◌, List, Some, None, Ok, IfOk, IfSome, length, string_bytes};
+ghost use Rattle.cg_types.specs.declared.fault.Fault.TheVariants as fault;
+ghost use Rattle.cg_script.specs.Gives.{Gives};
+ghost use Rattle.cg_links.specs.declared.transfer.TheConstants.{MOST_READS};
+ghost use Rattle.cg_links.specs.Counted.{link_of, calls_of, failed_of, idle_of};
+ghost use Rattle.cg_answering.specs.Answer.{syn_in as text_syn_in, answer_to_frame, answer_to, text_of, status_of};
+ghost use Rattle.cg_printed.specs.Written.{Wrote};
+ghost use Rattle.cg_answering.specs.Answered.{IsDue, AnswersAll, SaysOutOfMemory};
+
+use crate::request::{Header, request};
+use bytes::Bytes;
+use cg_entry::Entry;
+use cg_exchange::{Message, Syn, answer_syn};
+use cg_frames::{decode, encode};
+use cg_links::{Counted, read_all, write_bytes};
+use cg_table::Table;
+use cg_types::{Cause, Fault};
+use cg_wire::syn_due;
+use std::alloc::{AllocError, Global};
+use std::io::{Read, Write};
+
+// The SYN that the bytes are the frame of.
+#[tactic(auto, unfolding(crate::specs::Answer::syn_in))]
+fn syn_in(alloc: Global, bytes: &[u8]) -> Result<Syn, Fault>
+    ensures { Gives (λ s. s) result (text_syn_in bytes.now) }
+{
+    match decode(alloc, bytes) {
+        Ok(None) => Err(Fault::Truncated),
+        Ok(Some((message, size))) => {
+            if size < bytes.len() {
+                return Err(Fault::BadFrame {
+                    place: size,
+                    cause: Cause::Rest,
+                });
+            }
+            syn_due(message)
+        }
+        Err(fault) => Err(fault),
+    }
+}
+
+// The ACK's frame that a node which has just started answers a frame with.
+#[tactic(auto, unfolding(crate::specs::Answer::answer_to_frame))]
+fn answer_frame(alloc: Global, header: &Header, bytes: &[u8]) -> Result<Bytes, Fault>
+    ensures { Gives (λ b. b) result (answer_to_frame header.now bytes.now) }
+{
+    let syn = syn_in(alloc, bytes)?;
+    let entry = Entry::start(alloc, header.generation);
+    let table = Table::new(alloc, header.endpoint, entry)?;
+    let ack = answer_syn(alloc, &table, &header.cluster, &syn)?;
+    Ok(encode(alloc, &Message::Ack(ack))?)
+}
+
+#[tactic(auto, unfolding(crate::specs::Answer::answer_to))]
+fn answer_bytes(alloc: Global, input: &[u8]) -> Result<Bytes, Fault>
+    ensures { Gives (λ b. b) result (answer_to input.now) }
+{
+    let (header, frame) = request(alloc, input)?;
+    answer_frame(alloc, &header, &frame)
+}
+
+// The text that answers the input, and the status.
+fn text_due(alloc: Global, input: &[u8]) -> Result<(String, u8), AllocError>
+    ensures { IfOk result (λ p. (string_bytes p.0 ≡ text_of (answer_to input.now))
+        × (p.1 ≡ status_of (answer_to input.now))) }
+{
+    match answer_bytes(alloc, input) {
+        Ok(bytes) => {
+            let mut text = hex::encode(alloc, bytes.as_slice())?;
+            text.push('\n')?;
+            Ok((text, 0))
+        }
+        Err(Fault::OutOfMemory) => Err(AllocError),
+        Err(fault) => Ok((fault.line(alloc)?, 1)),
+    }
+}
+
+// Writes a text, and answers the status, which is 1 where the writer failed.
+fn written<W: Write>(writer: &mut Counted<W>, text: &[u8], status: u8) -> u8
+    ensures { Wrote
+        (W.contents (link_of writer.old)) (W.contents (link_of writer.new))
+        writer.old writer.new text.now status result }
+{
+    match write_bytes(writer, text) {
+        Ok(()) => status,
+        Err(_) => 1,
+    }
+}
+
+fn answer_links<R: Read, W: Write>(
+    alloc: Global,
+    reader: &mut Counted<R>,
+    writer: &mut Counted<W>,
+) -> u8
+    ensures { (text : List ℕ) × (status : ℕ)
+        × IsDue (R.remaining (link_of reader.old)) (R.remaining (link_of reader.new)) reader.old reader.new text status
+        × Wrote
+        (W.contents (link_of writer.old)) (W.contents (link_of writer.new))
+        writer.old writer.new text status result }
+{
+    match read_all(alloc, reader) {
+        Ok(input) => match text_due(alloc, &input) {
+            Ok((text, status)) => written(writer, text.as_bytes(), status),
+            Err(_) => written(writer, b"fault 1 OutOfMemory\n", 1),
+        },
+        Err(fault) => match fault {
+            Fault::ReadFault => written(writer, b"fault 14 ReadFault\n", 1),
+            _ => written(writer, b"fault 1 OutOfMemory\n", 1),
+        },
+    }
+}
+
+/// Answers one SYN as a node that has just started, and answers the exit status.
+///
+/// The reader has a line `ENDPOINT GENERATION CLUSTER` and a line with the SYN's frame in hexadecimal
+/// digits; the last line feed may be missing. What is written is the ACK's frame in lower-case digits and
+/// a line feed, with status 0, or one fault line, with status 1. Faults are found in this order: BadText
+/// (either line is unreadable, a line is missing or there is a further one), BadFrame (first what is wrong
+/// in the frame, then bytes behind it, then a frame of another kind), Truncated, OtherCluster. OutOfMemory
+/// comes where memory runs out on the way, ReadFault where a read fails or 4,294,967,295 reads do not
+/// meet the end. Where the writer fails or takes no byte, a front of the text is written, and the status is 1.
+pub fn answer<R: Read, W: Write>(
+    alloc: Global,
+    reader: &mut Counted<R>,
+    writer: &mut Counted<W>,
+) -> u8
+    // Which text is due, and how much of it was written.
+    ensures answered { (text : List ℕ) × (status : ℕ)
+        × IsDue (R.remaining (link_of reader.old)) (R.remaining (link_of reader.new)) reader.old reader.new text status
+        × Wrote
+        (W.contents (link_of writer.old)) (W.contents (link_of writer.new))
+        writer.old writer.new text status result }
+    // Where no call of a link failed, no write took nothing and the bound on reads was not met, it is the
+    // answer to all of the input, unless memory ran out.
+    ensures honest { failed_of reader.new ≡ 0 → calls_of reader.new < MOST_READS
+        → failed_of writer.new ≡ 0 → idle_of writer.new ≡ 0
+        → IfSome (R.remaining (link_of reader.old)) (λ input.
+        AnswersAll (R.remaining (link_of reader.new))
+        (W.contents (link_of writer.old)) (W.contents (link_of writer.new)) input result
+        ⊎ SaysOutOfMemory (W.contents (link_of writer.old)) (W.contents (link_of writer.new)) result) }
+{
+    answer_links(alloc, reader, writer)
+}

@@ -1,0 +1,7 @@
+//! The job `answer`: reads a node and one SYN, and writes the ACK that the node answers.
+#![tactic(auto)]
+
+mod answering;
+mod request;
+
+pub use answering::answer;

@@ -1,0 +1,6 @@
+pub mod SameNumbers
+pub mod ByCaller
+pub mod Joined
+pub mod Workers
+pub mod Confirmed
+pub mod Running

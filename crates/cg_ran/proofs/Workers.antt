@@ -1,0 +1,139 @@
+-- The receipts of all workers.
+use Rattle.std.proofs.Common.{◌≡◌, ℕ, ◌+◌, ◌<◌, inl, inr, Bool, true, false, cond, List, [], ◌∷◌, ◌++◌, length, map, Some, refl, sym, ap, ◌∙◌, subst, arith, length-append, get_or}
+use Rattle.std.specs.Prelude.{slice_get, ◌==◌, ◌&&◌}
+use Rattle.std.specs.List.{All, filter}
+use Rattle.std.proofs.lemmas.Option.{same_Some, slice_get_within, get_or_from_slice_get, slice_get-get_or}
+use Rattle.std.proofs.lemmas.List.{append-nil, map-append}
+use Rattle.std.proofs.lemmas.List.Elements.{All-append, All-weaker, All-head, All-tail, filter-append}
+use Rattle.cg_core.specs.declared.event.Event.{Event}
+use Rattle.cg_history.specs.declared.item.Item.{Item}
+use Rattle.cg_history.specs.declared.item.Receipt.{Receipt}
+use Rattle.cg_history.specs.declared.item.Stray.{Stray}
+use Rattle.cg_ran.specs.declared.callers.TheConstants.{RECEIVER, SENDER, TICKER, OPERATOR}
+use Rattle.cg_types.specs.ListPlace.{at_place}
+use Rattle.cg_history.specs.Confirming.{AreConfirmed, IsFirstStray}
+use Rattle.cg_ran.specs.Numbers.{numbers_in, numbers_on, is_receipt_of}
+use Rattle.cg_ran.specs.Left.{IsOf, AreOf, AreOfWorkers, numbers_of_all, is_received, is_ack, is_tick, is_any}
+use Rattle.cg_ran.specs.Ran.{IsStrayBehind, IsWork}
+use Rattle.cg_history_laws.proofs.Covering.{each_record_has_its_receipt}
+use Rattle.cg_ran.proofs.ByCaller.{receipts_have_the_numbers}
+use Rattle.cg_ran.proofs.Joined.{Below, Own, confirmed_joined, stray_behind, stray_before}
+
+own_of : (kind : Event → Bool) (c : ℕ) (qs : List Receipt) → AreOf kind c qs → Own c qs
+own_of kind c qs are = All-weaker (IsOf kind c) (λ (q : Receipt). q.caller ≡ c) (λ q is. is.own) qs are
+
+below_of : (kind : Event → Bool) (c d : ℕ) (qs : List Receipt) → c < d → AreOf kind c qs → Below d qs
+below_of kind c d qs less are = All-weaker (IsOf kind c) (λ (q : Receipt). q.caller < d) (λ q is. let e = is.own in omega (arith, e, less)) qs are
+
+lower : (d : ℕ) (xs ys : List Receipt) → Below d xs → Below d ys → Below d (xs ++ ys)
+lower d xs ys a b = All-append (λ (q : Receipt). q.caller < d) xs ys a b
+
+module _ (receiver sender ticker operator : List Receipt) (are : AreOfWorkers receiver sender ticker operator) where
+  below_sender : Below SENDER receiver
+  below_sender = below_of is_received RECEIVER SENDER receiver (omega arith) are.of_receiver
+
+  below_ticker : Below TICKER (receiver ++ sender)
+  below_ticker = lower TICKER receiver sender (below_of is_received RECEIVER TICKER receiver (omega arith) are.of_receiver) (below_of is_ack SENDER TICKER sender (omega arith) are.of_sender)
+
+  below_operator : Below OPERATOR (receiver ++ sender ++ ticker)
+  below_operator =
+      lower OPERATOR (receiver ++ sender) ticker (lower OPERATOR receiver sender (below_of is_received RECEIVER OPERATOR receiver (omega arith) are.of_receiver) (below_of is_ack SENDER OPERATOR sender (omega arith) are.of_sender))
+      (below_of is_tick TICKER OPERATOR ticker (omega arith) are.of_ticker)
+
+  -- ---- whether they are confirmed
+
+  module _ (records : List Item) (first : AreConfirmed records receiver) where
+    pub stray_of_sender : (s : Stray) → IsStrayBehind (length receiver) records sender s → IsFirstStray records (receiver ++ sender ++ ticker ++ operator) s
+    stray_of_sender s behind =
+        stray_before records (receiver ++ sender ++ ticker) operator s (stray_before records (receiver ++ sender) ticker s
+        (stray_behind records SENDER receiver first below_sender sender (length receiver) s (own_of is_ack SENDER sender are.of_sender) refl behind))
+
+    module _ (second : AreConfirmed records sender) where
+      both : AreConfirmed records (receiver ++ sender)
+      both = confirmed_joined records SENDER receiver first below_sender sender (own_of is_ack SENDER sender are.of_sender) second
+
+      pub stray_of_ticker : (s : Stray) → IsStrayBehind (length receiver + length sender) records ticker s → IsFirstStray records (receiver ++ sender ++ ticker ++ operator) s
+      stray_of_ticker s behind =
+          stray_before records (receiver ++ sender ++ ticker) operator s
+          (stray_behind records TICKER (receiver ++ sender) both below_ticker ticker (length receiver + length sender) s (own_of is_tick TICKER ticker are.of_ticker) (sym (length-append receiver sender)) behind)
+
+      module _ (third : AreConfirmed records ticker) where
+        three : AreConfirmed records (receiver ++ sender ++ ticker)
+        three = confirmed_joined records TICKER (receiver ++ sender) both below_ticker ticker (own_of is_tick TICKER ticker are.of_ticker) third
+
+        length_three : length receiver + length sender + length ticker ≡ length (receiver ++ sender ++ ticker)
+        length_three = sym (length-append (receiver ++ sender) ticker ∙ ap (λ n. n + length ticker) (length-append receiver sender))
+
+        pub stray_of_operator : (s : Stray) → IsStrayBehind (length receiver + length sender + length ticker) records operator s → IsFirstStray records (receiver ++ sender ++ ticker ++ operator) s
+        stray_of_operator s behind =
+            stray_behind records OPERATOR (receiver ++ sender ++ ticker) three below_operator operator (length receiver + length sender + length ticker) s (own_of is_any OPERATOR operator are.of_operator) length_three behind
+
+        pub all_confirmed : AreConfirmed records operator → AreConfirmed records (receiver ++ sender ++ ticker ++ operator)
+        all_confirmed fourth = confirmed_joined records OPERATOR (receiver ++ sender ++ ticker) three below_operator operator (own_of is_any OPERATOR operator are.of_operator) fourth
+
+  pub stray_of_receiver : (records : List Item) (s : Stray) → IsFirstStray records receiver s → IsFirstStray records (receiver ++ sender ++ ticker ++ operator) s
+  stray_of_receiver records s first =
+      stray_before records (receiver ++ sender ++ ticker) operator s (stray_before records (receiver ++ sender) ticker s (stray_before records receiver sender s first))
+
+  pub length_all : length (receiver ++ sender ++ ticker ++ operator) ≡ length receiver + length sender + length ticker + length operator
+  length_all =
+      length-append (receiver ++ sender ++ ticker) operator
+      ∙ ap (λ n. n + length operator) (length-append (receiver ++ sender) ticker ∙ ap (λ n. n + length ticker) (length-append receiver sender))
+
+  -- ---- what they are of
+
+  pub all_work : All (λ (q : Receipt). IsWork q.caller q.event) (receiver ++ sender ++ ticker ++ operator)
+  all_work =
+      let P = λ (q : Receipt). IsWork q.caller q.event in
+      let a = All-weaker (IsOf is_received RECEIVER) P (λ q is. inl (is.own, is.fits)) receiver are.of_receiver in
+      let b = All-weaker (IsOf is_ack SENDER) P (λ q is. inr (inl (is.own, is.fits))) sender are.of_sender in
+      let c = All-weaker (IsOf is_tick TICKER) P (λ q is. inr (inr (inl (is.own, is.fits)))) ticker are.of_ticker in
+      let d = All-weaker (IsOf is_any OPERATOR) P (λ q is. inr (inr (inr is.own))) operator are.of_operator in
+      All-append P (receiver ++ sender ++ ticker) operator (All-append P (receiver ++ sender) ticker (All-append P receiver sender a b) c) d
+
+  -- ---- the ticker's numbers
+
+  passed_over : (kind : Event → Bool) (c : ℕ) (qs : List Receipt) → (c == TICKER) ≡ false → AreOf kind c qs → numbers_on TICKER is_tick qs ≡ []
+  passed_over kind c [] other all = refl
+  passed_over kind c (q ∷ qs) other all =
+      let is = All-head (IsOf kind c) q qs all in
+      let not : is_receipt_of TICKER is_tick q ≡ false = ap (λ (n : ℕ). (n == TICKER) && is_tick q.event) is.own ∙ ap (λ (b : Bool). b && is_tick q.event) other in
+      ap (λ (b : Bool). map (λ (r : Receipt). r.number) (cond b (q ∷ filter (is_receipt_of TICKER is_tick) qs) (filter (is_receipt_of TICKER is_tick) qs))) not
+      ∙ passed_over kind c qs other (All-tail (IsOf kind c) q qs all)
+
+  all_taken : (qs : List Receipt) → AreOf is_tick TICKER qs → numbers_on TICKER is_tick qs ≡ numbers_of_all qs
+  all_taken [] all = refl
+  all_taken (q ∷ qs) all =
+      let is = All-head (IsOf is_tick TICKER) q qs all in
+      let one : is_receipt_of TICKER is_tick q ≡ true = ap (λ (n : ℕ). (n == TICKER) && is_tick q.event) is.own ∙ is.fits in
+      ap (λ (b : Bool). map (λ (r : Receipt). r.number) (cond b (q ∷ filter (is_receipt_of TICKER is_tick) qs) (filter (is_receipt_of TICKER is_tick) qs))) one
+      ∙ ap (λ ns. q.number ∷ ns) (all_taken qs (All-tail (IsOf is_tick TICKER) q qs all))
+
+  numbers-append : (xs ys : List Receipt) → numbers_on TICKER is_tick (xs ++ ys) ≡ numbers_on TICKER is_tick xs ++ numbers_on TICKER is_tick ys
+  numbers-append xs ys = ap (λ qs. map (λ (r : Receipt). r.number) qs) (filter-append (is_receipt_of TICKER is_tick) xs ys) ∙ map-append (λ (r : Receipt). r.number) (filter (is_receipt_of TICKER is_tick) xs) (filter (is_receipt_of TICKER is_tick) ys)
+
+  ticker_numbers : numbers_on TICKER is_tick (receiver ++ sender ++ ticker ++ operator) ≡ numbers_of_all ticker
+  ticker_numbers =
+      numbers-append (receiver ++ sender ++ ticker) operator
+      ∙ ap (λ ns. numbers_on TICKER is_tick (receiver ++ sender ++ ticker) ++ ns) (passed_over is_any OPERATOR operator refl are.of_operator) ∙ append-nil (numbers_on TICKER is_tick (receiver ++ sender ++ ticker))
+      ∙ numbers-append (receiver ++ sender) ticker
+      ∙ ap (λ ns. ns ++ numbers_on TICKER is_tick ticker) (numbers-append receiver sender ∙ ap (λ ns. ns ++ numbers_on TICKER is_tick sender) (passed_over is_received RECEIVER receiver refl are.of_receiver) ∙ passed_over is_ack SENDER sender refl are.of_sender)
+      ∙ all_taken ticker are.of_ticker
+
+  -- ---- where they are as many as the records
+
+  module _ (records : List Item) (all : AreConfirmed records (receiver ++ sender ++ ticker ++ operator)) (many : length (receiver ++ sender ++ ticker ++ operator) ≡ length records) where
+    pub records_are_work : All (λ (r : Item). IsWork r.caller r.event) records
+    records_are_work k d less =
+        let r = each_record_has_its_receipt records (receiver ++ sender ++ ticker ++ operator) k all many less in
+        let stands = (all r.0 r.1 r.2).stands in
+        let there : slice_get records k ≡ Some stands.0 = sym (ap (at_place records) r.3) ∙ stands.1 in
+        let one : stands.0 ≡ get_or records k d = same_Some stands.0 (get_or records k d) (sym there ∙ slice_get-get_or records k d less) in
+        let work = all_work r.0 r.1 (slice_get_within (receiver ++ sender ++ ticker ++ operator) r.0 r.1 r.2) in
+        let q = get_or_from_slice_get (receiver ++ sender ++ ticker ++ operator) r.0 r.1 r.1 r.2 in
+        let of_receipt : IsWork r.1.caller r.1.event = subst (λ (x : Receipt). IsWork x.caller x.event) q work in
+        let of_item : IsWork stands.0.caller stands.0.event = subst (λ (e : Event). IsWork stands.0.caller e) (sym stands.2.1) (subst (λ (n : ℕ). IsWork n r.1.event) (sym stands.2.0) of_receipt) in
+        subst (λ (x : Item). IsWork x.caller x.event) one of_item
+
+    pub numbers_are_the_tickers : numbers_in TICKER is_tick records ≡ numbers_of_all ticker
+    numbers_are_the_tickers = sym (receipts_have_the_numbers records (receiver ++ sender ++ ticker ++ operator) TICKER is_tick all many) ∙ ticker_numbers

@@ -1,0 +1,29 @@
+use Rattle.std.proofs.lemmas.Result.{err_from_is_err_and}
+use Rattle.cg_locked.specs.Shared.{stray_of}
+use Rattle.cg_ran.proofs.Workers.{stray_of_receiver}
+use Rattle.cg_ran.proofs.Confirmed.{after_receiver, after_sender, after_ticker}
+use Rattle.cg_ran.proofs.finishing.confirm_all.Goals as goal
+
+pub returns-in_err-history-clause-confirmed : goal.returns-in_err-history-clause-confirmed
+returns-in_err-history-clause-confirmed g c =
+    let p = err_from_is_err_and c.from_residual.result c.from_residual.ensures.1 in
+    let u = c.in_err-history.field-0.0 in
+    rw (p.1, p.2) (stray_of_receiver c.args.receiver.now c.args.sender.now c.args.ticker.now c.args.operator.now c.requires.receipts u.history.records (stray_of u) c.in_err-history.ensures.confirmed)
+
+pub returns-in_err-history-2-clause-confirmed : goal.returns-in_err-history-2-clause-confirmed
+returns-in_err-history-2-clause-confirmed g c =
+    let p = err_from_is_err_and c.from_residual-in_err-history-2.result c.from_residual-in_err-history-2.ensures.1 in
+    rw (p.1, p.2) (after_receiver c.args.receiver.now c.args.sender.now c.args.ticker.now c.args.operator.now c.requires.receipts c.in_ok-history.history c.in_ok-history.ensures.confirmed
+    c.in_err-history-2.field-0.0 c.in_err-history-2.ensures.history c.in_err-history-2.ensures.confirmed)
+
+pub returns-in_err-history-3-clause-confirmed : goal.returns-in_err-history-3-clause-confirmed
+returns-in_err-history-3-clause-confirmed g c =
+    let p = err_from_is_err_and c.from_residual-in_err-history-3.result c.from_residual-in_err-history-3.ensures.1 in
+    rw (p.1, p.2) (after_sender c.args.receiver.now c.args.sender.now c.args.ticker.now c.args.operator.now c.requires.receipts c.in_ok-history.history c.in_ok-history.ensures.confirmed
+    c.in_ok-history-2.history c.in_ok-history-2.ensures.history c.in_ok-history-2.ensures.confirmed c.in_err-history-3.field-0.0 c.in_err-history-3.ensures.history c.in_err-history-3.ensures.confirmed)
+
+pub returns-clause-confirmed : goal.returns-clause-confirmed
+returns-clause-confirmed g c =
+    after_ticker c.args.receiver.now c.args.sender.now c.args.ticker.now c.args.operator.now c.requires.receipts c.in_ok-history.history c.in_ok-history.ensures.confirmed
+    c.in_ok-history-2.history c.in_ok-history-2.ensures.history c.in_ok-history-2.ensures.confirmed c.in_ok-history-3.history c.in_ok-history-3.ensures.history c.in_ok-history-3.ensures.confirmed
+    c.confirm_behind-3.result c.confirm_behind-3.ensures.history c.confirm_behind-3.ensures.confirmed

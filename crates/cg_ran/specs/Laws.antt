@@ -1,0 +1,14 @@
+-- What holds of confirmed receipts.
+use Rattle.std.specs.Prelude.{ℕ, ◌≡◌, Bool, List, length}
+use Rattle.cg_core.specs.declared.event.Event.{Event}
+use Rattle.cg_history.specs.declared.item.Item.{Item}
+use Rattle.cg_history.specs.declared.item.Receipt.{Receipt}
+use Rattle.cg_history.specs.Confirming.{AreConfirmed}
+use Rattle.cg_ran.specs.Numbers.{numbers_in, numbers_on}
+
+-- Where confirmed receipts are as many as the records, the receipts of a caller's events of a kind have, in their
+-- order, the numbers of the records of these.
+abbrev pub ReceiptsHaveTheNumbers : Type 0
+ReceiptsHaveTheNumbers =
+    (records : List Item) (receipts : List Receipt) (caller : ℕ) (kind : Event → Bool) → AreConfirmed records receipts
+    → length receipts ≡ length records → numbers_on caller kind receipts ≡ numbers_in caller kind records

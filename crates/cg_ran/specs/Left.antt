@@ -1,0 +1,94 @@
+-- What the workers of a node leave.
+use Rattle.std.specs.Prelude.{ℕ, ◌≡◌, Bool, true, false, List, map, refl}
+use Rattle.std.specs.Coded.{Coded, code_by, coded×, coded_ℕ, coded_list}
+use Rattle.std.specs.List.{All}
+use mathlib.Core.List.{IsPrefix}
+use Rattle.cg_core.specs.declared.event.Event.{Event}
+use Rattle.cg_core.specs.declared.event.Event.TheVariants as event
+use Rattle.cg_history.specs.declared.item.Receipt.{Receipt}
+use Rattle.cg_rounds.specs.declared.ends.Putting.{Putting}
+use Rattle.cg_rounds.specs.declared.ends.Taking.{Taking}
+use Rattle.cg_rounds.specs.declared.ends.Taken.{Taken}
+use Rattle.cg_rounds.specs.Ends.{put_by, taken_in, PutsWhere, IsLeftOf, WereTakenOf}
+use Rattle.cg_seats.specs.Seats.{receipt_code}
+use Rattle.cg_workers.specs.Workers.{numbers_of}
+use Rattle.cg_ran.specs.declared.callers.TheConstants.{RECEIVER, SENDER, TICKER, OPERATOR}
+
+-- ---- kinds of events
+
+-- what the receiver has done
+abbrev pub is_received : Event → Bool
+is_received (event.Syn m) = true
+is_received (event.Ack2 now m) = true
+is_received e = false
+
+-- what the sender has done
+abbrev pub is_ack : Event → Bool
+is_ack (event.Ack now m) = true
+is_ack e = false
+
+-- what the ticker has done
+abbrev pub is_tick : Event → Bool
+is_tick (event.Tick now words) = true
+is_tick e = false
+
+-- what the operator has done
+abbrev pub is_any : Event → Bool
+is_any e = true
+
+-- ---- what is left
+
+-- the parts of a seat, and the receipts that it has counted
+pub record LeftValue : Type 0 where
+  pub parts : ℕ
+  pub receipts : List Receipt
+
+-- the code that a model of such a value asks for
+abbrev pub left_code : Coded LeftValue
+left_code =
+    code_by (ℕ × List Receipt) (coded× coded_ℕ (coded_list receipt_code)) (λ l. (l.parts, l.receipts))
+    (λ p. record { parts = p.0; receipts = p.1 }) (λ _. refl)
+
+-- The receipt is the caller's, of an event of the kind.
+pub record IsOf (kind : Event → Bool) (caller : ℕ) (q : Receipt) : Type 0 where
+  pub own : q.caller ≡ caller
+  pub fits : kind q.event ≡ true
+
+-- The receipts are the caller's, of events of the kind.
+abbrev pub AreOf : (Event → Bool) → ℕ → List Receipt → Type 0
+AreOf kind caller receipts = All (IsOf kind caller) receipts
+
+-- The seat that is left has the parts that it had; the receipts are its caller's, of events of the kind.
+pub record IsLeft (kind : Event → Bool) (caller parts : ℕ) (l : LeftValue) : Type 0 where
+  pub same_parts : l.parts ≡ parts
+  pub own_receipts : AreOf kind caller l.receipts
+
+-- What is left of this end tells which rounds were taken, and these are their numbers.
+pub record HasTaken (before : Taking) (taken : Taken) (numbers : List ℕ) : Type 0 where
+  pub channel : IsLeftOf before taken
+  pub are_of : numbers ≡ numbers_of (taken_in taken)
+
+-- the numbers of receipts
+abbrev pub numbers_of_all : List Receipt → List ℕ
+numbers_of_all receipts = map (λ (q : Receipt). q.number) receipts
+
+-- The end is the one that it was, and the rounds that were put in there are those of the first of the receipts.
+pub record HasPut (before after : Putting) (receipts : List Receipt) : Type 0 where
+  pub channel : PutsWhere after before
+  pub are_first : IsPrefix (numbers_of (put_by after)) (numbers_of_all receipts)
+
+-- ---- all workers
+
+-- The receipts are those of the receiver, the sender, the ticker and the operator.
+pub record AreOfWorkers (receiver sender ticker operator : List Receipt) : Type 0 where
+  pub of_receiver : AreOf is_received RECEIVER receiver
+  pub of_sender : AreOf is_ack SENDER sender
+  pub of_ticker : AreOf is_tick TICKER ticker
+  pub of_operator : AreOf is_any OPERATOR operator
+
+-- These are the numbers of the rounds that were taken at the other end of the channel, where the rounds of the first of
+-- the ticker's receipts were put in.
+pub record AreTaken (putting : Putting) (taken : Taken) (numbers : List ℕ) (ticker : List Receipt) : Type 0 where
+  pub channel : WereTakenOf putting taken
+  pub are_of : numbers ≡ numbers_of (taken_in taken)
+  pub are_first : IsPrefix (numbers_of (put_by putting)) (numbers_of_all ticker)

@@ -1,0 +1,136 @@
+//! What the workers left, put together.
+
+ghost use Rattle.std.specs.Prelude.{◌≡◌, ◌+◌, ◌≤◌, ◌<◌, ◌++◌, [], true, length, vec_len, vec_capacity, IfOk, IfErr, MatchResult};
+ghost use Rattle.std.specs.List.{sum_by};
+ghost use Rattle.cg_history.specs.Confirming.{AreConfirmed, IsFirstStray};
+ghost use Rattle.cg_locked.specs.Shared.{history_of, stray_of};
+ghost use Rattle.cg_ran.specs.Left.{AreOfWorkers, AreTaken};
+ghost use Rattle.cg_ran.specs.Ran.{IsStrayBehind, IsRun, IsNotRun, TellsStart};
+
+use crate::left::{Sent, Ticks, Work};
+use crate::ran::{NotRun, Ran};
+use cg_history::{History, Receipt};
+use cg_locked::{Name, Seat, Shared, Unconfirmed};
+use cg_types::Fault;
+use std::sync::Wait;
+
+// Has a history confirm further receipts, which stand behind `before` others.
+fn confirm_behind(
+    history: History,
+    before: usize,
+    receipts: &[Receipt],
+) -> Result<History, Unconfirmed>
+    requires { before + length receipts.now ≤ length history.records }
+    ensures history { history_of result ≡ history }
+    ensures confirmed { MatchResult result (λ h. AreConfirmed h.records receipts.now)
+        (λ u. IsStrayBehind before u.history.records receipts.now (stray_of u)) }
+{
+    let _records = history.records();
+    match history.confirms(receipts) {
+        Ok(()) => Ok(history),
+        Err(stray) => Err(Unconfirmed {
+            history,
+            place: before + stray.place,
+            fault: stray.fault,
+        }),
+    }
+}
+
+// Puts the seats back together, and has the history confirm all receipts: the receiver's, the sender's, the ticker's and
+// the operator's.
+fn confirm_all<N: Name, R: Wait>(
+    rt: &R,
+    shared: Shared<N>,
+    seats: Vec<Seat<N>>,
+    receiver: &[Receipt],
+    sender: &[Receipt],
+    ticker: &[Receipt],
+    operator: &[Receipt],
+) -> Result<History, Unconfirmed>
+    requires seats { (sum_by (λ s. s.share.parts) seats.items ≡ N.parts) × (0 < vec_len seats) }
+    requires count { sum_by (λ s. s.share.amount) seats.items
+        ≡ length receiver.now + length sender.now + length ticker.now + length operator.now }
+    requires receipts { AreOfWorkers receiver.now sender.now ticker.now operator.now }
+    ensures start { (history_of result).base ≡ N.start }
+    ensures count { length (history_of result).records
+        ≡ length (receiver.now ++ sender.now ++ ticker.now ++ operator.now) }
+    ensures confirmed { MatchResult result
+        (λ h. AreConfirmed h.records (receiver.now ++ sender.now ++ ticker.now ++ operator.now))
+        (λ u. IsFirstStray u.history.records (receiver.now ++ sender.now ++ ticker.now ++ operator.now) (stray_of u)) }
+{
+    let history = shared.finish(rt, seats, receiver)?;
+    let history = confirm_behind(history, receiver.len(), sender)?;
+    let history = confirm_behind(history, receiver.len() + sender.len(), ticker)?;
+    let before = receiver.len() + sender.len() + ticker.len();
+    confirm_behind(history, before, operator)
+}
+
+/// Puts the seats of the workers, which have ended, back together, and has the history confirm their receipts: the
+/// receiver's, the sender's, the ticker's and the operator's. What is left is that history, and the numbers of the rounds
+/// that the sender took.
+///
+/// `Unstarted` where not all workers were started, whatever the history confirms; `Unconfirmed` has the history, and the
+/// first receipt that it does not confirm, counted through all of them. `seats` is an empty list with room for four. It may
+/// wait for the lock.
+pub fn finish<N: Name, R: Wait>(
+    rt: &R,
+    shared: Shared<N>,
+    seats: Vec<Seat<N>>,
+    work: Work<N>,
+) -> Result<Ran, NotRun>
+    requires seats { (seats.items ≡ []) × (4 ≤ vec_capacity seats) }
+    requires parts { work.receiver.parts + work.sender.left.parts + work.ticker.left.parts + work.operator.parts
+        ≡ N.parts }
+    requires receipts { AreOfWorkers work.receiver.receipts work.sender.left.receipts
+        work.ticker.left.receipts work.operator.receipts }
+    requires taken { AreTaken work.ticker.putting work.sender.taken work.sender.numbers.items
+        work.ticker.left.receipts }
+    ensures ran { IfOk result (λ r. IsRun N.start r.history r.rounds.items) }
+    ensures confirmed { IfOk result (λ r. AreConfirmed r.history.records (work.receiver.receipts
+        ++ work.sender.left.receipts ++ work.ticker.left.receipts ++ work.operator.receipts)) }
+    ensures rounds { IfOk result (λ r. r.rounds.items ≡ work.sender.numbers.items) }
+    ensures started { IfOk result (λ _. work.started ≡ true) }
+    ensures not { IfErr result (IsNotRun N.start) }
+    ensures tells { IfErr result (TellsStart work.started) }
+{
+    let mut seats = seats;
+    let Work {
+        started,
+        receiver,
+        sender,
+        ticker,
+        operator,
+    } = work;
+    let Sent {
+        left: sender,
+        taken,
+        numbers,
+    } = sender;
+    let Ticks {
+        left: ticker,
+        putting,
+    } = ticker;
+    putting.compare(taken);
+    let (seat, receiver) = receiver.into_parts();
+    seats.push_reserved(seat);
+    let (seat, sender) = sender.into_parts();
+    seats.push_reserved(seat);
+    let (seat, ticker) = ticker.into_parts();
+    seats.push_reserved(seat);
+    let (seat, operator) = operator.into_parts();
+    seats.push_reserved(seat);
+    let left = confirm_all(rt, shared, seats, &receiver, &sender, &ticker, &operator);
+    if !started {
+        return Err(NotRun::Unstarted(Fault::OutOfMemory));
+    }
+    match left {
+        Ok(history) => {
+            let _led = history.node();
+            Ok(Ran {
+                history,
+                rounds: numbers,
+            })
+        }
+        Err(left) => Err(NotRun::Unconfirmed(left)),
+    }
+}

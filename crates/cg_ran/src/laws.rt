@@ -1,0 +1,9 @@
+//! Laws of receipts, each the contract of an empty function.
+
+ghost use Rattle.cg_ran.specs.Laws.{ReceiptsHaveTheNumbers};
+
+/// Where confirmed receipts are as many as the records, the receipts of a caller's events of a kind have, in their
+/// order, the numbers of the records of these.
+pub fn receipts_have_the_numbers()
+    ensures { ReceiptsHaveTheNumbers }
+{}

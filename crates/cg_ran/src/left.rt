@@ -1,0 +1,89 @@
+//! What the workers leave.
+
+ghost use Rattle.std.specs.Prelude.{◌≡◌, [], length};
+ghost use Rattle.cg_seats.specs.Seats.{AreOf};
+
+use cg_history::Receipt;
+use cg_locked::{Name, Seat};
+use cg_rounds::{Putting, Taken};
+use cg_seats::SeatGate;
+use std::alloc::Global;
+use std::marker::Model;
+use std::sync::Wait;
+
+/// A worker's seat, and its receipts. A contract sees the parts of the seat, and the receipts, which the seat has counted.
+#[derive(Drop)]
+pub struct Left<N: Name> {
+    seat: Seat<N>,
+    receipts: Vec<Receipt>,
+}
+
+impl<N: Name> Model for Left<N> {
+    ghost use Rattle.std.specs.Prelude.{◌≡◌, length};
+    ghost use Rattle.cg_ran.specs.Left.{LeftValue, left_code};
+
+    ghost Value = { LeftValue };
+
+    ghost coded = { left_code };
+
+    ghost view = { λ l. record { parts = l.seat.share.parts; receipts = l.receipts.items } };
+
+    ghost invariant = { λ l. l.seat.share.amount ≡ length l.receipts.items };
+}
+
+impl<N: Name> Left<N> {
+    /// A seat from which no event was done.
+    pub fn unused(alloc: Global, seat: Seat<N>) -> Left<N>
+        requires { seat.share.amount ≡ 0 }
+        ensures { result ≡ record { parts = seat.share.parts; receipts = [] } }
+    {
+        Left {
+            seat,
+            receipts: Vec::new(alloc),
+        }
+    }
+
+    /// The seat of a gate, and its receipts.
+    pub fn of<R: Wait>(gate: SeatGate<'_, N, R>) -> Left<N>
+        ensures parts { result.parts ≡ gate.entry.parts }
+        ensures receipts { result.receipts ≡ gate.entry.receipts }
+        ensures own { AreOf gate.entry.caller gate.entry.receipts }
+    {
+        let (seat, receipts) = gate.into_parts();
+        Left { seat, receipts }
+    }
+
+    // The seat, and the receipts.
+    pub(crate) fn into_parts(self) -> (Seat<N>, Vec<Receipt>)
+        ensures seat { (result.0.share.parts ≡ self.parts) × (result.0.share.amount ≡ length self.receipts) }
+        ensures receipts { result.1.items ≡ self.receipts }
+    {
+        let Left { seat, receipts } = self;
+        (seat, receipts)
+    }
+}
+
+/// What the sender leaves: also which rounds it took, and the numbers of these, in their order.
+#[derive(Drop)]
+pub struct Sent<N: Name> {
+    pub left: Left<N>,
+    pub taken: Taken,
+    pub numbers: Vec<u64>,
+}
+
+/// What the ticker leaves: also the end where it put its rounds in.
+#[derive(Drop)]
+pub struct Ticks<N: Name> {
+    pub left: Left<N>,
+    pub putting: Putting,
+}
+
+/// What all workers leave, and whether all of them were started.
+#[derive(Drop)]
+pub struct Work<N: Name> {
+    pub started: bool,
+    pub receiver: Left<N>,
+    pub sender: Sent<N>,
+    pub ticker: Ticks<N>,
+    pub operator: Left<N>,
+}

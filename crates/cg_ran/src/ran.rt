@@ -1,0 +1,24 @@
+//! What is left of a node that ran.
+
+use cg_history::History;
+use cg_locked::Unconfirmed;
+use cg_types::Fault;
+
+/// A node that ran.
+#[derive(Drop)]
+pub struct Ran {
+    /// Its history, in which the receipts of all workers stand.
+    pub history: History,
+    /// The numbers of the records whose rounds the sender took, in their order.
+    pub rounds: Vec<u64>,
+}
+
+/// A node that did not run, or whose history does not confirm what its workers were told.
+#[derive(Drop)]
+pub enum NotRun {
+    /// The views, the board, the channel or a worker could not be made, for want of memory, and the workers that were
+    /// made have ended. A thread that is refused counts as memory.
+    Unstarted(Fault),
+    /// The history that is left, and the first receipt that it does not confirm.
+    Unconfirmed(Unconfirmed),
+}

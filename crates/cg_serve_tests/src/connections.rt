@@ -1,0 +1,132 @@
+//! Words that are sent and answered, and peers that are late.
+
+use crate::ports::free_endpoint;
+use cg_sockets::{Dialer, Listener};
+use cg_types::{Endpoint, Fault};
+use cg_workers::{Dial, Listen};
+use std::alloc::Global;
+use std::io::{ErrorKind, Read, Write};
+use std::net::{Net, TcpStream};
+use std::rt::Clock;
+use std::test::Fail;
+use std::time::{Duration, Instant};
+use std::{io, thread};
+
+// Answers a word of three bytes by the same.
+fn echo<L: Listen>(listener: &mut L) -> bool {
+    let Ok(Some((mut reader, mut writer))) = listener.accept() else {
+        return false;
+    };
+    let mut word = [0u8; 3];
+    reader.read_exact(&mut word).is_ok() && writer.write_all(&word).is_ok()
+}
+
+// Sends a word of three bytes, and tells what came back.
+fn ask<D: Dial>(dialer: &mut D, to: Endpoint) -> Option<[u8; 3]> {
+    let (mut reader, mut writer) = dialer.dial(to).ok()?;
+    let mut word = [0u8; 3];
+    writer.write_all(b"syn").ok()?;
+    reader.read_exact(&mut word).ok()?;
+    Some(word)
+}
+
+#[test]
+fn a_word_is_answered(rt: HostRuntime) -> Result<(), Fail> {
+    let to = free_endpoint(&rt)?;
+    let mut listener = Listener::bind(&rt, rt.alloc(), to)?;
+    let mut dialer = Dialer::new(&rt, rt.alloc(), 2000);
+    let (answered, asked) = thread::join(&rt, || echo(&mut listener), || ask(&mut dialer, to));
+    assert!(rt; answered);
+    assert!(rt; asked == Some(*b"syn"));
+    Ok(())
+}
+
+#[test]
+fn a_place_is_taken_once(rt: HostRuntime) -> Result<(), Fail> {
+    let at = free_endpoint(&rt)?;
+    let _listener = Listener::bind(&rt, rt.alloc(), at)?;
+    assert!(rt; Listener::bind(&rt, rt.alloc(), at).err() == Some(Fault::ReadFault));
+    Ok(())
+}
+
+#[test]
+fn nobody_answers(rt: HostRuntime) -> Result<(), Fail> {
+    let to = free_endpoint(&rt)?;
+    let mut dialer = Dialer::new(&rt, rt.alloc(), 2000);
+    assert!(rt; dialer.dial(to).err() == Some(Fault::ReadFault));
+    Ok(())
+}
+
+// How many milliseconds a read of three bytes lasts that a peer does not send, and whether it failed.
+fn waited<R: Net<Stream = TcpStream> + Clock>(
+    rt: &R,
+    alloc: Global,
+    to: Endpoint,
+) -> io::Result<(u128, bool)> {
+    let began = Instant::now(rt)?;
+    let mut dialer = Dialer::new(rt, alloc, 200);
+    let Ok((mut reader, _writer)) = dialer.dial(to) else {
+        return Err(io::Error::from(ErrorKind::Other));
+    };
+    let failed = reader.read_exact(&mut [0u8; 3]).is_err();
+    Ok((began.elapsed(rt)?.as_millis(), failed))
+}
+
+// Takes a connection and sends a byte every 300 ms, so often.
+fn drip<R: Clock, L: Listen>(rt: &R, listener: &mut L, bytes: u32) {
+    let Ok(Some((_reader, mut writer))) = listener.accept() else {
+        return;
+    };
+    for _ in 0..bytes {
+        thread::sleep(rt, Duration::from_millis(300));
+        let _ = writer.write_all(b"x");
+    }
+}
+
+#[test]
+fn a_silent_peer_is_left_at_the_end(rt: HostRuntime) -> Result<(), Fail> {
+    let to = free_endpoint(&rt)?;
+    let _listener = Listener::bind(&rt, rt.alloc(), to)?;
+    let (lasted, failed) = waited(&rt, rt.alloc(), to)?;
+    assert!(rt; failed && lasted >= 199 && lasted < 30000, "{lasted}");
+    Ok(())
+}
+
+// Reads that come to no end before the connection's.
+fn dripped<R: Net<Stream = TcpStream> + Clock>(
+    rt: &R,
+    alloc: Global,
+    to: Endpoint,
+) -> io::Result<(u128, u64)> {
+    let began = Instant::now(rt)?;
+    let mut dialer = Dialer::new(rt, alloc, 2000);
+    let Ok((mut reader, _writer)) = dialer.dial(to) else {
+        return Err(io::Error::from(ErrorKind::Other));
+    };
+    let mut read = 0;
+    for index in 0..100 {
+        if reader.read_exact(&mut [0u8; 1]).is_err() {
+            break;
+        }
+        read = index + 1;
+    }
+    Ok((began.elapsed(rt)?.as_millis(), read))
+}
+
+#[test]
+fn a_peer_that_drips_is_left_at_the_end(rt: HostRuntime) -> Result<(), Fail> {
+    let to = free_endpoint(&rt)?;
+    let alloc = rt.alloc();
+    let mut listener = Listener::bind(&rt, alloc, to)?;
+    let (_, read) = thread::join(
+        &rt,
+        || drip(&rt, &mut listener, 20),
+        || dripped(&rt, alloc, to),
+    );
+    let (lasted, read) = read?;
+    assert!(rt;
+        lasted >= 1999 && lasted < 30000 && read > 0 && read < 20,
+        "{lasted} {read}"
+    );
+    Ok(())
+}

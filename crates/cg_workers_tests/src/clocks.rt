@@ -1,0 +1,85 @@
+//! Readings of the system's clock, and of clocks that can't be read, one after the other.
+
+use cg_clock::{HostClock, Milliseconds, seconds_since_1970};
+use std::rt::Clock;
+use std::sync::atomic::{AtomicU64, Ordering};
+use std::time::Duration;
+use std::{io, thread};
+
+// A clock that is read at most so many times, and goes on by half a second at each.
+#[derive(Drop)]
+struct ShortClock {
+    readings: AtomicU64,
+    most: u64,
+}
+
+impl ShortClock {
+    fn new(most: u64) -> ShortClock {
+        ShortClock {
+            readings: AtomicU64::new(0),
+            most,
+        }
+    }
+
+    fn next(&self) -> io::Result<Duration> {
+        let readings = self.readings.fetch_add(1, Ordering::SeqCst);
+        if readings >= self.most {
+            return Err(io::Error::from(io::ErrorKind::Other));
+        }
+        Ok(Duration::from_millis(readings.saturating_mul(500)))
+    }
+}
+
+impl Clock for ShortClock {
+    fn monotonic(&self) -> io::Result<Duration> {
+        self.next()
+    }
+
+    fn since_1970(&self) -> io::Result<Duration> {
+        self.next()
+    }
+}
+
+#[test]
+fn a_clock_that_fails_shows_what_it_showed_last(rt: HostRuntime) {
+    let short = ShortClock::new(4);
+    let clock = HostClock::new(&short);
+    let shown = [
+        clock.now(),
+        clock.now(),
+        clock.now(),
+        clock.now(),
+        clock.now(),
+    ];
+    assert_eq!(rt; shown, [500, 1000, 1500, 1500, 1500]);
+}
+
+#[test]
+fn a_clock_that_never_runs_shows_nothing(rt: HostRuntime) {
+    let short = ShortClock::new(0);
+    let clock = HostClock::new(&short);
+    assert_eq!(rt; [clock.now(), clock.now()], [0, 0]);
+    assert_eq!(rt; seconds_since_1970(&short), 0);
+}
+
+#[test]
+fn seconds_are_whole(rt: HostRuntime) {
+    let short = ShortClock::new(9);
+    let seconds = [
+        seconds_since_1970(&short),
+        seconds_since_1970(&short),
+        seconds_since_1970(&short),
+        seconds_since_1970(&short),
+    ];
+    assert_eq!(rt; seconds, [0, 0, 1, 1]);
+}
+
+#[test]
+fn the_system_has_clocks(rt: HostRuntime) {
+    let clock = HostClock::new(&rt);
+    let first = clock.now();
+    thread::sleep(&rt, Duration::from_millis(20));
+    let next = clock.now();
+    assert!(rt; next >= first.saturating_add(20) && next < 60000);
+    assert!(rt; seconds_since_1970(&rt) > 1700000000);
+}

@@ -1,0 +1,32 @@
+//! The random words of some seeds. What is expected comes of another program, after PCG's and rand's own description.
+
+use cg_rounds::laws::words_are_the_generators;
+use cg_rounds::{generator, next_words};
+
+#[test]
+fn words_are_the_next_ones_of_the_generator(rt: HostRuntime) {
+    words_are_the_generators();
+    let mut words = generator(0);
+    let first = [
+        2354861276966075475,
+        6411218084291373563,
+        13092586260176364081,
+        718076624554797018,
+    ];
+    let second = [
+        15795103776161667678,
+        2998643491086499979,
+        3673039548900617805,
+        9334786029913437385,
+    ];
+    assert_eq!(rt; next_words(&mut words), first);
+    assert_eq!(rt; next_words(&mut words), second);
+    let mut words = generator(9223372036854775807);
+    let first = [
+        10176381733452192787,
+        1839339575381350078,
+        4582089715056130045,
+        303271943623561191,
+    ];
+    assert_eq!(rt; next_words(&mut words), first);
+}
