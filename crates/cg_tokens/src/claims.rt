@@ -64,7 +64,8 @@ fn same_text(one: &Entry, other: &Entry, key: u8) -> bool
 }
 
 /// Whether an entry shows that it claims what was claimed by what was held of its owner: its generation and its texts
-/// of `STATUS` and `TOKENS` are the same, or nothing was held and it is no member of the ring. Then the ring stays
+/// of `STATUS` and `TOKENS` are the same, or nothing was held and its `STATUS` up to the first comma is neither `NORMAL`
+/// nor `LEAVING`. Both entries are of one owner. Then the ring stays
 /// (`laws::ring_stays`). It reads no token and takes no memory, so it answers `false` of other texts that claim the
 /// same.
 pub fn keeps_claims(held: Option<&Entry>, entry: &Entry) -> bool

@@ -113,7 +113,8 @@ impl Ring {
     }
 
     /// The endpoints that keep what has this token, at most `rf` of them: from the first token of the ring at or
-    /// after it, clockwise, each endpoint where it comes first. It takes memory for these endpoints alone.
+    /// after it, clockwise, each endpoint where it comes first. It asks for memory once, for `rf` endpoints, or for one a
+    /// token where there are fewer tokens; for none, where `rf` is 0 or the ring is empty, not at all.
     pub fn replicas(
         &self,
         alloc: Global,
@@ -124,7 +125,7 @@ impl Ring {
     {
         let positions = self.positions();
         let (before, from) = positions.split_at(place_of(positions, token));
-        let mut taken = Vec::new(alloc);
+        let mut taken = Vec::with_capacity(alloc, rf.min(positions.len()))?;
         take_endpoints(&mut taken, from, rf)?;
         take_endpoints(&mut taken, before, rf)?;
         Ok(taken)

@@ -75,7 +75,7 @@ pub(crate) fn first_piece(text: &[u8]) -> (&[u8], Option<&[u8]>)
     }
 }
 
-// The tokens of a text, if it is one of tokens.
+// The tokens of a text, if it is one of tokens, on the stack.
 fn gather(text: &[u8]) -> Option<ArrayVec<Token, TOKEN_COUNT_LIMIT>>
     ensures { option_map (λ v. v.items) result ≡ tokens_of text.now }
 {
@@ -114,7 +114,7 @@ pub(crate) fn tokens_in(alloc: Global, text: &[u8]) -> Result<Option<Vec<Token>>
 
 /// The tokens of an endpoint, as its state `TOKENS` has them: 1 to `TOKEN_COUNT_LIMIT` tokens of 32 lower-case
 /// hexadecimal digits, each greater than the one before it, with one comma between them. Any other text is BadText,
-/// which is found before memory is taken.
+/// which is found before memory is taken; OutOfMemory comes only where the text is one of tokens.
 pub fn read_tokens(alloc: Global, text: &str) -> Result<Vec<Token>, Fault>
     ensures answer { Answers (λ tokens. tokens.items) (read_as (tokens_of text.now)) result }
     // The text is the one that is written of the tokens.

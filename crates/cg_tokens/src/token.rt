@@ -13,7 +13,7 @@ use std::cmp::Ordering;
 use std::fmt;
 use std::marker::Model;
 
-/// A place on the ring, 0 to `TOKEN_LIMIT`. Tokens are ordered as their numbers.
+/// A place on the ring, 0 to `TOKEN_LIMIT`, by default 0. Tokens are ordered as their numbers.
 #[derive(Clone, Copy, Debug, Default)]
 pub struct Token {
     number: u128,
