@@ -1,6 +1,9 @@
-//! Exchanges over bytes in memory, over links that fail at each call in turn, and over links that move a byte a call.
+//! Links: what is read from them, written to them and counted; and exchanges over bytes in memory, over links that fail at
+//! each call in turn, and over links that move a byte a call.
 #![tactic(auto)]
 
+#[cfg(test)]
+mod counting_tests;
 #[cfg(test)]
 mod exchange_tests;
 #[cfg(test)]
@@ -9,3 +12,5 @@ mod full_tests;
 mod link_tests;
 #[cfg(test)]
 mod samples;
+#[cfg(test)]
+mod transfer_tests;

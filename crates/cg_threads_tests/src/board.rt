@@ -2,10 +2,11 @@
 
 ghost use Rattle.std.specs.Prelude.{◌≡◌, []};
 
+use crate::board_operators::{IsRefused, LearnsTwice};
 use crate::history::new_history;
-use crate::operators::{IsRefused, SetsAndReads};
 use cg_history::{History, Receipt};
 use cg_locked::{Name, Seat, Shared};
+use cg_samples::version;
 use cg_seats::{Operate, SeatGate, operator};
 use cg_table::Table;
 use cg_types::Fault;
@@ -99,13 +100,13 @@ pub(crate) fn left_after<R: Wait, O: Operate>(
 
 #[test]
 fn a_set_is_told_once_and_read(rt: HostRuntime) -> Result<(), Fail> {
-    let mut work = SetsAndReads {
-        told: (0, 0),
-        version: 0,
+    let mut work = LearnsTwice {
+        told: (false, false),
+        version: None,
     };
     let left = left_after(&rt, rt.alloc(), &mut work)?;
     assert_eq!(rt; left, (None, 1, 1));
-    assert_eq!(rt; (work.told, work.version), ((1, 0), 2));
+    assert_eq!(rt; (work.told, work.version), ((true, false), Some(version(2))));
     Ok(())
 }
 
@@ -113,11 +114,11 @@ fn a_set_is_told_once_and_read(rt: HostRuntime) -> Result<(), Fail> {
 fn a_refused_event_leaves_receipts_reply_and_what_is_told(rt: HostRuntime) -> Result<(), Fail> {
     let mut work = IsRefused {
         fault: 0,
-        left: (0, 0),
-        told: 0,
+        left: (0, None),
+        told: false,
     };
     let left = left_after(&rt, rt.alloc(), &mut work)?;
     assert_eq!(rt; left, (Some(Fault::WriteFault), 1, 1));
-    assert_eq!(rt; (work.fault, work.left, work.told), (9, (1, 2), 1));
+    assert_eq!(rt; (work.fault, work.left, work.told), (9, (1, Some(version(2))), true));
     Ok(())
 }

@@ -1,60 +1,20 @@
-//! What operators have done.
+//! Operators at the one seat of a board.
 
-ghost use Rattle.std.specs.Prelude.{IfErr};
-ghost use Rattle.cg_seats.specs.Seats.{GoesOn, IsOperatorFault};
+ghost use Rattle.cg_seats.specs.Seats.{GoesOn};
 
-use cg_core::{Event, Reply};
+use crate::calls::{last_version, learn, read_three, set_three};
+use cg_core::Event;
 use cg_engine::Gate;
 use cg_exchange::Syn;
 use cg_links::Counted;
 use cg_locked::Name;
 use cg_operator::operate;
-use cg_samples::key;
 use cg_seats::{Operate, SeatGate};
-use cg_types::{Cluster, Fault, StateText};
+use cg_types::{Cluster, Fault, Version};
 use cg_views::Pass;
 use std::alloc::Global;
 use std::io::{Read, Write};
 use std::sync::Wait;
-
-// ---- calls of a gate
-
-fn set_three<N: Name, R: Wait>(alloc: Global, gate: &mut SeatGate<'_, N, R>) -> Result<(), Fault>
-    ensures gate { GoesOn gate.old gate.new }
-    ensures fault { IfErr result IsOperatorFault }
-{
-    let Ok(text) = StateText::new(alloc, "x") else {
-        return Err(Fault::OutOfMemory);
-    };
-    match gate.event(alloc, Event::Set { key: key(3), text }) {
-        Ok(()) => Ok(()),
-        Err(_) => Err(Fault::OutOfMemory),
-    }
-}
-
-// Learns what is told, if anything is. Answers how often it was told.
-fn learn<N: Name, R: Wait>(gate: &mut SeatGate<'_, N, R>, pass: &mut Pass<N>) -> u64
-    ensures { GoesOn gate.old gate.new }
-{
-    match gate.told() {
-        Some(told) => {
-            pass.learn(told);
-            1
-        }
-        None => 0,
-    }
-}
-
-// The version of A's key 3, 0 for none.
-fn read_three<N: Name>(pass: &mut Pass<N>) -> Result<u64, Fault>
-    ensures { IfErr result IsOperatorFault }
-{
-    let snapshot = pass.read()?;
-    Ok(match snapshot.table().own_entry().get(key(3)) {
-        Some((_text, version)) => u64::from(version.get()),
-        None => 0,
-    })
-}
 
 // An event that another cluster's SYN makes.
 fn syn_of_another_cluster(alloc: Global) -> Option<Event> {
@@ -76,26 +36,16 @@ fn refuse<N: Name, R: Wait>(alloc: Global, gate: &mut SeatGate<'_, N, R>) -> u8
     }
 }
 
-// The version of the last reply, 0 for none.
-fn last_version<N: Name, R: Wait>(gate: &SeatGate<'_, N, R>) -> u64 {
-    match gate.reply() {
-        Some(Reply::Done(version)) => u64::from(version.get()),
-        _ => 0,
-    }
-}
-
-// ---- operators
-
 /// Sets key 3, learns what it was told, wants to learn it again, and reads.
 #[derive(Drop)]
-pub(crate) struct SetsAndReads {
-    /// How often it was told at first, and then.
-    pub(crate) told: (u64, u64),
+pub(crate) struct LearnsTwice {
+    /// Whether it was told at first, and then.
+    pub(crate) told: (bool, bool),
     /// The version of key 3 that it read.
-    pub(crate) version: u64,
+    pub(crate) version: Option<Version>,
 }
 
-impl Operate for SetsAndReads {
+impl Operate for LearnsTwice {
     fn run<N: Name, R: Wait>(
         &mut self,
         alloc: Global,
@@ -117,9 +67,9 @@ pub(crate) struct IsRefused {
     /// Why it was refused.
     pub(crate) fault: u8,
     /// How many receipts there were then, and the version of the last reply.
-    pub(crate) left: (usize, u64),
-    /// How often it was told then.
-    pub(crate) told: u64,
+    pub(crate) left: (usize, Option<Version>),
+    /// Whether it was told then.
+    pub(crate) told: bool,
 }
 
 impl Operate for IsRefused {

@@ -1,7 +1,7 @@
 //! Lines of an operator over links of which each call fails in turn.
 
 use crate::board::{Left, left_after};
-use crate::operators::DoesLines;
+use crate::board_operators::DoesLines;
 use cg_links::{Counted, FailingLink, SlowLink};
 use cg_types::Fault;
 use std::alloc::Global;

@@ -1,6 +1,6 @@
 //! The journals of the first exchange, cut at each line, and with each line in turn unreadable.
 
-use crate::journal_tests::{A, B, is_said};
+use crate::audited::{A, B, is_said};
 use cg_auditing::Journals;
 use cg_links::Counted;
 use std::alloc::Global;

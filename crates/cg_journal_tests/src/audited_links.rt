@@ -1,6 +1,6 @@
 //! Journals over links of which each call fails in turn.
 
-use crate::journal_tests::{A, B};
+use crate::audited::{A, B};
 use cg_auditing::audit_files;
 use cg_links::{Counted, FailingLink, SlowLink};
 use std::alloc::Global;

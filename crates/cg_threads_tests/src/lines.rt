@@ -1,7 +1,7 @@
 //! Lines of an operator, and what is written of them.
 
 use crate::board::{Left, left_after};
-use crate::operators::DoesLines;
+use crate::board_operators::DoesLines;
 use cg_links::Counted;
 use std::alloc::Global;
 use std::sync::Wait;

@@ -1,4 +1,4 @@
-//! The history that the tests of seats begin with.
+//! The history that a board begins with.
 
 ghost use Rattle.std.specs.Prelude.{◌≡◌, [], IfOk};
 

@@ -1,3 +1,5 @@
+//! Histories of worked examples, and each call once with ample memory.
+//!
 //! A is 10.0.0.1:7000 and B 10.0.0.2:7000; the cluster is c1. The history of the examples is A's at generation 9:
 //! caller 1 sets key 1 to NORMAL, and then caller 2 beats.
 

@@ -1,0 +1,63 @@
+//! What the operators of tests do at a gate.
+
+ghost use Rattle.std.specs.Prelude.{IfErr};
+ghost use Rattle.cg_seats.specs.Seats.{GoesOn, IsOperatorFault};
+
+use cg_core::{Event, Reply};
+use cg_engine::Gate;
+use cg_locked::Name;
+use cg_samples::key;
+use cg_seats::SeatGate;
+use cg_types::{Fault, StateText, Version};
+use cg_views::Pass;
+use std::alloc::Global;
+use std::sync::Wait;
+
+/// Sets key 3 to x.
+pub(crate) fn set_three<N: Name, R: Wait>(
+    alloc: Global,
+    gate: &mut SeatGate<'_, N, R>,
+) -> Result<(), Fault>
+    ensures gate { GoesOn gate.old gate.new }
+    ensures fault { IfErr result IsOperatorFault }
+{
+    let Ok(text) = StateText::new(alloc, "x") else {
+        return Err(Fault::OutOfMemory);
+    };
+    match gate.event(alloc, Event::Set { key: key(3), text }) {
+        Ok(()) => Ok(()),
+        Err(_) => Err(Fault::OutOfMemory),
+    }
+}
+
+/// The version of the last reply.
+pub(crate) fn last_version<N: Name, R: Wait>(gate: &SeatGate<'_, N, R>) -> Option<Version> {
+    match gate.reply() {
+        Some(Reply::Done(version)) => Some(*version),
+        _ => None,
+    }
+}
+
+/// Learns what is told, and answers whether anything was.
+pub(crate) fn learn<N: Name, R: Wait>(gate: &mut SeatGate<'_, N, R>, pass: &mut Pass<N>) -> bool
+    ensures { GoesOn gate.old gate.new }
+{
+    match gate.told() {
+        Some(told) => {
+            pass.learn(told);
+            true
+        }
+        None => false,
+    }
+}
+
+/// The version of key 3 as it is read, where its text is x.
+pub(crate) fn read_three<N: Name>(pass: &mut Pass<N>) -> Result<Option<Version>, Fault>
+    ensures { IfErr result IsOperatorFault }
+{
+    let shown = pass.read()?;
+    Ok(match shown.table().own_entry().get(key(3)) {
+        Some((text, version)) if text.as_str() == "x" => Some(version),
+        _ => None,
+    })
+}

@@ -1,0 +1,93 @@
+//! Seats of four workers from which nothing was done, put back together.
+
+ghost use Rattle.std.specs.Prelude.{◌≡◌, []};
+
+use crate::history::new_history;
+use cg_history::History;
+use cg_locked::{Name, Shared};
+use cg_ran::{Left, NotRun, Ran, Sent, Ticks, WORKERS, Work, finish};
+use cg_rounds::rounds;
+use cg_table::Table;
+use cg_types::Fault;
+use cg_views::{Opened, views};
+use std::alloc::Global;
+use std::marker::Brand;
+use std::sync::Wait;
+use std::sync::ledger::Blank;
+use std::test::Fail;
+
+// What is left: how many records and rounds there are; where there is no node, the fault by which it was not started.
+type Told = Result<(usize, usize), Option<Fault>>;
+
+fn told(left: Result<Ran, NotRun>) -> Told {
+    match left {
+        Ok(ran) => Ok((ran.history.records().len(), ran.rounds.len())),
+        Err(NotRun::Unstarted(fault)) => Err(Some(fault)),
+        Err(NotRun::Unconfirmed(_)) => Err(None),
+    }
+}
+
+fn left_by<N: Name, R: Wait>(
+    rt: &R,
+    alloc: Global,
+    opened: Opened,
+    table: Table,
+    history: History,
+    blank: Blank,
+    started: bool,
+) -> Result<Told, Fail>
+    requires views { (opened ≡ N.book) × (table ≡ N.opening) }
+    requires history { (history.records ≡ []) × (history.base ≡ N.start) × (history.base.table ≡ table) }
+    requires blank { (blank.name ≡ N.name) × (blank.parts ≡ N.parts) × (N.parts ≡ 4) }
+{
+    let (putting, taking) = rounds(alloc)?;
+    let (publisher, _passes) = views::<N>(alloc, opened, table, 1)?;
+    let (shared, mut seats) = Shared::begin(rt, alloc, history, publisher, blank, WORKERS)?;
+    let operator = seats.pop().unwrap();
+    let ticker = seats.pop().unwrap();
+    let sender = seats.pop().unwrap();
+    let receiver = seats.pop().unwrap();
+    let work = Work {
+        started,
+        receiver: Left::unused(alloc, receiver),
+        sender: Sent {
+            left: Left::unused(alloc, sender),
+            taken: taking.leave(),
+            numbers: Vec::new(alloc),
+        },
+        ticker: Ticks {
+            left: Left::unused(alloc, ticker),
+            putting,
+        },
+        operator: Left::unused(alloc, operator),
+    };
+    Ok(told(finish(rt, shared, seats, work)))
+}
+
+fn left_after<R: Wait>(rt: &R, alloc: Global, started: bool) -> Result<Told, Fail> {
+    let history = new_history(alloc)?;
+    let table = history.node().table().copy(alloc)?;
+    left_by::<Brand, R>(
+        rt,
+        alloc,
+        Opened::new(),
+        table,
+        history,
+        Blank::new(WORKERS as u64),
+        started,
+    )
+}
+
+#[test]
+fn workers_that_did_nothing(rt: HostRuntime) -> Result<(), Fail> {
+    let left = left_after(&rt, rt.alloc(), true)?;
+    assert_eq!(rt; left, Ok((0, 0)));
+    Ok(())
+}
+
+#[test]
+fn workers_that_were_not_all_started(rt: HostRuntime) -> Result<(), Fail> {
+    let left = left_after(&rt, rt.alloc(), false)?;
+    assert_eq!(rt; left, Err(Some(Fault::OutOfMemory)));
+    Ok(())
+}
