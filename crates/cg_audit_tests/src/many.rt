@@ -3,6 +3,7 @@
 use crate::made::{audited, begun, event, exchange, hand, life, opened};
 use cg_audit::{LifeItem, Lives, audit, endpoints_differ};
 use cg_core::Event;
+use cg_expect::{expect, expect_eq};
 use cg_history::History;
 use cg_samples::{A, B, C, endpoint};
 use std::alloc::Global;
@@ -58,8 +59,7 @@ fn chain_audited(alloc: Global) -> Result<(usize, bool, bool), Fail> {
 fn there_may_be_more_endpoints_than_a_table_holds(rt: HostRuntime) -> Result<(), Fail> {
     let audited = chain_audited(rt.alloc())?;
     // a start and an opening of each, and 299 SYNs
-    assert!(rt; audited == (899, true, true));
-    Ok(())
+    expect!(audited == (899, true, true))
 }
 
 // B and C exchange what they hold, so that both then send the same SYN.
@@ -95,6 +95,5 @@ fn alike_audited(alloc: Global) -> Result<String, Fail> {
 fn a_message_may_be_handled_once_any_has_sent_it(rt: HostRuntime) -> Result<(), Fail> {
     let audited = alike_audited(rt.alloc())?;
     let order = "run 1/9/0 2/5/0 2/5/1 3/7/0 3/7/1 2/5/2 2/5/3 1/9/1 3/7/2 3/7/3";
-    assert_eq!(rt; audited.as_str(), order);
-    Ok(())
+    expect_eq!(audited.as_str(), order)
 }

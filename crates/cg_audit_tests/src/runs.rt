@@ -6,6 +6,7 @@ use crate::made::{
 };
 use cg_audit::Lives;
 use cg_core::Event;
+use cg_expect::{expect, expect_eq};
 use cg_history::History;
 use cg_samples::{A, B, endpoint};
 use std::alloc::Global;
@@ -48,10 +49,9 @@ fn exchange_audited_from_b(alloc: Global) -> Result<String, Fail> {
 #[test]
 fn an_exchange_is_one_run(rt: HostRuntime) -> Result<(), Fail> {
     let audited = exchange_audited(rt.alloc())?;
-    assert_eq!(rt; audited.as_str(), "run 1/9/0 1/9/1 2/5/0 2/5/1 1/9/2 2/5/2");
+    expect_eq!(audited.as_str(), "run 1/9/0 1/9/1 2/5/0 2/5/1 1/9/2 2/5/2")?;
     let audited = exchange_audited_from_b(rt.alloc())?;
-    assert_eq!(rt; audited.as_str(), "run 1/9/0 1/9/1 2/5/0 2/5/1 1/9/2 2/5/2");
-    Ok(())
+    expect_eq!(audited.as_str(), "run 1/9/0 1/9/1 2/5/0 2/5/1 1/9/2 2/5/2")
 }
 
 fn stuck_audited(alloc: Global) -> Result<String, Fail> {
@@ -62,8 +62,7 @@ fn stuck_audited(alloc: Global) -> Result<String, Fail> {
 #[test]
 fn without_the_syn_both_are_stuck(rt: HostRuntime) -> Result<(), Fail> {
     let audited = stuck_audited(rt.alloc())?;
-    assert_eq!(rt; audited.as_str(), "stuck 1/9/2 2/5/1");
-    Ok(())
+    expect_eq!(audited.as_str(), "stuck 1/9/2 2/5/1")
 }
 
 fn two_of_b(alloc: Global, first: u32, second: u32) -> Result<String, Fail> {
@@ -76,17 +75,15 @@ fn two_of_b(alloc: Global, first: u32, second: u32) -> Result<String, Fail> {
 #[test]
 fn a_later_life_starts_after_the_earlier_one(rt: HostRuntime) -> Result<(), Fail> {
     let audited = two_of_b(rt.alloc(), 5, 6)?;
-    assert_eq!(rt; audited.as_str(), "run 2/5/0 2/5/1 2/6/0");
-    Ok(())
+    expect_eq!(audited.as_str(), "run 2/5/0 2/5/1 2/6/0")
 }
 
 #[test]
 fn generations_rise(rt: HostRuntime) -> Result<(), Fail> {
     let falling = two_of_b(rt.alloc(), 6, 5)?;
     let equal = two_of_b(rt.alloc(), 5, 5)?;
-    assert_eq!(rt; falling.as_str(), "NotRising");
-    assert_eq!(rt; equal.as_str(), "NotRising");
-    Ok(())
+    expect_eq!(falling.as_str(), "NotRising")?;
+    expect_eq!(equal.as_str(), "NotRising")
 }
 
 // A handles its own SYN before it sends it.
@@ -118,9 +115,8 @@ fn own_syn_in_time(alloc: Global) -> Result<String, Fail> {
 fn a_message_is_sent_before_it_is_handled(rt: HostRuntime) -> Result<(), Fail> {
     let early = own_syn_too_early(rt.alloc())?;
     let in_time = own_syn_in_time(rt.alloc())?;
-    assert_eq!(rt; early.as_str(), "stuck 1/9/1");
-    assert_eq!(rt; in_time.as_str(), "run 1/9/0 1/9/1 1/9/2");
-    Ok(())
+    expect_eq!(early.as_str(), "stuck 1/9/1")?;
+    expect_eq!(in_time.as_str(), "run 1/9/0 1/9/1 1/9/2")
 }
 
 fn nothing(alloc: Global) -> Result<(String, String), Fail> {
@@ -132,9 +128,8 @@ fn nothing(alloc: Global) -> Result<(String, String), Fail> {
 #[test]
 fn no_lives_have_no_items(rt: HostRuntime) -> Result<(), Fail> {
     let (nobody, no_life) = nothing(rt.alloc())?;
-    assert_eq!(rt; nobody.as_str(), "run");
-    assert_eq!(rt; no_life.as_str(), "run");
-    Ok(())
+    expect_eq!(nobody.as_str(), "run")?;
+    expect_eq!(no_life.as_str(), "run")
 }
 
 fn twice(alloc: Global) -> Result<String, Fail> {
@@ -154,7 +149,6 @@ fn of_another(alloc: Global) -> Result<bool, Fail> {
 fn what_can_not_be_audited_is_told(rt: HostRuntime) -> Result<(), Fail> {
     let twice = twice(rt.alloc())?;
     let of_another = of_another(rt.alloc())?;
-    assert_eq!(rt; twice.as_str(), "twice");
-    assert!(rt; !of_another);
-    Ok(())
+    expect_eq!(twice.as_str(), "twice")?;
+    expect!(!of_another)
 }

@@ -2,6 +2,7 @@
 //! delta that has a heartbeat alone.
 
 use cg_exchange::{Ack2, Message, OwnerDelta};
+use cg_expect::expect_eq;
 use cg_samples::{A, B, bare_delta, endpoint};
 use cg_sent::Sent;
 use std::alloc::Global;
@@ -35,13 +36,11 @@ fn found(alloc: Global, room: usize) -> Result<[bool; 3], Fail> {
 #[test]
 fn messages_are_found_by_what_they_say(rt: HostRuntime) -> Result<(), Fail> {
     let found = found(rt.alloc(), 8)?;
-    assert_eq!(rt; found, [true, true, false]);
-    Ok(())
+    expect_eq!(found, [true, true, false])
 }
 
 #[test]
 fn more_messages_than_room_are_found(rt: HostRuntime) -> Result<(), Fail> {
     let found = found(rt.alloc(), 0)?;
-    assert_eq!(rt; found, [true, true, false]);
-    Ok(())
+    expect_eq!(found, [true, true, false])
 }

@@ -3,6 +3,7 @@
 
 use crate::play::{Place, lives_played, played};
 use cg_audit::{AuditFault, LifeItem, Lives, Order, audit, endpoints_differ};
+use cg_expect::expect;
 use cg_samples::endpoint;
 use std::alloc::Global;
 use std::test::Fail;
@@ -48,8 +49,7 @@ fn run_audited(alloc: Global) -> Result<(usize, usize), Fail> {
 #[test]
 fn the_histories_of_a_world_are_one_run(rt: HostRuntime) -> Result<(), Fail> {
     let (ordered, all) = run_audited(rt.alloc())?;
-    assert!(rt; ordered == all && all > 500, "{ordered} of {all}");
-    Ok(())
+    expect!(ordered == all && all > 500, "{ordered} of {all}")
 }
 
 fn is_at(item: &LifeItem, place: Place) -> bool {
@@ -76,7 +76,7 @@ fn changed_audited(alloc: Global, sound: u32) -> Result<bool, Fail> {
 fn a_changed_byte_is_found(rt: HostRuntime) -> Result<(), Fail> {
     for sound in [0, 40] {
         let found = changed_audited(rt.alloc(), sound)?;
-        assert!(rt; found, "after {sound}");
+        expect!(found, "after {sound}")?;
     }
     Ok(())
 }

@@ -4,6 +4,7 @@ use crate::messages::{ack, syn};
 use crate::samples::{comes, node, set_event};
 use cg_core::{Event, Outcomes, Peers, Reply};
 use cg_exchange::Outcome;
+use cg_expect::expect;
 use cg_samples::{A, B, endpoint, version};
 use cg_table::Took;
 use std::alloc::{AllocError, Global};
@@ -17,45 +18,39 @@ fn is_copied(alloc: Global, event: &Event) -> Result<bool, AllocError> {
 
 #[test]
 fn a_beat_is_copied(rt: HostRuntime) -> Result<(), Fail> {
-    assert!(rt; is_copied(rt.alloc(), &Event::Beat)?);
-    assert!(rt; !is_copied(rt.alloc(), &Event::Opening)?);
-    Ok(())
+    expect!(is_copied(rt.alloc(), &Event::Beat)?)?;
+    expect!(!is_copied(rt.alloc(), &Event::Opening)?)
 }
 
 #[test]
 fn a_set_is_copied(rt: HostRuntime) -> Result<(), Fail> {
     let set = set_event(rt.alloc(), 3, "x")?;
-    assert!(rt; is_copied(rt.alloc(), &set)?);
-    Ok(())
+    expect!(is_copied(rt.alloc(), &set)?)
 }
 
 #[test]
 fn a_tick_is_copied(rt: HostRuntime) -> Result<(), Fail> {
     let words = [7, 3, 5, 9];
-    assert!(rt; is_copied(rt.alloc(), &Event::Tick { now: 5, words })?);
-    Ok(())
+    expect!(is_copied(rt.alloc(), &Event::Tick { now: 5, words })?)
 }
 
 #[test]
 fn a_syn_is_copied(rt: HostRuntime) -> Result<(), Fail> {
     let m = syn(rt.alloc(), "c1")?;
     let event = Event::Syn { m };
-    assert!(rt; is_copied(rt.alloc(), &event)?);
-    Ok(())
+    expect!(is_copied(rt.alloc(), &event)?)
 }
 
 #[test]
 fn an_ack_is_copied(rt: HostRuntime) -> Result<(), Fail> {
     let event = ack(rt.alloc(), 1)?;
-    assert!(rt; is_copied(rt.alloc(), &event)?);
-    Ok(())
+    expect!(is_copied(rt.alloc(), &event)?)
 }
 
 #[test]
 fn an_ack2_is_copied(rt: HostRuntime) -> Result<(), Fail> {
     let event = comes(rt.alloc(), 1, A, (9, 0, 1))?;
-    assert!(rt; is_copied(rt.alloc(), &event)?);
-    Ok(())
+    expect!(is_copied(rt.alloc(), &event)?)
 }
 
 // Whether the reply to an event, at A in generation 9, is copied, and not the same as that of another version.
@@ -68,35 +63,30 @@ fn reply_is_copied(alloc: Global, event: &Event) -> Result<bool, Fail> {
 
 #[test]
 fn the_reply_to_a_beat_is_copied(rt: HostRuntime) -> Result<(), Fail> {
-    assert!(rt; reply_is_copied(rt.alloc(), &Event::Beat)?);
-    Ok(())
+    expect!(reply_is_copied(rt.alloc(), &Event::Beat)?)
 }
 
 #[test]
 fn the_reply_to_a_tick_is_copied(rt: HostRuntime) -> Result<(), Fail> {
     let words = [7, 3, 5, 9];
-    assert!(rt; reply_is_copied(rt.alloc(), &Event::Tick { now: 5, words })?);
-    Ok(())
+    expect!(reply_is_copied(rt.alloc(), &Event::Tick { now: 5, words })?)
 }
 
 #[test]
 fn the_reply_to_an_opening_is_copied(rt: HostRuntime) -> Result<(), Fail> {
-    assert!(rt; reply_is_copied(rt.alloc(), &Event::Opening)?);
-    Ok(())
+    expect!(reply_is_copied(rt.alloc(), &Event::Opening)?)
 }
 
 #[test]
 fn the_reply_to_an_ack_is_copied(rt: HostRuntime) -> Result<(), Fail> {
     let event = ack(rt.alloc(), 1)?;
-    assert!(rt; reply_is_copied(rt.alloc(), &event)?);
-    Ok(())
+    expect!(reply_is_copied(rt.alloc(), &event)?)
 }
 
 #[test]
 fn the_reply_to_an_ack2_is_copied(rt: HostRuntime) -> Result<(), Fail> {
     let event = comes(rt.alloc(), 1, B, (5, 0, 1))?;
-    assert!(rt; reply_is_copied(rt.alloc(), &event)?);
-    Ok(())
+    expect!(reply_is_copied(rt.alloc(), &event)?)
 }
 
 #[test]
@@ -104,15 +94,13 @@ fn outcomes_are_compared(rt: HostRuntime) -> Result<(), Fail> {
     let endpoint = endpoint(A);
     let took = Took::Old;
     let one = Outcomes::of(vec![in rt.alloc(); Outcome { endpoint, took }]?);
-    assert!(rt; one.copy(rt.alloc())? == one);
-    assert!(rt; one != Outcomes::of(Vec::new(rt.alloc())));
-    Ok(())
+    expect!(one.copy(rt.alloc())? == one)?;
+    expect!(one != Outcomes::of(Vec::new(rt.alloc())))
 }
 
 #[test]
 fn peers_are_compared(rt: HostRuntime) -> Result<(), Fail> {
     let one = Peers::of(vec![in rt.alloc(); endpoint(B)]?);
-    assert!(rt; one.copy(rt.alloc())? == one);
-    assert!(rt; one != Peers::of(Vec::new(rt.alloc())));
-    Ok(())
+    expect!(one.copy(rt.alloc())? == one)?;
+    expect!(one != Peers::of(Vec::new(rt.alloc())))
 }

@@ -2,6 +2,7 @@
 
 use crate::samples::{after, held, node, set_event};
 use cg_core::{Event, Node, Reply};
+use cg_expect::{expect, expect_eq};
 use cg_samples::{A, endpoint, key};
 use cg_silence::Verdict;
 use cg_types::Endpoint;
@@ -26,9 +27,8 @@ fn outlook(node: &Node) -> (Endpoint, usize, &str, usize, Verdict) {
 fn a_node_that_starts(rt: HostRuntime) -> Result<(), Fail> {
     let node = node(rt.alloc(), A, 9)?.copy()?;
     let outlook = outlook(&node);
-    assert_eq!(rt; outlook, (endpoint(A), 1, "c1", 0, Verdict::Unheard));
-    assert_eq!(rt; held(&node, A), Some((9, 1)));
-    Ok(())
+    expect_eq!(outlook, (endpoint(A), 1, "c1", 0, Verdict::Unheard))?;
+    expect_eq!(held(&node, A), Some((9, 1)))
 }
 
 // The version of a reply that is one.
@@ -57,9 +57,8 @@ fn beats_and_sets_take_versions(rt: HostRuntime) -> Result<(), Fail> {
     let set = set_event(rt.alloc(), 3, "x")?;
     let mut node = node(rt.alloc(), A, 9)?;
     let versions = all_given(rt.alloc(), &mut node, &set)?;
-    assert_eq!(rt; versions, [Some(2), Some(3), Some(4)]);
-    assert_eq!(rt; held(&node, A), Some((9, 4)));
-    Ok(())
+    expect_eq!(versions, [Some(2), Some(3), Some(4)])?;
+    expect_eq!(held(&node, A), Some((9, 4)))
 }
 
 // The text that a node's own entry has at a key, and its version.
@@ -75,9 +74,8 @@ fn a_set_gives_a_key_its_text(rt: HostRuntime) -> Result<(), Fail> {
     let set = set_event(rt.alloc(), 3, "x")?;
     let node = node(rt.alloc(), A, 9)?;
     let (after, _reply) = node.stepped(rt.alloc(), &set)?;
-    assert_eq!(rt; own_text(&after, 3), Some(("x", 2)));
-    assert_eq!(rt; own_text(&node, 3), None);
-    Ok(())
+    expect_eq!(own_text(&after, 3), Some(("x", 2)))?;
+    expect_eq!(own_text(&node, 3), None)
 }
 
 const AT_16: &str = "00000000000000000000000000000010";
@@ -101,17 +99,16 @@ fn member(alloc: Global) -> Result<Node, Fail> {
 fn a_status_alone_claims_nothing(rt: HostRuntime) -> Result<(), Fail> {
     let node = node(rt.alloc(), A, 9)?;
     let node = with_text(rt.alloc(), &node, 1, "NORMAL")?;
-    assert!(rt; node.ring().positions().is_empty());
-    Ok(())
+    expect!(node.ring().positions().is_empty())
 }
 
 #[test]
 fn a_set_of_status_and_tokens_moves_the_ring(rt: HostRuntime) -> Result<(), Fail> {
     let node = member(rt.alloc())?;
-    assert_eq!(rt; node.ring().positions().len(), 1);
+    expect_eq!(node.ring().positions().len(), 1)?;
     for (token, owner) in node.ring().positions() {
-        assert_eq!(rt; token.number(), 16);
-        assert_eq!(rt; *owner, endpoint(A));
+        expect_eq!(token.number(), 16)?;
+        expect_eq!(*owner, endpoint(A))?;
     }
     Ok(())
 }
@@ -120,6 +117,5 @@ fn a_set_of_status_and_tokens_moves_the_ring(rt: HostRuntime) -> Result<(), Fail
 fn a_member_that_leaves(rt: HostRuntime) -> Result<(), Fail> {
     let node = member(rt.alloc())?;
     let node = with_text(rt.alloc(), &node, 1, "LEFT")?;
-    assert!(rt; node.ring().positions().is_empty());
-    Ok(())
+    expect!(node.ring().positions().is_empty())
 }

@@ -2,6 +2,7 @@
 
 use crate::samples::{hears, node, settings};
 use cg_core::{Event, Node, Reply};
+use cg_expect::{expect, expect_eq};
 use cg_samples::{A, B, C, endpoint, generation};
 use cg_silence::Verdict;
 use cg_types::Endpoint;
@@ -20,11 +21,10 @@ fn heard(alloc: Global, seed: Option<u16>) -> Result<Node, Fail> {
 fn live_and_silent(rt: HostRuntime) -> Result<(), Fail> {
     let node = heard(rt.alloc(), None)?;
     let verdicts = [A, B, C].map(|owner| node.verdict(endpoint(owner), 50001));
-    assert_eq!(rt;
+    expect_eq!(
         verdicts,
         [Verdict::Unheard, Verdict::Alive, Verdict::Silent]
-    );
-    Ok(())
+    )
 }
 
 // Whom the round of a reply is for, or nobody.
@@ -49,10 +49,9 @@ fn is_for(alloc: Global, seed: u16, words: [u64; 4], also_c: bool) -> Result<boo
 
 #[test]
 fn peers_of_a_round(rt: HostRuntime) -> Result<(), Fail> {
-    assert!(rt; is_for(rt.alloc(), C, [7, 3, 5, 9], true)?);
-    assert!(rt; is_for(rt.alloc(), C, [7, 2, 5, 9], true)?);
-    assert!(rt; is_for(rt.alloc(), B, [7, 3, 5, 9], false)?);
-    Ok(())
+    expect!(is_for(rt.alloc(), C, [7, 3, 5, 9], true)?)?;
+    expect!(is_for(rt.alloc(), C, [7, 2, 5, 9], true)?)?;
+    expect!(is_for(rt.alloc(), B, [7, 3, 5, 9], false)?)
 }
 
 // How many peers a round is for, and the first digest of its SYN: endpoint, generation and newest version.
@@ -70,6 +69,5 @@ fn a_round_for_nobody(rt: HostRuntime) -> Result<(), Fail> {
     let mut node = node(rt.alloc(), A, 9)?;
     let words = [7, 3, 5, 9];
     let reply = node.step(rt.alloc(), &Event::Tick { now: 5, words })?;
-    assert_eq!(rt; round_of(&reply), Some((0, endpoint(A), 9, 2)));
-    Ok(())
+    expect_eq!(round_of(&reply), Some((0, endpoint(A), 9, 2)))
 }

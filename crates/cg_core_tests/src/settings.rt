@@ -2,6 +2,7 @@
 
 use crate::samples::settings;
 use cg_core::{SEED_LIMIT, Settings, SettingsFault};
+use cg_expect::{expect, expect_eq};
 use cg_samples::{A, B, endpoint};
 use cg_silence::Silence;
 use cg_types::{Cluster, Endpoint};
@@ -32,10 +33,9 @@ fn seeds_are_few(rt: HostRuntime) -> Result<(), Fail> {
     let many = Some(SettingsFault::SeedCount);
     for (count, fault) in [(0, None), (1, None), (16, None), (17, many)] {
         let seeds = rising(rt.alloc(), count)?;
-        assert_eq!(rt; fault_of(rt.alloc(), 1, seeds)?, fault);
+        expect_eq!(fault_of(rt.alloc(), 1, seeds)?, fault)?;
     }
-    assert_eq!(rt; SEED_LIMIT, 16);
-    Ok(())
+    expect_eq!(SEED_LIMIT, 16)
 }
 
 #[test]
@@ -43,7 +43,7 @@ fn seeds_rise(rt: HostRuntime) -> Result<(), Fail> {
     let order = Some(SettingsFault::SeedOrder);
     for (first, second, fault) in [(A, B, None), (B, A, order), (A, A, order)] {
         let seeds = vec![in rt.alloc(); endpoint(first), endpoint(second)]?;
-        assert_eq!(rt; fault_of(rt.alloc(), 1, seeds)?, fault);
+        expect_eq!(fault_of(rt.alloc(), 1, seeds)?, fault)?;
     }
     Ok(())
 }
@@ -53,7 +53,7 @@ fn the_partitioner_is_the_one_in_use(rt: HostRuntime) -> Result<(), Fail> {
     let other = Some(SettingsFault::Partitioner);
     for (partitioner, fault) in [(0, other), (1, None), (2, other)] {
         let none = Vec::new(rt.alloc());
-        assert_eq!(rt; fault_of(rt.alloc(), partitioner, none)?, fault);
+        expect_eq!(fault_of(rt.alloc(), partitioner, none)?, fault)?;
     }
     Ok(())
 }
@@ -77,7 +77,7 @@ fn faults_are_told(rt: HostRuntime) -> Result<(), Fail> {
             "a seed is not greater than the one before it",
         ),
     ] {
-        assert!(rt; is_told(rt.alloc(), fault, wanted)?, "{wanted}");
+        expect!(is_told(rt.alloc(), fault, wanted)?, "{wanted}")?;
     }
     Ok(())
 }
@@ -94,6 +94,5 @@ fn shown(settings: &Settings) -> (&str, Option<Endpoint>, Silence) {
 #[test]
 fn settings_are_shown_and_copied(rt: HostRuntime) -> Result<(), Fail> {
     let copy = settings(rt.alloc(), Some(B))?.copy(rt.alloc())?;
-    assert_eq!(rt; shown(&copy), ("c1", Some(endpoint(B)), Silence::default()));
-    Ok(())
+    expect_eq!(shown(&copy), ("c1", Some(endpoint(B)), Silence::default()))
 }

@@ -1,10 +1,12 @@
 //! What `Counted` counts is what its link was called for: links that count their own calls, and fail at one of them.
 
+use cg_expect::{expect, expect_eq};
 use cg_links::{Counted, CountingLink, FailingLink, write_bytes};
 use cg_types::Fault;
 use std::alloc::Global;
 use std::io;
 use std::io::{Read, Write};
+use std::test::Fail;
 
 // A writer that takes no byte.
 #[derive(Drop)]
@@ -34,11 +36,11 @@ fn three_reads(turn: u64) -> ([bool; 3], u64, u64, u64) {
 }
 
 #[test]
-fn each_read_is_passed_on_once(rt: HostRuntime) {
-    assert_eq!(rt; three_reads(1), ([false, true, true], 3, 3, 1));
-    assert_eq!(rt; three_reads(2), ([true, false, true], 3, 3, 1));
-    assert_eq!(rt; three_reads(3), ([true, true, false], 3, 3, 1));
-    assert_eq!(rt; three_reads(4), ([true, true, true], 3, 3, 0));
+fn each_read_is_passed_on_once() -> Result<(), Fail> {
+    expect_eq!(three_reads(1), ([false, true, true], 3, 3, 1))?;
+    expect_eq!(three_reads(2), ([true, false, true], 3, 3, 1))?;
+    expect_eq!(three_reads(3), ([true, true, false], 3, 3, 1))?;
+    expect_eq!(three_reads(4), ([true, true, true], 3, 3, 0))
 }
 
 // The answers to a write, a flush and a write of which that of a number fails, the link's own counts, the counts, and
@@ -62,27 +64,28 @@ fn writes_and_a_flush(alloc: Global, turn: u64) -> ([bool; 3], [u64; 3], (u64, u
 }
 
 #[test]
-fn each_write_and_flush_is_passed_on_once(rt: HostRuntime) {
+fn each_write_and_flush_is_passed_on_once(rt: HostRuntime) -> Result<(), Fail> {
     for (turn, answers, own, failed, written) in [
         (1, [false, true, true], [3, 1, 1], 1, 3),
         (2, [true, false, true], [3, 2, 0], 1, 5),
         (3, [true, true, false], [3, 1, 1], 1, 2),
         (4, [true, true, true], [3, 2, 1], 0, 5),
     ] {
-        assert_eq!(rt;
+        expect_eq!(
             writes_and_a_flush(rt.alloc(), turn),
             (answers, own, (3, failed), written)
-        );
+        )?;
     }
+    Ok(())
 }
 
 #[test]
-fn a_write_that_takes_nothing_is_counted(rt: HostRuntime) {
+fn a_write_that_takes_nothing_is_counted() -> Result<(), Fail> {
     let mut writer = Counted::new(FullLink);
-    assert_eq!(rt; write_bytes(&mut writer, b"a"), Err(Fault::WriteFault));
-    assert_eq!(rt; (writer.failed(), writer.idle()), (0, 1));
-    assert_eq!(rt; write_bytes(&mut writer, b""), Ok(()));
-    assert_eq!(rt; writer.idle(), 1);
+    expect_eq!(write_bytes(&mut writer, b"a"), Err(Fault::WriteFault))?;
+    expect_eq!((writer.failed(), writer.idle()), (0, 1))?;
+    expect_eq!(write_bytes(&mut writer, b""), Ok(()))?;
+    expect_eq!(writer.idle(), 1)
 }
 
 // Whether nothing waits for a flush: at first, after a write of no byte, after one of two bytes, and after a flush,
@@ -99,18 +102,18 @@ fn flushed(alloc: Global, turn: u64) -> [bool; 4] {
 }
 
 #[test]
-fn written_bytes_wait_for_a_flush(rt: HostRuntime) {
-    assert_eq!(rt; flushed(rt.alloc(), 0), [true, true, false, true]);
-    assert_eq!(rt; flushed(rt.alloc(), 2), [true, true, true, true]);
-    assert_eq!(rt; flushed(rt.alloc(), 3), [true, true, false, false]);
+fn written_bytes_wait_for_a_flush(rt: HostRuntime) -> Result<(), Fail> {
+    expect_eq!(flushed(rt.alloc(), 0), [true, true, false, true])?;
+    expect_eq!(flushed(rt.alloc(), 2), [true, true, true, true])?;
+    expect_eq!(flushed(rt.alloc(), 3), [true, true, false, false])
 }
 
 #[test]
-fn the_most_that_was_asked(rt: HostRuntime) {
+fn the_most_that_was_asked() -> Result<(), Fail> {
     let mut reader = CountingLink::new(b"some bytes".as_slice());
     let mut piece = [0u8; 4];
-    assert!(rt; reader.read(&mut piece).is_ok());
-    assert!(rt; reader.read(&mut piece[..2]).is_ok());
-    assert_eq!(rt; (reader.reads(), reader.most_asked()), (2, 4));
-    assert_eq!(rt; reader.into_link(), b"ytes".as_slice());
+    expect!(reader.read(&mut piece).is_ok())?;
+    expect!(reader.read(&mut piece[..2]).is_ok())?;
+    expect_eq!((reader.reads(), reader.most_asked()), (2, 4))?;
+    expect_eq!(reader.into_link(), b"ytes".as_slice())
 }

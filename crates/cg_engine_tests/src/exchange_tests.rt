@@ -2,6 +2,7 @@
 
 use crate::samples::{ACK, ACK2, SYN, a, b, front, joined, syn};
 use cg_engine::{Broken, Ended, initiate, respond};
+use cg_expect::{expect, expect_eq};
 use cg_links::{Counted, CountingLink, FailingLink};
 use cg_types::{Cause, Fault};
 use std::alloc::Global;
@@ -73,57 +74,46 @@ const UNEXPECTED: Fault = Fault::BadFrame {
 #[test]
 fn b_responds(rt: HostRuntime) -> Result<(), Fail> {
     let alloc = rt.alloc();
-    assert!(rt; responds(alloc, &[SYN, ACK2], (Ok(Ended::Whole), 2, 0), ACK)?);
+    expect!(responds(alloc, &[SYN, ACK2], (Ok(Ended::Whole), 2, 0), ACK)?)?;
     // what stands behind the last message stays unread
-    assert!(rt;
-        responds(
-            alloc,
-            &[SYN, ACK2, SYN, b"\xff"],
-            (Ok(Ended::Whole), 2, 27),
-            ACK
-        )?
-    );
-    Ok(())
+    expect!(responds(
+        alloc,
+        &[SYN, ACK2, SYN, b"\xff"],
+        (Ok(Ended::Whole), 2, 27),
+        ACK
+    )?)
 }
 
 #[test]
 fn b_finds_the_end(rt: HostRuntime) -> Result<(), Fail> {
     let alloc = rt.alloc();
-    assert!(rt; responds(alloc, &[], (Ok(Ended::Closed(0)), 1, 0), b"")?);
-    assert!(rt; responds(alloc, &[SYN], (Ok(Ended::Closed(1)), 1, 0), ACK)?);
-    assert!(rt;
-        responds(
-            alloc,
-            &[front(SYN, 10)],
-            (broken(0, Fault::Truncated), 1, 0),
-            b""
-        )?
-    );
-    assert!(rt;
-        responds(
-            alloc,
-            &[SYN, front(ACK2, 26)],
-            (broken(1, Fault::Truncated), 1, 0),
-            ACK
-        )?
-    );
-    Ok(())
+    expect!(responds(alloc, &[], (Ok(Ended::Closed(0)), 1, 0), b"")?)?;
+    expect!(responds(alloc, &[SYN], (Ok(Ended::Closed(1)), 1, 0), ACK)?)?;
+    expect!(responds(
+        alloc,
+        &[front(SYN, 10)],
+        (broken(0, Fault::Truncated), 1, 0),
+        b""
+    )?)?;
+    expect!(responds(
+        alloc,
+        &[SYN, front(ACK2, 26)],
+        (broken(1, Fault::Truncated), 1, 0),
+        ACK
+    )?)
 }
 
 #[test]
 fn b_reads_another_message(rt: HostRuntime) -> Result<(), Fail> {
     let alloc = rt.alloc();
-    assert!(rt; responds(alloc, &[ACK, ACK2], (broken(0, UNEXPECTED), 1, 27), b"")?);
-    assert!(rt; responds(alloc, &[ACK2], (broken(0, UNEXPECTED), 1, 0), b"")?);
-    assert!(rt;
-        responds(
-            alloc,
-            &[SYN, SYN, ACK2],
-            (broken(1, UNEXPECTED), 1, 27),
-            ACK
-        )?
-    );
-    Ok(())
+    expect!(responds(alloc, &[ACK, ACK2], (broken(0, UNEXPECTED), 1, 27), b"")?)?;
+    expect!(responds(alloc, &[ACK2], (broken(0, UNEXPECTED), 1, 0), b"")?)?;
+    expect!(responds(
+        alloc,
+        &[SYN, SYN, ACK2],
+        (broken(1, UNEXPECTED), 1, 27),
+        ACK
+    )?)
 }
 
 #[test]
@@ -134,20 +124,17 @@ fn b_reads_a_fault(rt: HostRuntime) -> Result<(), Fail> {
         cause: Cause::Count,
     };
     let bad = b"\x00\x00\x00\x08\x01\x01\x02c1\x01\x01\x01".as_slice();
-    assert!(rt; responds(alloc, &[bad, SYN], (broken(0, count), 1, 26), b"")?);
+    expect!(responds(alloc, &[bad, SYN], (broken(0, count), 1, 26), b"")?)?;
     let long = Fault::BadFrame {
         place: 0,
         cause: Cause::Length,
     };
-    assert!(rt;
-        responds(
-            alloc,
-            &[SYN, b"\x7f\xff\xff\xff", ACK2],
-            (broken(1, long), 1, 27),
-            ACK
-        )?
-    );
-    Ok(())
+    expect!(responds(
+        alloc,
+        &[SYN, b"\x7f\xff\xff\xff", ACK2],
+        (broken(1, long), 1, 27),
+        ACK
+    )?)
 }
 
 fn wrong(place: usize, cause: Cause) -> Result<Ended, Broken> {
@@ -159,52 +146,44 @@ fn wrong(place: usize, cause: Cause) -> Result<Ended, Broken> {
 fn b_reads_faults_of_each_kind(rt: HostRuntime) -> Result<(), Fail> {
     let alloc = rt.alloc();
     let short = b"\x00\x00\x00\x08\x01\x01\x02c1\x01\x00\x01".as_slice();
-    assert!(rt; responds(alloc, &[short, SYN], (wrong(12, Cause::Short), 1, 26), b"")?);
+    expect!(responds(alloc, &[short, SYN], (wrong(12, Cause::Short), 1, 26), b"")?)?;
     let port =
         b"\x00\x00\x00\x17\x01\x03\x00\x01\x0a\x00\x00\x01\x00\x00\x00\x00\x00\x09\x00\x00\x00\x00\x00\x00\x00\x01\x00".as_slice();
-    assert!(rt; responds(alloc, &[port, SYN], (wrong(8, Cause::Endpoint), 1, 26), b"")?);
+    expect!(responds(alloc, &[port, SYN], (wrong(8, Cause::Endpoint), 1, 26), b"")?)?;
     let empty =
         b"\x00\x00\x00\x17\x01\x03\x00\x01\x0a\x00\x00\x01\x1b\x58\x00\x00\x00\x09\x00\x00\x00\x01\x00\x00\x00\x01\x00".as_slice();
-    assert!(rt; responds(alloc, &[empty, SYN], (wrong(8, Cause::Empty), 1, 26), b"")?);
-    Ok(())
+    expect!(responds(alloc, &[empty, SYN], (wrong(8, Cause::Empty), 1, 26), b"")?)
 }
 
 #[test]
 fn b_is_of_another_cluster(rt: HostRuntime) -> Result<(), Fail> {
     let other = b"\x00\x00\x00\x08\x01\x01\x02c2\x01\x00\x00".as_slice();
-    assert!(rt;
-        responds(
-            rt.alloc(),
-            &[other, ACK2],
-            (broken(0, Fault::OtherCluster), 1, 27),
-            b""
-        )?
-    );
-    Ok(())
+    expect!(responds(
+        rt.alloc(),
+        &[other, ACK2],
+        (broken(0, Fault::OtherCluster), 1, 27),
+        b""
+    )?)
 }
 
 #[test]
 fn a_initiates(rt: HostRuntime) -> Result<(), Fail> {
     let alloc = rt.alloc();
-    assert!(rt; initiates(alloc, &[ACK], (Ok(Ended::Whole), 2, 0), &[SYN, ACK2])?);
-    assert!(rt; initiates(alloc, &[ACK, SYN], (Ok(Ended::Whole), 2, 26), &[SYN, ACK2])?);
-    Ok(())
+    expect!(initiates(alloc, &[ACK], (Ok(Ended::Whole), 2, 0), &[SYN, ACK2])?)?;
+    expect!(initiates(alloc, &[ACK, SYN], (Ok(Ended::Whole), 2, 26), &[SYN, ACK2])?)
 }
 
 #[test]
 fn a_finds_no_answer(rt: HostRuntime) -> Result<(), Fail> {
     let alloc = rt.alloc();
-    assert!(rt; initiates(alloc, &[], (Ok(Ended::Closed(0)), 1, 0), &[SYN])?);
-    assert!(rt;
-        initiates(
-            alloc,
-            &[front(ACK, 42)],
-            (broken(0, Fault::Truncated), 1, 0),
-            &[SYN]
-        )?
-    );
-    assert!(rt; initiates(alloc, &[SYN], (broken(0, UNEXPECTED), 1, 0), &[SYN])?);
-    Ok(())
+    expect!(initiates(alloc, &[], (Ok(Ended::Closed(0)), 1, 0), &[SYN])?)?;
+    expect!(initiates(
+        alloc,
+        &[front(ACK, 42)],
+        (broken(0, Fault::Truncated), 1, 0),
+        &[SYN]
+    )?)?;
+    expect!(initiates(alloc, &[SYN], (broken(0, UNEXPECTED), 1, 0), &[SYN])?)
 }
 
 // Whether B's writer is flushed after its part of the worked exchange, and after a part of which the flush failed.
@@ -219,11 +198,10 @@ fn is_flushed(alloc: Global, turn: u64) -> Result<bool, Fail> {
 #[test]
 fn what_was_written_is_flushed(rt: HostRuntime) -> Result<(), Fail> {
     let alloc = rt.alloc();
-    assert_eq!(rt;
+    expect_eq!(
         (is_flushed(alloc, 0)?, is_flushed(alloc, 2)?),
         (true, false)
-    );
-    Ok(())
+    )
 }
 
 // The reads, writes and flushes of B's part of the worked exchange, and the most bytes that one read asked for.
@@ -245,6 +223,5 @@ fn calls(alloc: Global) -> Result<(u64, usize, u64, u64), Fail> {
 
 #[test]
 fn a_length_and_then_a_frame(rt: HostRuntime) -> Result<(), Fail> {
-    assert_eq!(rt; calls(rt.alloc())?, (4, 23, 1, 1));
-    Ok(())
+    expect_eq!(calls(rt.alloc())?, (4, 23, 1, 1))
 }

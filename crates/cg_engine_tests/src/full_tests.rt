@@ -4,6 +4,7 @@ use crate::samples::started;
 use cg_core::{Event, Node};
 use cg_engine::{Broken, Ended, NodeGate, initiate, respond};
 use cg_exchange::{Ack2, OwnerDelta, Syn, syn};
+use cg_expect::expect_eq;
 use cg_links::{Counted, CountingLink};
 use cg_samples::{delta, endpoint, key, state};
 use cg_types::{StateText, TEXT_LIMIT};
@@ -147,7 +148,7 @@ const WHOLE: [Result<Ended, Broken>; 2] = [Ok(Ended::Whole), Ok(Ended::Whole)];
 #[test]
 fn a_newcomer_takes_a_full_table(rt: HostRuntime) -> Result<(), Fail> {
     let shown = meeting(rt.alloc(), 1)?;
-    assert_eq!(rt;
+    expect_eq!(
         shown,
         (
             WHOLE,
@@ -156,14 +157,13 @@ fn a_newcomer_takes_a_full_table(rt: HostRuntime) -> Result<(), Fail> {
             10 + 14 + 255 * 16515,
             (true, 256)
         )
-    );
-    Ok(())
+    )
 }
 
 #[test]
 fn two_halves_make_a_full_table(rt: HostRuntime) -> Result<(), Fail> {
     let shown = meeting(rt.alloc(), 128)?;
-    assert_eq!(rt;
+    expect_eq!(
         shown,
         (
             WHOLE,
@@ -172,6 +172,5 @@ fn two_halves_make_a_full_table(rt: HostRuntime) -> Result<(), Fail> {
             10 + 128 * 14 + 128 * 16515,
             (true, 256)
         )
-    );
-    Ok(())
+    )
 }

@@ -2,6 +2,7 @@
 
 use crate::samples::{ACK, ACK2, SYN, a, b, joined, syn};
 use cg_engine::{Broken, Ended, initiate, respond};
+use cg_expect::expect;
 use cg_links::{Counted, FailingLink, SlowLink};
 use cg_types::Fault;
 use std::alloc::Global;
@@ -65,14 +66,13 @@ fn each_read_of_b_fails_in_turn(rt: HostRuntime) -> Result<(), Fail> {
     for turn in 1..54 {
         let came = responded(rt.alloc(), turn, 0)?;
         let (done, count) = if turn <= 26 { (0, 0) } else { (1, 43) };
-        assert!(rt;
+        expect!(
             is(&came, broken(done, Fault::ReadFault), (1, 0), ACK, count),
             "read {turn}"
-        );
+        )?;
     }
     let came = responded(rt.alloc(), 54, 0)?;
-    assert!(rt; is(&came, Ok(Ended::Whole), (0, 0), ACK, 43));
-    Ok(())
+    expect!(is(&came, Ok(Ended::Whole), (0, 0), ACK, 43))
 }
 
 // The 43 bytes of the ACK, and the flush.
@@ -80,7 +80,7 @@ fn each_read_of_b_fails_in_turn(rt: HostRuntime) -> Result<(), Fail> {
 fn each_write_of_b_fails_in_turn(rt: HostRuntime) -> Result<(), Fail> {
     for turn in 1..45 {
         let came = responded(rt.alloc(), 0, turn)?;
-        assert!(rt;
+        expect!(
             is(
                 &came,
                 broken(1, Fault::WriteFault),
@@ -89,26 +89,24 @@ fn each_write_of_b_fails_in_turn(rt: HostRuntime) -> Result<(), Fail> {
                 (turn as usize) - 1
             ),
             "write {turn}"
-        );
+        )?;
     }
     let came = responded(rt.alloc(), 0, 45)?;
-    assert!(rt; is(&came, Ok(Ended::Whole), (0, 0), ACK, 43));
-    Ok(())
+    expect!(is(&came, Ok(Ended::Whole), (0, 0), ACK, 43))
 }
 
 #[test]
 fn each_read_of_a_fails_in_turn(rt: HostRuntime) -> Result<(), Fail> {
     for turn in 1..44 {
         let came = initiated(rt.alloc(), turn, 0)?;
-        assert!(rt;
+        expect!(
             is(&came, broken(0, Fault::ReadFault), (1, 0), SYN, 26),
             "read {turn}"
-        );
+        )?;
     }
     let came = initiated(rt.alloc(), 44, 0)?;
     let all = joined(rt.alloc(), &[SYN, ACK2])?;
-    assert!(rt; is(&came, Ok(Ended::Whole), (0, 0), all.as_slice(), 53));
-    Ok(())
+    expect!(is(&came, Ok(Ended::Whole), (0, 0), all.as_slice(), 53))
 }
 
 // The 26 bytes of the SYN and a flush, and the 27 of the ACK2 and a flush.
@@ -122,7 +120,7 @@ fn each_write_of_a_fails_in_turn(rt: HostRuntime) -> Result<(), Fail> {
         } else {
             (1, turn - 2)
         };
-        assert!(rt;
+        expect!(
             is(
                 &came,
                 broken(done, Fault::WriteFault),
@@ -131,9 +129,8 @@ fn each_write_of_a_fails_in_turn(rt: HostRuntime) -> Result<(), Fail> {
                 count as usize
             ),
             "write {turn}"
-        );
+        )?;
     }
     let came = initiated(rt.alloc(), 0, 56)?;
-    assert!(rt; is(&came, Ok(Ended::Whole), (0, 0), all.as_slice(), 53));
-    Ok(())
+    expect!(is(&came, Ok(Ended::Whole), (0, 0), all.as_slice(), 53))
 }

@@ -1,5 +1,6 @@
 //! `read_all` and `write_bytes` over links of which each call fails in turn, and over links that move a byte a call.
 
+use cg_expect::expect_eq;
 use cg_links::{Counted, CountingLink, FailingLink, SlowLink, read_all, write_bytes};
 use cg_types::Fault;
 use std::alloc::Global;
@@ -39,16 +40,16 @@ fn read_slowly(alloc: Global, sent: &[u8], turn: u64) -> WasRead {
 }
 
 #[test]
-fn each_read_fails_in_turn(rt: HostRuntime) {
+fn each_read_fails_in_turn(rt: HostRuntime) -> Result<(), Fail> {
     let sent = b"some bytes".as_slice();
     for turn in 1..12 {
-        assert_eq!(rt;
+        expect_eq!(
             read_slowly(rt.alloc(), sent, turn),
             (None, Some(Fault::ReadFault), turn, 1)
-        );
+        )?;
     }
-    assert_eq!(rt; read_slowly(rt.alloc(), sent, 12), (Some(10), None, 11, 0));
-    assert_eq!(rt; read_slowly(rt.alloc(), sent, 0), (Some(10), None, 11, 0));
+    expect_eq!(read_slowly(rt.alloc(), sent, 12), (Some(10), None, 11, 0))?;
+    expect_eq!(read_slowly(rt.alloc(), sent, 0), (Some(10), None, 11, 0))
 }
 
 #[test]
@@ -56,9 +57,8 @@ fn a_failed_read_leaves_what_follows(rt: HostRuntime) -> Result<(), Fail> {
     let mut reader = Counted::new(FailingLink::new(SlowLink::new(b"some bytes".as_slice()), 5));
     let first = read_all(rt.alloc(), &mut reader).err();
     let rest = read_all(rt.alloc(), &mut reader)?;
-    assert_eq!(rt; first, Some(Fault::ReadFault));
-    assert_eq!(rt; rest.as_slice(), b" bytes".as_slice());
-    Ok(())
+    expect_eq!(first, Some(Fault::ReadFault))?;
+    expect_eq!(rest.as_slice(), b" bytes".as_slice())
 }
 
 // How many reads it took, and whether all came.
@@ -74,7 +74,7 @@ fn read_in_pieces(alloc: Global, count: usize) -> Result<(u64, u64, bool), Fail>
 #[test]
 fn reads_more_than_a_piece(rt: HostRuntime) -> Result<(), Fail> {
     for (count, reads) in [(0, 1), (1, 2), (4096, 2), (4097, 3), (10000, 4)] {
-        assert_eq!(rt; read_in_pieces(rt.alloc(), count)?, (reads, reads, true));
+        expect_eq!(read_in_pieces(rt.alloc(), count)?, (reads, reads, true))?;
     }
     Ok(())
 }
@@ -99,19 +99,16 @@ fn write_slowly(alloc: Global, bytes: &[u8], turn: u64) -> WasWritten {
 }
 
 #[test]
-fn each_write_fails_in_turn(rt: HostRuntime) {
+fn each_write_fails_in_turn(rt: HostRuntime) -> Result<(), Fail> {
     let bytes = b"some bytes".as_slice();
     for turn in 1..11 {
         let written = (turn as usize) - 1;
-        assert_eq!(rt;
+        expect_eq!(
             write_slowly(rt.alloc(), bytes, turn),
             (Some(written), Some(Fault::WriteFault), turn, 1)
-        );
+        )?;
     }
-    assert_eq!(rt;
-        write_slowly(rt.alloc(), bytes, 11),
-        (Some(10), None, 10, 0)
-    );
+    expect_eq!(write_slowly(rt.alloc(), bytes, 11), (Some(10), None, 10, 0))
 }
 
 #[test]
@@ -122,8 +119,7 @@ fn writes_at_once(rt: HostRuntime) -> Result<(), Fail> {
     let flushed = writer.flush().is_ok();
     let counts = (writer.calls(), writer.failed(), writer.idle());
     let link = writer.into_link();
-    assert_eq!(rt; (fault, flushed, counts), (None, true, (2, 0, 0)));
-    assert_eq!(rt; (link.writes(), link.flushes()), (1, 1));
-    assert_eq!(rt; link.into_link().as_slice(), bytes.as_slice());
-    Ok(())
+    expect_eq!((fault, flushed, counts), (None, true, (2, 0, 0)))?;
+    expect_eq!((link.writes(), link.flushes()), (1, 1))?;
+    expect_eq!(link.into_link().as_slice(), bytes.as_slice())
 }

@@ -1,6 +1,7 @@
 //! Entries and deltas: what is held after starts, beats and sets, what stands above a version, and what is taken.
 
 use cg_entry::{Absorbed, Delta, Entry, State, meet};
+use cg_expect::{expect, expect_eq};
 use cg_samples::{bare_delta, bare_entry, delta, entry_at_start, generation, key, state, version};
 use cg_types::{Cause, Fault, StateKey, StateText};
 use cg_version::Versions;
@@ -16,8 +17,7 @@ fn parts_of_state(state: &State) -> (u8, u32, &str) {
 #[test]
 fn a_state_is_copied(rt: HostRuntime) -> Result<(), Fail> {
     let copy = state(rt.alloc(), 2, 4, "N")?.copy()?;
-    assert_eq!(rt; parts_of_state(&copy), (2, 4, "N"));
-    Ok(())
+    expect_eq!(parts_of_state(&copy), (2, 4, "N"))
 }
 
 fn one_state(alloc: Global, key: u8, at: u32) -> Result<Vec<State>, Fail> {
@@ -54,15 +54,13 @@ fn parts_of(delta: &Delta) -> Parts {
 fn a_delta_has_its_parts(rt: HostRuntime) -> Result<(), Fail> {
     let states = two_states(rt.alloc(), (2, 4), (3, 6))?;
     let copy = delta((9, 2, 5), states)?.copy(rt.alloc())?;
-    assert_eq!(rt; parts_of(&copy), (9, 2, 5, 6, 2));
-    Ok(())
+    expect_eq!(parts_of(&copy), (9, 2, 5, 6, 2))
 }
 
 #[test]
 fn a_shared_delta_is_the_same(rt: HostRuntime) -> Result<(), Fail> {
     let shared = delta_with_key_2(rt.alloc(), 2, 5)?.shared(rt.alloc())?;
-    assert_eq!(rt; parts_of(&shared), (9, 2, 5, 5, 1));
-    Ok(())
+    expect_eq!(parts_of(&shared), (9, 2, 5, 5, 1))
 }
 
 // Of two texts, with a letter of one byte and one of two.
@@ -75,8 +73,7 @@ fn bytes_of_two_texts(alloc: Global) -> Result<usize, Fail> {
 
 #[test]
 fn texts_are_counted_in_bytes(rt: HostRuntime) -> Result<(), Fail> {
-    assert_eq!(rt; bytes_of_two_texts(rt.alloc())?, 3);
-    Ok(())
+    expect_eq!(bytes_of_two_texts(rt.alloc())?, 3)
 }
 
 // Whether these states make a delta above version 2.
@@ -92,11 +89,10 @@ fn two_make_a_delta(alloc: Global, first: (u8, u32), second: (u8, u32)) -> Resul
 #[test]
 fn states_of_a_delta_rise_and_are_newer(rt: HostRuntime) -> Result<(), Fail> {
     let alloc = rt.alloc();
-    assert!(rt; two_make_a_delta(alloc, (1, 4), (2, 3))?);
-    assert!(rt; !two_make_a_delta(alloc, (2, 4), (1, 3))?);
-    assert!(rt; !two_make_a_delta(alloc, (1, 4), (1, 3))?);
-    assert!(rt; !two_make_a_delta(alloc, (1, 4), (2, 2))?);
-    Ok(())
+    expect!(two_make_a_delta(alloc, (1, 4), (2, 3))?)?;
+    expect!(!two_make_a_delta(alloc, (2, 4), (1, 3))?)?;
+    expect!(!two_make_a_delta(alloc, (1, 4), (1, 3))?)?;
+    expect!(!two_make_a_delta(alloc, (1, 4), (2, 2))?)
 }
 
 // Why these states make no delta above version 2, if they make none.
@@ -116,7 +112,7 @@ fn what_makes_no_delta_is_told(rt: HostRuntime) -> Result<(), Fail> {
     let order = cause_of_two(alloc, (2, 4), (1, 3))?;
     let version = cause_of_two(alloc, (2, 4), (1, 2))?;
     let empty = cause_of(Vec::new(alloc));
-    assert_eq!(rt;
+    expect_eq!(
         (none, order, version, empty),
         (
             None,
@@ -124,14 +120,13 @@ fn what_makes_no_delta_is_told(rt: HostRuntime) -> Result<(), Fail> {
             Some(Cause::Version),
             Some(Cause::Empty)
         )
-    );
-    Ok(())
+    )
 }
 
 #[test]
 fn a_delta_with_no_state_has_a_later_heartbeat(rt: HostRuntime) -> Result<(), Fail> {
     for (heartbeat, made) in [(3, true), (2, false)] {
-        assert_eq!(rt; makes_a_delta(heartbeat, Vec::new(rt.alloc()))?, made);
+        expect_eq!(makes_a_delta(heartbeat, Vec::new(rt.alloc()))?, made)?;
     }
     Ok(())
 }
@@ -148,9 +143,9 @@ fn parts_of_bare(alloc: Global, heartbeat: u32) -> Option<(u32, u32, u32, usize)
 }
 
 #[test]
-fn a_bare_delta_has_its_parts(rt: HostRuntime) {
-    assert_eq!(rt; parts_of_bare(rt.alloc(), 3), Some((9, 2, 3, 0)));
-    assert_eq!(rt; parts_of_bare(rt.alloc(), 2), None);
+fn a_bare_delta_has_its_parts(rt: HostRuntime) -> Result<(), Fail> {
+    expect_eq!(parts_of_bare(rt.alloc(), 3), Some((9, 2, 3, 0)))?;
+    expect_eq!(parts_of_bare(rt.alloc(), 2), None)
 }
 
 // Whether a delta is the same as one with key 2 at 4.
@@ -167,9 +162,8 @@ fn is_like_one_at_4(alloc: Global, at: u32) -> Result<bool, Fail> {
 
 #[test]
 fn deltas_are_compared(rt: HostRuntime) -> Result<(), Fail> {
-    assert!(rt; is_like_one_at_4(rt.alloc(), 4)?);
-    assert!(rt; !is_like_one_at_4(rt.alloc(), 5)?);
-    Ok(())
+    expect!(is_like_one_at_4(rt.alloc(), 4)?)?;
+    expect!(!is_like_one_at_4(rt.alloc(), 5)?)
 }
 
 // ---- entries
@@ -200,8 +194,7 @@ fn version_at(entry: &Entry, key: u8) -> Option<u32> {
 #[test]
 fn an_entry_starts_at_version_1(rt: HostRuntime) -> Result<(), Fail> {
     let entry = entry_at_start(rt.alloc(), 9).copy(rt.alloc())?;
-    assert_eq!(rt; numbers_of(&entry), (9, 1, 1));
-    Ok(())
+    expect_eq!(numbers_of(&entry), (9, 1, 1))
 }
 
 // Sets key 1, and beats.
@@ -225,8 +218,7 @@ fn a_set_and_a_beat(rt: HostRuntime) -> Result<(), Fail> {
     let entry = set_and_beaten(rt.alloc())?;
     let versions = (version_at(&entry, 1), version_at(&entry, 2));
     let shown = (numbers_of(&entry), text_at(&entry, 1), versions);
-    assert_eq!(rt; shown, ((9, 3, 3), Some("NORMAL"), (Some(2), None)));
-    Ok(())
+    expect_eq!(shown, ((9, 3, 3), Some("NORMAL"), (Some(2), None)))
 }
 
 // The key, version and text of the only state.
@@ -240,8 +232,7 @@ fn only_state(entry: &Entry) -> Option<(u8, u32, &str)> {
 #[test]
 fn states_are_listed(rt: HostRuntime) -> Result<(), Fail> {
     let entry = set_and_beaten(rt.alloc())?;
-    assert_eq!(rt; only_state(&entry), Some((1, 2, "NORMAL")));
-    Ok(())
+    expect_eq!(only_state(&entry), Some((1, 2, "NORMAL")))
 }
 
 // The parts of what is above a version.
@@ -261,9 +252,8 @@ fn above_at_start(alloc: Global, version: u32) -> Result<Option<Parts>, Fail> {
 #[test]
 fn above_a_start(rt: HostRuntime) -> Result<(), Fail> {
     let alloc = rt.alloc();
-    assert_eq!(rt; above_at_start(alloc, 0)?, Some((9, 0, 1, 1, 0)));
-    assert_eq!(rt; above_at_start(alloc, 1)?, None);
-    Ok(())
+    expect_eq!(above_at_start(alloc, 0)?, Some((9, 0, 1, 1, 0)))?;
+    expect_eq!(above_at_start(alloc, 1)?, None)
 }
 
 // The same of an entry after a set and a beat.
@@ -275,10 +265,9 @@ fn above_when_beaten(alloc: Global, version: u32) -> Result<Option<Parts>, Fail>
 #[test]
 fn above_by_version(rt: HostRuntime) -> Result<(), Fail> {
     let alloc = rt.alloc();
-    assert_eq!(rt; above_when_beaten(alloc, 0)?, Some((9, 0, 3, 3, 1)));
-    assert_eq!(rt; above_when_beaten(alloc, 2)?, Some((9, 2, 3, 3, 0)));
-    assert_eq!(rt; above_when_beaten(alloc, 3)?, None);
-    Ok(())
+    expect_eq!(above_when_beaten(alloc, 0)?, Some((9, 0, 3, 3, 1)))?;
+    expect_eq!(above_when_beaten(alloc, 2)?, Some((9, 2, 3, 3, 0)))?;
+    expect_eq!(above_when_beaten(alloc, 3)?, None)
 }
 
 // The entry that a whole delta carries.
@@ -307,8 +296,7 @@ fn carries_none(alloc: Global, delta: &Delta) -> Result<bool, Fail> {
 #[test]
 fn a_part_is_no_entry(rt: HostRuntime) -> Result<(), Fail> {
     let part = delta_with_key_2(rt.alloc(), 2, 5)?;
-    assert!(rt; carries_none(rt.alloc(), &part)?);
-    Ok(())
+    expect!(carries_none(rt.alloc(), &part)?)
 }
 
 // Where no version is left: what refuses a set, what refuses a beat, the last version then, and whether the entry is
@@ -328,8 +316,7 @@ fn refused(alloc: Global) -> Result<Refused, Fail> {
 #[test]
 fn versions_spent(rt: HostRuntime) -> Result<(), Fail> {
     let spent = Some(Fault::VersionsSpent);
-    assert_eq!(rt; refused(rt.alloc())?, (spent, spent, 2147483647, true));
-    Ok(())
+    expect_eq!(refused(rt.alloc())?, (spent, spent, 2147483647, true))
 }
 
 // Of two entries: whether each is later than the other, and whether they are the same.
@@ -349,8 +336,7 @@ fn beside_held(alloc: Global, entry: &Entry) -> Result<Beside, Fail> {
 fn entries_are_compared(rt: HostRuntime) -> Result<(), Fail> {
     let beaten = set_and_beaten(rt.alloc())?;
     let both = beside_held(rt.alloc(), &beaten)?;
-    assert_eq!(rt; both, ((true, false, false), true));
-    Ok(())
+    expect_eq!(both, ((true, false, false), true))
 }
 
 // ---- what becomes of a delta
@@ -376,9 +362,8 @@ fn met_by_nothing(alloc: Global, above: u32) -> Result<&'static str, Fail> {
 
 #[test]
 fn deltas_that_meet_nothing(rt: HostRuntime) -> Result<(), Fail> {
-    assert_eq!(rt; met_by_nothing(rt.alloc(), 0)?, "taken");
-    assert_eq!(rt; met_by_nothing(rt.alloc(), 1)?, "gap");
-    Ok(())
+    expect_eq!(met_by_nothing(rt.alloc(), 0)?, "taken")?;
+    expect_eq!(met_by_nothing(rt.alloc(), 1)?, "gap")
 }
 
 // The entry that a delta leads to.
@@ -405,8 +390,7 @@ fn partial_delta_taken(rt: HostRuntime) -> Result<(), Fail> {
     let after = with_a_part(rt.alloc())?;
     let versions = (version_at(&after, 1), version_at(&after, 2));
     let shown = (numbers_of(&after), versions);
-    assert_eq!(rt; shown, ((9, 5, 5), (Some(2), Some(4))));
-    Ok(())
+    expect_eq!(shown, ((9, 5, 5), (Some(2), Some(4))))
 }
 
 // What becomes of the part at an entry.
@@ -417,8 +401,7 @@ fn outcome_of_a_part(alloc: Global, entry: &Entry) -> Result<&'static str, Fail>
 #[test]
 fn partial_delta_taken_again(rt: HostRuntime) -> Result<(), Fail> {
     let after = with_a_part(rt.alloc())?;
-    assert_eq!(rt; outcome_of_a_part(rt.alloc(), &after)?, "old");
-    Ok(())
+    expect_eq!(outcome_of_a_part(rt.alloc(), &after)?, "old")
 }
 
 // Of a delta with no states, where the entry is at generation 9, newest 2.
@@ -436,14 +419,13 @@ fn deltas_across_generations(rt: HostRuntime) -> Result<(), Fail> {
         bare_outcome(alloc, 10, 0, 1)?,
         bare_outcome(alloc, 10, 1, 2)?,
     );
-    assert_eq!(rt; other_generations, ("old", "taken", "gap"));
+    expect_eq!(other_generations, ("old", "taken", "gap"))?;
     let same_generation = (
         bare_outcome(alloc, 9, 3, 4)?,
         bare_outcome(alloc, 9, 2, 4)?,
         bare_outcome(alloc, 9, 0, 2)?,
     );
-    assert_eq!(rt; same_generation, ("gap", "taken", "old"));
-    Ok(())
+    expect_eq!(same_generation, ("gap", "taken", "old"))
 }
 
 // Generation 9 at heartbeat 3 with key 1 at 2.
@@ -459,6 +441,5 @@ fn held_and_beaten(alloc: Global) -> Result<Entry, Fail> {
 fn a_heartbeat_may_fall(rt: HostRuntime) -> Result<(), Fail> {
     let held = held_and_beaten(rt.alloc())?;
     let after = taken(rt.alloc(), &held, &delta_with_key_2(rt.alloc(), 3, 1)?)?;
-    assert_eq!(rt; numbers_of(&after), (9, 1, 4));
-    Ok(())
+    expect_eq!(numbers_of(&after), (9, 1, 4))
 }

@@ -1,5 +1,6 @@
 //! What no clause says: the texts of faults and keys, and each call once with ample memory.
 
+use cg_expect::{expect, expect_eq};
 use cg_samples::long_text;
 use cg_types::laws::limits_have_their_values;
 use cg_types::{
@@ -22,12 +23,11 @@ fn written(alloc: Global, endpoint: Endpoint) -> Result<String, AllocError> {
 fn endpoints_are_read(rt: HostRuntime) -> Result<(), Fail> {
     let endpoint = Endpoint::read("10.0.0.1:7000")?;
     let parts = (endpoint.address(), endpoint.port());
-    assert_eq!(rt; parts, ([10, 0, 0, 1], 7000));
+    expect_eq!(parts, ([10, 0, 0, 1], 7000))?;
     let made = Endpoint::new([10, 0, 0, 1], 7000);
     let from_bytes = Endpoint::from_bytes(b"10.0.0.1:7000");
-    assert_eq!(rt; (made, from_bytes), (Some(endpoint), Some(endpoint)));
-    assert_eq!(rt; written(rt.alloc(), endpoint)?.as_str(), "10.0.0.1:7000");
-    Ok(())
+    expect_eq!((made, from_bytes), (Some(endpoint), Some(endpoint)))?;
+    expect_eq!(written(rt.alloc(), endpoint)?.as_str(), "10.0.0.1:7000")
 }
 
 #[test]
@@ -37,14 +37,13 @@ fn endpoints_are_added_to_texts(rt: HostRuntime) -> Result<(), Fail> {
         text.push_str(" ")?;
         Endpoint::read(endpoint)?.push_to(&mut text)?;
     }
-    assert_eq!(rt; text.as_str(), " 1.2.3.4:5 255.255.255.255:65535");
-    Ok(())
+    expect_eq!(text.as_str(), " 1.2.3.4:5 255.255.255.255:65535")
 }
 
 #[test]
-fn other_texts_are_no_endpoints(rt: HostRuntime) {
+fn other_texts_are_no_endpoints() -> Result<(), Fail> {
     for text in ["0.0.0.0:1", "255.255.255.255:65535"] {
-        assert!(rt; is_endpoint(text), "{text}");
+        expect!(is_endpoint(text), "{text}")?;
     }
     for text in [
         "",
@@ -62,69 +61,68 @@ fn other_texts_are_no_endpoints(rt: HostRuntime) {
         "+10.0.0.1:7000",
         "a.0.0.1:7000",
     ] {
-        assert!(rt; !is_endpoint(text), "{text}");
+        expect!(!is_endpoint(text), "{text}")?;
     }
-    assert_eq!(rt; Endpoint::read("10.0.0.1").err(), Some(Fault::BadText));
+    expect_eq!(Endpoint::read("10.0.0.1").err(), Some(Fault::BadText))
 }
 
 #[test]
-fn endpoints_are_ordered(rt: HostRuntime) -> Result<(), Fail> {
+fn endpoints_are_ordered() -> Result<(), Fail> {
     let least = Endpoint::read("9.255.0.1:65535")?;
     let middle = Endpoint::read("10.0.0.1:7000")?;
     let greatest = Endpoint::read("10.0.0.1:7001")?;
-    assert!(rt; least < middle);
-    assert!(rt; middle < greatest);
-    assert!(rt; middle != greatest);
-    Ok(())
+    expect!(least < middle)?;
+    expect!(middle < greatest)?;
+    expect!(middle != greatest)
 }
 
 #[test]
-fn endpoints_rise_strictly(rt: HostRuntime) -> Result<(), Fail> {
+fn endpoints_rise_strictly() -> Result<(), Fail> {
     let a = Endpoint::read("10.0.0.1:7000")?;
     let b = Endpoint::read("10.0.0.1:7001")?;
     let c = Endpoint::read("10.0.0.2:1")?;
-    assert!(rt; endpoints_rise(&[]));
-    assert!(rt; endpoints_rise(&[a, b, c]));
-    assert!(rt; !endpoints_rise(&[a, b, b]));
-    assert!(rt; !endpoints_rise(&[a, c, b]));
-    Ok(())
+    expect!(endpoints_rise(&[]))?;
+    expect!(endpoints_rise(&[a, b, c]))?;
+    expect!(!endpoints_rise(&[a, b, b]))?;
+    expect!(!endpoints_rise(&[a, c, b]))
 }
 
 #[test]
-fn ports_are_bounded(rt: HostRuntime) {
-    assert!(rt; Endpoint::new([10, 0, 0, 1], 0).is_none());
-    assert!(rt; Endpoint::new([10, 0, 0, 1], 1).is_some());
-    assert!(rt; Endpoint::new([10, 0, 0, 1], 65535).is_some());
+fn ports_are_bounded() -> Result<(), Fail> {
+    expect!(Endpoint::new([10, 0, 0, 1], 0).is_none())?;
+    expect!(Endpoint::new([10, 0, 0, 1], 1).is_some())?;
+    expect!(Endpoint::new([10, 0, 0, 1], 65535).is_some())
 }
 
 #[test]
-fn numbers_are_bounded(rt: HostRuntime) {
+fn numbers_are_bounded() -> Result<(), Fail> {
     for (number, is_in) in [
         (0, false),
         (1, true),
         (2147483647, true),
         (2147483648, false),
     ] {
-        assert_eq!(rt;
+        expect_eq!(
             Generation::new(number).map(|g| g.get()),
             is_in.then_some(number)
-        );
-        assert_eq!(rt;
+        )?;
+        expect_eq!(
             Version::new(number).map(|v| v.get()),
             is_in.then_some(number)
-        );
+        )?;
     }
-    assert_eq!(rt; Version::first().get(), 1);
+    expect_eq!(Version::first().get(), 1)
 }
 
 #[test]
-fn keys_are_bounded(rt: HostRuntime) {
+fn keys_are_bounded() -> Result<(), Fail> {
     for (number, is_in) in [(0, false), (1, true), (16, true), (17, false)] {
-        assert_eq!(rt;
+        expect_eq!(
             StateKey::new(number).map(|k| k.get()),
             is_in.then_some(number)
-        );
+        )?;
     }
+    Ok(())
 }
 
 fn key_name(number: u8) -> Option<&'static str> {
@@ -132,7 +130,7 @@ fn key_name(number: u8) -> Option<&'static str> {
 }
 
 #[test]
-fn keys_have_names(rt: HostRuntime) {
+fn keys_have_names() -> Result<(), Fail> {
     for (number, name) in [
         (1, "STATUS"),
         (2, "TOKENS"),
@@ -151,8 +149,9 @@ fn keys_have_names(rt: HostRuntime) {
         (15, "X2"),
         (16, "X3"),
     ] {
-        assert_eq!(rt; key_name(number), Some(name));
+        expect_eq!(key_name(number), Some(name))?;
     }
+    Ok(())
 }
 
 fn refusal_of_text(alloc: Global, count: usize) -> Result<Option<Fault>, AllocError> {
@@ -162,29 +161,24 @@ fn refusal_of_text(alloc: Global, count: usize) -> Result<Option<Fault>, AllocEr
 
 #[test]
 fn texts_are_bounded(rt: HostRuntime) -> Result<(), Fail> {
-    assert_eq!(rt; refusal_of_text(rt.alloc(), 0)?, None);
-    assert_eq!(rt; refusal_of_text(rt.alloc(), 1024)?, None);
-    assert_eq!(rt; refusal_of_text(rt.alloc(), 1025)?, Some(Fault::TooLong));
-    Ok(())
+    expect_eq!(refusal_of_text(rt.alloc(), 0)?, None)?;
+    expect_eq!(refusal_of_text(rt.alloc(), 1024)?, None)?;
+    expect_eq!(refusal_of_text(rt.alloc(), 1025)?, Some(Fault::TooLong))
 }
 
 #[test]
 fn texts_are_plain(rt: HostRuntime) -> Result<(), Fail> {
-    assert!(rt; is_plain("NORMAL,t\u{f6}ken"));
+    expect!(is_plain("NORMAL,t\u{f6}ken"))?;
     for text in ["a\nb", "\u{1f}", "\u{7f}", "\u{0}"] {
-        assert!(rt; !is_plain(text));
-        assert_eq!(rt;
-            StateText::new(rt.alloc(), text).err(),
-            Some(Fault::BadText)
-        );
+        expect!(!is_plain(text))?;
+        expect_eq!(StateText::new(rt.alloc(), text).err(), Some(Fault::BadText))?;
     }
     let mut long = long_text(rt.alloc(), 1025)?;
     long.push('\n')?;
-    assert_eq!(rt;
+    expect_eq!(
         StateText::new(rt.alloc(), long.as_str()).err(),
         Some(Fault::TooLong)
-    );
-    Ok(())
+    )
 }
 
 fn text_equals_its_copy(text: &StateText) -> Result<bool, AllocError> {
@@ -200,8 +194,7 @@ fn texts_are_copied(rt: HostRuntime) -> Result<(), Fail> {
     let text = StateText::new(rt.alloc(), "NORMAL")?;
     let same = text_equals_its_copy(&text)?;
     let differs = differs_from(rt.alloc(), &text, "LEAVING")?;
-    assert_eq!(rt; (text.as_str(), same, differs), ("NORMAL", true, true));
-    Ok(())
+    expect_eq!((text.as_str(), same, differs), ("NORMAL", true, true))
 }
 
 fn refusal_of_name(alloc: Global, count: usize) -> Result<Option<Fault>, AllocError> {
@@ -211,15 +204,14 @@ fn refusal_of_name(alloc: Global, count: usize) -> Result<Option<Fault>, AllocEr
 
 #[test]
 fn names_are_bounded(rt: HostRuntime) -> Result<(), Fail> {
-    assert_eq!(rt; refusal_of_name(rt.alloc(), 0)?, Some(Fault::BadText));
-    assert_eq!(rt; refusal_of_name(rt.alloc(), 1)?, None);
-    assert_eq!(rt; refusal_of_name(rt.alloc(), 48)?, None);
-    assert_eq!(rt; refusal_of_name(rt.alloc(), 49)?, Some(Fault::TooLong));
-    assert_eq!(rt;
+    expect_eq!(refusal_of_name(rt.alloc(), 0)?, Some(Fault::BadText))?;
+    expect_eq!(refusal_of_name(rt.alloc(), 1)?, None)?;
+    expect_eq!(refusal_of_name(rt.alloc(), 48)?, None)?;
+    expect_eq!(refusal_of_name(rt.alloc(), 49)?, Some(Fault::TooLong))?;
+    expect_eq!(
         Cluster::new(rt.alloc(), "c\u{7f}").err(),
         Some(Fault::BadText)
-    );
-    Ok(())
+    )
 }
 
 fn cluster_equals_its_copy(cluster: &Cluster) -> Result<bool, AllocError> {
@@ -242,8 +234,7 @@ fn clusters_are_copied(rt: HostRuntime) -> Result<(), Fail> {
     let same = cluster_equals_its_copy(&cluster)?;
     let other = other_by_its_partitioner(rt.alloc(), &cluster, 2)?;
     let parts = (cluster.name(), cluster.partitioner());
-    assert_eq!(rt; (parts, same, other), (("c1", 1), true, (2, true)));
-    Ok(())
+    expect_eq!((parts, same, other), (("c1", 1), true, (2, true)))
 }
 
 // The line that a fault's number, name and details make, as people are shown them.
@@ -270,25 +261,25 @@ fn faults_have_lines(rt: HostRuntime) -> Result<(), Fail> {
         (Fault::Folded, 18, "fault 18 Folded\n"),
         (Fault::NoSuchNode, 19, "fault 19 NoSuchNode\n"),
     ] {
-        assert_eq!(rt; fault.number(), number);
-        assert_eq!(rt; fault.line(rt.alloc())?.as_str(), line);
-        assert_eq!(rt; shown(rt.alloc(), fault)?.as_str(), line);
+        expect_eq!(fault.number(), number)?;
+        expect_eq!(fault.line(rt.alloc())?.as_str(), line)?;
+        expect_eq!(shown(rt.alloc(), fault)?.as_str(), line)?;
     }
     Ok(())
 }
 
 #[test]
-fn faults_and_causes_have_names(rt: HostRuntime) {
+fn faults_and_causes_have_names() -> Result<(), Fail> {
     let place = Fault::BadFrame {
         place: 22,
         cause: Cause::Order,
     };
-    assert_eq!(rt; place.number(), 12);
-    assert_eq!(rt; place.name(), "BadFrame");
-    assert_eq!(rt; Fault::TableFull.name(), "TableFull");
-    assert_eq!(rt; Fault::NoSuchNode.name(), "NoSuchNode");
-    assert_eq!(rt; Cause::Order.name(), "Order");
-    assert_eq!(rt; Cause::Unexpected.name(), "Unexpected");
+    expect_eq!(place.number(), 12)?;
+    expect_eq!(place.name(), "BadFrame")?;
+    expect_eq!(Fault::TableFull.name(), "TableFull")?;
+    expect_eq!(Fault::NoSuchNode.name(), "NoSuchNode")?;
+    expect_eq!(Cause::Order.name(), "Order")?;
+    expect_eq!(Cause::Unexpected.name(), "Unexpected")
 }
 
 #[test]
@@ -313,18 +304,18 @@ fn bad_frames_have_lines(rt: HostRuntime) -> Result<(), Fail> {
         (Cause::Unexpected, "fault 12 BadFrame 22 Unexpected\n"),
     ] {
         let fault = Fault::BadFrame { place: 22, cause };
-        assert_eq!(rt; fault.line(rt.alloc())?.as_str(), line);
-        assert_eq!(rt; shown(rt.alloc(), fault)?.as_str(), line);
+        expect_eq!(fault.line(rt.alloc())?.as_str(), line)?;
+        expect_eq!(shown(rt.alloc(), fault)?.as_str(), line)?;
     }
     Ok(())
 }
 
 #[test]
-fn words_are_read(rt: HostRuntime) {
-    assert_eq!(rt; cut(b"a b", b' '), Some((b"a".as_slice(), b"b".as_slice())));
-    assert_eq!(rt; cut(b"ab", b' '), None);
-    assert_eq!(rt; number(b"0", 9), Some(0));
-    assert_eq!(rt; number(b"18446744073709551615", u64::MAX), Some(u64::MAX));
+fn words_are_read() -> Result<(), Fail> {
+    expect_eq!(cut(b"a b", b' '), Some((b"a".as_slice(), b"b".as_slice())))?;
+    expect_eq!(cut(b"ab", b' '), None)?;
+    expect_eq!(number(b"0", 9), Some(0))?;
+    expect_eq!(number(b"18446744073709551615", u64::MAX), Some(u64::MAX))?;
     for text in [
         "",
         "01",
@@ -335,8 +326,9 @@ fn words_are_read(rt: HostRuntime) {
         "10",
         "18446744073709551616",
     ] {
-        assert_eq!(rt; number(text.as_bytes(), 9), None, "{text}");
+        expect_eq!(number(text.as_bytes(), 9), None, "{text}")?;
     }
+    Ok(())
 }
 
 // The numbers that a word is, read as a generation, a version and a key.
@@ -349,21 +341,22 @@ fn read_as(word: &[u8]) -> (Option<u32>, Option<u32>, Option<u8>) {
 }
 
 #[test]
-fn words_are_generations_versions_and_keys(rt: HostRuntime) {
-    assert_eq!(rt; read_as(b"1"), (Some(1), Some(1), Some(1)));
-    assert_eq!(rt; read_as(b"16"), (Some(16), Some(16), Some(16)));
-    assert_eq!(rt;
+fn words_are_generations_versions_and_keys() -> Result<(), Fail> {
+    expect_eq!(read_as(b"1"), (Some(1), Some(1), Some(1)))?;
+    expect_eq!(read_as(b"16"), (Some(16), Some(16), Some(16)))?;
+    expect_eq!(
         read_as(b"2147483647"),
         (Some(2147483647), Some(2147483647), None)
-    );
+    )?;
     for word in ["", "0", "01", "+1", "2147483648", "18446744073709551617"] {
-        assert_eq!(rt; read_as(word.as_bytes()), (None, None, None), "{word}");
+        expect_eq!(read_as(word.as_bytes()), (None, None, None), "{word}")?;
     }
     let read = [
         number_between(b"4", 5, 7),
         number_between(b"5", 5, 7),
         number_between(b"8", 5, 7),
     ];
-    assert_eq!(rt; read, [None, Some(5), None]);
+    expect_eq!(read, [None, Some(5), None])?;
     limits_have_their_values();
+    Ok(())
 }

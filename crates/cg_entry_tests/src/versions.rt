@@ -1,16 +1,18 @@
 //! The worked examples, and each call once.
 
+use cg_expect::{expect, expect_eq};
 use cg_types::{Fault, Generation, Version};
 use cg_version::{Versions, next_generation};
+use std::test::Fail;
 
 #[test]
-fn versions_rise(rt: HostRuntime) {
+fn versions_rise() -> Result<(), Fail> {
     let mut versions = Versions::new();
-    assert_eq!(rt; versions.last(), 0);
-    assert_eq!(rt; versions.next().ok(), Version::new(1));
-    assert_eq!(rt; versions.next().ok(), Version::new(2));
-    assert_eq!(rt; versions.last(), 2);
-    assert!(rt; !versions.is_spent());
+    expect_eq!(versions.last(), 0)?;
+    expect_eq!(versions.next().ok(), Version::new(1))?;
+    expect_eq!(versions.next().ok(), Version::new(2))?;
+    expect_eq!(versions.last(), 2)?;
+    expect!(!versions.is_spent())
 }
 
 // Of the versions after this one: the last, the next, and then the last, whether they are spent, and what refuses one
@@ -26,11 +28,12 @@ fn after(number: u32) -> After {
 }
 
 #[test]
-fn versions_spent(rt: HostRuntime) {
+fn versions_spent() -> Result<(), Fail> {
     let refused = Some(Fault::VersionsSpent);
     for (last, next) in [(2147483646, Version::new(2147483647)), (2147483647, None)] {
-        assert_eq!(rt; after(last), (last, next, 2147483647, true, refused));
+        expect_eq!(after(last), (last, next, 2147483647, true, refused))?;
     }
+    Ok(())
 }
 
 // The generation of a start, as numbers.
@@ -39,7 +42,7 @@ fn generation_of(stored: Option<u32>, now_secs: u64) -> Result<u32, Fault> {
 }
 
 #[test]
-fn generations_of_starts(rt: HostRuntime) {
+fn generations_of_starts() -> Result<(), Fail> {
     for (stored, now_secs, next) in [
         (Some(9), 1700000000, Ok(1700000000)),
         (Some(1700000005), 1700000000, Ok(1700000006)),
@@ -51,6 +54,7 @@ fn generations_of_starts(rt: HostRuntime) {
         (Some(5), 2147483648, Err(Fault::VersionsSpent)),
         (None, 18446744073709551615, Err(Fault::VersionsSpent)),
     ] {
-        assert_eq!(rt; generation_of(stored, now_secs), next);
+        expect_eq!(generation_of(stored, now_secs), next)?;
     }
+    Ok(())
 }

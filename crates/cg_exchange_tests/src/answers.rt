@@ -2,6 +2,7 @@
 
 use crate::samples::{ack_of, answer_of_b, digest, one_delta, syn_of};
 use cg_exchange::Ack;
+use cg_expect::expect_eq;
 use cg_samples::{B, endpoint};
 use cg_table::Digest;
 use cg_types::{Endpoint, Fault};
@@ -38,7 +39,7 @@ fn what_is_held_is_answered_by_how_far_it_came(rt: HostRuntime) -> Result<(), Fa
         (4, 9, None, 1),
     ] {
         let ack = answer_to_one(rt.alloc(), B, at, newest)?;
-        assert_eq!(rt; (asked(&ack), ack.deltas().len()), (wanted, sent));
+        expect_eq!((asked(&ack), ack.deltas().len()), (wanted, sent))?;
     }
     Ok(())
 }
@@ -51,8 +52,7 @@ fn all_of_b(alloc: Global) -> Result<Ack, Fail> {
 #[test]
 fn empty_syn(rt: HostRuntime) -> Result<(), Fail> {
     let ack = answer_to(rt.alloc(), Vec::new(rt.alloc()))?;
-    assert_eq!(rt; ack, all_of_b(rt.alloc())?);
-    Ok(())
+    expect_eq!(ack, all_of_b(rt.alloc())?)
 }
 
 #[test]
@@ -60,7 +60,7 @@ fn other_cluster(rt: HostRuntime) -> Result<(), Fail> {
     for (name, partitioner) in [("c2", 1), ("c1", 2)] {
         let other = syn_of(rt.alloc(), name, partitioner, Vec::new(rt.alloc()))?;
         let refusal = answer_of_b(rt.alloc(), &other)?.err();
-        assert_eq!(rt; refusal, Some(Fault::OtherCluster));
+        expect_eq!(refusal, Some(Fault::OtherCluster))?;
     }
     Ok(())
 }

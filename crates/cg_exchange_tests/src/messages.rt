@@ -2,6 +2,7 @@
 
 use crate::samples::{ack_of, ack2_of, delta, digest, request, syn_of};
 use cg_exchange::{Ack, Ack2, Kind, Message, OwnerDelta, Request, Syn};
+use cg_expect::{expect, expect_eq};
 use cg_samples::{A, B, endpoint, generation};
 use cg_table::Digest;
 use cg_types::{Cluster, MEMBER_LIMIT, NUMBER_LIMIT};
@@ -9,13 +10,12 @@ use std::alloc::Global;
 use std::test::Fail;
 
 #[test]
-fn a_request_has_its_parts(rt: HostRuntime) -> Result<(), Fail> {
+fn a_request_has_its_parts() -> Result<(), Fail> {
     let (owner, at) = (endpoint(A), generation(9));
     let request = request(A, 9, 2)?;
     let parts = (request.endpoint(), request.generation(), request.version());
-    assert_eq!(rt; parts, (owner, at, 2));
-    assert_eq!(rt; Request::new(owner, at, NUMBER_LIMIT), None);
-    Ok(())
+    expect_eq!(parts, (owner, at, 2))?;
+    expect_eq!(Request::new(owner, at, NUMBER_LIMIT), None)
 }
 
 // ---- which lists a message takes
@@ -53,9 +53,8 @@ fn syn_takes(alloc: Global, digests: Vec<Digest>) -> Result<bool, Fail> {
 
 #[test]
 fn digests_of_a_syn_are_few(rt: HostRuntime) -> Result<(), Fail> {
-    assert!(rt; syn_takes(rt.alloc(), digests_below(rt.alloc(), 256)?)?);
-    assert!(rt; !syn_takes(rt.alloc(), digests_below(rt.alloc(), 257)?)?);
-    Ok(())
+    expect!(syn_takes(rt.alloc(), digests_below(rt.alloc(), 256)?)?)?;
+    expect!(!syn_takes(rt.alloc(), digests_below(rt.alloc(), 257)?)?)
 }
 
 // A SYN of a cluster with so many digests.
@@ -68,8 +67,7 @@ fn syn_with(alloc: Global, name: &str, partitioner: u8, count: u16) -> Result<Sy
 fn a_syn_has_its_parts(rt: HostRuntime) -> Result<(), Fail> {
     let syn = syn_with(rt.alloc(), "c1", 1, 256)?;
     let parts = (syn.cluster().name(), syn.digests().len());
-    assert_eq!(rt; parts, ("c1", MEMBER_LIMIT));
-    Ok(())
+    expect_eq!(parts, ("c1", MEMBER_LIMIT))
 }
 
 // Whether an ACK takes so many requests and so many deltas.
@@ -81,10 +79,9 @@ fn ack_takes(alloc: Global, requests: u16, deltas: u16) -> Result<bool, Fail> {
 
 #[test]
 fn both_lists_of_an_ack_are_few(rt: HostRuntime) -> Result<(), Fail> {
-    assert!(rt; ack_takes(rt.alloc(), 256, 256)?);
-    assert!(rt; !ack_takes(rt.alloc(), 257, 0)?);
-    assert!(rt; !ack_takes(rt.alloc(), 0, 257)?);
-    Ok(())
+    expect!(ack_takes(rt.alloc(), 256, 256)?)?;
+    expect!(!ack_takes(rt.alloc(), 257, 0)?)?;
+    expect!(!ack_takes(rt.alloc(), 0, 257)?)
 }
 
 // Whether an ACK2 takes so many deltas.
@@ -94,10 +91,9 @@ fn ack2_takes(alloc: Global, deltas: u16) -> Result<bool, Fail> {
 
 #[test]
 fn deltas_of_an_ack2_are_few(rt: HostRuntime) -> Result<(), Fail> {
-    assert!(rt; ack2_takes(rt.alloc(), 0)?);
-    assert!(rt; ack2_takes(rt.alloc(), 256)?);
-    assert!(rt; !ack2_takes(rt.alloc(), 257)?);
-    Ok(())
+    expect!(ack2_takes(rt.alloc(), 0)?)?;
+    expect!(ack2_takes(rt.alloc(), 256)?)?;
+    expect!(!ack2_takes(rt.alloc(), 257)?)
 }
 
 // Two endpoints in a list, and whether it takes them in this order.
@@ -111,7 +107,7 @@ fn syn_takes_two(alloc: Global, first: u16, second: u16) -> Result<bool, Fail> {
 #[test]
 fn digests_of_a_syn_rise(rt: HostRuntime) -> Result<(), Fail> {
     for (first, second, rise) in ORDERS {
-        assert_eq!(rt; syn_takes_two(rt.alloc(), first, second)?, rise);
+        expect_eq!(syn_takes_two(rt.alloc(), first, second)?, rise)?;
     }
     Ok(())
 }
@@ -124,7 +120,7 @@ fn ack_takes_two_requests(alloc: Global, first: u16, second: u16) -> Result<bool
 #[test]
 fn requests_of_an_ack_rise(rt: HostRuntime) -> Result<(), Fail> {
     for (first, second, rise) in ORDERS {
-        assert_eq!(rt; ack_takes_two_requests(rt.alloc(), first, second)?, rise);
+        expect_eq!(ack_takes_two_requests(rt.alloc(), first, second)?, rise)?;
     }
     Ok(())
 }
@@ -144,7 +140,7 @@ fn ack_takes_two_deltas(alloc: Global, first: u16, second: u16) -> Result<bool, 
 #[test]
 fn deltas_of_an_ack_rise(rt: HostRuntime) -> Result<(), Fail> {
     for (first, second, rise) in ORDERS {
-        assert_eq!(rt; ack_takes_two_deltas(rt.alloc(), first, second)?, rise);
+        expect_eq!(ack_takes_two_deltas(rt.alloc(), first, second)?, rise)?;
     }
     Ok(())
 }
@@ -156,7 +152,7 @@ fn ack2_takes_two(alloc: Global, first: u16, second: u16) -> Result<bool, Fail> 
 #[test]
 fn deltas_of_an_ack2_rise(rt: HostRuntime) -> Result<(), Fail> {
     for (first, second, rise) in ORDERS {
-        assert_eq!(rt; ack2_takes_two(rt.alloc(), first, second)?, rise);
+        expect_eq!(ack2_takes_two(rt.alloc(), first, second)?, rise)?;
     }
     Ok(())
 }
@@ -169,16 +165,15 @@ fn equals_a_delta(alloc: Global, owner: u16, of: (u32, u32, u32)) -> Result<bool
 
 #[test]
 fn equal_deltas(rt: HostRuntime) -> Result<(), Fail> {
-    assert!(rt; equals_a_delta(rt.alloc(), A, (9, 2, 4))?);
-    assert!(rt; !equals_a_delta(rt.alloc(), B, (9, 2, 4))?);
-    Ok(())
+    expect!(equals_a_delta(rt.alloc(), A, (9, 2, 4))?)?;
+    expect!(!equals_a_delta(rt.alloc(), B, (9, 2, 4))?)
 }
 
 // The generation, the version that a delta stands above, and the heartbeat version.
 #[test]
 fn deltas_differ_by_each_part(rt: HostRuntime) -> Result<(), Fail> {
     for of in [(8, 2, 4), (9, 1, 4), (9, 2, 5)] {
-        assert!(rt; !equals_a_delta(rt.alloc(), A, of)?);
+        expect!(!equals_a_delta(rt.alloc(), A, of)?)?;
     }
     Ok(())
 }
@@ -186,8 +181,7 @@ fn deltas_differ_by_each_part(rt: HostRuntime) -> Result<(), Fail> {
 #[test]
 fn a_delta_equals_its_copy(rt: HostRuntime) -> Result<(), Fail> {
     let delta = delta(rt.alloc(), A, (9, 2, 4))?;
-    assert_eq!(rt; delta.copy(rt.alloc())?, delta);
-    Ok(())
+    expect_eq!(delta.copy(rt.alloc())?, delta)
 }
 
 fn a_syn(alloc: Global) -> Result<Syn, Fail> {
@@ -201,11 +195,10 @@ fn equals_a_syn(alloc: Global, name: &str, partitioner: u8, count: u16) -> Resul
 
 #[test]
 fn equal_syns(rt: HostRuntime) -> Result<(), Fail> {
-    assert!(rt; equals_a_syn(rt.alloc(), "c1", 1, 2)?);
-    assert!(rt; !equals_a_syn(rt.alloc(), "c2", 1, 2)?);
-    assert!(rt; !equals_a_syn(rt.alloc(), "c1", 2, 2)?);
-    assert!(rt; !equals_a_syn(rt.alloc(), "c1", 1, 1)?);
-    Ok(())
+    expect!(equals_a_syn(rt.alloc(), "c1", 1, 2)?)?;
+    expect!(!equals_a_syn(rt.alloc(), "c2", 1, 2)?)?;
+    expect!(!equals_a_syn(rt.alloc(), "c1", 2, 2)?)?;
+    expect!(!equals_a_syn(rt.alloc(), "c1", 1, 1)?)
 }
 
 fn syn_equals_its_copy(alloc: Global, syn: &Syn) -> Result<bool, Fail> {
@@ -215,8 +208,7 @@ fn syn_equals_its_copy(alloc: Global, syn: &Syn) -> Result<bool, Fail> {
 #[test]
 fn a_syn_equals_its_copy(rt: HostRuntime) -> Result<(), Fail> {
     let equals = syn_equals_its_copy(rt.alloc(), &a_syn(rt.alloc())?)?;
-    assert!(rt; equals);
-    Ok(())
+    expect!(equals)
 }
 
 // An ACK of so many requests and so many deltas.
@@ -233,17 +225,15 @@ fn equals_an_ack(alloc: Global, requests: u16, deltas: u16) -> Result<bool, Fail
 
 #[test]
 fn equal_acks(rt: HostRuntime) -> Result<(), Fail> {
-    assert!(rt; equals_an_ack(rt.alloc(), 2, 3)?);
-    assert!(rt; !equals_an_ack(rt.alloc(), 1, 3)?);
-    assert!(rt; !equals_an_ack(rt.alloc(), 2, 2)?);
-    Ok(())
+    expect!(equals_an_ack(rt.alloc(), 2, 3)?)?;
+    expect!(!equals_an_ack(rt.alloc(), 1, 3)?)?;
+    expect!(!equals_an_ack(rt.alloc(), 2, 2)?)
 }
 
 #[test]
 fn an_ack_equals_its_copy(rt: HostRuntime) -> Result<(), Fail> {
     let ack = an_ack(rt.alloc(), 2, 3)?;
-    assert_eq!(rt; ack.copy(rt.alloc())?, ack);
-    Ok(())
+    expect_eq!(ack.copy(rt.alloc())?, ack)
 }
 
 // An ACK2 of so many deltas.
@@ -257,16 +247,14 @@ fn equals_an_ack2(alloc: Global, deltas: u16) -> Result<bool, Fail> {
 
 #[test]
 fn equal_ack2s(rt: HostRuntime) -> Result<(), Fail> {
-    assert!(rt; equals_an_ack2(rt.alloc(), 3)?);
-    assert!(rt; !equals_an_ack2(rt.alloc(), 2)?);
-    Ok(())
+    expect!(equals_an_ack2(rt.alloc(), 3)?)?;
+    expect!(!equals_an_ack2(rt.alloc(), 2)?)
 }
 
 #[test]
 fn an_ack2_equals_its_copy(rt: HostRuntime) -> Result<(), Fail> {
     let ack2 = an_ack2(rt.alloc(), 3)?;
-    assert_eq!(rt; ack2.copy(rt.alloc())?, ack2);
-    Ok(())
+    expect_eq!(ack2.copy(rt.alloc())?, ack2)
 }
 
 fn equals_its_copy(alloc: Global, message: Message) -> Result<bool, Fail> {
@@ -276,19 +264,17 @@ fn equals_its_copy(alloc: Global, message: Message) -> Result<bool, Fail> {
 #[test]
 fn messages_equal_their_copies(rt: HostRuntime) -> Result<(), Fail> {
     let syn = Message::Syn(a_syn(rt.alloc())?);
-    assert!(rt; equals_its_copy(rt.alloc(), syn)?);
+    expect!(equals_its_copy(rt.alloc(), syn)?)?;
     let ack = Message::Ack(an_ack(rt.alloc(), 2, 3)?);
-    assert!(rt; equals_its_copy(rt.alloc(), ack)?);
+    expect!(equals_its_copy(rt.alloc(), ack)?)?;
     let ack2 = Message::Ack2(an_ack2(rt.alloc(), 3)?);
-    assert!(rt; equals_its_copy(rt.alloc(), ack2)?);
-    Ok(())
+    expect!(equals_its_copy(rt.alloc(), ack2)?)
 }
 
 #[test]
 fn messages_differ_by_what_they_carry(rt: HostRuntime) -> Result<(), Fail> {
     let one = Message::Ack2(an_ack2(rt.alloc(), 3)?);
-    assert!(rt; one != Message::Ack2(an_ack2(rt.alloc(), 2)?));
-    Ok(())
+    expect!(one != Message::Ack2(an_ack2(rt.alloc(), 2)?))
 }
 
 fn kind_of(message: Message) -> Kind {
@@ -300,16 +286,14 @@ fn kinds_of_messages(rt: HostRuntime) -> Result<(), Fail> {
     let syn = kind_of(Message::Syn(a_syn(rt.alloc())?));
     let ack = kind_of(Message::Ack(an_ack(rt.alloc(), 2, 3)?));
     let ack2 = kind_of(Message::Ack2(an_ack2(rt.alloc(), 3)?));
-    assert_eq!(rt; (syn, ack, ack2), (Kind::Syn, Kind::Ack, Kind::Ack2));
+    expect_eq!((syn, ack, ack2), (Kind::Syn, Kind::Ack, Kind::Ack2))?;
     let names = (syn.name(), ack.name(), ack2.name());
-    assert_eq!(rt; names, ("syn", "ack", "ack2"));
-    Ok(())
+    expect_eq!(names, ("syn", "ack", "ack2"))
 }
 
 // An ACK with no requests and an ACK2, both of the same deltas.
 #[test]
 fn messages_of_two_kinds_differ(rt: HostRuntime) -> Result<(), Fail> {
     let ack = Message::Ack(an_ack(rt.alloc(), 0, 3)?);
-    assert!(rt; ack != Message::Ack2(an_ack2(rt.alloc(), 3)?));
-    Ok(())
+    expect!(ack != Message::Ack2(an_ack2(rt.alloc(), 3)?))
 }

@@ -4,6 +4,7 @@ use crate::samples::{
     ack_of, ack2_of, answer_of_b, delta, digest, one_delta, one_request, syn_of, table_alone,
 };
 use cg_exchange::{Ack, Ack2, Outcome, OwnerDelta, Syn, syn, take_ack, take_ack2};
+use cg_expect::{expect, expect_eq};
 use cg_samples::{A, B, C, endpoint};
 use cg_table::{Table, Took};
 use cg_types::{Cluster, Endpoint, Fault};
@@ -86,15 +87,13 @@ fn opening(alloc: Global, table: &Table) -> Result<Syn, Fail> {
 #[test]
 fn first_exchange_opens(rt: HostRuntime) -> Result<(), Fail> {
     let opening = opening(rt.alloc(), &table_alone(rt.alloc(), A, 9)?)?;
-    assert_eq!(rt; opening, first_syn(rt.alloc())?);
-    Ok(())
+    expect_eq!(opening, first_syn(rt.alloc())?)
 }
 
 #[test]
 fn first_exchange_is_answered(rt: HostRuntime) -> Result<(), Fail> {
     let ack = answer_of_b(rt.alloc(), &first_syn(rt.alloc())?)??;
-    assert_eq!(rt; ack, first_ack(rt.alloc())?);
-    Ok(())
+    expect_eq!(ack, first_ack(rt.alloc())?)
 }
 
 // What a table sends for an ACK.
@@ -112,8 +111,7 @@ fn sent_by_a(alloc: Global) -> Result<Ack2, Fail> {
 #[test]
 fn first_exchange_sends_what_is_asked_for(rt: HostRuntime) -> Result<(), Fail> {
     let ack2 = sent_by_a(rt.alloc())?;
-    assert_eq!(rt; ack2, first_ack2(rt.alloc())?);
-    Ok(())
+    expect_eq!(ack2, first_ack2(rt.alloc())?)
 }
 
 // The only outcome, and what is then held of an endpoint.
@@ -139,8 +137,7 @@ fn first_exchange_is_taken(rt: HostRuntime) -> Result<(), Fail> {
     let (endpoint, took) = (endpoint(B), Took::Taken);
     let a = table_alone(rt.alloc(), A, 9)?;
     let shown = taken_by_ack(rt.alloc(), &a, &first_ack(rt.alloc())?, endpoint)?;
-    assert_eq!(rt; shown, (Some(Outcome { endpoint, took }), Some((5, 1))));
-    Ok(())
+    expect_eq!(shown, (Some(Outcome { endpoint, took }), Some((5, 1))))
 }
 
 #[test]
@@ -148,8 +145,7 @@ fn first_exchange_ends(rt: HostRuntime) -> Result<(), Fail> {
     let (endpoint, took) = (endpoint(A), Took::Taken);
     let b = table_alone(rt.alloc(), B, 5)?;
     let shown = taken_by_ack2(rt.alloc(), &b, &first_ack2(rt.alloc())?, endpoint)?;
-    assert_eq!(rt; shown, (Some(Outcome { endpoint, took }), Some((9, 1))));
-    Ok(())
+    expect_eq!(shown, (Some(Outcome { endpoint, took }), Some((9, 1))))
 }
 
 // A's table after B's ACK, and the ACK2 that it sends.
@@ -168,8 +164,7 @@ fn equals_b_after(alloc: Global, table: &Table, ack2: &Ack2) -> Result<bool, Fai
 #[test]
 fn first_exchange_equals_the_tables(rt: HostRuntime) -> Result<(), Fail> {
     let (a, ack2) = a_answered(rt.alloc())?;
-    assert!(rt; equals_b_after(rt.alloc(), &a, &ack2)?);
-    Ok(())
+    expect!(equals_b_after(rt.alloc(), &a, &ack2)?)
 }
 
 // An ACK of one request.
@@ -192,23 +187,20 @@ fn granted(alloc: Global, of: (u32, u32, u32)) -> Result<Granted, Fail> {
 
 #[test]
 fn request_by_generation(rt: HostRuntime) -> Result<(), Fail> {
-    assert_eq!(rt; granted(rt.alloc(), (10, 0, 1))?, (1, Some((10, 0, 1))));
-    assert_eq!(rt; granted(rt.alloc(), (8, 0, 7))?, (0, None));
-    Ok(())
+    expect_eq!(granted(rt.alloc(), (10, 0, 1))?, (1, Some((10, 0, 1))))?;
+    expect_eq!(granted(rt.alloc(), (8, 0, 7))?, (0, None))
 }
 
 #[test]
 fn request_by_version(rt: HostRuntime) -> Result<(), Fail> {
-    assert_eq!(rt; granted(rt.alloc(), (9, 0, 7))?, (1, Some((9, 2, 7))));
-    assert_eq!(rt; granted(rt.alloc(), (9, 0, 2))?, (0, None));
-    Ok(())
+    expect_eq!(granted(rt.alloc(), (9, 0, 7))?, (1, Some((9, 2, 7))))?;
+    expect_eq!(granted(rt.alloc(), (9, 0, 2))?, (0, None))
 }
 
 #[test]
 fn request_of_what_is_not_held(rt: HostRuntime) -> Result<(), Fail> {
     let granted = granted_by(rt.alloc(), &table_alone(rt.alloc(), C, 5)?)?;
-    assert_eq!(rt; granted, (0, None));
-    Ok(())
+    expect_eq!(granted, (0, None))
 }
 
 // Adds a whole delta about an endpoint.
@@ -253,8 +245,7 @@ fn table_full(rt: HostRuntime) -> Result<(), Fail> {
     let a = endpoint(A);
     let table = crowded(rt.alloc())?;
     let shown = (refusal_of_ack2(rt.alloc(), &table)?, held(&table, a));
-    assert_eq!(rt; shown, (Some(Fault::TableFull), Some((5, 1))));
-    Ok(())
+    expect_eq!(shown, (Some(Fault::TableFull), Some((5, 1))))
 }
 
 // What refuses an ACK with such a delta.
@@ -266,8 +257,7 @@ fn refusal_of_ack(alloc: Global, table: &Table) -> Result<Option<Fault>, Fail> {
 #[test]
 fn table_full_at_an_ack(rt: HostRuntime) -> Result<(), Fail> {
     let refusal = refusal_of_ack(rt.alloc(), &crowded(rt.alloc())?)?;
-    assert_eq!(rt; refusal, Some(Fault::TableFull));
-    Ok(())
+    expect_eq!(refusal, Some(Fault::TableFull))
 }
 
 fn both(outcomes: &[Outcome]) -> Option<(Took, Took)> {
@@ -283,8 +273,7 @@ fn a_full_table_takes_what_needs_no_room(rt: HostRuntime) -> Result<(), Fail> {
     let ack2 = ack2_of(crowding(rt.alloc(), (5, 1, 3))?)?;
     let (after, outcomes) = take_ack2(rt.alloc(), &crowded(rt.alloc())?, &ack2)?;
     let shown = (both(&outcomes), held(&after, a), held(&after, stranger));
-    assert_eq!(rt; shown, (Some((Took::Taken, Took::Gap)), Some((5, 3)), None));
-    Ok(())
+    expect_eq!(shown, (Some((Took::Taken, Took::Gap)), Some((5, 3)), None))
 }
 
 #[test]
@@ -293,8 +282,7 @@ fn a_delta_about_the_receiver(rt: HostRuntime) -> Result<(), Fail> {
     let table = table_alone(rt.alloc(), B, 5)?;
     let (after, outcomes) = take_ack2(rt.alloc(), &table, &one(rt.alloc(), B, (9, 0, 7))?)?;
     let shown = (became(&outcomes), after.same_entries(&table));
-    assert_eq!(rt; shown, (Some(Outcome { endpoint, took }), true));
-    Ok(())
+    expect_eq!(shown, (Some(Outcome { endpoint, took }), true))
 }
 
 // The only delta that a table sends for an ACK.
@@ -322,7 +310,7 @@ fn a_request_about_the_receiver(rt: HostRuntime) -> Result<(), Fail> {
         (5, 1, None),
         (6, 0, None),
     ] {
-        assert_eq!(rt; sent_of_itself(rt.alloc(), &table, at, version)?, sent);
+        expect_eq!(sent_of_itself(rt.alloc(), &table, at, version)?, sent)?;
     }
     Ok(())
 }
@@ -336,9 +324,8 @@ fn took(alloc: Global, table: &Table, of: (u32, u32, u32)) -> Result<Option<Took
 #[test]
 fn parts_across_generations(rt: HostRuntime) -> Result<(), Fail> {
     let table = with_a(rt.alloc(), B, (9, 0, 1))?;
-    assert_eq!(rt; took(rt.alloc(), &table, (10, 1, 7))?, Some(Took::Gap));
-    assert_eq!(rt; took(rt.alloc(), &table, (8, 1, 7))?, Some(Took::Old));
-    Ok(())
+    expect_eq!(took(rt.alloc(), &table, (10, 1, 7))?, Some(Took::Gap))?;
+    expect_eq!(took(rt.alloc(), &table, (8, 1, 7))?, Some(Took::Old))
 }
 
 // A request of A, and a delta about A.
@@ -351,6 +338,5 @@ fn asked_and_sent(alloc: Global) -> Result<Ack, Fail> {
 fn deltas_are_taken_first(rt: HostRuntime) -> Result<(), Fail> {
     let table = table_alone(rt.alloc(), B, 5)?;
     let sent = only_sent(rt.alloc(), &table, &asked_and_sent(rt.alloc())?)?;
-    assert_eq!(rt; sent, Some((9, 0, 4)));
-    Ok(())
+    expect_eq!(sent, Some((9, 0, 4)))
 }

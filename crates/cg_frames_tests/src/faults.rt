@@ -1,6 +1,7 @@
 //! The first fault of a frame, field by field, from both sides of each limit.
 
 use crate::messages::{bytes_of, fault_of};
+use cg_expect::{expect, expect_eq};
 use cg_types::Cause;
 use std::alloc::Global;
 use std::test::Fail;
@@ -145,22 +146,19 @@ fn is_short_in_each_field(
 #[test]
 fn fields_of_a_syn_that_do_not_fit(rt: HostRuntime) -> Result<(), Fail> {
     let starts = [4, 5, 6, 7, 9, 10, 12, 18, 22];
-    assert!(rt; is_short_in_each_field(rt.alloc(), SYN, 26, &starts)?);
-    Ok(())
+    expect!(is_short_in_each_field(rt.alloc(), SYN, 26, &starts)?)
 }
 
 #[test]
 fn fields_of_an_ack_that_do_not_fit(rt: HostRuntime) -> Result<(), Fail> {
     let starts = [4, 5, 6, 8, 14, 18, 22, 24, 30, 34, 38, 42, 43, 44, 48, 50];
-    assert!(rt; is_short_in_each_field(rt.alloc(), ACK_WITH_STATE, 51, &starts)?);
-    Ok(())
+    expect!(is_short_in_each_field(rt.alloc(), ACK_WITH_STATE, 51, &starts)?)
 }
 
 #[test]
 fn fields_of_an_ack2_that_do_not_fit(rt: HostRuntime) -> Result<(), Fail> {
     let starts = [4, 5, 6, 8, 14, 18, 22, 26, 27, 28, 32, 34];
-    assert!(rt; is_short_in_each_field(rt.alloc(), ACK2, 35, &starts)?);
-    Ok(())
+    expect!(is_short_in_each_field(rt.alloc(), ACK2, 35, &starts)?)
 }
 
 #[test]
@@ -185,8 +183,7 @@ fn faults_of_a_syn(rt: HostRuntime) -> Result<(), Fail> {
         (10, "0100", Some((26, Cause::Short))),
         (10, "0000", Some((12, Cause::Rest))),
     ];
-    assert_eq!(rt; wrong_row(rt.alloc(), SYN, &rows)?, None);
-    Ok(())
+    expect_eq!(wrong_row(rt.alloc(), SYN, &rows)?, None)
 }
 
 #[test]
@@ -203,8 +200,7 @@ fn faults_of_a_digest(rt: HostRuntime) -> Result<(), Fail> {
         (22, "7fffffff", None),
         (22, "80000000", Some((22, Cause::Version))),
     ];
-    assert_eq!(rt; wrong_row(rt.alloc(), SYN, &rows)?, None);
-    Ok(())
+    expect_eq!(wrong_row(rt.alloc(), SYN, &rows)?, None)
 }
 
 #[test]
@@ -222,8 +218,7 @@ fn faults_of_a_request(rt: HostRuntime) -> Result<(), Fail> {
         (18, "7fffffff", None),
         (18, "80000000", Some((18, Cause::Version))),
     ];
-    assert_eq!(rt; wrong_row(rt.alloc(), ACK, &rows)?, None);
-    Ok(())
+    expect_eq!(wrong_row(rt.alloc(), ACK, &rows)?, None)
 }
 
 #[test]
@@ -246,8 +241,7 @@ fn faults_of_a_delta_in_an_ack(rt: HostRuntime) -> Result<(), Fail> {
         (38, "7fffffff", None),
         (38, "80000000", Some((38, Cause::Heartbeat))),
     ];
-    assert_eq!(rt; wrong_row(rt.alloc(), ACK_WITH_STATE, &rows)?, None);
-    Ok(())
+    expect_eq!(wrong_row(rt.alloc(), ACK_WITH_STATE, &rows)?, None)
 }
 
 #[test]
@@ -271,8 +265,7 @@ fn faults_of_a_state_in_an_ack(rt: HostRuntime) -> Result<(), Fail> {
         (50, "7e", None),
         (50, "7f", Some((50, Cause::Text))),
     ];
-    assert_eq!(rt; wrong_row(rt.alloc(), ACK_WITH_STATE, &rows)?, None);
-    Ok(())
+    expect_eq!(wrong_row(rt.alloc(), ACK_WITH_STATE, &rows)?, None)
 }
 
 #[test]
@@ -296,8 +289,7 @@ fn faults_of_an_ack2(rt: HostRuntime) -> Result<(), Fail> {
         (22, "7fffffff", None),
         (22, "80000000", Some((22, Cause::Heartbeat))),
     ];
-    assert_eq!(rt; wrong_row(rt.alloc(), ACK2, &rows)?, None);
-    Ok(())
+    expect_eq!(wrong_row(rt.alloc(), ACK2, &rows)?, None)
 }
 
 #[test]
@@ -324,8 +316,7 @@ fn faults_of_a_state(rt: HostRuntime) -> Result<(), Fail> {
         (34, "7f", Some((34, Cause::Text))),
         (34, "80", Some((34, Cause::Text))),
     ];
-    assert_eq!(rt; wrong_row(rt.alloc(), ACK2, &rows)?, None);
-    Ok(())
+    expect_eq!(wrong_row(rt.alloc(), ACK2, &rows)?, None)
 }
 
 // A heartbeat that is not above `above` is no fault beside a state; alone, it leaves the delta empty.
@@ -342,10 +333,9 @@ fn faults_of_a_heartbeat(rt: HostRuntime) -> Result<(), Fail> {
         (34, "0000000100000002", None),
         (34, "0000000200000001", Some((24, Cause::Empty))),
     ];
-    assert_eq!(rt; wrong_row(rt.alloc(), ACK2, &beside_a_state)?, None);
-    assert_eq!(rt; wrong_row(rt.alloc(), ACK2_WITHOUT_STATE, &alone)?, None);
-    assert_eq!(rt; wrong_row(rt.alloc(), ACK, &alone_in_an_ack)?, None);
-    Ok(())
+    expect_eq!(wrong_row(rt.alloc(), ACK2, &beside_a_state)?, None)?;
+    expect_eq!(wrong_row(rt.alloc(), ACK2_WITHOUT_STATE, &alone)?, None)?;
+    expect_eq!(wrong_row(rt.alloc(), ACK, &alone_in_an_ack)?, None)
 }
 
 #[test]
@@ -364,7 +354,7 @@ fn endpoints_rise(rt: HostRuntime) -> Result<(), Fail> {
             ("0a0000010000", Some((place, Cause::Endpoint))),
         ] {
             let found = fault_with(rt.alloc(), frame, place, endpoint)?;
-            assert_eq!(rt; found, fault, "{endpoint} at {place}");
+            expect_eq!(found, fault, "{endpoint} at {place}")?;
         }
     }
     Ok(())
@@ -381,7 +371,7 @@ fn keys_rise(rt: HostRuntime) -> Result<(), Fail> {
             (second, "11", Some((second, Cause::Key))),
             (first, "03", Some((second, Cause::Order))),
         ];
-        assert_eq!(rt; wrong_row(rt.alloc(), frame, &rows)?, None);
+        expect_eq!(wrong_row(rt.alloc(), frame, &rows)?, None)?;
     }
     Ok(())
 }
@@ -399,7 +389,7 @@ fn bytes_behind_the_last_field(rt: HostRuntime) -> Result<(), Fail> {
     ] {
         let bytes = bytes_of(rt.alloc(), frame)?;
         let found = fault_of(rt.alloc(), bytes.as_slice());
-        assert_eq!(rt; found, Some((place, Cause::Rest)), "{frame}");
+        expect_eq!(found, Some((place, Cause::Rest)), "{frame}")?;
     }
     Ok(())
 }
@@ -419,7 +409,7 @@ fn faults_of_short_and_of_long_frames(rt: HostRuntime) -> Result<(), Fail> {
     for size in [8_192, 8_193] {
         let frame = padded(rt.alloc(), size)?;
         let found = fault_of(rt.alloc(), frame.as_slice());
-        assert_eq!(rt; found, Some((8, Cause::Rest)), "{size}");
+        expect_eq!(found, Some((8, Cause::Rest)), "{size}")?;
     }
     Ok(())
 }

@@ -2,6 +2,7 @@
 
 use crate::messages::{bytes_of, is_written_as, read_and_written};
 use cg_entry::State;
+use cg_expect::{expect, expect_eq};
 use cg_frames::{Ack, Feed, Message, OwnerDelta, Request, encode};
 use cg_samples::{delta, endpoint, generation, long_text, state};
 use cg_types::{Cause, Fault, TEXT_LIMIT};
@@ -73,10 +74,10 @@ fn fed_in(alloc: Global, pieces: &[&[u8]]) -> Result<Given, Fail> {
 fn first_exchange(rt: HostRuntime) -> Result<(), Fail> {
     for text in FIRST_EXCHANGE {
         let frame = bytes_of(rt.alloc(), text)?;
-        assert_eq!(rt;
+        expect_eq!(
             read_and_written(rt.alloc(), frame.as_slice())?,
             (frame.len(), true)
-        );
+        )?;
     }
     Ok(())
 }
@@ -95,7 +96,7 @@ fn cut_at_every_byte(rt: HostRuntime) -> Result<(), Fail> {
         let frame = bytes_of(rt.alloc(), text)?;
         for cut in 1..frame.len() {
             let (front, back) = frame.as_slice().split_at(cut);
-            assert!(rt; gives_at_the_end(rt.alloc(), front, back, 1)?);
+            expect!(gives_at_the_end(rt.alloc(), front, back, 1)?)?;
         }
     }
     Ok(())
@@ -107,7 +108,7 @@ fn other_frames_cut_at_every_byte(rt: HostRuntime) -> Result<(), Fail> {
         let frame = bytes_of(rt.alloc(), text)?;
         for cut in 1..frame.len() {
             let (front, back) = frame.as_slice().split_at(cut);
-            assert!(rt; gives_at_the_end(rt.alloc(), front, back, count)?);
+            expect!(gives_at_the_end(rt.alloc(), front, back, count)?)?;
         }
     }
     Ok(())
@@ -132,15 +133,14 @@ fn cut_syn(rt: HostRuntime) -> Result<(), Fail> {
     let frame = bytes_of(rt.alloc(), FIRST_EXCHANGE[0])?;
     let (front, _) = frame.as_slice().split_at(frame.len().saturating_sub(1));
     let (count, fault, _, end) = fed_in(rt.alloc(), &[front])?;
-    assert_eq!(rt; (count, fault, end), (0, None, Err(Fault::Truncated)));
-    assert!(rt; comes_with_its_last_byte(rt.alloc(), frame.as_slice())?);
-    Ok(())
+    expect_eq!((count, fault, end), (0, None, Err(Fault::Truncated)))?;
+    expect!(comes_with_its_last_byte(rt.alloc(), frame.as_slice())?)
 }
 
 #[test]
 fn wants_what_is_lacking(rt: HostRuntime) -> Result<(), Fail> {
     let mut feed = Feed::new(rt.alloc());
-    assert_eq!(rt; feed.wants(), 4);
+    expect_eq!(feed.wants(), 4)?;
     for (piece, wants) in [
         ("0000", 2),
         ("0016", 22),
@@ -149,10 +149,9 @@ fn wants_what_is_lacking(rt: HostRuntime) -> Result<(), Fail> {
         ("01", 4),
     ] {
         let (_, _, then, _) = pushed_text(rt.alloc(), &mut feed, piece)?;
-        assert_eq!(rt; then, wants, "after {piece}");
+        expect_eq!(then, wants, "after {piece}")?;
     }
-    assert_eq!(rt; feed.end(), Ok(()));
-    Ok(())
+    expect_eq!(feed.end(), Ok(()))
 }
 
 #[test]
@@ -160,10 +159,10 @@ fn a_fault_stands(rt: HostRuntime) -> Result<(), Fail> {
     let mut feed = Feed::new(rt.alloc());
     let bytes = "00000008 0101 026331 01 0000 004c4b41";
     let (count, fault, _, _) = pushed_text(rt.alloc(), &mut feed, bytes)?;
-    assert_eq!(rt; (count, fault), (1, Some(OVER)));
+    expect_eq!((count, fault), (1, Some(OVER)))?;
     for piece in ["", "00", "00000008 0101 026331 01 0000"] {
         let given = pushed_text(rt.alloc(), &mut feed, piece)?;
-        assert_eq!(rt; given, (0, Some(OVER), 0, Err(OVER)));
+        expect_eq!(given, (0, Some(OVER), 0, Err(OVER)))?;
     }
     Ok(())
 }
@@ -181,10 +180,10 @@ fn faults_stand_for_good(rt: HostRuntime) -> Result<(), Fail> {
         ("00000000", 4, Cause::Short),
         ("00000009 0101 026331 01 0000 00", 12, Cause::Rest),
     ] {
-        assert!(rt;
+        expect!(
             stands_for_good(rt.alloc(), text, Fault::BadFrame { place, cause })?,
             "{text}"
-        );
+        )?;
     }
     Ok(())
 }
@@ -203,10 +202,10 @@ fn order_and_version_faults(rt: HostRuntime) -> Result<(), Fail> {
             Cause::Version,
         ),
     ] {
-        assert!(rt;
+        expect!(
             stands_for_good(rt.alloc(), text, Fault::BadFrame { place, cause })?,
             "{text}"
-        );
+        )?;
     }
     Ok(())
 }
@@ -225,9 +224,8 @@ fn all_and_a_byte(alloc: Global) -> Result<Vec<u8>, Fail> {
 fn three_at_once(rt: HostRuntime) -> Result<(), Fail> {
     let bytes = all_and_a_byte(rt.alloc())?;
     let (count, fault, wants, _) = fed_in(rt.alloc(), &[bytes.as_slice()])?;
-    assert_eq!(rt; (count, fault), (3, None));
-    assert_eq!(rt; wants, 3);
-    Ok(())
+    expect_eq!((count, fault), (3, None))?;
+    expect_eq!(wants, 3)
 }
 
 // As many states as a delta may have, each with the longest text.
@@ -278,8 +276,7 @@ fn given_in_pieces(alloc: Global, frame: &[u8]) -> Result<(Result<(), Fault>, us
 #[test]
 fn longest_message_in_pieces(rt: HostRuntime) -> Result<(), Fail> {
     let frame = encode(rt.alloc(), &longest(rt.alloc())?)?;
-    assert_eq!(rt; frame.len(), 4 + 4_231_430);
+    expect_eq!(frame.len(), 4 + 4_231_430)?;
     let given = given_in_pieces(rt.alloc(), frame.as_slice())?;
-    assert_eq!(rt; given, (Ok(()), 1, true));
-    Ok(())
+    expect_eq!(given, (Ok(()), 1, true))
 }

@@ -1,6 +1,7 @@
 //! Messages as frames, both ways.
 
 use cg_entry::Delta;
+use cg_expect::{expect, expect_eq};
 use cg_frames::{
     Ack, Ack2, Lent, Message, OwnerDelta, Request, Syn, decode, encode, encode_lent,
     every_message_fits,
@@ -67,7 +68,7 @@ fn reads_and_writes_a_syn(rt: HostRuntime) -> Result<(), Fail> {
         b"\0\0\0\x07\x01\x01\x01c\xff\0\0",
         b"\0\0\0\x36\x01\x01\x30012345678901234567890123456789012345678901234567\x01\0\0",
     ] {
-        assert_eq!(rt; read_and_written(rt.alloc(), row)?, (row.len(), true));
+        expect_eq!(read_and_written(rt.alloc(), row)?, (row.len(), true))?;
     }
     Ok(())
 }
@@ -75,15 +76,14 @@ fn reads_and_writes_a_syn(rt: HostRuntime) -> Result<(), Fail> {
 #[test]
 fn wants_more(rt: HostRuntime) -> Result<(), Fail> {
     let longer = b"\0\0\0\x08\x01\x01\x02c1\x01\0\0\0\0\0\x08";
-    assert_eq!(rt; size_of(rt.alloc(), &ROW[..25])?, None);
-    assert_eq!(rt; size_of(rt.alloc(), b"\0\0\0")?, None);
-    assert_eq!(rt; size_of(rt.alloc(), b"\0\x4c\x4b\x40")?, None);
-    assert_eq!(rt; size_of(rt.alloc(), longer)?, Some(12));
-    Ok(())
+    expect_eq!(size_of(rt.alloc(), &ROW[..25])?, None)?;
+    expect_eq!(size_of(rt.alloc(), b"\0\0\0")?, None)?;
+    expect_eq!(size_of(rt.alloc(), b"\0\x4c\x4b\x40")?, None)?;
+    expect_eq!(size_of(rt.alloc(), longer)?, Some(12))
 }
 
 #[test]
-fn first_faults(rt: HostRuntime) {
+fn first_faults(rt: HostRuntime) -> Result<(), Fail> {
     for (bytes, place, cause) in [
         (b"\0\x4c\x4b\x41".as_slice(), 0, Cause::Length),
         (b"\xff\xff\xff\xff", 0, Cause::Length),
@@ -100,8 +100,9 @@ fn first_faults(rt: HostRuntime) {
         (b"\0\0\0\x08\x01\x01\x02c1\x01\x01\0", 12, Cause::Short),
         (b"\0\0\0\x08\x01\x01\x02c1\x01\0\x01", 12, Cause::Short),
     ] {
-        assert_eq!(rt; fault_of(rt.alloc(), bytes), Some((place, cause)));
+        expect_eq!(fault_of(rt.alloc(), bytes), Some((place, cause)))?;
     }
+    Ok(())
 }
 
 #[test]
@@ -116,9 +117,8 @@ fn reads_as_many_as_it_writes(rt: HostRuntime) -> Result<(), Fail> {
     }
     let syn = Syn::new(cluster(rt.alloc())?, digests).ok_or("a SYN")?;
     let frame = encode(rt.alloc(), &Message::Syn(syn))?;
-    assert_eq!(rt; frame.len(), 12 + 256 * 14);
-    assert_eq!(rt; size_of(rt.alloc(), &frame)?, Some(12 + 256 * 14));
-    Ok(())
+    expect_eq!(frame.len(), 12 + 256 * 14)?;
+    expect_eq!(size_of(rt.alloc(), &frame)?, Some(12 + 256 * 14))
 }
 
 // An ACK2 of no deltas.
@@ -130,10 +130,9 @@ fn empty_ack2(alloc: Global) -> Result<Message, Fail> {
 #[test]
 fn reads_and_writes_an_empty_ack2(rt: HostRuntime) -> Result<(), Fail> {
     let empty = b"\0\0\0\x04\x01\x03\0\0".as_slice();
-    assert_eq!(rt; read_and_written(rt.alloc(), empty)?, (8, true));
+    expect_eq!(read_and_written(rt.alloc(), empty)?, (8, true))?;
     let ack2 = empty_ack2(rt.alloc())?;
-    assert!(rt; is_written_as(rt.alloc(), &ack2, empty)?);
-    Ok(())
+    expect!(is_written_as(rt.alloc(), &ack2, empty)?)
 }
 
 #[test]
@@ -161,8 +160,7 @@ fn ack_of_a_heartbeat(alloc: Global) -> Result<Ack, Fail> {
 fn writes_an_ack(rt: HostRuntime) -> Result<(), Fail> {
     let ack = Message::Ack(ack_of_a_heartbeat(rt.alloc())?);
     let bytes = b"\0\0\0\x19\x01\x02\0\0\0\x01\x0a\0\0\x02\x1b\x58\0\0\0\x05\0\0\0\0\0\0\0\x01\0";
-    assert!(rt; is_written_as(rt.alloc(), &ack, bytes.as_slice())?);
-    Ok(())
+    expect!(is_written_as(rt.alloc(), &ack, bytes.as_slice())?)
 }
 
 // B's delta of one state.
@@ -184,6 +182,5 @@ fn writes_a_request_and_a_state(rt: HostRuntime) -> Result<(), Fail> {
     let frame = encode_lent(rt.alloc(), Lent::Ack(&ack))?;
     let bytes =
         b"\0\0\0\x34\x01\x02\0\x01\x0a\0\0\x01\x1b\x58\0\0\0\x09\0\0\0\0\0\x01\x0a\0\0\x02\x1b\x58\0\0\0\x05\0\0\0\0\0\0\0\x01\x01\x01\0\0\0\x02\0\x06NORMAL";
-    assert_eq!(rt; frame.as_slice(), bytes.as_slice());
-    Ok(())
+    expect_eq!(frame.as_slice(), bytes.as_slice())
 }

@@ -2,6 +2,7 @@
 //! several pieces.
 
 use cg_answering::answer;
+use cg_expect::{expect, expect_eq};
 use cg_links::{Counted, CountingLink, FailingLink, SlowLink};
 use std::alloc::Global;
 use std::test::Fail;
@@ -35,12 +36,12 @@ fn answers(alloc: Global, read: u64, write: u64) -> bool {
 }
 
 #[test]
-fn each_read_fails_in_turn(rt: HostRuntime) {
+fn each_read_fails_in_turn(rt: HostRuntime) -> Result<(), Fail> {
     // the reads of 44 bytes, and the one that meets the end
     for turn in 1..46 {
-        assert!(rt; says_so(rt.alloc(), turn), "read {turn}");
+        expect!(says_so(rt.alloc(), turn), "read {turn}")?;
     }
-    assert!(rt; answers(rt.alloc(), 46, 0));
+    expect!(answers(rt.alloc(), 46, 0))
 }
 
 // Whether the run in which a write fails leaves a front of the answer, of one byte less than writes, and ends with 1.
@@ -51,11 +52,11 @@ fn stops(alloc: Global, write: u64) -> bool {
 }
 
 #[test]
-fn each_write_fails_in_turn(rt: HostRuntime) {
+fn each_write_fails_in_turn(rt: HostRuntime) -> Result<(), Fail> {
     for turn in 1..60 {
-        assert!(rt; stops(rt.alloc(), turn), "write {turn}");
+        expect!(stops(rt.alloc(), turn), "write {turn}")?;
     }
-    assert!(rt; answers(rt.alloc(), 0, 60));
+    expect!(answers(rt.alloc(), 0, 60))
 }
 
 // A node's line, and the digits of a SYN with so many digests, of endpoints 10.0.1.0:7000 and on.
@@ -99,6 +100,5 @@ fn answers_long(alloc: Global, count: u16) -> Result<(bool, u8, u64), Fail> {
 #[test]
 fn an_input_of_several_pieces(rt: HostRuntime) -> Result<(), Fail> {
     let answered = answers_long(rt.alloc(), 256)?;
-    assert_eq!(rt; answered, (true, 0, 3));
-    Ok(())
+    expect_eq!(answered, (true, 0, 3))
 }

@@ -1,6 +1,7 @@
 //! `answer` over texts, as a person would run it.
 
 use cg_answering::answer;
+use cg_expect::expect;
 use cg_links::Counted;
 use std::alloc::Global;
 use std::test::Fail;
@@ -40,26 +41,20 @@ fn is_bad_text(alloc: Global, input: &[u8]) -> bool {
 
 #[test]
 fn first_exchange(rt: HostRuntime) -> Result<(), Fail> {
-    assert!(rt;
-        answers(
-            rt.alloc(),
-            "0000001601010263310100010a0000011b580000000900000001",
-            "00000027010200010a0000011b58000000090000000000010a0000021b5800000005000000000000000100",
-        )?
-    );
-    Ok(())
+    expect!(answers(
+        rt.alloc(),
+        "0000001601010263310100010a0000011b580000000900000001",
+        "00000027010200010a0000011b58000000090000000000010a0000021b5800000005000000000000000100",
+    )?)
 }
 
 #[test]
 fn empty_syn(rt: HostRuntime) -> Result<(), Fail> {
-    assert!(rt;
-        answers(
-            rt.alloc(),
-            "000000080101026331010000",
-            "000000190102000000010a0000021b5800000005000000000000000100",
-        )?
-    );
-    Ok(())
+    expect!(answers(
+        rt.alloc(),
+        "000000080101026331010000",
+        "000000190102000000010a0000021b5800000005000000000000000100",
+    )?)
 }
 
 #[test]
@@ -69,7 +64,7 @@ fn other_cluster(rt: HostRuntime) -> Result<(), Fail> {
         "0000001601010263320100010a0000011b580000000900000001",
         "0000001601010263310200010a0000011b580000000900000001",
     ] {
-        assert!(rt; refuses(rt.alloc(), frame, "9 OtherCluster")?);
+        expect!(refuses(rt.alloc(), frame, "9 OtherCluster")?)?;
     }
     Ok(())
 }
@@ -82,7 +77,7 @@ fn cut_syn(rt: HostRuntime) -> Result<(), Fail> {
         "00000016",
         "0000001601010263310100010a0000011b5800000009000000",
     ] {
-        assert!(rt; refuses(rt.alloc(), frame, "13 Truncated")?, "{frame}");
+        expect!(refuses(rt.alloc(), frame, "13 Truncated")?, "{frame}")?;
     }
     Ok(())
 }
@@ -111,7 +106,7 @@ fn own_endpoint_named(rt: HostRuntime) -> Result<(), Fail> {
             "000000190102000000010a0000021b5800000005000000000000000100",
         ),
     ] {
-        assert!(rt; answers(rt.alloc(), frame, text)?, "{frame}");
+        expect!(answers(rt.alloc(), frame, text)?, "{frame}")?;
     }
     Ok(())
 }
@@ -139,7 +134,7 @@ fn bad_frames(rt: HostRuntime) -> Result<(), Fail> {
         ("00000006010200000101", "12 BadFrame 8 Count"),
         ("00000006010300010a00", "12 BadFrame 8 Short"),
     ] {
-        assert!(rt; refuses(rt.alloc(), frame, fault)?, "{frame}");
+        expect!(refuses(rt.alloc(), frame, fault)?, "{frame}")?;
     }
     Ok(())
 }
@@ -164,20 +159,17 @@ fn unreadable_nodes(rt: HostRuntime) -> Result<(), Fail> {
         "10.0.0.2:7000 5 xxxxxxxxxxxxxxxxxxxxxxxxxxxxxxxxxxxxxxxxxxxxxxxxx",
     ] {
         let input = format!(in rt.alloc(); "{line}\n000000080101026331010000\n")?;
-        assert!(rt; is_bad_text(rt.alloc(), input.as_bytes()), "{line}");
+        expect!(is_bad_text(rt.alloc(), input.as_bytes()), "{line}")?;
     }
     // a name that is no UTF-8
-    assert!(rt;
-        is_bad_text(
-            rt.alloc(),
-            b"10.0.0.2:7000 5 \xff\n000000080101026331010000\n"
-        )
-    );
-    Ok(())
+    expect!(is_bad_text(
+        rt.alloc(),
+        b"10.0.0.2:7000 5 \xff\n000000080101026331010000\n"
+    ))
 }
 
 #[test]
-fn unreadable_lines(rt: HostRuntime) {
+fn unreadable_lines(rt: HostRuntime) -> Result<(), Fail> {
     for input in [
         // a line missing
         b"".as_slice(),
@@ -194,8 +186,9 @@ fn unreadable_lines(rt: HostRuntime) {
         b"10.0.0.2:7000 5 c1\n0000000801010263310100\xff\xff\n".as_slice(),
         b"10.0.0.2:7000 5 c1\n000000080101026331010000\r\n".as_slice(),
     ] {
-        assert!(rt; is_bad_text(rt.alloc(), input));
+        expect!(is_bad_text(rt.alloc(), input))?;
     }
+    Ok(())
 }
 
 #[test]
@@ -212,45 +205,39 @@ fn limits_of_the_node(rt: HostRuntime) -> Result<(), Fail> {
     ] {
         let input = format!(in rt.alloc(); "{node} c1\n000000080101026331010000")?;
         let line = format!(in rt.alloc(); "{text}\n")?;
-        assert!(rt;
+        expect!(
             gives(rt.alloc(), input.as_bytes(), line.as_bytes(), 0),
             "{node}"
-        );
+        )?;
     }
     Ok(())
 }
 
 #[test]
-fn readable_forms(rt: HostRuntime) {
+fn readable_forms(rt: HostRuntime) -> Result<(), Fail> {
     let ack = b"000000190102000000010a0000021b5800000005000000000000000100\n".as_slice();
     // without the last line feed, and in upper-case digits
-    assert!(rt;
-        gives(
-            rt.alloc(),
-            b"10.0.0.2:7000 5 c1\n000000080101026331010000",
-            ack,
-            0
-        )
-    );
-    assert!(rt;
-        gives(
-            rt.alloc(),
-            b"10.0.0.2:7000 5 cJ\n00000008010102634A010000\n",
-            ack,
-            0
-        )
-    );
+    expect!(gives(
+        rt.alloc(),
+        b"10.0.0.2:7000 5 c1\n000000080101026331010000",
+        ack,
+        0
+    ))?;
+    expect!(gives(
+        rt.alloc(),
+        b"10.0.0.2:7000 5 cJ\n00000008010102634A010000\n",
+        ack,
+        0
+    ))?;
     // a name with spaces: the rest of the line
-    assert!(rt;
-        gives(
-            rt.alloc(),
-            b"10.0.0.2:7000 5  c \n00000009010103206320010000\n",
-            ack,
-            0
-        )
-    );
+    expect!(gives(
+        rt.alloc(),
+        b"10.0.0.2:7000 5  c \n00000009010103206320010000\n",
+        ack,
+        0
+    ))?;
     // a name of 48 bytes
     let name =
         b"10.0.0.2:7000 5 xxxxxxxxxxxxxxxxxxxxxxxxxxxxxxxxxxxxxxxxxxxxxxxx\n000000080101026331010000\n";
-    assert!(rt; gives(rt.alloc(), name, b"fault 9 OtherCluster\n", 1));
+    expect!(gives(rt.alloc(), name, b"fault 9 OtherCluster\n", 1))
 }

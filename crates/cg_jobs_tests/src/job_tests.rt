@@ -1,6 +1,7 @@
 //! Words that name a job, words that don't, and words that ask for help.
 
 use cg_command::{Subcommand, job_of};
+use cg_expect::{expect, expect_eq};
 use std::alloc::Global;
 use std::test::Fail;
 
@@ -41,22 +42,19 @@ fn is_told(alloc: Global, words: &[&str], part: &str) -> Result<bool, Fail> {
 }
 
 #[test]
-fn words_name_jobs(rt: HostRuntime) {
+fn words_name_jobs(rt: HostRuntime) -> Result<(), Fail> {
     let alloc = rt.alloc();
-    assert_eq!(rt; job(alloc, &["cg"]), Some((Subcommand::Answer, 0)));
-    assert_eq!(rt;
-        job(alloc, &["cg", "answer"]),
-        Some((Subcommand::Answer, 0))
-    );
-    assert_eq!(rt; job(alloc, &["cg", "sim"]), Some((Subcommand::Sim, 0)));
-    assert_eq!(rt;
+    expect_eq!(job(alloc, &["cg"]), Some((Subcommand::Answer, 0)))?;
+    expect_eq!(job(alloc, &["cg", "answer"]), Some((Subcommand::Answer, 0)))?;
+    expect_eq!(job(alloc, &["cg", "sim"]), Some((Subcommand::Sim, 0)))?;
+    expect_eq!(
         job(alloc, &["cg", "audit", "a"]),
         Some((Subcommand::Audit, 1))
-    );
-    assert_eq!(rt;
+    )?;
+    expect_eq!(
         job(alloc, &["cg", "serve", "f"]),
         Some((Subcommand::Serve, 1))
-    );
+    )
 }
 
 #[test]
@@ -66,50 +64,43 @@ fn files_come_in_the_order_of_the_words(rt: HostRuntime) -> Result<(), Fail> {
         alloc,
         &["cg", "audit", "b.journal", "a.journal", "b.journal"],
     )?;
-    assert_eq!(rt; named.as_str(), " b.journal a.journal b.journal");
+    expect_eq!(named.as_str(), " b.journal a.journal b.journal")?;
     let named = files(alloc, &["cg", "serve", "a.toml"])?;
-    assert_eq!(rt; named.as_str(), " a.toml");
-    Ok(())
+    expect_eq!(named.as_str(), " a.toml")
 }
 
 #[test]
 fn other_words_are_faults(rt: HostRuntime) -> Result<(), Fail> {
     let alloc = rt.alloc();
-    assert!(rt; is_fault(alloc, &["cg", "sim", "x"])?);
-    assert!(rt; is_fault(alloc, &["cg", "answer", "x"])?);
-    assert!(rt; is_fault(alloc, &["cg", "nothing"])?);
-    assert!(rt; is_fault(alloc, &["cg", ""])?);
-    assert!(rt; is_fault(alloc, &["cg", "serve"])?);
-    assert!(rt; is_fault(alloc, &["cg", "serve", "f", "g"])?);
-    assert!(rt; is_fault(alloc, &["cg", "audit"])?);
-    assert!(rt; is_fault(alloc, &["cg", "--nothing"])?);
-    Ok(())
+    expect!(is_fault(alloc, &["cg", "sim", "x"])?)?;
+    expect!(is_fault(alloc, &["cg", "answer", "x"])?)?;
+    expect!(is_fault(alloc, &["cg", "nothing"])?)?;
+    expect!(is_fault(alloc, &["cg", ""])?)?;
+    expect!(is_fault(alloc, &["cg", "serve"])?)?;
+    expect!(is_fault(alloc, &["cg", "serve", "f", "g"])?)?;
+    expect!(is_fault(alloc, &["cg", "audit"])?)?;
+    expect!(is_fault(alloc, &["cg", "--nothing"])?)
 }
 
 #[test]
 fn help_and_the_version_are_told(rt: HostRuntime) -> Result<(), Fail> {
     let alloc = rt.alloc();
-    assert!(rt; is_told(alloc, &["cg", "--version"], "cg 0.1.0")?);
-    assert!(rt; is_told(alloc, &["cg", "--help"], "Play a script")?);
-    assert!(rt; is_told(alloc, &["cg", "--help"], "Exit status")?);
-    assert!(rt; is_told(alloc, &["cg", "sim", "--help"], "deliver N EP NOW")?);
-    assert!(rt;
-        is_told(
-            alloc,
-            &["cg", "answer", "--help"],
-            "ENDPOINT GENERATION CLUSTER"
-        )?
-    );
-    assert!(rt; is_told(alloc, &["cg", "--help"], "Run a node")?);
-    assert!(rt; is_told(alloc, &["cg", "serve", "--help"], "generation_file")?);
-    assert!(rt; is_told(alloc, &["cg", "serve", "--help"], "replicas RF TEXT")?);
-    assert!(rt; is_told(alloc, &["cg", "--help"], "one run of the gossip")?);
-    assert!(rt;
-        is_told(
-            alloc,
-            &["cg", "audit", "--help"],
-            "stuck EP GENERATION ITEM"
-        )?
-    );
-    Ok(())
+    expect!(is_told(alloc, &["cg", "--version"], "cg 0.1.0")?)?;
+    expect!(is_told(alloc, &["cg", "--help"], "Play a script")?)?;
+    expect!(is_told(alloc, &["cg", "--help"], "Exit status")?)?;
+    expect!(is_told(alloc, &["cg", "sim", "--help"], "deliver N EP NOW")?)?;
+    expect!(is_told(
+        alloc,
+        &["cg", "answer", "--help"],
+        "ENDPOINT GENERATION CLUSTER"
+    )?)?;
+    expect!(is_told(alloc, &["cg", "--help"], "Run a node")?)?;
+    expect!(is_told(alloc, &["cg", "serve", "--help"], "generation_file")?)?;
+    expect!(is_told(alloc, &["cg", "serve", "--help"], "replicas RF TEXT")?)?;
+    expect!(is_told(alloc, &["cg", "--help"], "one run of the gossip")?)?;
+    expect!(is_told(
+        alloc,
+        &["cg", "audit", "--help"],
+        "stuck EP GENERATION ITEM"
+    )?)
 }

@@ -1,17 +1,18 @@
 //! The least and the greatest value of each key, and the values on both sides of them.
 
 use crate::samples::fault_with;
+use cg_expect::expect_eq;
 use cg_settings::laws::{limits_have_their_values, seeds_rise_and_are_those_listed};
 use cg_settings::{DEFAULT_INTERVAL, DEFAULT_RANDOM, INTERVAL_LIMIT, TURN_LIMIT};
 use cg_types::Fault;
 use std::test::Fail;
 
 #[test]
-fn limits_are_the_stated_ones(rt: HostRuntime) {
+fn limits_are_the_stated_ones() -> Result<(), Fail> {
     limits_have_their_values();
     seeds_rise_and_are_those_listed();
-    assert_eq!(rt; (TURN_LIMIT, INTERVAL_LIMIT), (1000000, 60000));
-    assert_eq!(rt; (DEFAULT_INTERVAL, DEFAULT_RANDOM), (1000, 0));
+    expect_eq!((TURN_LIMIT, INTERVAL_LIMIT), (1000000, 60000))?;
+    expect_eq!((DEFAULT_INTERVAL, DEFAULT_RANDOM), (1000, 0))
 }
 
 #[test]
@@ -45,7 +46,7 @@ fn values_in_their_ranges_are_read(rt: HostRuntime) -> Result<(), Fail> {
     ];
     for (key, value) in taken {
         let fault = fault_with(rt.alloc(), key, value)?;
-        assert_eq!(rt; fault, None, "{key} = {value}");
+        expect_eq!(fault, None, "{key} = {value}")?;
     }
     Ok(())
 }
@@ -84,7 +85,7 @@ fn values_out_of_their_ranges_are_refused(rt: HostRuntime) -> Result<(), Fail> {
     ];
     for (key, value) in refused {
         let fault = fault_with(rt.alloc(), key, value)?;
-        assert_eq!(rt; fault, Some(Fault::BadText), "{key} = {value}");
+        expect_eq!(fault, Some(Fault::BadText), "{key} = {value}")?;
     }
     Ok(())
 }

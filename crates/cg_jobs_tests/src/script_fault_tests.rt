@@ -1,6 +1,7 @@
 //! Each form of a line, with what makes it a fault.
 
 use crate::script_tests::prints;
+use cg_expect::expect;
 use std::alloc::Global;
 use std::test::Fail;
 
@@ -44,7 +45,7 @@ fn lines_are_read_by_their_forms(rt: HostRuntime) -> Result<(), Fail> {
         ),
     ];
     for (line, text) in cases {
-        assert!(rt; line_prints(rt.alloc(), line, text)?, "{line}");
+        expect!(line_prints(rt.alloc(), line, text)?, "{line}")?;
     }
     Ok(())
 }
@@ -94,7 +95,7 @@ fn unreadable_lines_are_bad_text(rt: HostRuntime) -> Result<(), Fail> {
         "remove 10.0.0.1:7000 1",
     ];
     for line in lines {
-        assert!(rt; line_prints(rt.alloc(), line, "fault 2 BadText")?, "{line}");
+        expect!(line_prints(rt.alloc(), line, "fault 2 BadText")?, "{line}")?;
     }
     Ok(())
 }
@@ -118,7 +119,7 @@ fn refused_lines_print_their_faults(rt: HostRuntime) -> Result<(), Fail> {
         ("replicas 10.0.0.3:7000 1 a", "fault 19 NoSuchNode"),
     ];
     for (line, text) in cases {
-        assert!(rt; line_prints(rt.alloc(), line, text)?, "{line}");
+        expect!(line_prints(rt.alloc(), line, text)?, "{line}")?;
     }
     Ok(())
 }
@@ -135,23 +136,22 @@ fn set_prints(alloc: Global, node: &str, length: usize, text: &str) -> Result<bo
 #[test]
 fn texts_have_their_limit(rt: HostRuntime) -> Result<(), Fail> {
     let alloc = rt.alloc();
-    assert!(rt; set_prints(alloc, "10.0.0.1:7000", 1024, "version 2")?);
-    assert!(rt; set_prints(alloc, "10.0.0.1:7000", 1025, "fault 3 TooLong")?);
-    assert!(rt; set_prints(alloc, "10.0.0.3:7000", 1025, "fault 3 TooLong")?);
-    assert!(rt; set_prints(alloc, "10.0.0.3", 1025, "fault 2 BadText")?);
-    Ok(())
+    expect!(set_prints(alloc, "10.0.0.1:7000", 1024, "version 2")?)?;
+    expect!(set_prints(alloc, "10.0.0.1:7000", 1025, "fault 3 TooLong")?)?;
+    expect!(set_prints(alloc, "10.0.0.3:7000", 1025, "fault 3 TooLong")?)?;
+    expect!(set_prints(alloc, "10.0.0.3", 1025, "fault 2 BadText")?)
 }
 
 #[test]
-fn lines_that_are_no_text_are_unreadable(rt: HostRuntime) {
+fn lines_that_are_no_text_are_unreadable(rt: HostRuntime) -> Result<(), Fail> {
     let alloc = rt.alloc();
     let start = b"started 10.0.0.1:7000 9\nfault 2 BadText\nversion 2\n";
     let set = b"start 10.0.0.1:7000 9\nset 10.0.0.1:7000 1 a\xffb\nbeat 10.0.0.1:7000";
     let replicas = b"start 10.0.0.1:7000 9\nreplicas 10.0.0.1:7000 1 \xc3\nbeat 10.0.0.1:7000";
     let word = b"start 10.0.0.1:7000 9\nbeat\xff 10.0.0.1:7000\nbeat 10.0.0.1:7000";
-    assert!(rt; prints(alloc, set, start));
-    assert!(rt; prints(alloc, replicas, start));
-    assert!(rt; prints(alloc, word, start));
+    expect!(prints(alloc, set, start))?;
+    expect!(prints(alloc, replicas, start))?;
+    expect!(prints(alloc, word, start))
 }
 
 // What `seeds` prints as the first line, with these words.
@@ -175,31 +175,29 @@ fn endpoints(alloc: Global, count: u16) -> Result<String, Fail> {
 fn seeds_stand_in_the_first_line_alone(rt: HostRuntime) -> Result<(), Fail> {
     let alloc = rt.alloc();
     let bad = "fault 2 BadText\n";
-    assert!(rt; seeds_print(alloc, " 10.0.0.1:1", "")?);
-    assert!(rt; seeds_print(alloc, endpoints(alloc, 16)?.as_str(), "")?);
-    assert!(rt; seeds_print(alloc, endpoints(alloc, 17)?.as_str(), bad)?);
-    assert!(rt; seeds_print(alloc, "", bad)?);
-    assert!(rt; seeds_print(alloc, " ", bad)?);
-    assert!(rt; seeds_print(alloc, " 10.0.0.1:1 ", bad)?);
-    assert!(rt; seeds_print(alloc, " 10.0.0.1:2 10.0.0.1:1", bad)?);
-    assert!(rt; seeds_print(alloc, " 10.0.0.1:1 10.0.0.1:1", bad)?);
-    assert!(rt; seeds_print(alloc, " 10.0.0.1:1,10.0.0.1:2", bad)?);
-    Ok(())
+    expect!(seeds_print(alloc, " 10.0.0.1:1", "")?)?;
+    expect!(seeds_print(alloc, endpoints(alloc, 16)?.as_str(), "")?)?;
+    expect!(seeds_print(alloc, endpoints(alloc, 17)?.as_str(), bad)?)?;
+    expect!(seeds_print(alloc, "", bad)?)?;
+    expect!(seeds_print(alloc, " ", bad)?)?;
+    expect!(seeds_print(alloc, " 10.0.0.1:1 ", bad)?)?;
+    expect!(seeds_print(alloc, " 10.0.0.1:2 10.0.0.1:1", bad)?)?;
+    expect!(seeds_print(alloc, " 10.0.0.1:1 10.0.0.1:1", bad)?)?;
+    expect!(seeds_print(alloc, " 10.0.0.1:1,10.0.0.1:2", bad)?)
 }
 
 #[test]
-fn seeds_that_are_refused_leave_none(rt: HostRuntime) {
+fn seeds_that_are_refused_leave_none(rt: HostRuntime) -> Result<(), Fail> {
     let script =
         b"seeds 10.0.0.9:1 10.0.0.9:1\nseeds 10.0.0.9:1\nstart 10.0.0.1:7000 9\ntick 10.0.0.1:7000 0 0 0 0 0\n";
     let text = b"fault 2 BadText\nfault 2 BadText\nstarted 10.0.0.1:7000 9\nround\nmessage 1 syn\n";
-    assert!(rt; prints(rt.alloc(), script, text));
+    expect!(prints(rt.alloc(), script, text))
 }
 
 #[test]
 fn a_257th_endpoint_finds_no_room(rt: HostRuntime) -> Result<(), Fail> {
     let (script, text) = starts(rt.alloc())?;
-    assert!(rt; prints(rt.alloc(), script.as_bytes(), text.as_bytes()));
-    Ok(())
+    expect!(prints(rt.alloc(), script.as_bytes(), text.as_bytes()))
 }
 
 // 257 starts, and what they print.

@@ -1,5 +1,6 @@
 //! Scripts over links that fail at one of their calls, and over links that move a byte a call.
 
+use cg_expect::{expect, expect_eq};
 use cg_links::{Counted, FailingLink, SlowLink};
 use cg_sim::sim;
 use std::alloc::Global;
@@ -14,13 +15,13 @@ const TEXT: &[u8] =
 const UNREAD: &[u8] = b"fault 14 ReadFault\n";
 
 #[test]
-fn a_byte_at_a_time_prints_the_same(rt: HostRuntime) {
+fn a_byte_at_a_time_prints_the_same(rt: HostRuntime) -> Result<(), Fail> {
     let alloc = rt.alloc();
     let mut reader = Counted::new(SlowLink::new(SCRIPT));
     let mut writer = Counted::new(SlowLink::new(Vec::new(alloc)));
     let status = sim(alloc, &mut reader, &mut writer);
-    assert_eq!(rt; status, 0);
-    assert_eq!(rt; writer.into_link().into_link().as_slice(), TEXT);
+    expect_eq!(status, 0)?;
+    expect_eq!(writer.into_link().into_link().as_slice(), TEXT)
 }
 
 // What is written, and the status, where the read of this number fails and each read gives a byte.
@@ -40,27 +41,27 @@ fn is_cut(written: &[u8]) -> bool {
 }
 
 #[test]
-fn a_failed_read_ends_the_script(rt: HostRuntime) {
+fn a_failed_read_ends_the_script(rt: HostRuntime) -> Result<(), Fail> {
     let reads = SCRIPT.len() as u64 + 1;
     for turn in 1..=reads {
         let (written, status) = unread(rt.alloc(), turn);
-        assert_eq!(rt; status, 1);
-        assert!(rt; is_cut(&written), "{turn}");
+        expect_eq!(status, 1)?;
+        expect!(is_cut(&written), "{turn}")?;
     }
     let (written, status) = unread(rt.alloc(), reads + 1);
-    assert_eq!(rt; status, 0);
-    assert_eq!(rt; written.as_slice(), TEXT);
+    expect_eq!(status, 0)?;
+    expect_eq!(written.as_slice(), TEXT)
 }
 
 #[test]
-fn lines_that_were_read_are_done_before_the_fault(rt: HostRuntime) {
+fn lines_that_were_read_are_done_before_the_fault(rt: HostRuntime) -> Result<(), Fail> {
     let (written, _) = unread(rt.alloc(), 23);
-    assert_eq!(rt;
+    expect_eq!(
         written.as_slice(),
         b"started 10.0.0.1:7000 9\nfault 14 ReadFault\n".as_slice()
-    );
+    )?;
     let (written, _) = unread(rt.alloc(), 22);
-    assert_eq!(rt; written.as_slice(), UNREAD);
+    expect_eq!(written.as_slice(), UNREAD)
 }
 
 // What is written, and the status, where the writer's call of this number fails.
@@ -72,16 +73,16 @@ fn unwritten(alloc: Global, turn: u64) -> (Vec<u8>, u8) {
 }
 
 #[test]
-fn a_failed_write_leaves_a_front(rt: HostRuntime) {
+fn a_failed_write_leaves_a_front(rt: HostRuntime) -> Result<(), Fail> {
     // A write and a flush for each of the five lines.
     for turn in 1..=10u64 {
         let (written, status) = unwritten(rt.alloc(), turn);
-        assert_eq!(rt; status, 1);
-        assert!(rt; TEXT.starts_with(&written), "{turn}");
+        expect_eq!(status, 1)?;
+        expect!(TEXT.starts_with(&written), "{turn}")?;
     }
     let (written, status) = unwritten(rt.alloc(), 11);
-    assert_eq!(rt; status, 0);
-    assert_eq!(rt; written.as_slice(), TEXT);
+    expect_eq!(status, 0)?;
+    expect_eq!(written.as_slice(), TEXT)
 }
 
 // How many reads were made, of a byte each, where the writer's call of this number fails.
@@ -93,7 +94,7 @@ fn reads_before(alloc: Global, turn: u64) -> u64 {
 }
 
 #[test]
-fn each_line_is_answered_before_the_next_is_read(rt: HostRuntime) {
+fn each_line_is_answered_before_the_next_is_read(rt: HostRuntime) -> Result<(), Fail> {
     // A write and a flush for each line; one more read meets the end, since the last line has no line feed.
     for (turn, reads) in [
         (1, 22),
@@ -107,13 +108,13 @@ fn each_line_is_answered_before_the_next_is_read(rt: HostRuntime) {
         (9, 102),
         (10, 102),
     ] {
-        assert_eq!(rt; reads_before(rt.alloc(), turn), reads, "{turn}");
+        expect_eq!(reads_before(rt.alloc(), turn), reads, "{turn}")?;
     }
+    Ok(())
 }
 
 #[test]
 fn each_line_is_written_before_the_next(rt: HostRuntime) -> Result<(), Fail> {
     let (written, _) = unwritten(rt.alloc(), 3);
-    assert_eq!(rt; written.as_slice(), b"started 10.0.0.1:7000 9\n".as_slice());
-    Ok(())
+    expect_eq!(written.as_slice(), b"started 10.0.0.1:7000 9\n".as_slice())
 }

@@ -1,5 +1,6 @@
 //! Scripts over links that don't fail.
 
+use cg_expect::expect;
 use cg_links::Counted;
 use cg_sim::sim;
 use std::alloc::Global;
@@ -71,12 +72,12 @@ fault 10 NoSuchMessage
 ";
 
 #[test]
-fn stale_deltas_are_gaps_after_a_restart(rt: HostRuntime) {
-    assert!(rt; prints(rt.alloc(), STALE_SCRIPT.as_bytes(), STALE_TEXT.as_bytes()));
+fn stale_deltas_are_gaps_after_a_restart(rt: HostRuntime) -> Result<(), Fail> {
+    expect!(prints(rt.alloc(), STALE_SCRIPT.as_bytes(), STALE_TEXT.as_bytes()))
 }
 
 #[test]
-fn a_third_node_takes_an_old_answer(rt: HostRuntime) {
+fn a_third_node_takes_an_old_answer(rt: HostRuntime) -> Result<(), Fail> {
     let script = b"start 10.0.0.1:7000 9
 set 10.0.0.1:7000 1 NORMAL
 start 10.0.0.2:7000 5
@@ -107,11 +108,11 @@ message 6 ack2
 old 10.0.0.2:7000
 message 7 ack2
 ";
-    assert!(rt; prints(rt.alloc(), script, text));
+    expect!(prints(rt.alloc(), script, text))
 }
 
 #[test]
-fn ring_and_replicas_are_shown(rt: HostRuntime) {
+fn ring_and_replicas_are_shown(rt: HostRuntime) -> Result<(), Fail> {
     // The keys hash to 0cc1.. and 6ffe.. by RFC 1321; the endpoint of a token is the one of the first at or after it.
     let script = b"start 10.0.0.1:7000 9
 set 10.0.0.1:7000 2 40000000000000000000000000000000
@@ -128,11 +129,11 @@ version 3
 10.0.0.1:7000
 40000000000000000000000000000000 10.0.0.1:7000
 ";
-    assert!(rt; prints(rt.alloc(), script, text));
+    expect!(prints(rt.alloc(), script, text))
 }
 
 #[test]
-fn rounds_choose_seeds_and_live_peers(rt: HostRuntime) {
+fn rounds_choose_seeds_and_live_peers(rt: HostRuntime) -> Result<(), Fail> {
     let script = b"seeds 10.0.0.2:7000
 start 10.0.0.1:7000 9
 start 10.0.0.2:7000 5
@@ -154,11 +155,11 @@ message 4 ack2
 round 10.0.0.2:7000
 message 5 syn
 ";
-    assert!(rt; prints(rt.alloc(), script, text));
+    expect!(prints(rt.alloc(), script, text))
 }
 
 #[test]
-fn each_word_of_a_tick_chooses_its_own_peer(rt: HostRuntime) {
+fn each_word_of_a_tick_chooses_its_own_peer(rt: HostRuntime) -> Result<(), Fail> {
     // One gap of 2,000 is kept of the third node: after 36,842 it is alive, and after 36,843 silent. The fourth runs
     // nowhere, and is a seed alone.
     let script = b"seeds 10.0.0.2:7000 10.0.0.4:7000
@@ -197,11 +198,11 @@ message 9 syn
 round 10.0.0.3:7000 10.0.0.4:7000
 message 10 syn
 ";
-    assert!(rt; prints(rt.alloc(), script, text));
+    expect!(prints(rt.alloc(), script, text))
 }
 
 #[test]
-fn replicas_walk_round_the_ring(rt: HostRuntime) {
+fn replicas_walk_round_the_ring(rt: HostRuntime) -> Result<(), Fail> {
     // The keys hash to 0cc1.., 2be2.. (of d41d.., which is less than 0) and 6ffe.. by RFC 1321.
     let script = b"start 10.0.0.1:7000 9
 start 10.0.0.2:7000 5
@@ -254,11 +255,11 @@ message 5 ack2
 10.0.0.2:7000
 10.0.0.3:7000
 ";
-    assert!(rt; prints(rt.alloc(), script, text));
+    expect!(prints(rt.alloc(), script, text))
 }
 
 #[test]
-fn an_own_delta_changes_nothing(rt: HostRuntime) {
+fn an_own_delta_changes_nothing(rt: HostRuntime) -> Result<(), Fail> {
     let script = b"start 10.0.0.1:7000 9
 start 10.0.0.2:7000 5
 open 10.0.0.1:7000
@@ -272,31 +273,27 @@ message 2 ack
 own 10.0.0.2:7000
 message 3 ack2
 ";
-    assert!(rt; prints(rt.alloc(), script, text));
+    expect!(prints(rt.alloc(), script, text))
 }
 
 #[test]
-fn nothing_prints_nothing(rt: HostRuntime) {
-    assert!(rt; prints(rt.alloc(), b"", b""));
+fn nothing_prints_nothing(rt: HostRuntime) -> Result<(), Fail> {
+    expect!(prints(rt.alloc(), b"", b""))
 }
 
 #[test]
-fn a_last_line_feed_may_be_missing(rt: HostRuntime) {
-    assert!(rt;
-        prints(
-            rt.alloc(),
-            b"start 10.0.0.1:7000 9",
-            b"started 10.0.0.1:7000 9\n"
-        )
-    );
-    assert!(rt;
-        prints(
-            rt.alloc(),
-            b"start 10.0.0.1:7000 9\n",
-            b"started 10.0.0.1:7000 9\n"
-        )
-    );
-    assert!(rt; prints(rt.alloc(), b"\n", b"fault 2 BadText\n"));
+fn a_last_line_feed_may_be_missing(rt: HostRuntime) -> Result<(), Fail> {
+    expect!(prints(
+        rt.alloc(),
+        b"start 10.0.0.1:7000 9",
+        b"started 10.0.0.1:7000 9\n"
+    ))?;
+    expect!(prints(
+        rt.alloc(),
+        b"start 10.0.0.1:7000 9\n",
+        b"started 10.0.0.1:7000 9\n"
+    ))?;
+    expect!(prints(rt.alloc(), b"\n", b"fault 2 BadText\n"))
 }
 
 // A line of this many bytes: a start, a space, and then letters.
@@ -317,20 +314,17 @@ fn lines_of_ten_megabytes_are_read(rt: HostRuntime) -> Result<(), Fail> {
         "start 10.0.0.1:7000 9\nset 10.0.0.1:7000 1 ",
         10_000_000,
     )?;
-    assert!(rt;
-        prints(
-            alloc,
-            &script,
-            b"started 10.0.0.1:7000 9\nfault 3 TooLong\n"
-        )
-    );
+    expect!(prints(
+        alloc,
+        &script,
+        b"started 10.0.0.1:7000 9\nfault 3 TooLong\n"
+    ))?;
     let script = long_line(
         alloc,
         "start 10.0.0.1:7000 9\nreplicas 10.0.0.1:7000 3 ",
         10_000_000,
     )?;
-    assert!(rt; prints(alloc, &script, b"started 10.0.0.1:7000 9\n"));
+    expect!(prints(alloc, &script, b"started 10.0.0.1:7000 9\n"))?;
     let script = long_line(alloc, "", 10_000_000)?;
-    assert!(rt; prints(alloc, &script, b"fault 2 BadText\n"));
-    Ok(())
+    expect!(prints(alloc, &script, b"fault 2 BadText\n"))
 }

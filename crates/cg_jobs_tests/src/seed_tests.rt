@@ -1,6 +1,7 @@
 //! Seeds that are sorted and made distinct, and arrays that hold none or too many.
 
 use crate::samples::{fault_with, text_with};
+use cg_expect::expect_eq;
 use cg_settings::settings_of;
 use cg_types::Fault;
 use std::alloc::Global;
@@ -34,7 +35,7 @@ fn seeds_are_sorted_and_made_distinct(rt: HostRuntime) -> Result<(), Fail> {
     ];
     for (array, wanted) in rows {
         let seeds = seeds(rt.alloc(), array)?;
-        assert_eq!(rt; seeds.as_str(), wanted, "{array}");
+        expect_eq!(seeds.as_str(), wanted, "{array}")?;
     }
     Ok(())
 }
@@ -58,7 +59,7 @@ fn distinct_seeds_are_counted(rt: HostRuntime) -> Result<(), Fail> {
     for (last, is_twice, wanted) in [(16, false, None), (16, true, None), (17, false, many)] {
         let array = ports(rt.alloc(), last, is_twice)?;
         let fault = fault_with(rt.alloc(), "seeds", array.as_str())?;
-        assert_eq!(rt; fault, wanted, "{last}");
+        expect_eq!(fault, wanted, "{last}")?;
     }
     Ok(())
 }
@@ -72,7 +73,7 @@ fn items_are_endpoints(rt: HostRuntime) -> Result<(), Fail> {
         "[[\"10.0.0.1:7000\"]]",
     ] {
         let fault = fault_with(rt.alloc(), "seeds", array)?;
-        assert_eq!(rt; fault, Some(Fault::BadText), "{array}");
+        expect_eq!(fault, Some(Fault::BadText), "{array}")?;
     }
     Ok(())
 }

@@ -1,6 +1,7 @@
 //! The settings of a small file and of a full one; keys that are missing, that have no meaning, or of another type.
 
 use crate::samples::{NEEDED, fault_with};
+use cg_expect::{expect, expect_eq};
 use cg_settings::{ServeSettings, Turns, settings_of, settings_of_bytes};
 use cg_types::Fault;
 use std::alloc::Global;
@@ -62,14 +63,13 @@ fn what_is_missing_has_its_default(rt: HostRuntime) -> Result<(), Fail> {
         exchanges: 0,
         interval: 1000,
     };
-    assert!(rt; are_named(&settings, "c1", "g", "j"));
-    assert_eq!(rt; settings.listen.address(), [127, 0, 0, 1]);
-    assert_eq!(rt; settings.listen.port(), 7000);
-    assert_eq!(rt; settings.node.seeds().len(), 0);
-    assert_eq!(rt; settings.turns, turns);
-    assert_eq!(rt; settings.random, 0);
-    assert_eq!(rt; silence_of(&settings), (1000, 2000, 60000, 18421));
-    Ok(())
+    expect!(are_named(&settings, "c1", "g", "j"))?;
+    expect_eq!(settings.listen.address(), [127, 0, 0, 1])?;
+    expect_eq!(settings.listen.port(), 7000)?;
+    expect_eq!(settings.node.seeds().len(), 0)?;
+    expect_eq!(settings.turns, turns)?;
+    expect_eq!(settings.random, 0)?;
+    expect_eq!(silence_of(&settings), (1000, 2000, 60000, 18421))
 }
 
 #[test]
@@ -81,21 +81,20 @@ fn each_key_is_read(rt: HostRuntime) -> Result<(), Fail> {
         interval: 0,
     };
     let files = ("/var/lib/cg/generation", "/var/lib/cg/journal");
-    assert!(rt; are_named(&settings, "Test Cluster", files.0, files.1));
-    assert_eq!(rt; settings.listen.address(), [10, 0, 0, 1]);
-    assert_eq!(rt; settings.listen.port(), 65535);
-    assert_eq!(rt; settings.node.seeds().len(), 1);
-    assert_eq!(rt; settings.turns, turns);
-    assert_eq!(rt; settings.random, 9223372036854775807);
-    assert_eq!(rt; silence_of(&settings), (5, 6, 60, 1000));
-    Ok(())
+    expect!(are_named(&settings, "Test Cluster", files.0, files.1))?;
+    expect_eq!(settings.listen.address(), [10, 0, 0, 1])?;
+    expect_eq!(settings.listen.port(), 65535)?;
+    expect_eq!(settings.node.seeds().len(), 1)?;
+    expect_eq!(settings.turns, turns)?;
+    expect_eq!(settings.random, 9223372036854775807)?;
+    expect_eq!(silence_of(&settings), (5, 6, 60, 1000))
 }
 
 #[test]
 fn needed_keys_are_not_left_out(rt: HostRuntime) -> Result<(), Fail> {
     for (key, _) in NEEDED {
         let fault = fault_with(rt.alloc(), key, "")?;
-        assert_eq!(rt; fault, Some(Fault::BadText), "{key}");
+        expect_eq!(fault, Some(Fault::BadText), "{key}")?;
     }
     Ok(())
 }
@@ -104,7 +103,7 @@ fn needed_keys_are_not_left_out(rt: HostRuntime) -> Result<(), Fail> {
 fn unknown_keys_are_refused(rt: HostRuntime) -> Result<(), Fail> {
     for key in ["other", "Cluster", "seed", "rounds2", "\"\""] {
         let fault = fault_with(rt.alloc(), key, "1")?;
-        assert_eq!(rt; fault, Some(Fault::BadText), "{key}");
+        expect_eq!(fault, Some(Fault::BadText), "{key}")?;
     }
     Ok(())
 }
@@ -128,7 +127,7 @@ fn values_have_their_types(rt: HostRuntime) -> Result<(), Fail> {
     ];
     for (key, value) in others {
         let fault = fault_with(rt.alloc(), key, value)?;
-        assert_eq!(rt; fault, Some(Fault::BadText), "{key} = {value}");
+        expect_eq!(fault, Some(Fault::BadText), "{key} = {value}")?;
     }
     Ok(())
 }
@@ -139,13 +138,13 @@ fn fault_of(alloc: Global, bytes: &[u8]) -> Option<Fault> {
 }
 
 #[test]
-fn other_bytes_are_no_settings(rt: HostRuntime) {
+fn other_bytes_are_no_settings(rt: HostRuntime) -> Result<(), Fail> {
     let refused = Some(Fault::BadText);
-    assert_eq!(rt; fault_of(rt.alloc(), FEW.as_bytes()), None);
-    assert_eq!(rt; fault_of(rt.alloc(), b""), refused);
-    assert_eq!(rt; fault_of(rt.alloc(), b"cluster = \"c1\""), refused);
-    assert_eq!(rt; fault_of(rt.alloc(), b"rounds"), refused);
-    assert_eq!(rt; fault_of(rt.alloc(), b"rounds = 1\nrounds = 1\n"), refused);
-    assert_eq!(rt; fault_of(rt.alloc(), b"# \xff\n"), refused);
-    assert_eq!(rt; fault_of(rt.alloc(), b"cluster = \"\xc3\""), refused);
+    expect_eq!(fault_of(rt.alloc(), FEW.as_bytes()), None)?;
+    expect_eq!(fault_of(rt.alloc(), b""), refused)?;
+    expect_eq!(fault_of(rt.alloc(), b"cluster = \"c1\""), refused)?;
+    expect_eq!(fault_of(rt.alloc(), b"rounds"), refused)?;
+    expect_eq!(fault_of(rt.alloc(), b"rounds = 1\nrounds = 1\n"), refused)?;
+    expect_eq!(fault_of(rt.alloc(), b"# \xff\n"), refused)?;
+    expect_eq!(fault_of(rt.alloc(), b"cluster = \"\xc3\""), refused)
 }

@@ -1,6 +1,7 @@
 //! `audit_files` over texts, as a person would run it.
 
 use cg_auditing::audit_files;
+use cg_expect::expect;
 use cg_links::Counted;
 use std::alloc::Global;
 use std::test::Fail;
@@ -45,41 +46,36 @@ pub(crate) fn is_said(alloc: Global, journals: &[&str], text: &str, due: u8) -> 
 fn the_first_exchange_is_one_run(rt: HostRuntime) -> Result<(), Fail> {
     let order = "10.0.0.1:7000 9 0\n10.0.0.1:7000 9 1\n10.0.0.2:7000 5 0\n10.0.0.2:7000 5 1\n\
 10.0.0.1:7000 9 2\n10.0.0.2:7000 5 2\none run\n";
-    assert!(rt; is_said(rt.alloc(), &[A, B], order, 0)?);
-    assert!(rt; is_said(rt.alloc(), &[B, A], order, 0)?);
-    Ok(())
+    expect!(is_said(rt.alloc(), &[A, B], order, 0)?)?;
+    expect!(is_said(rt.alloc(), &[B, A], order, 0)?)
 }
 
 #[test]
 fn without_its_syn_two_are_stuck(rt: HostRuntime) -> Result<(), Fail> {
     let stuck = "stuck 10.0.0.1:7000 9 2\nstuck 10.0.0.2:7000 5 1\nfault 17 Stuck\n";
-    assert!(rt; is_said(rt.alloc(), &[A, B_WITHOUT_SYN], stuck, 1)?);
-    assert!(rt; is_said(rt.alloc(), &[B_WITHOUT_SYN, A], stuck, 1)?);
-    Ok(())
+    expect!(is_said(rt.alloc(), &[A, B_WITHOUT_SYN], stuck, 1)?)?;
+    expect!(is_said(rt.alloc(), &[B_WITHOUT_SYN, A], stuck, 1)?)
 }
 
 #[test]
 fn lives_of_one_endpoint_come_in_their_order(rt: HostRuntime) -> Result<(), Fail> {
     let alloc = rt.alloc();
-    assert!(rt; is_said(alloc, &[B_6, B_5], "fault 11 NotRising\n", 1)?);
-    assert!(rt; is_said(alloc, &[B_5, B_5], "fault 11 NotRising\n", 1)?);
+    expect!(is_said(alloc, &[B_6, B_5], "fault 11 NotRising\n", 1)?)?;
+    expect!(is_said(alloc, &[B_5, B_5], "fault 11 NotRising\n", 1)?)?;
     let order = "10.0.0.2:7000 5 0\n10.0.0.2:7000 6 0\none run\n";
-    assert!(rt; is_said(alloc, &[B_5, B_6], order, 0)?);
-    Ok(())
+    expect!(is_said(alloc, &[B_5, B_6], order, 0)?)
 }
 
 #[test]
 fn no_journals_are_one_run(rt: HostRuntime) -> Result<(), Fail> {
-    assert!(rt; is_said(rt.alloc(), &[], "one run\n", 0)?);
-    Ok(())
+    expect!(is_said(rt.alloc(), &[], "one run\n", 0)?)
 }
 
 #[test]
 fn the_first_unreadable_journal_is_told(rt: HostRuntime) -> Result<(), Fail> {
     let alloc = rt.alloc();
     let fault = "fault 2 BadText\n";
-    assert!(rt; is_said(alloc, &[""], fault, 1)?);
-    assert!(rt; is_said(alloc, &[A, "live\n"], fault, 1)?);
-    assert!(rt; is_said(alloc, &[A, B_5, "life 10.0.0.2:7000 6 c1\n"], fault, 1)?);
-    Ok(())
+    expect!(is_said(alloc, &[""], fault, 1)?)?;
+    expect!(is_said(alloc, &[A, "live\n"], fault, 1)?)?;
+    expect!(is_said(alloc, &[A, B_5, "life 10.0.0.2:7000 6 c1\n"], fault, 1)?)
 }

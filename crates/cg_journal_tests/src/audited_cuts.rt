@@ -2,6 +2,7 @@
 
 use crate::audited::{A, B, is_said};
 use cg_auditing::Journals;
+use cg_expect::expect;
 use cg_links::Counted;
 use std::alloc::Global;
 use std::test::Fail;
@@ -47,7 +48,7 @@ fn journals_are_cut_at_each_line(rt: HostRuntime) -> Result<(), Fail> {
     ];
     for (lines, (text, status)) in said.into_iter().enumerate() {
         let is_said = is_said_of_opener(alloc, lines, text, status)?;
-        assert!(rt; is_said, "opener {lines}");
+        expect!(is_said, "opener {lines}")?;
     }
     let said = [
         (UNREADABLE, 1),
@@ -57,7 +58,7 @@ fn journals_are_cut_at_each_line(rt: HostRuntime) -> Result<(), Fail> {
     ];
     for (lines, (text, status)) in said.into_iter().enumerate() {
         let is_said = is_said_of_answerer(alloc, lines, text, status)?;
-        assert!(rt; is_said, "answerer {lines}");
+        expect!(is_said, "answerer {lines}")?;
     }
     Ok(())
 }
@@ -114,7 +115,7 @@ fn is_junk(alloc: Global, line: &str) -> Result<bool, Fail> {
 fn each_unreadable_line_is_told(rt: HostRuntime) -> Result<(), Fail> {
     for line in JUNK {
         let is_junk = is_junk(rt.alloc(), line)?;
-        assert!(rt; is_junk, "{line}");
+        expect!(is_junk, "{line}")?;
     }
     Ok(())
 }

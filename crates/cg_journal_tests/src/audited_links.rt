@@ -2,6 +2,7 @@
 
 use crate::audited::{A, B};
 use cg_auditing::audit_files;
+use cg_expect::expect;
 use cg_links::{Counted, FailingLink, SlowLink};
 use std::alloc::Global;
 use std::test::Fail;
@@ -37,11 +38,11 @@ fn each_read_fails_in_turn(rt: HostRuntime) -> Result<(), Fail> {
     // the reads of all bytes, and the one that meets the end
     for turn in 1..=A.len() as u64 + 1 {
         let is_said = is_said(alloc, turn, NEVER, fault)?;
-        assert!(rt; is_said, "opener {turn}");
+        expect!(is_said, "opener {turn}")?;
     }
     for turn in 1..=B.len() as u64 + 1 {
         let is_said = is_said(alloc, NEVER, turn, fault)?;
-        assert!(rt; is_said, "answerer {turn}");
+        expect!(is_said, "answerer {turn}")?;
     }
     Ok(())
 }
@@ -58,9 +59,8 @@ fn each_write_fails_in_turn(rt: HostRuntime) -> Result<(), Fail> {
     let all = WHOLE.len();
     for count in 0..all {
         let end = written(rt.alloc(), count as u64 + 1)?;
-        assert!(rt; end == (count, true, 1), "write {count}");
+        expect!(end == (count, true, 1), "write {count}")?;
     }
     let whole = written(rt.alloc(), NEVER)?;
-    assert!(rt; whole == (all, true, 0));
-    Ok(())
+    expect!(whole == (all, true, 0))
 }

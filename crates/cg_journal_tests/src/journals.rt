@@ -2,6 +2,7 @@
 //! takes the ACK and B the ACK2.
 
 use cg_core::Event;
+use cg_expect::{expect, expect_eq};
 use cg_history::History;
 use cg_journal::{read_journal, write_journal};
 use cg_journal_laws::every_event_fits;
@@ -39,8 +40,7 @@ fn journals_are_written_as_they_were_read(rt: HostRuntime) -> Result<(), Fail> {
     let a = is_the_same(alloc, OF_A)?;
     let b = is_the_same(alloc, OF_B)?;
     let local = is_the_same(alloc, LOCAL)?;
-    assert_eq!(rt; (a, b, local), (true, true, true));
-    Ok(())
+    expect_eq!((a, b, local), (true, true, true))
 }
 
 // Upper-case digits are read, and the last line feed may be missing.
@@ -49,8 +49,7 @@ fn digits_are_written_in_lower_case(rt: HostRuntime) -> Result<(), Fail> {
     let text = "life 10.0.0.1:7000 9 1000 2000 60000 18421 - c1\nset 3 4A4b";
     let due = "life 10.0.0.1:7000 9 1000 2000 60000 18421 - c1\nset 3 4a4b\n";
     let again = written_again(rt.alloc(), text)?;
-    assert!(rt; again.as_slice() == due.as_bytes());
-    Ok(())
+    expect!(again.as_slice() == due.as_bytes())
 }
 
 // What a history tells: its node's generation and how many owners it holds, the newest version where it began, the
@@ -80,10 +79,9 @@ fn events_are_done_from_the_start(rt: HostRuntime) -> Result<(), Fail> {
     let a = told_of(alloc, OF_A)?;
     let b = told_of(alloc, OF_B)?;
     let local = told_of(alloc, LOCAL)?;
-    assert_eq!(rt; a, (9, 2, 1, 2, true));
-    assert_eq!(rt; b, (5, 2, 1, 2, true));
-    assert_eq!(rt; local, (2147483647, 1, 1, 5, true));
-    Ok(())
+    expect_eq!(a, (9, 2, 1, 2, true))?;
+    expect_eq!(b, (5, 2, 1, 2, true))?;
+    expect_eq!(local, (2147483647, 1, 1, 5, true))
 }
 
 // Of the history of a text that was applied to by caller 7, what is read of its journal.
@@ -102,8 +100,7 @@ fn told_after_beat(alloc: Global, text: &str) -> Result<(u32, usize, u32, usize,
 #[test]
 fn callers_are_left_out(rt: HostRuntime) -> Result<(), Fail> {
     let again = told_after_beat(rt.alloc(), OF_A)?;
-    assert_eq!(rt; again, (9, 2, 1, 3, true));
-    Ok(())
+    expect_eq!(again, (9, 2, 1, 3, true))
 }
 
 #[test]
@@ -115,6 +112,5 @@ fn each_event_in_hand_fits(rt: HostRuntime) -> Result<(), Fail> {
     for record in history.records() {
         every_event_fits(&record.event);
     }
-    assert_eq!(rt; history.records().len(), 5);
-    Ok(())
+    expect_eq!(history.records().len(), 5)
 }

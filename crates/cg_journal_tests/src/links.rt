@@ -1,5 +1,6 @@
 //! Links of which each call fails in turn.
 
+use cg_expect::{expect, expect_eq};
 use cg_history::History;
 use cg_journal::{read_journal, write_journal};
 use cg_links::{Counted, FailingLink, SlowLink};
@@ -32,17 +33,17 @@ fn line_at(place: u64) -> u64 {
 }
 
 #[test]
-fn each_read_fails_in_turn(rt: HostRuntime) {
+fn each_read_fails_in_turn(rt: HostRuntime) -> Result<(), Fail> {
     // the reads of 58 bytes, and the one that meets the end
     for turn in 1..60 {
         let (end, failed) = read_slowly(rt.alloc(), turn);
-        assert!(rt;
+        expect!(
             end == Err((line_at(turn - 1), 14)) && failed == 1,
             "read {turn}"
-        );
+        )?;
     }
     let (end, failed) = read_slowly(rt.alloc(), 60);
-    assert!(rt; end == Ok(2) && failed == 0);
+    expect!(end == Ok(2) && failed == 0)
 }
 
 fn history(alloc: Global) -> Result<History, Fail> {
@@ -70,15 +71,14 @@ fn each_write_fails_in_turn(rt: HostRuntime) -> Result<(), Fail> {
     // the writes of 58 bytes
     for turn in 1..59 {
         let end = written_slowly(rt.alloc(), turn)?;
-        assert!(rt;
+        expect!(
             end == (turn as usize - 1, true, 15, turn == 1),
             "write {turn}"
-        );
+        )?;
     }
     // the flush, and no call
     let unflushed = written_slowly(rt.alloc(), 59)?;
     let whole = written_slowly(rt.alloc(), 60)?;
-    assert_eq!(rt; unflushed, (58, true, 15, false));
-    assert_eq!(rt; whole, (58, true, 0, true));
-    Ok(())
+    expect_eq!(unflushed, (58, true, 15, false))?;
+    expect_eq!(whole, (58, true, 0, true))
 }

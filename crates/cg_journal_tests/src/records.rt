@@ -5,6 +5,7 @@
 
 use cg_core::{Event, Reply, Settings};
 use cg_exchange::{Ack2, OwnerDelta, syn};
+use cg_expect::expect_eq;
 use cg_history::{History, Item, Receipt};
 use cg_samples::{A, B, bare_delta, cluster, endpoint, generation, key, version};
 use cg_silence::Silence;
@@ -57,8 +58,7 @@ fn receipts_of_two(alloc: Global) -> Result<[(u32, u64, Option<u32>); 2], Fail> 
 #[test]
 fn receipts_have_caller_number_and_reply(rt: HostRuntime) -> Result<(), Fail> {
     let receipts = receipts_of_two(rt.alloc())?;
-    assert_eq!(rt; receipts, [(1, 1, Some(2)), (2, 2, Some(3))]);
-    Ok(())
+    expect_eq!(receipts, [(1, 1, Some(2)), (2, 2, Some(3))])
 }
 
 // ---- confirming
@@ -117,9 +117,8 @@ fn callers_are_confirmed_apart(rt: HostRuntime) -> Result<(), Fail> {
     let falling = stray_of(alloc, &[(Of::Beat, 2, 2), (Of::Set, 1, 1)])?;
     let twice = stray_of(alloc, &[(Of::Set, 1, 1), (Of::Set, 1, 1)])?;
     let after_another = stray_of(alloc, &[(Of::Set, 1, 1), (Of::Beat, 2, 2), (Of::Set, 1, 1)])?;
-    assert_eq!(rt; (rising, falling), (None, None));
-    assert_eq!(rt; (twice, after_another), (Some((1, 16)), Some((2, 16))));
-    Ok(())
+    expect_eq!((rising, falling), (None, None))?;
+    expect_eq!((twice, after_another), (Some((1, 16)), Some((2, 16))))
 }
 
 #[test]
@@ -130,12 +129,11 @@ fn changed_receipts_are_strangers(rt: HostRuntime) -> Result<(), Fail> {
     let number_3 = stray_of(alloc, &[(Of::Set, 1, 1), (Of::Beat, 2, 3)])?;
     let reply = stray_of(alloc, &[(Of::Set, 1, 1), (Of::BeatAtTwo, 2, 2)])?;
     let event = stray_of(alloc, &[(Of::Set, 1, 1), (Of::OpeningAtThree, 2, 2)])?;
-    assert_eq!(rt; (caller, number_0), (Some((0, 16)), Some((0, 16))));
-    assert_eq!(rt;
+    expect_eq!((caller, number_0), (Some((0, 16)), Some((0, 16))))?;
+    expect_eq!(
         (number_3, reply, event),
         (Some((1, 16)), Some((1, 16)), Some((1, 16)))
-    );
-    Ok(())
+    )
 }
 
 // So many beats, by two callers in turn, and their receipts.
@@ -166,8 +164,7 @@ fn confirmed_of(
 #[test]
 fn many_records_are_confirmed(rt: HostRuntime) -> Result<(), Fail> {
     let confirmed = confirmed_of(rt.alloc(), 100_000)?;
-    assert_eq!(rt; confirmed, (100_000, None, Some((99_999, 16))));
-    Ok(())
+    expect_eq!(confirmed, (100_000, None, Some((99_999, 16))))
 }
 
 // ---- what makes no record
@@ -204,9 +201,8 @@ fn a_refused_event_makes_no_record(rt: HostRuntime) -> Result<(), Fail> {
     let alloc = rt.alloc();
     let of_another_cluster = refused(alloc, foreign_syn(alloc)?)?;
     let of_too_many = refused(alloc, ack2_about(alloc, 256)?)?;
-    assert_eq!(rt; of_another_cluster, (Some(Fault::OtherCluster), 2));
-    assert_eq!(rt; of_too_many, (Some(Fault::TableFull), 2));
-    Ok(())
+    expect_eq!(of_another_cluster, (Some(Fault::OtherCluster), 2))?;
+    expect_eq!(of_too_many, (Some(Fault::TableFull), 2))
 }
 
 // ---- puts
@@ -238,7 +234,6 @@ fn records_put_what_they_changed(rt: HostRuntime) -> Result<(), Fail> {
     let beat = puts(alloc, Event::Beat)?;
     let opening = puts(alloc, Event::Opening)?;
     let ack2 = puts(alloc, ack2_about(alloc, 1)?)?;
-    assert_eq!(rt; (set, beat), ((1, false), (1, false)));
-    assert_eq!(rt; (opening, ack2), ((0, false), (1, true)));
-    Ok(())
+    expect_eq!((set, beat), ((1, false), (1, false)))?;
+    expect_eq!((opening, ack2), ((0, false), (1, true)))
 }

@@ -1,5 +1,6 @@
 //! Lines that can't be read, and the number that is told of them.
 
+use cg_expect::expect;
 use cg_journal::read_journal;
 use cg_links::Counted;
 use std::alloc::Global;
@@ -58,7 +59,7 @@ const LINES: [&str; 26] = [
 fn each_line_is_unreadable(rt: HostRuntime) -> Result<(), Fail> {
     for line in LINES {
         let found = is_unreadable(rt.alloc(), line)?;
-        assert!(rt; found, "{line}");
+        expect!(found, "{line}")?;
     }
     Ok(())
 }
@@ -83,19 +84,17 @@ const LIVES: [&str; 16] = [
 ];
 
 #[test]
-fn each_first_line_is_unreadable(rt: HostRuntime) {
+fn each_first_line_is_unreadable(rt: HostRuntime) -> Result<(), Fail> {
     for line in LIVES {
-        assert!(rt;
-            end_of(rt.alloc(), line.as_bytes()) == Err((1, 2)),
-            "{line}"
-        );
+        expect!(end_of(rt.alloc(), line.as_bytes()) == Err((1, 2)), "{line}")?;
     }
+    Ok(())
 }
 
 #[test]
-fn bytes_that_are_no_text_are_unreadable(rt: HostRuntime) {
+fn bytes_that_are_no_text_are_unreadable(rt: HostRuntime) -> Result<(), Fail> {
     let text = b"life 10.0.0.1:7000 9 1000 2000 60000 18421 - \xff\n";
-    assert!(rt; end_of(rt.alloc(), text) == Err((1, 2)));
+    expect!(end_of(rt.alloc(), text) == Err((1, 2)))
 }
 
 // What comes of a text of so many bytes.
@@ -113,8 +112,7 @@ fn long_text(alloc: Global, bytes: usize) -> Result<Result<usize, (u64, u8)>, Fa
 fn texts_have_their_limit(rt: HostRuntime) -> Result<(), Fail> {
     let within = long_text(rt.alloc(), 1024)?;
     let over = long_text(rt.alloc(), 1025)?;
-    assert!(rt; within == Ok(2) && over == Err((3, 2)));
-    Ok(())
+    expect!(within == Ok(2) && over == Err((3, 2)))
 }
 
 // A journal that is cut behind so many lines.
@@ -133,14 +131,15 @@ fn cut_behind(text: &str, lines: usize) -> &[u8] {
 }
 
 #[test]
-fn a_journal_is_read_as_far_as_it_goes(rt: HostRuntime) {
+fn a_journal_is_read_as_far_as_it_goes(rt: HostRuntime) -> Result<(), Fail> {
     let alloc = rt.alloc();
     let text = "life 10.0.0.1:7000 9 1000 2000 60000 18421 - c1\nbeat\nopen\nset 3 -\nbeat\n";
-    assert!(rt; end_of(alloc, cut_behind(text, 0)) == Err((1, 2)));
+    expect!(end_of(alloc, cut_behind(text, 0)) == Err((1, 2)))?;
     for lines in 1..6 {
-        assert!(rt;
+        expect!(
             end_of(alloc, cut_behind(text, lines)) == Ok(lines - 1),
             "{lines}"
-        );
+        )?;
     }
+    Ok(())
 }

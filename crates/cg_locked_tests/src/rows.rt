@@ -6,6 +6,7 @@ ghost use Rattle.std.specs.List.{sum_by};
 use crate::history::new_history;
 use crate::reading::{Read, set_and_read};
 use cg_core::Event;
+use cg_expect::expect_eq;
 use cg_history::{History, Receipt};
 use cg_locked::{Board, Name, Seat, Shared};
 use cg_samples::key;
@@ -377,32 +378,28 @@ fn left<R: Wait>(rt: &R, alloc: Global, seats: usize, work: Work) -> Result<Left
 #[test]
 fn a_set_is_told_read_and_confirmed(rt: HostRuntime) -> Result<(), Fail> {
     let (numbers, records, stray) = left(&rt, rt.alloc(), 1, Work::Set)?;
-    assert_eq!(rt; numbers.as_slice(), [1, 2, 2].as_slice());
-    assert_eq!(rt; (records, stray), (1, None));
-    Ok(())
+    expect_eq!(numbers.as_slice(), [1, 2, 2].as_slice())?;
+    expect_eq!((records, stray), (1, None))
 }
 
 #[test]
 fn a_receipt_of_another_number_is_a_stranger(rt: HostRuntime) -> Result<(), Fail> {
     let (_, records, stray) = left(&rt, rt.alloc(), 1, Work::SetAndForge)?;
-    assert_eq!(rt; (records, stray), (1, Some((0, 16))));
-    Ok(())
+    expect_eq!((records, stray), (1, Some((0, 16))))
 }
 
 #[test]
 fn a_pass_reads_while_its_thread_has_the_board(rt: HostRuntime) -> Result<(), Fail> {
     let (numbers, records, stray) = left(&rt, rt.alloc(), 1, Work::ReadLent)?;
-    assert_eq!(rt; numbers.as_slice(), [0].as_slice());
-    assert_eq!(rt; (records, stray), (0, None));
-    Ok(())
+    expect_eq!(numbers.as_slice(), [0].as_slice())?;
+    expect_eq!((records, stray), (0, None))
 }
 
 #[test]
 fn records_that_were_not_published_are_caught_up(rt: HostRuntime) -> Result<(), Fail> {
     let (numbers, records, stray) = left(&rt, rt.alloc(), 1, Work::EnterTwo)?;
-    assert_eq!(rt; numbers.as_slice(), [1, 0, 2, 0, 0, 3, 2].as_slice());
-    assert_eq!(rt; (records, stray), (2, None));
-    Ok(())
+    expect_eq!(numbers.as_slice(), [1, 0, 2, 0, 0, 3, 2].as_slice())?;
+    expect_eq!((records, stray), (2, None))
 }
 
 // Run with each request for memory refused in turn (`rt try --test --fail-alloc N`), it ends so too, or finds no memory
@@ -410,16 +407,14 @@ fn records_that_were_not_published_are_caught_up(rt: HostRuntime) -> Result<(), 
 #[test]
 fn refused_publications_are_caught_up(rt: HostRuntime) -> Result<(), Fail> {
     let (numbers, records, stray) = left(&rt, rt.alloc(), 1, Work::SetAnyway)?;
-    assert_eq!(rt; numbers.as_slice(), [1, 1, 0, 3, 2].as_slice());
-    assert_eq!(rt; (records, stray), (2, None));
-    Ok(())
+    expect_eq!(numbers.as_slice(), [1, 1, 0, 3, 2].as_slice())?;
+    expect_eq!((records, stray), (2, None))
 }
 
 #[test]
 fn sixteen_seats_have_their_callers(rt: HostRuntime) -> Result<(), Fail> {
     let (numbers, records, stray) = left(&rt, rt.alloc(), 16, Work::Beat)?;
     let callers = [1, 2, 3, 4, 5, 6, 7, 8, 9, 10, 11, 12, 13, 14, 15, 16];
-    assert_eq!(rt; numbers.as_slice(), callers.as_slice());
-    assert_eq!(rt; (records, stray), (16, None));
-    Ok(())
+    expect_eq!(numbers.as_slice(), callers.as_slice())?;
+    expect_eq!((records, stray), (16, None))
 }

@@ -4,6 +4,7 @@ ghost use Rattle.std.specs.Prelude.{◌≡◌, []};
 
 use crate::history::new_history;
 use crate::reading::set_and_read;
+use cg_expect::expect_eq;
 use cg_history::{History, Receipt};
 use cg_locked::{Name, Seat, Shared};
 use cg_samples::key;
@@ -155,6 +156,5 @@ fn two_threads_are_confirmed(rt: HostRuntime) -> Result<(), Fail> {
         confirmed: Ok(200),
         reads: 200,
     };
-    assert_eq!(rt; two, due);
-    Ok(())
+    expect_eq!(two, due)
 }

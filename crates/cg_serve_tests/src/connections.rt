@@ -1,6 +1,7 @@
 //! Words that are sent and answered, and peers that are late.
 
 use crate::ports::free_endpoint;
+use cg_expect::expect;
 use cg_sockets::{Dialer, Listener};
 use cg_types::{Endpoint, Fault};
 use cg_workers::{Dial, Listen};
@@ -36,25 +37,22 @@ fn a_word_is_answered(rt: HostRuntime) -> Result<(), Fail> {
     let mut listener = Listener::bind(&rt, rt.alloc(), to)?;
     let mut dialer = Dialer::new(&rt, rt.alloc(), 2000);
     let (answered, asked) = thread::join(&rt, || echo(&mut listener), || ask(&mut dialer, to));
-    assert!(rt; answered);
-    assert!(rt; asked == Some(*b"syn"));
-    Ok(())
+    expect!(answered)?;
+    expect!(asked == Some(*b"syn"))
 }
 
 #[test]
 fn a_place_is_taken_once(rt: HostRuntime) -> Result<(), Fail> {
     let at = free_endpoint(&rt)?;
     let _listener = Listener::bind(&rt, rt.alloc(), at)?;
-    assert!(rt; Listener::bind(&rt, rt.alloc(), at).err() == Some(Fault::ReadFault));
-    Ok(())
+    expect!(Listener::bind(&rt, rt.alloc(), at).err() == Some(Fault::ReadFault))
 }
 
 #[test]
 fn nobody_answers(rt: HostRuntime) -> Result<(), Fail> {
     let to = free_endpoint(&rt)?;
     let mut dialer = Dialer::new(&rt, rt.alloc(), 2000);
-    assert!(rt; dialer.dial(to).err() == Some(Fault::ReadFault));
-    Ok(())
+    expect!(dialer.dial(to).err() == Some(Fault::ReadFault))
 }
 
 // How many milliseconds a read of three bytes lasts that a peer does not send, and whether it failed.
@@ -88,8 +86,7 @@ fn a_silent_peer_is_left_at_the_end(rt: HostRuntime) -> Result<(), Fail> {
     let to = free_endpoint(&rt)?;
     let _listener = Listener::bind(&rt, rt.alloc(), to)?;
     let (lasted, failed) = waited(&rt, rt.alloc(), to)?;
-    assert!(rt; failed && lasted >= 199 && lasted < 30000, "{lasted}");
-    Ok(())
+    expect!(failed && lasted >= 199 && lasted < 30000, "{lasted}")
 }
 
 // Reads that come to no end before the connection's.
@@ -124,9 +121,8 @@ fn a_peer_that_drips_is_left_at_the_end(rt: HostRuntime) -> Result<(), Fail> {
         || dripped(&rt, alloc, to),
     );
     let (lasted, read) = read?;
-    assert!(rt;
+    expect!(
         lasted >= 1999 && lasted < 30000 && read > 0 && read < 20,
         "{lasted} {read}"
-    );
-    Ok(())
+    )
 }

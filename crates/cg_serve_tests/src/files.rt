@@ -1,5 +1,6 @@
 //! Files that are read and replaced.
 
+use cg_expect::expect;
 use cg_files::{Replacement, read_file, replace, store_generation, stored_generation};
 use cg_links::write_bytes;
 use cg_types::{Fault, Generation};
@@ -30,61 +31,64 @@ fn is_missing<R: Files>(rt: &R, alloc: Global, path: &str) -> bool {
 }
 
 #[test]
-fn a_file_is_made_and_replaced(rt: HostRuntime) {
+fn a_file_is_made_and_replaced(rt: HostRuntime) -> Result<(), Fail> {
     let alloc = rt.alloc();
     let path = "cg_files_replaced";
     let _ = fs::remove_file(&rt, path);
-    assert!(rt; is_missing(&rt, alloc, path));
-    assert!(rt; replace(&rt, alloc, path, b"old and longer").is_ok());
-    assert!(rt; has(&rt, alloc, path, b"old and longer"));
-    assert!(rt; replace(&rt, alloc, path, b"new").is_ok());
-    assert!(rt; has(&rt, alloc, path, b"new"));
-    assert!(rt; is_missing(&rt, alloc, "cg_files_replaced.new"));
+    expect!(is_missing(&rt, alloc, path))?;
+    expect!(replace(&rt, alloc, path, b"old and longer").is_ok())?;
+    expect!(has(&rt, alloc, path, b"old and longer"))?;
+    expect!(replace(&rt, alloc, path, b"new").is_ok())?;
+    expect!(has(&rt, alloc, path, b"new"))?;
+    expect!(is_missing(&rt, alloc, "cg_files_replaced.new"))?;
     let _ = fs::remove_file(&rt, path);
+    Ok(())
 }
 
 #[test]
 fn a_file_that_is_not_put_in_place_stays_aside(rt: HostRuntime) -> Result<(), Fail> {
     let alloc = rt.alloc();
     let path = "cg_files_begun";
-    assert!(rt; replace(&rt, alloc, path, b"old").is_ok());
+    expect!(replace(&rt, alloc, path, b"old").is_ok())?;
     let mut new = Replacement::begin(&rt, alloc, path)?;
     write_bytes(new.link(), b"half")?;
-    assert!(rt; has(&rt, alloc, path, b"old"));
-    assert!(rt; has(&rt, alloc, "cg_files_begun.new", b"half"));
+    expect!(has(&rt, alloc, path, b"old"))?;
+    expect!(has(&rt, alloc, "cg_files_begun.new", b"half"))?;
     new.put(&rt, path)?;
-    assert!(rt; has(&rt, alloc, path, b"half"));
+    expect!(has(&rt, alloc, path, b"half"))?;
     let _ = fs::remove_file(&rt, path);
     Ok(())
 }
 
 #[test]
-fn a_file_in_no_folder_can_not_be_made(rt: HostRuntime) {
+fn a_file_in_no_folder_can_not_be_made(rt: HostRuntime) -> Result<(), Fail> {
     let alloc = rt.alloc();
     for path in ["cg_files_no_folder/file", "", "cg\0files"] {
-        assert!(rt;
+        expect!(
             replace(&rt, alloc, path, b"new") == Err(Fault::WriteFault),
             "{path:?}"
-        );
+        )?;
     }
+    Ok(())
 }
 
 #[test]
-fn a_file_longer_than_its_limit_is_no_text(rt: HostRuntime) {
+fn a_file_longer_than_its_limit_is_no_text(rt: HostRuntime) -> Result<(), Fail> {
     let alloc = rt.alloc();
     let path = "cg_files_long";
-    assert!(rt; replace(&rt, alloc, path, &[b'x'; 64]).is_ok());
-    assert!(rt; has(&rt, alloc, path, &[b'x'; 64]));
-    assert!(rt; replace(&rt, alloc, path, &[b'x'; 65]).is_ok());
-    assert!(rt; found(&rt, alloc, path).err() == Some(Fault::BadText));
-    assert!(rt; found(&rt, alloc, "/dev/zero").err() == Some(Fault::BadText));
+    expect!(replace(&rt, alloc, path, &[b'x'; 64]).is_ok())?;
+    expect!(has(&rt, alloc, path, &[b'x'; 64]))?;
+    expect!(replace(&rt, alloc, path, &[b'x'; 65]).is_ok())?;
+    expect!(found(&rt, alloc, path).err() == Some(Fault::BadText))?;
+    expect!(found(&rt, alloc, "/dev/zero").err() == Some(Fault::BadText))?;
     let _ = fs::remove_file(&rt, path);
+    Ok(())
 }
 
 #[test]
-fn a_folder_can_not_be_read(rt: HostRuntime) {
-    assert!(rt; found(&rt, rt.alloc(), ".").err() == Some(Fault::ReadFault));
-    assert!(rt; found(&rt, rt.alloc(), "/dev/null/x").err() == Some(Fault::ReadFault));
+fn a_folder_can_not_be_read(rt: HostRuntime) -> Result<(), Fail> {
+    expect!(found(&rt, rt.alloc(), ".").err() == Some(Fault::ReadFault))?;
+    expect!(found(&rt, rt.alloc(), "/dev/null/x").err() == Some(Fault::ReadFault))
 }
 
 // Whether a file that holds these bytes keeps no generation for this cause.
@@ -98,11 +102,11 @@ fn a_generation_is_kept(rt: HostRuntime) -> Result<(), Fail> {
     let alloc = rt.alloc();
     let path = "cg_files_generation";
     let _ = fs::remove_file(&rt, path);
-    assert!(rt; stored_generation(&rt, alloc, path) == Ok(None));
+    expect!(stored_generation(&rt, alloc, path) == Ok(None))?;
     for number in [1, 1700000000, 2147483647] {
         let generation = Generation::new(number).ok_or("generation")?;
         store_generation(&rt, alloc, path, generation)?;
-        assert!(rt; stored_generation(&rt, alloc, path) == Ok(Some(generation)));
+        expect!(stored_generation(&rt, alloc, path) == Ok(Some(generation)))?;
     }
     for bytes in [
         b"".as_slice(),
@@ -112,9 +116,9 @@ fn a_generation_is_kept(rt: HostRuntime) -> Result<(), Fail> {
         b"2147483648\n",
         b"123456789012",
     ] {
-        assert!(rt; refuses(&rt, alloc, path, bytes), "{bytes:?}");
+        expect!(refuses(&rt, alloc, path, bytes), "{bytes:?}")?;
     }
-    assert!(rt; stored_generation(&rt, alloc, ".") == Err(Fault::ReadFault));
+    expect!(stored_generation(&rt, alloc, ".") == Err(Fault::ReadFault))?;
     let _ = fs::remove_file(&rt, path);
     Ok(())
 }

@@ -1,5 +1,6 @@
 //! Texts that are a generation, and texts that are none.
 
+use cg_expect::expect_eq;
 use cg_files::{generation_in, generation_text};
 use cg_types::Generation;
 use std::test::Fail;
@@ -13,19 +14,20 @@ fn number_in(bytes: &[u8]) -> u32 {
 }
 
 #[test]
-fn one_number_and_perhaps_a_line_feed(rt: HostRuntime) {
+fn one_number_and_perhaps_a_line_feed() -> Result<(), Fail> {
     for (bytes, number) in [
         (b"1".as_slice(), 1),
         (b"1\n", 1),
         (b"1700000000\n", 1700000000),
         (b"2147483647\n", 2147483647),
     ] {
-        assert_eq!(rt; number_in(bytes), number);
+        expect_eq!(number_in(bytes), number)?;
     }
+    Ok(())
 }
 
 #[test]
-fn anything_else_is_none(rt: HostRuntime) {
+fn anything_else_is_none() -> Result<(), Fail> {
     for bytes in [
         b"".as_slice(),
         b"\n",
@@ -45,14 +47,14 @@ fn anything_else_is_none(rt: HostRuntime) {
         b"five\n",
         b"\xff\n",
     ] {
-        assert_eq!(rt; number_in(bytes), 0, "{bytes:?}");
+        expect_eq!(number_in(bytes), 0, "{bytes:?}")?;
     }
+    Ok(())
 }
 
 #[test]
 fn the_text_of_a_generation(rt: HostRuntime) -> Result<(), Fail> {
     let generation = Generation::new(1700000000).ok_or("generation")?;
     let text = generation_text(rt.alloc(), generation)?;
-    assert_eq!(rt; text.as_str(), "1700000000\n");
-    Ok(())
+    expect_eq!(text.as_str(), "1700000000\n")
 }

@@ -1,10 +1,12 @@
 //! The time that is given to an exchange.
 
+use cg_expect::expect_eq;
 use cg_sockets::laws::limits_have_their_values;
 use cg_sockets::limit_for;
+use std::test::Fail;
 
 #[test]
-fn a_third_of_the_interval_and_at_least_100(rt: HostRuntime) {
+fn a_third_of_the_interval_and_at_least_100() -> Result<(), Fail> {
     for (interval, limit) in [
         (0, 100),
         (299, 100),
@@ -14,7 +16,8 @@ fn a_third_of_the_interval_and_at_least_100(rt: HostRuntime) {
         (1000, 333),
         (60000, 20000),
     ] {
-        assert_eq!(rt; limit_for(interval), limit);
+        expect_eq!(limit_for(interval), limit)?;
     }
     limits_have_their_values();
+    Ok(())
 }

@@ -1,6 +1,7 @@
 //! One node alone, and nodes that can't begin.
 
 use crate::ports::free_port;
+use cg_expect::{expect, expect_eq};
 use cg_files::{read_file, replace, stored_generation};
 use cg_journal::read_journal;
 use cg_links::Counted;
@@ -72,15 +73,14 @@ fn a_node_alone(rt: HostRuntime) -> Result<(), Fail> {
     let settings = settle(&rt, alloc, name, port)?;
     remove(&rt, alloc, name, "journal")?;
     keep(&rt, alloc, name, "generation", b"2147483646\n")?;
-    assert_eq!(rt; serve(&rt, alloc, settings.as_str()), 0);
-    assert!(rt; kept(&rt, alloc, name)? == Ok(Some(2147483647)));
+    expect_eq!(serve(&rt, alloc, settings.as_str()), 0)?;
+    expect!(kept(&rt, alloc, name)? == Ok(Some(2147483647)))?;
     let own = Endpoint::new([127, 0, 0, 1], port).ok_or("endpoint")?;
     let generation = Generation::new(2147483647).ok_or("generation")?;
-    assert!(rt; journal(&rt, alloc, name)? == Some((own, generation, 2)));
+    expect!(journal(&rt, alloc, name)? == Some((own, generation, 2)))?;
     // there is no greater generation, and the journal of the first life stays
-    assert_eq!(rt; serve(&rt, alloc, settings.as_str()), 1);
-    assert!(rt; journal(&rt, alloc, name)? == Some((own, generation, 2)));
-    Ok(())
+    expect_eq!(serve(&rt, alloc, settings.as_str()), 1)?;
+    expect!(journal(&rt, alloc, name)? == Some((own, generation, 2)))
 }
 
 #[test]
@@ -88,24 +88,22 @@ fn a_first_life_is_in_the_generation_of_its_second(rt: HostRuntime) -> Result<()
     let (alloc, name) = (rt.alloc(), "cg_serve_first");
     let settings = settle(&rt, alloc, name, free_port(&rt)?)?;
     remove(&rt, alloc, name, "generation")?;
-    assert_eq!(rt; serve(&rt, alloc, settings.as_str()), 0);
+    expect_eq!(serve(&rt, alloc, settings.as_str()), 0)?;
     let first = kept(&rt, alloc, name)?.ok().flatten().ok_or("generation")?;
-    assert!(rt; first > 1700000000);
-    assert_eq!(rt; serve(&rt, alloc, settings.as_str()), 0);
+    expect!(first > 1700000000)?;
+    expect_eq!(serve(&rt, alloc, settings.as_str()), 0)?;
     let next = kept(&rt, alloc, name)?.ok().flatten().ok_or("generation")?;
-    assert!(rt; next > first);
-    Ok(())
+    expect!(next > first)
 }
 
 #[test]
 fn settings_that_are_missing_or_none(rt: HostRuntime) -> Result<(), Fail> {
     let (alloc, name) = (rt.alloc(), "cg_serve_unset");
     remove(&rt, alloc, name, "toml")?;
-    assert_eq!(rt; serve(&rt, alloc, "cg_serve_unset.toml"), 1);
+    expect_eq!(serve(&rt, alloc, "cg_serve_unset.toml"), 1)?;
     keep(&rt, alloc, name, "toml", b"cluster = \"\xff\"\n")?;
-    assert_eq!(rt; serve(&rt, alloc, "cg_serve_unset.toml"), 1);
-    assert_eq!(rt; serve(&rt, alloc, "."), 1);
-    Ok(())
+    expect_eq!(serve(&rt, alloc, "cg_serve_unset.toml"), 1)?;
+    expect_eq!(serve(&rt, alloc, "."), 1)
 }
 
 #[test]
@@ -114,10 +112,9 @@ fn a_generation_that_is_none_stays(rt: HostRuntime) -> Result<(), Fail> {
     let settings = settle(&rt, alloc, name, free_port(&rt)?)?;
     keep(&rt, alloc, name, "generation", b"five\n")?;
     remove(&rt, alloc, name, "journal")?;
-    assert_eq!(rt; serve(&rt, alloc, settings.as_str()), 1);
-    assert!(rt; kept(&rt, alloc, name)? == Err(Fault::BadText));
-    assert!(rt; journal(&rt, alloc, name)?.is_none());
-    Ok(())
+    expect_eq!(serve(&rt, alloc, settings.as_str()), 1)?;
+    expect!(kept(&rt, alloc, name)? == Err(Fault::BadText))?;
+    expect!(journal(&rt, alloc, name)?.is_none())
 }
 
 #[test]
@@ -127,10 +124,9 @@ fn the_generation_is_kept_before_the_node_listens(rt: HostRuntime) -> Result<(),
     let settings = settle(&rt, alloc, name, listener.local_addr()?.port())?;
     keep(&rt, alloc, name, "generation", b"2147483600\n")?;
     remove(&rt, alloc, name, "journal")?;
-    assert_eq!(rt; serve(&rt, alloc, settings.as_str()), 1);
-    assert!(rt; kept(&rt, alloc, name)? == Ok(Some(2147483601)));
-    assert!(rt; journal(&rt, alloc, name)?.is_none());
-    Ok(())
+    expect_eq!(serve(&rt, alloc, settings.as_str()), 1)?;
+    expect!(kept(&rt, alloc, name)? == Ok(Some(2147483601)))?;
+    expect!(journal(&rt, alloc, name)?.is_none())
 }
 
 #[test]
@@ -143,6 +139,5 @@ fn a_journal_that_can_not_be_written(rt: HostRuntime) -> Result<(), Fail> {
     )?;
     keep(&rt, alloc, name, "toml", text.as_bytes())?;
     keep(&rt, alloc, name, "generation", b"5")?;
-    assert_eq!(rt; serve(&rt, alloc, "cg_serve_unwritten.toml"), 1);
-    Ok(())
+    expect_eq!(serve(&rt, alloc, "cg_serve_unwritten.toml"), 1)
 }

@@ -1,5 +1,6 @@
 //! The verdicts at worked moments, and each call once with ample memory.
 
+use cg_expect::expect_eq;
 use cg_silence::{
     GAP_LIMIT, Silence, SilenceFault, THRESHOLD_LIMIT, Verdict, WINDOW_LIMIT, Window,
 };
@@ -22,7 +23,7 @@ fn window(alloc: Global, silence: Silence, arrivals: &[u64]) -> Result<Window, F
 type Wrong = Option<SilenceFault>;
 
 #[test]
-fn settings_are_in_their_ranges(rt: HostRuntime) {
+fn settings_are_in_their_ranges() -> Result<(), Fail> {
     let cases: [((usize, u32, u32, u32), Wrong); 11] = [
         ((1, 1, 1, 1), None),
         ((1000, 86400000, 86400000, 1000000000), None),
@@ -38,10 +39,11 @@ fn settings_are_in_their_ranges(rt: HostRuntime) {
     ];
     for ((window, initial_gap, max_gap, threshold), wrong) in cases {
         let tried = Silence::try_new(window, initial_gap, max_gap, threshold);
-        assert_eq!(rt; tried.err(), wrong);
+        expect_eq!(tried.err(), wrong)?;
         let silence = Silence::new(window, initial_gap, max_gap, threshold);
-        assert_eq!(rt; silence.is_none(), wrong.is_some());
+        expect_eq!(silence.is_none(), wrong.is_some())?;
     }
+    Ok(())
 }
 
 #[test]
@@ -62,40 +64,39 @@ fn faults_are_told(rt: HostRuntime) -> Result<(), Fail> {
         ),
     ] {
         let told = format!(in rt.alloc(); "{fault}")?;
-        assert_eq!(rt; told.as_str(), wanted);
+        expect_eq!(told.as_str(), wanted)?;
     }
     Ok(())
 }
 
 #[test]
-fn verdicts_have_names(rt: HostRuntime) {
+fn verdicts_have_names() -> Result<(), Fail> {
     let names = [Verdict::Alive, Verdict::Silent, Verdict::Unheard].map(|verdict| verdict.name());
-    assert_eq!(rt; names, ["Alive", "Silent", "Unheard"]);
+    expect_eq!(names, ["Alive", "Silent", "Unheard"])
 }
 
 #[test]
-fn settings_are_read(rt: HostRuntime) -> Result<(), Fail> {
+fn settings_are_read() -> Result<(), Fail> {
     let silence = silence(5, 2, 3, 4)?;
-    assert_eq!(rt; silence.window(), 5);
-    assert_eq!(rt; silence.initial_gap(), 2);
-    assert_eq!(rt; silence.max_gap(), 3);
-    assert_eq!(rt; silence.threshold(), 4);
-    Ok(())
+    expect_eq!(silence.window(), 5)?;
+    expect_eq!(silence.initial_gap(), 2)?;
+    expect_eq!(silence.max_gap(), 3)?;
+    expect_eq!(silence.threshold(), 4)
 }
 
 #[test]
-fn the_defaults(rt: HostRuntime) {
-    assert_eq!(rt;
+fn the_defaults() -> Result<(), Fail> {
+    expect_eq!(
         Silence::new(1000, 2000, 60000, 18421),
         Some(Silence::default())
-    );
+    )
 }
 
 #[test]
 fn nothing_was_heard(rt: HostRuntime) -> Result<(), Fail> {
     let window = window(rt.alloc(), Silence::default(), &[])?;
     for now in [0, 1, u64::MAX] {
-        assert_eq!(rt; window.verdict(now), Verdict::Unheard, "at {now}");
+        expect_eq!(window.verdict(now), Verdict::Unheard, "at {now}")?;
     }
     Ok(())
 }
@@ -110,7 +111,7 @@ fn silence_threshold(rt: HostRuntime) -> Result<(), Fail> {
         (38632, Verdict::Silent),
         (u64::MAX, Verdict::Silent),
     ] {
-        assert_eq!(rt; window.verdict(now), verdict, "at {now}");
+        expect_eq!(window.verdict(now), verdict, "at {now}")?;
     }
     Ok(())
 }
@@ -119,9 +120,8 @@ fn silence_threshold(rt: HostRuntime) -> Result<(), Fail> {
 #[test]
 fn an_arrival_before_the_last_one(rt: HostRuntime) -> Result<(), Fail> {
     let window = window(rt.alloc(), Silence::default(), &[10000, 11000, 10400])?;
-    assert_eq!(rt; window.verdict(29427), Verdict::Alive);
-    assert_eq!(rt; window.verdict(29428), Verdict::Silent);
-    Ok(())
+    expect_eq!(window.verdict(29427), Verdict::Alive)?;
+    expect_eq!(window.verdict(29428), Verdict::Silent)
 }
 
 // Of the gaps 2,000, 1,000, 7,000 and 500 the third is not recorded, and the first has left: the mean of the
@@ -130,9 +130,8 @@ fn an_arrival_before_the_last_one(rt: HostRuntime) -> Result<(), Fail> {
 fn gaps_are_left_out_and_leave(rt: HostRuntime) -> Result<(), Fail> {
     let silence = silence(2, 2000, 5000, 1000)?;
     let window = window(rt.alloc(), silence, &[1000, 2000, 9000, 9500])?.copy(rt.alloc())?;
-    assert_eq!(rt; window.verdict(10250), Verdict::Alive);
-    assert_eq!(rt; window.verdict(10251), Verdict::Silent);
-    Ok(())
+    expect_eq!(window.verdict(10250), Verdict::Alive)?;
+    expect_eq!(window.verdict(10251), Verdict::Silent)
 }
 
 // A copy and its source go on by themselves.
@@ -141,10 +140,9 @@ fn a_copy_stands_alone(rt: HostRuntime) -> Result<(), Fail> {
     let source = window(rt.alloc(), silence(2, 1000, 5000, 1000)?, &[1000])?;
     let mut copy = source.copy(rt.alloc())?;
     copy.arrived(4000);
-    assert_eq!(rt; source.verdict(2001), Verdict::Silent);
-    assert_eq!(rt; copy.verdict(6000), Verdict::Alive);
-    assert_eq!(rt; copy.verdict(6001), Verdict::Silent);
-    Ok(())
+    expect_eq!(source.verdict(2001), Verdict::Silent)?;
+    expect_eq!(copy.verdict(6000), Verdict::Alive)?;
+    expect_eq!(copy.verdict(6001), Verdict::Silent)
 }
 
 // The greatest settings: 1,000 gaps of a day and a million means. Both products pass 64 bits.
@@ -155,8 +153,7 @@ fn the_greatest_products(rt: HostRuntime) -> Result<(), Fail> {
     for day in 0..1000u64 {
         window.arrived(day * 86400000);
     }
-    assert_eq!(rt; window.verdict(86486313600000), Verdict::Alive);
-    assert_eq!(rt; window.verdict(86486313600001), Verdict::Silent);
-    assert_eq!(rt; window.verdict(u64::MAX), Verdict::Silent);
-    Ok(())
+    expect_eq!(window.verdict(86486313600000), Verdict::Alive)?;
+    expect_eq!(window.verdict(86486313600001), Verdict::Silent)?;
+    expect_eq!(window.verdict(u64::MAX), Verdict::Silent)
 }

@@ -1,5 +1,6 @@
 //! Maps from endpoints to shared values, their rows, and lists that are made item by item.
 
+use cg_expect::expect_eq;
 use cg_map::{Row, SharedMap, push_some, rows_rise};
 use cg_samples::endpoint;
 use std::alloc::Global;
@@ -23,8 +24,7 @@ fn got(map: &SharedMap<u32>) -> (Option<u32>, Option<u32>, Option<u32>) {
 #[test]
 fn what_is_put_is_got(rt: HostRuntime) -> Result<(), Fail> {
     let got = got(&two_values(rt.alloc())?.copy(rt.alloc())?);
-    assert_eq!(rt; got, (None, Some(20), Some(30)));
-    Ok(())
+    expect_eq!(got, (None, Some(20), Some(30)))
 }
 
 // What changes them: 21 at endpoint 2, and 40 at endpoint 4.
@@ -60,11 +60,10 @@ fn changed(alloc: Global) -> Result<(SharedMap<u32>, SharedMap<u32>), Fail> {
 fn a_row_is_put_in_place_of_one_with_its_endpoint(rt: HostRuntime) -> Result<(), Fail> {
     let wanted = [(2, 21), (3, 30), (4, 40)];
     let (put, lent) = changed(rt.alloc())?;
-    assert_eq!(rt;
+    expect_eq!(
         (has_rows(&put, wanted), has_rows(&lent, wanted)),
         (true, true)
-    );
-    Ok(())
+    )
 }
 
 #[test]
@@ -72,8 +71,7 @@ fn an_item_is_put_at_the_end(rt: HostRuntime) -> Result<(), Fail> {
     let mut items = vec![in rt.alloc(); 1]?;
     push_some(&mut items, None)?;
     push_some(&mut items, Some(2))?;
-    assert_eq!(rt; items.as_slice(), [1, 2].as_slice());
-    Ok(())
+    expect_eq!(items.as_slice(), [1, 2].as_slice())
 }
 
 // Whether the rows of two endpoints rise in this order.
@@ -86,7 +84,7 @@ fn rise(alloc: Global, first: u16, second: u16) -> Result<bool, Fail> {
 #[test]
 fn rows_rise_strictly(rt: HostRuntime) -> Result<(), Fail> {
     for (first, second, wanted) in [(1, 2, true), (2, 2, false), (2, 1, false)] {
-        assert_eq!(rt; rise(rt.alloc(), first, second)?, wanted);
+        expect_eq!(rise(rt.alloc(), first, second)?, wanted)?;
     }
     Ok(())
 }

@@ -1,5 +1,6 @@
 //! Puts: lists of owners with whole entries, compared and copied.
 
+use cg_expect::expect_eq;
 use cg_samples::{bare_entry, endpoint};
 use cg_table::Puts;
 use std::alloc::Global;
@@ -31,13 +32,12 @@ fn one_and_its_copy(alloc: Global) -> Result<(Seen, Seen), Fail> {
 #[test]
 fn one_put_is_shown_and_copied(rt: HostRuntime) -> Result<(), Fail> {
     let put = (1, Some((1, 9, 3)));
-    assert_eq!(rt; one_and_its_copy(rt.alloc())?, (put, put));
-    Ok(())
+    expect_eq!(one_and_its_copy(rt.alloc())?, (put, put))
 }
 
 #[test]
-fn no_puts_have_no_rows(rt: HostRuntime) {
-    assert_eq!(rt; seen(&Puts::none(rt.alloc())), (0, None));
+fn no_puts_have_no_rows(rt: HostRuntime) -> Result<(), Fail> {
+    expect_eq!(seen(&Puts::none(rt.alloc())), (0, None))
 }
 
 // Whether two puts of one owner are the same, whose entries stand apart in memory: with these generations and
@@ -54,8 +54,7 @@ fn are_same(alloc: Global, one: (u16, u32, u32), other: (u16, u32, u32)) -> Resu
 
 #[test]
 fn puts_of_equal_entries_are_the_same(rt: HostRuntime) -> Result<(), Fail> {
-    assert_eq!(rt; are_same(rt.alloc(), (1, 9, 3), (1, 9, 3))?, true);
-    Ok(())
+    expect_eq!(are_same(rt.alloc(), (1, 9, 3), (1, 9, 3))?, true)
 }
 
 #[test]
@@ -65,6 +64,5 @@ fn puts_of_another_owner_or_entry_are_not_the_same(rt: HostRuntime) -> Result<()
     let owner = are_same(alloc, put, (2, 9, 3))?;
     let generation = are_same(alloc, put, (1, 8, 3))?;
     let heartbeat = are_same(alloc, put, (1, 9, 4))?;
-    assert_eq!(rt; (owner, generation, heartbeat), (false, false, false));
-    Ok(())
+    expect_eq!((owner, generation, heartbeat), (false, false, false))
 }

@@ -1,6 +1,7 @@
 //! Tables: deltas put, tables merged, and the limit of owners.
 
 use cg_entry::{Delta, Entry};
+use cg_expect::{expect, expect_eq};
 use cg_map::{Row, push_some, rows_rise};
 use cg_samples::{bare_delta, bare_entry, endpoint, entry_at_start, generation};
 use cg_table::{Digest, Table, Took};
@@ -48,8 +49,7 @@ fn own_and_held(table: &Table) -> (Endpoint, (Held, Held)) {
 fn a_new_table_holds_its_own_entry(rt: HostRuntime) -> Result<(), Fail> {
     let own = endpoint(2);
     let shown = own_and_held(&table(rt.alloc())?.copy(rt.alloc())?);
-    assert_eq!(rt; shown, (own, (None, Some((5, 1)))));
-    Ok(())
+    expect_eq!(shown, (own, (None, Some((5, 1)))))
 }
 
 // The endpoint and the generation of the only row.
@@ -64,8 +64,7 @@ fn only_row(table: &Table) -> Option<(Endpoint, u32)> {
 fn the_owners_of_a_new_table(rt: HostRuntime) -> Result<(), Fail> {
     let own = endpoint(2);
     let table = table(rt.alloc())?;
-    assert_eq!(rt; only_row(&table), Some((own, 5)));
-    Ok(())
+    expect_eq!(only_row(&table), Some((own, 5)))
 }
 
 fn only_digest(digests: &[Digest]) -> Option<Digest> {
@@ -83,8 +82,7 @@ fn the_digests_of_a_new_table(rt: HostRuntime) -> Result<(), Fail> {
         newest: Version::first(),
     };
     let digests = table(rt.alloc())?.digests(rt.alloc())?;
-    assert_eq!(rt; only_digest(&digests), Some(wanted));
-    Ok(())
+    expect_eq!(only_digest(&digests), Some(wanted))
 }
 
 // ---- what becomes of a delta
@@ -116,11 +114,10 @@ fn a_delta_changes_its_owner_alone(rt: HostRuntime) -> Result<(), Fail> {
     let (after, took) = put(rt.alloc(), &table, 1, (9, 1, 3))?;
     let shown = (took, held_of_both(&after), held_of_both(&table));
     let own = Some((5, 1));
-    assert_eq!(rt;
+    expect_eq!(
         shown,
         (Took::Taken, (Some((9, 3)), own), (Some((9, 1)), own))
-    );
-    Ok(())
+    )
 }
 
 // At the table of endpoint 2 with endpoint 1 at (9, 3).
@@ -140,7 +137,7 @@ fn what_becomes_of_deltas(rt: HostRuntime) -> Result<(), Fail> {
         (3, (9, 0, 2), Took::Taken),
         (2, (6, 0, 1), Took::Own),
     ] {
-        assert_eq!(rt; took_of(rt.alloc(), last, delta_of)?, took);
+        expect_eq!(took_of(rt.alloc(), last, delta_of)?, took)?;
     }
     Ok(())
 }
@@ -149,16 +146,14 @@ fn what_becomes_of_deltas(rt: HostRuntime) -> Result<(), Fail> {
 #[test]
 fn gap_after_restart(rt: HostRuntime) -> Result<(), Fail> {
     let (after, took) = put(rt.alloc(), &table(rt.alloc())?, 1, (9, 2, 5))?;
-    assert_eq!(rt; (took, after.owners().len()), (Took::Gap, 1));
-    Ok(())
+    expect_eq!((took, after.owners().len()), (Took::Gap, 1))
 }
 
 #[test]
 fn own_delta(rt: HostRuntime) -> Result<(), Fail> {
     let before = table(rt.alloc())?;
     let (after, took) = put(rt.alloc(), &before, 2, (9, 0, 7))?;
-    assert_eq!(rt; (took, after.same_entries(&before)), (Took::Own, true));
-    Ok(())
+    expect_eq!((took, after.same_entries(&before)), (Took::Own, true))
 }
 
 // ---- as many as a table may hold
@@ -193,18 +188,16 @@ fn refusal(
 fn table_full(rt: HostRuntime) -> Result<(), Fail> {
     let table = crowded(rt.alloc())?;
     let refusal = refusal(rt.alloc(), &table, 0, 1)?;
-    assert_eq!(rt;
+    expect_eq!(
         (table.owners().len(), refusal),
         (256, Some(Fault::TableFull))
-    );
-    Ok(())
+    )
 }
 
 #[test]
 fn a_full_table_takes_what_needs_no_room(rt: HostRuntime) -> Result<(), Fail> {
     let (_after, took) = put(rt.alloc(), &crowded(rt.alloc())?, 1, (9, 1, 2))?;
-    assert_eq!(rt; took, Took::Gap);
-    Ok(())
+    expect_eq!(took, Took::Gap)
 }
 
 // How many owners a merge holds.
@@ -220,15 +213,13 @@ fn owners_merged(alloc: Global, other: &Table) -> Result<Result<usize, Fault>, F
 #[test]
 fn a_merge_that_is_full(rt: HostRuntime) -> Result<(), Fail> {
     let other = table_with(rt.alloc(), 1)?;
-    assert_eq!(rt; owners_merged(rt.alloc(), &other)?, Err(Fault::TableFull));
-    Ok(())
+    expect_eq!(owners_merged(rt.alloc(), &other)?, Err(Fault::TableFull))
 }
 
 #[test]
 fn a_merge_that_needs_no_room(rt: HostRuntime) -> Result<(), Fail> {
     let alone = table(rt.alloc())?;
-    assert_eq!(rt; owners_merged(rt.alloc(), &alone)?, Ok(256));
-    Ok(())
+    expect_eq!(owners_merged(rt.alloc(), &alone)?, Ok(256))
 }
 
 // ---- merges
@@ -248,8 +239,7 @@ fn table_of_2(alloc: Global) -> Result<Table, Fail> {
 #[test]
 fn tables_before_a_merge(rt: HostRuntime) -> Result<(), Fail> {
     let one = table_of_1(rt.alloc())?;
-    assert!(rt; !one.same_entries(&table_of_2(rt.alloc())?));
-    Ok(())
+    expect!(!one.same_entries(&table_of_2(rt.alloc())?))
 }
 
 // Each of the two merged with the other.
@@ -270,8 +260,7 @@ fn held_of_merges(alloc: Global) -> Result<((Endpoint, Endpoint), (Held, Held), 
 fn merged_tables_hold_the_later_entries(rt: HostRuntime) -> Result<(), Fail> {
     let owns = (endpoint(1), endpoint(2));
     let later = (Some((9, 3)), Some((5, 2)));
-    assert_eq!(rt; held_of_merges(rt.alloc())?, (owns, later, true));
-    Ok(())
+    expect_eq!(held_of_merges(rt.alloc())?, (owns, later, true))
 }
 
 // The newest version of the own entry, and what is held of endpoint 1.
@@ -290,8 +279,7 @@ fn the_own_entry_is_replaced(rt: HostRuntime) -> Result<(), Fail> {
     let table = table_with(rt.alloc(), 3)?;
     let after = own_newest(&with_newer_own(rt.alloc(), &table)?);
     let other = Some((9, 3));
-    assert_eq!(rt; (own_newest(&table), after), ((1, other), (4, other)));
-    Ok(())
+    expect_eq!((own_newest(&table), after), ((1, other), (4, other)))
 }
 
 // The newest version of the first row, if there is one.
@@ -314,9 +302,8 @@ fn change(alloc: Global, delta_of: (u32, u32, u32)) -> Result<(Option<u32>, Took
 #[test]
 fn what_deltas_change(rt: HostRuntime) -> Result<(), Fail> {
     let alloc = rt.alloc();
-    assert_eq!(rt; change(alloc, (9, 0, 3))?, (None, Took::Old, true));
-    assert_eq!(rt; change(alloc, (9, 3, 5))?, (Some(5), Took::Taken, true));
-    Ok(())
+    expect_eq!(change(alloc, (9, 0, 3))?, (None, Took::Old, true))?;
+    expect_eq!(change(alloc, (9, 3, 5))?, (Some(5), Took::Taken, true))
 }
 
 // What becomes of a delta about an endpoint, where this is held of the endpoint.
@@ -366,7 +353,7 @@ fn what_deltas_change_by_what_is_held(rt: HostRuntime) -> Result<(), Fail> {
         (1, Some(3), (9, 3, 5), Took::Taken),
         (2, Some(3), (9, 3, 5), Took::Own),
     ] {
-        assert_eq!(rt; took_at(rt.alloc(), last, newest, delta_of)?, took);
+        expect_eq!(took_at(rt.alloc(), last, newest, delta_of)?, took)?;
     }
     Ok(())
 }
@@ -414,8 +401,7 @@ fn rows_that_are_put_are_held(rt: HostRuntime) -> Result<(), Fail> {
     let (put, lent) = with_changed_rows(rt.alloc())?;
     let shown = (held(&put, 3), held_of_both(&put), put.same_entries(&lent));
     let whole = Some((9, 3));
-    assert_eq!(rt; shown, (whole, (whole, Some((5, 1))), true));
-    Ok(())
+    expect_eq!(shown, (whole, (whole, Some((5, 1))), true))
 }
 
 // Whether a whole delta about endpoint 1 needs room, and one about endpoint 3.
@@ -428,20 +414,20 @@ fn needs(alloc: Global, table: &Table) -> Result<(bool, bool), Fail> {
 #[test]
 fn a_stranger_needs_room(rt: HostRuntime) -> Result<(), Fail> {
     let needs = needs(rt.alloc(), &table_with(rt.alloc(), 3)?)?;
-    assert_eq!(rt; needs, (false, true));
-    Ok(())
+    expect_eq!(needs, (false, true))
 }
 
 #[test]
-fn names_of_what_became_of_deltas(rt: HostRuntime) {
+fn names_of_what_became_of_deltas() -> Result<(), Fail> {
     for (took, name) in [
         (Took::Taken, "took"),
         (Took::Old, "old"),
         (Took::Gap, "gap"),
         (Took::Own, "own"),
     ] {
-        assert_eq!(rt; took.name(), name);
+        expect_eq!(took.name(), name)?;
     }
+    Ok(())
 }
 
 fn takes_what_crosses_threads<T: Send + Sync + Drop>(value: T) {

@@ -4,6 +4,7 @@ ghost use Rattle.std.specs.Prelude.{◌≡◌, []};
 
 use crate::board_operators::{IsRefused, LearnsTwice};
 use crate::history::new_history;
+use cg_expect::expect_eq;
 use cg_history::{History, Receipt};
 use cg_locked::{Name, Seat, Shared};
 use cg_samples::version;
@@ -105,9 +106,8 @@ fn a_set_is_told_once_and_read(rt: HostRuntime) -> Result<(), Fail> {
         version: None,
     };
     let left = left_after(&rt, rt.alloc(), &mut work)?;
-    assert_eq!(rt; left, (None, 1, 1));
-    assert_eq!(rt; (work.told, work.version), ((true, false), Some(version(2))));
-    Ok(())
+    expect_eq!(left, (None, 1, 1))?;
+    expect_eq!((work.told, work.version), ((true, false), Some(version(2))))
 }
 
 #[test]
@@ -118,7 +118,9 @@ fn a_refused_event_leaves_receipts_reply_and_what_is_told(rt: HostRuntime) -> Re
         told: false,
     };
     let left = left_after(&rt, rt.alloc(), &mut work)?;
-    assert_eq!(rt; left, (Some(Fault::WriteFault), 1, 1));
-    assert_eq!(rt; (work.fault, work.left, work.told), (9, (1, Some(version(2))), true));
-    Ok(())
+    expect_eq!(left, (Some(Fault::WriteFault), 1, 1))?;
+    expect_eq!(
+        (work.fault, work.left, work.told),
+        (9, (1, Some(version(2))), true)
+    )
 }

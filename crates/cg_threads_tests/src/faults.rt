@@ -3,6 +3,7 @@
 use crate::links::Nobody;
 use crate::nodes::{Side, kinds, ran};
 use crate::operators::{Fails, Quits};
+use cg_expect::expect;
 use cg_links::FailingLink;
 use cg_samples::{A, B, endpoint};
 use cg_seats::Operate;
@@ -83,7 +84,7 @@ fn a_worker_stops_between_event_and_write(rt: HostRuntime) -> Result<(), Fail> {
     };
     for failing in [WRITE, FLUSH] {
         let left = left_after(&rt, rt.alloc(), failing, Quits);
-        assert!(rt; left == Some(due), "call {failing}");
+        expect!(left == Some(due), "call {failing}")?;
     }
     Ok(())
 }
@@ -96,6 +97,5 @@ fn an_operators_fault_ends_the_operator_alone(rt: HostRuntime) -> Result<(), Fai
         held: true,
     };
     let left = left_after(&rt, rt.alloc(), 0, Fails);
-    assert!(rt; left == Some(due));
-    Ok(())
+    expect!(left == Some(due))
 }

@@ -2,6 +2,7 @@
 
 use crate::board::{Left, left_after};
 use crate::board_operators::DoesLines;
+use cg_expect::{expect, expect_eq};
 use cg_links::{Counted, FailingLink, SlowLink};
 use cg_types::Fault;
 use std::alloc::Global;
@@ -51,7 +52,7 @@ fn each_read_fails_in_turn(rt: HostRuntime) -> Result<(), Fail> {
     // the reads of 16 bytes, and the one that meets the end
     for read in 1..18 {
         let is_cut = is_cut(&rt, rt.alloc(), read)?;
-        assert!(rt; is_cut, "read {read}");
+        expect!(is_cut, "read {read}")?;
     }
     Ok(())
 }
@@ -72,7 +73,7 @@ fn each_write_fails_in_turn(rt: HostRuntime) -> Result<(), Fail> {
     // the writes of 10 bytes and of 18, and a flush behind each
     for write in 1..31 {
         let stops = stops(&rt, rt.alloc(), write)?;
-        assert!(rt; stops, "write {write}");
+        expect!(stops, "write {write}")?;
     }
     Ok(())
 }
@@ -80,7 +81,6 @@ fn each_write_fails_in_turn(rt: HostRuntime) -> Result<(), Fail> {
 #[test]
 fn all_is_written_where_no_call_fails(rt: HostRuntime) -> Result<(), Fail> {
     let (text, left) = told(&rt, rt.alloc(), 18, 31)?;
-    assert!(rt; text.as_slice() == TEXT);
-    assert_eq!(rt; left, (None, 1, 1));
-    Ok(())
+    expect!(text.as_slice() == TEXT)?;
+    expect_eq!(left, (None, 1, 1))
 }

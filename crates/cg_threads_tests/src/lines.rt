@@ -2,6 +2,7 @@
 
 use crate::board::{Left, left_after};
 use crate::board_operators::DoesLines;
+use cg_expect::expect;
 use cg_links::Counted;
 use std::alloc::Global;
 use std::sync::Wait;
@@ -39,8 +40,7 @@ fn a_key_that_is_set_is_shown(rt: HostRuntime) -> Result<(), Fail> {
         b"version 2\n/10.0.0.1:7000\n  generation:9\n  heartbeat:1\n  LOAD:2:x\n",
         1,
     )?;
-    assert!(rt; is_told);
-    Ok(())
+    expect!(is_told)
 }
 
 #[test]
@@ -52,8 +52,7 @@ fn each_view(rt: HostRuntime) -> Result<(), Fail> {
         b"version 2\nversion 3\n0cc175b9c0f1b6a831c399e269772661 10.0.0.1:7000\n10.0.0.1:7000\n10.0.0.1:7000 9 3\n",
         2,
     )?;
-    assert!(rt; is_told);
-    Ok(())
+    expect!(is_told)
 }
 
 #[test]
@@ -65,15 +64,13 @@ fn lines_behind_a_quit_are_not_done(rt: HostRuntime) -> Result<(), Fail> {
         b"10.0.0.1:7000 9 1\n",
         0,
     )?;
-    assert!(rt; is_told);
-    Ok(())
+    expect!(is_told)
 }
 
 #[test]
 fn nothing_is_written_of_nothing(rt: HostRuntime) -> Result<(), Fail> {
     let is_told = tells(&rt, rt.alloc(), b"", b"", 0)?;
-    assert!(rt; is_told);
-    Ok(())
+    expect!(is_told)
 }
 
 #[test]
@@ -103,7 +100,7 @@ fn an_unreadable_line_shows_its_fault(rt: HostRuntime) -> Result<(), Fail> {
         b"set 3 a\x01b\n",
     ] {
         let is_told = tells(&rt, rt.alloc(), line, b"fault 2 BadText\n", 0)?;
-        assert!(rt; is_told, "{line:?}");
+        expect!(is_told, "{line:?}")?;
     }
     Ok(())
 }
@@ -122,11 +119,10 @@ fn long_line(alloc: Global, count: usize) -> Result<Vec<u8>, Fail> {
 fn a_text_over_its_limit(rt: HostRuntime) -> Result<(), Fail> {
     let line = long_line(rt.alloc(), 1025)?;
     let is_told = tells(&rt, rt.alloc(), &line, b"fault 3 TooLong\n", 0)?;
-    assert!(rt; is_told);
+    expect!(is_told)?;
     let line = long_line(rt.alloc(), 1024)?;
     let is_told = tells(&rt, rt.alloc(), &line, b"version 2\n", 1)?;
-    assert!(rt; is_told);
-    Ok(())
+    expect!(is_told)
 }
 
 #[test]
@@ -138,6 +134,5 @@ fn the_work_goes_on_behind_a_fault(rt: HostRuntime) -> Result<(), Fail> {
         b"fault 2 BadText\nversion 2\nversion 3\n10.0.0.1:7000 9 3\n",
         2,
     )?;
-    assert!(rt; is_told);
-    Ok(())
+    expect!(is_told)
 }

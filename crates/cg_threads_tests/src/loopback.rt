@@ -3,6 +3,7 @@
 use crate::links::{Dialing, Listening, Nobody, bound};
 use crate::nodes::{Side, kinds, ran, rounds, were_one_run};
 use crate::operators::{ReadsOnce, SetsAndReads};
+use cg_expect::expect_eq;
 use cg_samples::{A, endpoint};
 use cg_threads::Ran;
 use std::alloc::Global;
@@ -117,12 +118,10 @@ fn due(count: u32) -> Left {
 
 #[test]
 fn two_running_nodes(rt: HostRuntime) -> Result<(), Fail> {
-    assert_eq!(rt; left_after(&rt, rt.alloc(), 1)?, due(1));
-    Ok(())
+    expect_eq!(left_after(&rt, rt.alloc(), 1)?, due(1))
 }
 
 #[test]
 fn two_rounds_are_two_exchanges(rt: HostRuntime) -> Result<(), Fail> {
-    assert_eq!(rt; left_after(&rt, rt.alloc(), 2)?, due(2));
-    Ok(())
+    expect_eq!(left_after(&rt, rt.alloc(), 2)?, due(2))
 }

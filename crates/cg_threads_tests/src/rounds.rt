@@ -6,6 +6,7 @@ ghost use Rattle.cg_rounds.specs.Ends.{PutsWhere, TakesWhere};
 use crate::history::new_history;
 use cg_clock::Milliseconds;
 use cg_core::Event;
+use cg_expect::expect_eq;
 use cg_history::{History, Receipt};
 use cg_locked::{Name, Seat, Shared};
 use cg_rounds::{Putting, Taking, generator, rounds};
@@ -184,9 +185,8 @@ fn two_ticks_make_two_rounds(rt: HostRuntime) -> Result<(), Fail> {
         confirmed: 2,
         last: (1000, 15795103776161667678),
     };
-    assert_eq!(rt; left, due);
-    assert_eq!(rt; taken, [(1, 1), (2, 1), (0, 0)]);
-    Ok(())
+    expect_eq!(left, due)?;
+    expect_eq!(taken, [(1, 1), (2, 1), (0, 0)])
 }
 
 // What a ticker of five ticks leaves where nobody takes any round.
@@ -210,8 +210,7 @@ fn a_round_that_is_handed_back_stops_the_ticker(rt: HostRuntime) -> Result<(), F
         confirmed: 1,
         last: (1000, 2354861276966075475),
     };
-    assert_eq!(rt; left, due);
-    Ok(())
+    expect_eq!(left, due)
 }
 
 // What a ticker of no ticks leaves, and what is taken then: nothing.
@@ -235,7 +234,6 @@ fn no_ticks_make_no_round(rt: HostRuntime) -> Result<(), Fail> {
         confirmed: 0,
         last: (0, 0),
     };
-    assert_eq!(rt; left, due);
-    assert_eq!(rt; taken, (0, 0));
-    Ok(())
+    expect_eq!(left, due)?;
+    expect_eq!(taken, (0, 0))
 }

@@ -1,5 +1,6 @@
 //! What is written of a change that those who read do not see yet.
 
+use cg_expect::expect_eq;
 use cg_orders::add_unpublished;
 use cg_samples::version;
 use std::test::Fail;
@@ -8,6 +9,5 @@ use std::test::Fail;
 fn a_change_that_is_not_published(rt: HostRuntime) -> Result<(), Fail> {
     let mut text = String::new(rt.alloc());
     add_unpublished(&mut text, version(7))?;
-    assert_eq!(rt; text.as_str(), "version 7 unpublished\n");
-    Ok(())
+    expect_eq!(text.as_str(), "version 7 unpublished\n")
 }

@@ -3,6 +3,7 @@
 ghost use Rattle.std.specs.Prelude.{◌≡◌, []};
 
 use crate::history::new_history;
+use cg_expect::expect_eq;
 use cg_history::History;
 use cg_locked::{Name, Shared};
 use cg_ran::{Left, NotRun, Ran, Sent, Ticks, WORKERS, Work, finish};
@@ -81,13 +82,11 @@ fn left_after<R: Wait>(rt: &R, alloc: Global, started: bool) -> Result<Told, Fai
 #[test]
 fn workers_that_did_nothing(rt: HostRuntime) -> Result<(), Fail> {
     let left = left_after(&rt, rt.alloc(), true)?;
-    assert_eq!(rt; left, Ok((0, 0)));
-    Ok(())
+    expect_eq!(left, Ok((0, 0)))
 }
 
 #[test]
 fn workers_that_were_not_all_started(rt: HostRuntime) -> Result<(), Fail> {
     let left = left_after(&rt, rt.alloc(), false)?;
-    assert_eq!(rt; left, Err(Some(Fault::OutOfMemory)));
-    Ok(())
+    expect_eq!(left, Err(Some(Fault::OutOfMemory)))
 }

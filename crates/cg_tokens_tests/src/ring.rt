@@ -2,6 +2,7 @@
 
 use crate::tokens::token;
 use cg_entry::{Delta, Entry};
+use cg_expect::{expect, expect_eq};
 use cg_samples::{endpoint, entry_at_start, state};
 use cg_table::Table;
 use cg_tokens::{Ring, TOKEN_LIMIT, keeps_claims};
@@ -53,9 +54,9 @@ fn ring(alloc: Global) -> Result<Ring, Fail> {
 fn positions_rise(rt: HostRuntime) -> Result<(), Fail> {
     let ring = ring(rt.alloc())?.copy(rt.alloc())?;
     let wanted = [(16, 1), (32, 2), (48, 3), (64, 1)];
-    assert_eq!(rt; ring.positions().len(), wanted.len());
+    expect_eq!(ring.positions().len(), wanted.len())?;
     for (position, (number, owner)) in ring.positions().iter().zip(wanted) {
-        assert_eq!(rt; *position, (token(number)?, endpoint(owner)));
+        expect_eq!(*position, (token(number)?, endpoint(owner)))?;
     }
     Ok(())
 }
@@ -87,7 +88,7 @@ fn ring_and_replicas(rt: HostRuntime) -> Result<(), Fail> {
         (0x40, usize::MAX, [1, 2, 3, 0]),
     ] {
         let replicas = replicas_from(rt.alloc(), &ring, number, rf)?;
-        assert_eq!(rt; replicas, wanted, "{rf} from {number}");
+        expect_eq!(replicas, wanted, "{rf} from {number}")?;
     }
     Ok(())
 }
@@ -95,9 +96,8 @@ fn ring_and_replicas(rt: HostRuntime) -> Result<(), Fail> {
 #[test]
 fn an_empty_ring_has_no_replicas(rt: HostRuntime) -> Result<(), Fail> {
     let ring = ring_of(rt.alloc(), &[])?;
-    assert!(rt; ring.positions().is_empty());
-    assert!(rt; ring.replicas(rt.alloc(), token(0)?, 3)?.is_empty());
-    Ok(())
+    expect!(ring.positions().is_empty())?;
+    expect!(ring.replicas(rt.alloc(), token(0)?, 3)?.is_empty())
 }
 
 // Who has a token that endpoints 2 and 3 claim in these generations.
@@ -112,10 +112,9 @@ fn winner(alloc: Global, second: u32, third: u32) -> Result<Option<Endpoint>, Fa
 
 #[test]
 fn a_token_has_one_endpoint(rt: HostRuntime) -> Result<(), Fail> {
-    assert_eq!(rt; winner(rt.alloc(), 5, 4)?, Some(endpoint(2)));
-    assert_eq!(rt; winner(rt.alloc(), 5, 5)?, Some(endpoint(2)));
-    assert_eq!(rt; winner(rt.alloc(), 4, 5)?, Some(endpoint(3)));
-    Ok(())
+    expect_eq!(winner(rt.alloc(), 5, 4)?, Some(endpoint(2)))?;
+    expect_eq!(winner(rt.alloc(), 5, 5)?, Some(endpoint(2)))?;
+    expect_eq!(winner(rt.alloc(), 4, 5)?, Some(endpoint(3)))
 }
 
 // How many tokens an endpoint has that claims so.
@@ -138,11 +137,11 @@ fn statuses_that_claim(rt: HostRuntime) -> Result<(), Fail> {
         ("LEFT,NORMAL", 0),
         ("", 0),
     ] {
-        assert_eq!(rt;
+        expect_eq!(
             count_with(rt.alloc(), status, AT_16_AND_64)?,
             count,
             "{status}"
-        );
+        )?;
     }
     Ok(())
 }
@@ -150,7 +149,7 @@ fn statuses_that_claim(rt: HostRuntime) -> Result<(), Fail> {
 #[test]
 fn tokens_that_cannot_be_read_are_not_claimed(rt: HostRuntime) -> Result<(), Fail> {
     for tokens in ["", "10", "00000000000000000000000000000010,"] {
-        assert_eq!(rt; count_with(rt.alloc(), "NORMAL", tokens)?, 0, "{tokens}");
+        expect_eq!(count_with(rt.alloc(), "NORMAL", tokens)?, 0, "{tokens}")?;
     }
     Ok(())
 }
@@ -187,14 +186,12 @@ fn claims_are_kept_by_the_same_texts(rt: HostRuntime) -> Result<(), Fail> {
     let newer = keeps(rt.alloc(), held, (10, "NORMAL", AT_32))?;
     let left = keeps(rt.alloc(), held, (9, "LEFT", AT_32))?;
     let moved = keeps(rt.alloc(), held, (9, "NORMAL", AT_48))?;
-    assert_eq!(rt; (same, newer, left, moved), (true, false, false, false));
-    Ok(())
+    expect_eq!((same, newer, left, moved), (true, false, false, false))
 }
 
 #[test]
 fn who_is_no_member_claims_nothing_new(rt: HostRuntime) -> Result<(), Fail> {
     let member = begins(rt.alloc(), (9, "NORMAL", AT_32))?;
     let joining = begins(rt.alloc(), (9, "BOOT", AT_32))?;
-    assert_eq!(rt; (member, joining), (false, true));
-    Ok(())
+    expect_eq!((member, joining), (false, true))
 }

@@ -1,5 +1,6 @@
 //! Tokens of RFC 1321's test suite, and texts of tokens.
 
+use cg_expect::{expect, expect_eq};
 use cg_tokens::{TOKEN_LIMIT, Token, read_tokens, token_of};
 use cg_types::Fault;
 use std::alloc::{AllocError, Global};
@@ -35,20 +36,19 @@ fn tokens_of_keys(rt: HostRuntime) -> Result<(), Fail> {
             "57edf4a22be3c955ac49da2e2107b67a",
         ),
     ] {
-        assert_eq!(rt; text_of_key(rt.alloc(), key)?.as_str(), text, "of {key}");
+        expect_eq!(text_of_key(rt.alloc(), key)?.as_str(), text, "of {key}")?;
     }
     Ok(())
 }
 
 #[test]
-fn tokens_are_bounded_and_ordered(rt: HostRuntime) -> Result<(), Fail> {
+fn tokens_are_bounded_and_ordered() -> Result<(), Fail> {
     let numbers = (token(0)?.number(), token(TOKEN_LIMIT)?.number());
-    assert_eq!(rt; numbers, (0, TOKEN_LIMIT));
-    assert!(rt; Token::new(TOKEN_LIMIT + 1).is_none());
+    expect_eq!(numbers, (0, TOKEN_LIMIT))?;
+    expect!(Token::new(TOKEN_LIMIT + 1).is_none())?;
     let (one, two) = (token(1)?, token(2)?);
-    assert!(rt; one < two);
-    assert!(rt; one != two);
-    Ok(())
+    expect!(one < two)?;
+    expect!(one != two)
 }
 
 const AT_16_AND_64: &str = "00000000000000000000000000000010,00000000000000000000000000000040";
@@ -68,17 +68,16 @@ fn first_two(alloc: Global, text: &str) -> Result<FirstTwo, Fault> {
 #[test]
 fn texts_of_tokens_are_read(rt: HostRuntime) -> Result<(), Fail> {
     let two = (2, Some(token(16)?), Some(token(64)?));
-    assert_eq!(rt; first_two(rt.alloc(), AT_16_AND_64)?, two);
+    expect_eq!(first_two(rt.alloc(), AT_16_AND_64)?, two)?;
     let greatest = (1, Some(token(TOKEN_LIMIT)?), None);
-    assert_eq!(rt;
+    expect_eq!(
         first_two(rt.alloc(), "80000000000000000000000000000000")?,
         greatest
-    );
-    Ok(())
+    )
 }
 
 #[test]
-fn other_texts_are_bad(rt: HostRuntime) {
+fn other_texts_are_bad(rt: HostRuntime) -> Result<(), Fail> {
     for text in [
         "",
         ",",
@@ -95,8 +94,9 @@ fn other_texts_are_bad(rt: HostRuntime) {
         "0000000000000000000000000000000g",
         "+0000000000000000000000000000010",
     ] {
-        assert_eq!(rt; fault_of(rt.alloc(), text), Some(Fault::BadText), "{text}");
+        expect_eq!(fault_of(rt.alloc(), text), Some(Fault::BadText), "{text}")?;
     }
+    Ok(())
 }
 
 // A text with one more token, after a comma where it isn't the first.
@@ -118,9 +118,8 @@ fn text_of(alloc: Global, count: u64) -> Result<String, Fail> {
 #[test]
 fn sixteen_tokens_and_no_more(rt: HostRuntime) -> Result<(), Fail> {
     let tokens = read_tokens(rt.alloc(), &text_of(rt.alloc(), 16)?)?;
-    assert_eq!(rt; tokens.len(), 16);
-    assert_eq!(rt; tokens[15], token(16)?);
+    expect_eq!(tokens.len(), 16)?;
+    expect_eq!(tokens[15], token(16)?)?;
     let more = text_of(rt.alloc(), 17)?;
-    assert_eq!(rt; fault_of(rt.alloc(), &more), Some(Fault::BadText));
-    Ok(())
+    expect_eq!(fault_of(rt.alloc(), &more), Some(Fault::BadText))
 }

@@ -4,6 +4,7 @@ ghost use Rattle.std.specs.Prelude.{◌≡◌};
 
 use crate::entries::heartbeat;
 use cg_entry::Entry;
+use cg_expect::expect_eq;
 use cg_samples::{A, B, C, bare_entry, delta, endpoint, state};
 use cg_table::{Puts, Table};
 use cg_types::Fault;
@@ -217,9 +218,8 @@ fn later_puts_may_be_appended(rt: HostRuntime) -> Result<(), Fail> {
         rt.alloc(),
         Work::MayWithB(&[(B, (9, 3, 0)), (B, (10, 1, 0)), (C, (1, 1, 0))]),
     )?;
-    assert_eq!(rt; own.as_slice(), [1, 1].as_slice());
-    assert_eq!(rt; others.as_slice(), [1, 1, 1].as_slice());
-    Ok(())
+    expect_eq!(own.as_slice(), [1, 1].as_slice())?;
+    expect_eq!(others.as_slice(), [1, 1, 1].as_slice())
 }
 
 #[test]
@@ -238,10 +238,9 @@ fn other_puts_may_not(rt: HostRuntime) -> Result<(), Fail> {
         alloc,
         Work::May(&[(A, (9, 6, 3)), (A, (9, 6, 0)), (A, (10, 6, 4))]),
     )?;
-    assert_eq!(rt; equal.as_slice(), [0, 0].as_slice());
-    assert_eq!(rt; pending.as_slice(), [0, 0].as_slice());
-    assert_eq!(rt; own.as_slice(), [0, 0, 0].as_slice());
-    Ok(())
+    expect_eq!(equal.as_slice(), [0, 0].as_slice())?;
+    expect_eq!(pending.as_slice(), [0, 0].as_slice())?;
+    expect_eq!(own.as_slice(), [0, 0, 0].as_slice())
 }
 
 #[test]
@@ -251,20 +250,17 @@ fn a_full_table_takes_later_entries_alone(rt: HostRuntime) -> Result<(), Fail> {
         rt.alloc(),
         Work::MayFilled(&[(256, (9, 2, 0)), (257, (9, 1, 0))]),
     )?;
-    assert_eq!(rt; full.as_slice(), [1, 0].as_slice());
-    Ok(())
+    expect_eq!(full.as_slice(), [1, 0].as_slice())
 }
 
 #[test]
 fn several_owners_are_one_operation(rt: HostRuntime) -> Result<(), Fail> {
     let two = answers(&rt, rt.alloc(), Work::ReadTwo)?;
-    assert_eq!(rt; two.as_slice(), [1, 5, 2, 6].as_slice());
-    Ok(())
+    expect_eq!(two.as_slice(), [1, 5, 2, 6].as_slice())
 }
 
 #[test]
 fn many_operations_are_read(rt: HostRuntime) -> Result<(), Fail> {
     let many = answers(&rt, rt.alloc(), Work::BeatOn(100_000))?;
-    assert_eq!(rt; many.as_slice(), [1_000, 100_005].as_slice());
-    Ok(())
+    expect_eq!(many.as_slice(), [1_000, 100_005].as_slice())
 }

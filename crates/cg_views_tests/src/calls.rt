@@ -4,6 +4,7 @@ ghost use Rattle.std.specs.Prelude.{◌≡◌};
 
 use crate::appending::append;
 use crate::entries::{heartbeat, opening, put};
+use cg_expect::expect_eq;
 use cg_table::{Puts, Table};
 use cg_types::Fault;
 use cg_views::{Naming, Opened, Pass, Publisher, Told, views};
@@ -130,8 +131,7 @@ fn a_pass_reads_what_is_published(rt: HostRuntime) -> Result<(), Fail> {
             Call::Read(0),
         ],
     )?;
-    assert_eq!(rt; shown.as_slice(), [1, 2, 2].as_slice());
-    Ok(())
+    expect_eq!(shown.as_slice(), [1, 2, 2].as_slice())
 }
 
 #[test]
@@ -180,10 +180,9 @@ fn what_was_learnt_is_read(rt: HostRuntime) -> Result<(), Fail> {
             Call::Read(0),
         ],
     )?;
-    assert_eq!(rt; early.as_slice(), [2].as_slice());
-    assert_eq!(rt; twice.as_slice(), [1, 2].as_slice());
-    assert_eq!(rt; older.as_slice(), [3].as_slice());
-    Ok(())
+    expect_eq!(early.as_slice(), [2].as_slice())?;
+    expect_eq!(twice.as_slice(), [1, 2].as_slice())?;
+    expect_eq!(older.as_slice(), [3].as_slice())
 }
 
 #[test]
@@ -204,8 +203,7 @@ fn passes_read_by_themselves(rt: HostRuntime) -> Result<(), Fail> {
             Call::Read(0),
         ],
     )?;
-    assert_eq!(rt; shown.as_slice(), [2, 3, 3, 3].as_slice());
-    Ok(())
+    expect_eq!(shown.as_slice(), [2, 3, 3, 3].as_slice())
 }
 
 #[test]
@@ -238,9 +236,8 @@ fn nothing_is_published_where_nothing_is_pending(rt: HostRuntime) -> Result<(), 
             Call::Read(0),
         ],
     )?;
-    assert_eq!(rt; at_once.as_slice(), [1].as_slice());
-    assert_eq!(rt; after.as_slice(), [2, 2, 2].as_slice());
-    Ok(())
+    expect_eq!(at_once.as_slice(), [1].as_slice())?;
+    expect_eq!(after.as_slice(), [2, 2, 2].as_slice())
 }
 
 #[test]
@@ -263,6 +260,5 @@ fn several_operations_are_published_at_once(rt: HostRuntime) -> Result<(), Fail>
             Call::Read(0),
         ],
     )?;
-    assert_eq!(rt; shown.as_slice(), [1, 4, 5].as_slice());
-    Ok(())
+    expect_eq!(shown.as_slice(), [1, 4, 5].as_slice())
 }

@@ -5,6 +5,7 @@ ghost use Rattle.std.specs.Prelude.{◌≡◌};
 use crate::appending::append;
 use crate::entries::opening;
 use cg_entry::Entry;
+use cg_expect::expect_eq;
 use cg_samples::{A, endpoint, generation, key};
 use cg_table::{Puts, Table};
 use cg_types::{Fault, StateText};
@@ -235,6 +236,5 @@ fn four_read_while_one_publishes(rt: HostRuntime) -> Result<(), Fail> {
         sets: 100,
         last: 10_001,
     });
-    assert_eq!(rt; all, [each, each, each, each]);
-    Ok(())
+    expect_eq!(all, [each, each, each, each])
 }

@@ -1,6 +1,7 @@
 //! Each call of the channel of rounds, by one thread.
 
 use crate::numbered::{round, shown};
+use cg_expect::expect_eq;
 use cg_rounds::laws::room_has_its_value;
 use cg_rounds::{ROOM, rounds};
 use std::alloc::Global;
@@ -25,8 +26,7 @@ fn two_taken<R: Wait>(rt: &R, alloc: Global) -> Result<([(u64, u16); 3], bool), 
 #[test]
 fn rounds_are_taken_in_their_order(rt: HostRuntime) -> Result<(), Fail> {
     let taken = two_taken(&rt, rt.alloc())?;
-    assert_eq!(rt; taken, ([(5, 5), (9, 9), (0, 0)], true));
-    Ok(())
+    expect_eq!(taken, ([(5, 5), (9, 9), (0, 0)], true))
 }
 
 // What is handed back of a round that is put in where nobody takes any more.
@@ -42,8 +42,7 @@ fn handed_back<R: Wait>(rt: &R, alloc: Global) -> Result<(u64, u16), Fail> {
 #[test]
 fn a_round_that_nobody_takes_is_handed_back(rt: HostRuntime) -> Result<(), Fail> {
     let back = handed_back(&rt, rt.alloc())?;
-    assert_eq!(rt; back, (7, 7));
-    Ok(())
+    expect_eq!(back, (7, 7))
 }
 
 // How many of so many rounds went in before any was taken, and how many of them came out in their order.
@@ -69,7 +68,6 @@ fn held<R: Wait>(rt: &R, alloc: Global, count: u16) -> Result<(u16, u16), Fail> 
 fn sixteen_rounds_wait_for_nobody(rt: HostRuntime) -> Result<(), Fail> {
     room_has_its_value();
     let counts = held(&rt, rt.alloc(), 16)?;
-    assert_eq!(rt; counts, (16, 16));
-    assert_eq!(rt; ROOM, 16);
-    Ok(())
+    expect_eq!(counts, (16, 16))?;
+    expect_eq!(ROOM, 16)
 }

@@ -1,8 +1,10 @@
 //! Readings of the system's clock, and of clocks that can't be read, one after the other.
 
 use cg_clock::{HostClock, Milliseconds, seconds_since_1970};
+use cg_expect::{expect, expect_eq};
 use std::rt::Clock;
 use std::sync::atomic::{AtomicU64, Ordering};
+use std::test::Fail;
 use std::time::Duration;
 use std::{io, thread};
 
@@ -41,7 +43,7 @@ impl Clock for ShortClock {
 }
 
 #[test]
-fn a_clock_that_fails_shows_what_it_showed_last(rt: HostRuntime) {
+fn a_clock_that_fails_shows_what_it_showed_last() -> Result<(), Fail> {
     let short = ShortClock::new(4);
     let clock = HostClock::new(&short);
     let shown = [
@@ -51,19 +53,19 @@ fn a_clock_that_fails_shows_what_it_showed_last(rt: HostRuntime) {
         clock.now(),
         clock.now(),
     ];
-    assert_eq!(rt; shown, [500, 1000, 1500, 1500, 1500]);
+    expect_eq!(shown, [500, 1000, 1500, 1500, 1500])
 }
 
 #[test]
-fn a_clock_that_never_runs_shows_nothing(rt: HostRuntime) {
+fn a_clock_that_never_runs_shows_nothing() -> Result<(), Fail> {
     let short = ShortClock::new(0);
     let clock = HostClock::new(&short);
-    assert_eq!(rt; [clock.now(), clock.now()], [0, 0]);
-    assert_eq!(rt; seconds_since_1970(&short), 0);
+    expect_eq!([clock.now(), clock.now()], [0, 0])?;
+    expect_eq!(seconds_since_1970(&short), 0)
 }
 
 #[test]
-fn seconds_are_whole(rt: HostRuntime) {
+fn seconds_are_whole() -> Result<(), Fail> {
     let short = ShortClock::new(9);
     let seconds = [
         seconds_since_1970(&short),
@@ -71,15 +73,15 @@ fn seconds_are_whole(rt: HostRuntime) {
         seconds_since_1970(&short),
         seconds_since_1970(&short),
     ];
-    assert_eq!(rt; seconds, [0, 0, 1, 1]);
+    expect_eq!(seconds, [0, 0, 1, 1])
 }
 
 #[test]
-fn the_system_has_clocks(rt: HostRuntime) {
+fn the_system_has_clocks(rt: HostRuntime) -> Result<(), Fail> {
     let clock = HostClock::new(&rt);
     let first = clock.now();
     thread::sleep(&rt, Duration::from_millis(20));
     let next = clock.now();
-    assert!(rt; next >= first.saturating_add(20) && next < 60000);
-    assert!(rt; seconds_since_1970(&rt) > 1700000000);
+    expect!(next >= first.saturating_add(20) && next < 60000)?;
+    expect!(seconds_since_1970(&rt) > 1700000000)
 }

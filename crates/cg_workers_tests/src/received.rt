@@ -1,6 +1,7 @@
 //! Tests of connections that come in.
 
 use crate::samples::{SYN, SYN_AND_ACK2, Standing, owners, started};
+use cg_expect::expect_eq;
 use cg_samples::B;
 use cg_types::Fault;
 use cg_workers::{Listen, receiver};
@@ -54,8 +55,7 @@ const WHOLE: Coming = Ok(Some(SYN_AND_ACK2));
 
 #[test]
 fn an_exchange_is_answered(rt: HostRuntime) -> Result<(), Fail> {
-    assert_eq!(rt; received(rt.alloc(), &[WHOLE], 1)?, (1, 1, 2));
-    Ok(())
+    expect_eq!(received(rt.alloc(), &[WHOLE], 1)?, (1, 1, 2))
 }
 
 #[test]
@@ -64,29 +64,26 @@ fn a_broken_exchange_ends_itself_alone(rt: HostRuntime) -> Result<(), Fail> {
     let short: Coming = Ok(Some(SYN));
     let noise: Coming = Ok(Some(b"\x00\x00\x00\x01\xff".as_slice()));
     let nothing: Coming = Ok(Some(b"".as_slice()));
-    assert_eq!(rt; received(alloc, &[short, noise, nothing], 3)?, (3, 3, 1));
-    assert_eq!(rt; received(alloc, &[short, noise, WHOLE], 3)?, (3, 3, 2));
-    Ok(())
+    expect_eq!(received(alloc, &[short, noise, nothing], 3)?, (3, 3, 1))?;
+    expect_eq!(received(alloc, &[short, noise, WHOLE], 3)?, (3, 3, 2))
 }
 
 #[test]
 fn it_ends_where_none_comes_or_accepting_fails(rt: HostRuntime) -> Result<(), Fail> {
     let alloc = rt.alloc();
-    assert_eq!(rt; received(alloc, &[WHOLE, Ok(None), WHOLE], 3)?, (1, 2, 2));
-    assert_eq!(rt;
+    expect_eq!(received(alloc, &[WHOLE, Ok(None), WHOLE], 3)?, (1, 2, 2))?;
+    expect_eq!(
         received(alloc, &[Err(Fault::ReadFault), WHOLE], 3)?,
         (0, 1, 1)
-    );
-    Ok(())
+    )
 }
 
 #[test]
 fn no_more_come_than_are_wanted(rt: HostRuntime) -> Result<(), Fail> {
     let alloc = rt.alloc();
-    assert_eq!(rt; received(alloc, &[WHOLE], 0)?, (0, 0, 1));
-    assert_eq!(rt;
+    expect_eq!(received(alloc, &[WHOLE], 0)?, (0, 0, 1))?;
+    expect_eq!(
         received(alloc, &[Ok(Some(SYN)), WHOLE, WHOLE], 2)?,
         (2, 2, 2)
-    );
-    Ok(())
+    )
 }

@@ -3,6 +3,7 @@
 use crate::samples::{ACK, SYN, Standing, owners, started};
 use cg_core::Peers;
 use cg_exchange::Syn;
+use cg_expect::{expect, expect_eq};
 use cg_frames::decode;
 use cg_rounds::{Round, rounds};
 use cg_samples::{A, B, endpoint};
@@ -108,19 +109,17 @@ fn are(dialed: &[Endpoint], due: &[u16]) -> bool {
 #[test]
 fn each_peer_is_dialed_and_each_number_answered(rt: HostRuntime) -> Result<(), Fail> {
     let (numbers, dialed, held, put) = sent(&rt, rt.alloc(), &[3, B], &[B], ACK)?;
-    assert!(rt; put && numbers.as_slice() == [5, 9].as_slice());
-    assert!(rt; are(&dialed, &[3, B, B]));
-    assert_eq!(rt; held, 2);
-    Ok(())
+    expect!(put && numbers.as_slice() == [5, 9].as_slice())?;
+    expect!(are(&dialed, &[3, B, B]))?;
+    expect_eq!(held, 2)
 }
 
 #[test]
 fn a_round_counts_where_no_peer_is_reached(rt: HostRuntime) -> Result<(), Fail> {
     let (numbers, dialed, held, put) = sent(&rt, rt.alloc(), &[3, 4], &[], ACK)?;
-    assert!(rt; put && numbers.as_slice() == [5, 9].as_slice());
-    assert!(rt; are(&dialed, &[3, 4]));
-    assert_eq!(rt; held, 1);
-    Ok(())
+    expect!(put && numbers.as_slice() == [5, 9].as_slice())?;
+    expect!(are(&dialed, &[3, 4]))?;
+    expect_eq!(held, 1)
 }
 
 #[test]
@@ -132,10 +131,9 @@ fn a_broken_exchange_ends_itself_alone(rt: HostRuntime) -> Result<(), Fail> {
         &[4],
         b"\x00\x00\x00\x01\xff",
     )?;
-    assert!(rt; put && numbers.as_slice() == [5, 9].as_slice());
-    assert!(rt; are(&dialed, &[B, 3, 4]));
-    assert_eq!(rt; held, 1);
-    Ok(())
+    expect!(put && numbers.as_slice() == [5, 9].as_slice())?;
+    expect!(are(&dialed, &[B, 3, 4]))?;
+    expect_eq!(held, 1)
 }
 
 // How many rounds A takes, of none and where nobody can put any in any more.
@@ -162,6 +160,5 @@ fn taken<R: Wait>(rt: &R, alloc: Global) -> Result<usize, Fail> {
 
 #[test]
 fn it_ends_where_nobody_puts_any_in(rt: HostRuntime) -> Result<(), Fail> {
-    assert_eq!(rt; taken(&rt, rt.alloc())?, 0);
-    Ok(())
+    expect_eq!(taken(&rt, rt.alloc())?, 0)
 }

@@ -1,6 +1,7 @@
 //! One thread puts in the rounds that another takes.
 
 use crate::numbered::{round, shown};
+use cg_expect::{expect, expect_eq};
 use cg_rounds::{Putting, Taking, rounds};
 use std::alloc::Global;
 use std::sync::Wait;
@@ -52,16 +53,14 @@ fn relayed<R: Threads + Wait + Sync>(
 #[test]
 fn all_rounds_reach_another_thread(rt: HostRuntime) -> Result<(), Fail> {
     let all = relayed(&rt, rt.alloc(), 1000, 1000)?;
-    assert_eq!(rt; all, (1000, 1000));
+    expect_eq!(all, (1000, 1000))?;
     let fewer = relayed(&rt, rt.alloc(), 40, 50)?;
-    assert_eq!(rt; fewer, (40, 40));
-    Ok(())
+    expect_eq!(fewer, (40, 40))
 }
 
 #[test]
 fn rounds_are_handed_back_once_the_taker_left(rt: HostRuntime) -> Result<(), Fail> {
     let (put, taken) = relayed(&rt, rt.alloc(), 1000, 100)?;
-    assert_eq!(rt; taken, 100);
-    assert!(rt; put < 1000);
-    Ok(())
+    expect_eq!(taken, 100)?;
+    expect!(put < 1000)
 }

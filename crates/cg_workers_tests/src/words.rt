@@ -1,10 +1,12 @@
 //! The random words of some seeds. What is expected comes of another program, after PCG's and rand's own description.
 
+use cg_expect::expect_eq;
 use cg_rounds::laws::words_are_the_generators;
 use cg_rounds::{generator, next_words};
+use std::test::Fail;
 
 #[test]
-fn words_are_the_next_ones_of_the_generator(rt: HostRuntime) {
+fn words_are_the_next_ones_of_the_generator() -> Result<(), Fail> {
     words_are_the_generators();
     let mut words = generator(0);
     let first = [
@@ -19,8 +21,8 @@ fn words_are_the_next_ones_of_the_generator(rt: HostRuntime) {
         3673039548900617805,
         9334786029913437385,
     ];
-    assert_eq!(rt; next_words(&mut words), first);
-    assert_eq!(rt; next_words(&mut words), second);
+    expect_eq!(next_words(&mut words), first)?;
+    expect_eq!(next_words(&mut words), second)?;
     let mut words = generator(9223372036854775807);
     let first = [
         10176381733452192787,
@@ -28,5 +30,5 @@ fn words_are_the_next_ones_of_the_generator(rt: HostRuntime) {
         4582089715056130045,
         303271943623561191,
     ];
-    assert_eq!(rt; next_words(&mut words), first);
+    expect_eq!(next_words(&mut words), first)
 }

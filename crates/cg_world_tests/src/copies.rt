@@ -1,6 +1,7 @@
 //! Copies of actions and of what they show, and who starts, each once with ample memory.
 
 use crate::scripts::{deliver, local, run, set_status, start};
+use cg_expect::{expect, expect_eq};
 use cg_samples::{A, B, endpoint};
 use cg_types::Fault;
 use cg_world::{Action, LocalEvent, Shown};
@@ -19,17 +20,16 @@ fn actions_are_copied(rt: HostRuntime) -> Result<(), Fail> {
         now: 5,
         words: [7, 3, 5, 9],
     };
-    assert!(rt; is_copied(rt.alloc(), &start(A, 9))?);
-    assert!(rt; is_copied(rt.alloc(), &deliver(3, A, 5))?);
-    assert!(rt; is_copied(rt.alloc(), &local(A, LocalEvent::Beat))?);
-    assert!(rt; is_copied(rt.alloc(), &local(A, LocalEvent::Opening))?);
-    assert!(rt; is_copied(rt.alloc(), &local(A, tick))?);
-    assert!(rt; is_copied(rt.alloc(), &set_status(rt.alloc(), A)?)?);
-    Ok(())
+    expect!(is_copied(rt.alloc(), &start(A, 9))?)?;
+    expect!(is_copied(rt.alloc(), &deliver(3, A, 5))?)?;
+    expect!(is_copied(rt.alloc(), &local(A, LocalEvent::Beat))?)?;
+    expect!(is_copied(rt.alloc(), &local(A, LocalEvent::Opening))?)?;
+    expect!(is_copied(rt.alloc(), &local(A, tick))?)?;
+    expect!(is_copied(rt.alloc(), &set_status(rt.alloc(), A)?)?)
 }
 
 #[test]
-fn a_start_starts_its_own_node(rt: HostRuntime) {
+fn a_start_starts_its_own_node() -> Result<(), Fail> {
     let by_start = (
         start(A, 9).starts(endpoint(A)),
         start(A, 9).starts(endpoint(B)),
@@ -38,7 +38,7 @@ fn a_start_starts_its_own_node(rt: HostRuntime) {
         local(A, LocalEvent::Opening).starts(endpoint(A)),
         deliver(1, A, 5).starts(endpoint(A)),
     );
-    assert_eq!(rt; (by_start, by_others), ((true, false), (false, false)));
+    expect_eq!((by_start, by_others), ((true, false), (false, false)))
 }
 
 // Whether what was shown is equal to its copy, and, where it is not the first, differs from the first.
@@ -61,6 +61,5 @@ fn what_is_shown_is_copied(rt: HostRuntime) -> Result<(), Fail> {
         [Ok(started), Ok(set), ..] => started != set,
         _ => false,
     };
-    assert_eq!(rt; (are_copied(rt.alloc(), &shown)?, differ), (true, true));
-    Ok(())
+    expect_eq!((are_copied(rt.alloc(), &shown)?, differ), (true, true))
 }

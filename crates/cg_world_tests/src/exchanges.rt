@@ -6,6 +6,7 @@ ghost use Rattle.cg_world.specs.World.{starts};
 ghost use Rattle.cg_world_laws.specs.Exchange.{NeverStarts};
 
 use crate::scripts::{deliver, held_by, local, settings, start};
+use cg_expect::{expect, expect_eq};
 use cg_samples::{A, B, endpoint};
 use cg_types::{Endpoint, Fault};
 use cg_world::{Action, LocalEvent, World};
@@ -45,11 +46,10 @@ fn undisturbed_nodes_end_equal(rt: HostRuntime) -> Result<(), Fail> {
         1000,
         [&[], &[], &[]],
     )?;
-    assert_eq!(rt;
+    expect_eq!(
         all_held(&after),
         (Some((9, 1)), Some((5, 1)), Some((9, 1)), Some((5, 1)), 3)
-    );
-    Ok(())
+    )
 }
 
 // Whether one of the actions starts the node of an endpoint.
@@ -94,11 +94,10 @@ fn what_is_done_in_between_is_kept(rt: HostRuntime) -> Result<(), Fail> {
     let first = [local(A, LocalEvent::Beat), deliver(99, B, 1000)];
     let second = [local(B, LocalEvent::Beat)];
     let after = exchanged_among(rt.alloc(), world, &first, &second, &[])?;
-    assert_eq!(rt;
+    expect_eq!(
         after.as_ref().map(all_held),
         Some((Some((9, 2)), Some((5, 1)), Some((9, 2)), Some((5, 2)), 3))
-    );
-    Ok(())
+    )
 }
 
 // A start between the messages is seen before anything is done.
@@ -107,8 +106,7 @@ fn a_start_in_between_is_found(rt: HostRuntime) -> Result<(), Fail> {
     let world = two_nodes(rt.alloc())?;
     let third = [local(A, LocalEvent::Beat), start(B, 6)];
     let after = exchanged_among(rt.alloc(), world, &[], &[], &third)?;
-    assert!(rt; after.is_none());
-    Ok(())
+    expect!(after.is_none())
 }
 
 #[test]
@@ -124,6 +122,5 @@ fn both_have_to_run(rt: HostRuntime) -> Result<(), Fail> {
         [&[], &[], &[]],
     )
     .err();
-    assert_eq!(rt; fault, Some(Fault::NoSuchNode));
-    Ok(())
+    expect_eq!(fault, Some(Fault::NoSuchNode))
 }

@@ -1,6 +1,7 @@
 //! The greatest number of nodes, and runs that memory may end.
 
 use crate::scripts::{settings, start};
+use cg_expect::{expect, expect_eq};
 use cg_samples::{A, B, C, endpoint};
 use cg_types::{Fault, MEMBER_LIMIT};
 use cg_world::{Shown, World, is_out_of_memory};
@@ -22,11 +23,10 @@ fn one_node_more_is_too_many(rt: HostRuntime) -> Result<(), Fail> {
     let running = world.endpoints(rt.alloc())?.len();
     let one_more = world.act(rt.alloc(), &start(256, 9)).err();
     let again = world.act(rt.alloc(), &start(255, 10)).is_ok();
-    assert_eq!(rt;
+    expect_eq!(
         (running, one_more, again),
         (256, Some(Fault::TableFull), true)
-    );
-    Ok(())
+    )
 }
 
 // How many of three nodes run.
@@ -48,8 +48,7 @@ fn is_kept(world: &World, answers: &[Result<Shown, Fault>]) -> bool {
 fn a_run_keeps_what_was_done(rt: HostRuntime) -> Result<(), Fail> {
     let actions = [start(A, 9), start(B, 5), start(C, 4)];
     let (world, answers) = World::run(rt.alloc(), settings(rt.alloc())?, &actions)?;
-    assert!(rt; is_kept(&world, &answers));
-    Ok(())
+    expect!(is_kept(&world, &answers))
 }
 
 // A list with room for three answers is at hand, so memory can't take the world away.
@@ -59,22 +58,20 @@ fn a_run_in_room_at_hand_ends_with_a_world(rt: HostRuntime) -> Result<(), Fail> 
     let set_to = settings(rt.alloc())?;
     let room = Vec::with_capacity(rt.alloc(), 3)?;
     let (world, answers) = World::run_in(rt.alloc(), set_to, &actions, room);
-    assert!(rt; is_kept(&world, &answers));
-    Ok(())
+    expect!(is_kept(&world, &answers))
 }
 
 #[test]
 fn a_run_of_nothing_runs_nobody(rt: HostRuntime) -> Result<(), Fail> {
     let (world, answers) = World::run(rt.alloc(), settings(rt.alloc())?, &[])?;
-    assert_eq!(rt; (running(&world), answers.len()), (0, 0));
-    Ok(())
+    expect_eq!((running(&world), answers.len()), (0, 0))
 }
 
 #[test]
-fn want_of_memory_is_told(rt: HostRuntime) {
+fn want_of_memory_is_told() -> Result<(), Fail> {
     let (none, short) = (Err(Fault::NotRising), Err(Fault::OutOfMemory));
-    assert_eq!(rt;
+    expect_eq!(
         (is_out_of_memory(&none), is_out_of_memory(&short)),
         (false, true)
-    );
+    )
 }

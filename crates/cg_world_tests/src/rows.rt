@@ -3,6 +3,7 @@
 use crate::scripts::{
     deliver, exchange, held_by, local, outcome, sent_above, set, settings, start,
 };
+use cg_expect::expect_eq;
 use cg_samples::{A, B, C};
 use cg_table::Took;
 use cg_types::Fault;
@@ -41,15 +42,14 @@ fn a_delta_is_a_gap_after_a_restart(rt: HostRuntime) -> Result<(), Fail> {
     actions.push(deliver(5, B, 3000))?;
     let (world, answers) = World::run(rt.alloc(), settings(rt.alloc())?, &actions)?;
     let outcomes = answers.get(12..).and_then(three_outcomes);
-    assert_eq!(rt;
+    expect_eq!(
         (outcomes, held_by(&world, B, A), held_by(&world, B, B)),
         (
             Some([Some(Took::Taken), Some(Took::Old), Some(Took::Gap)]),
             None,
             Some((6, 1))
         )
-    );
-    Ok(())
+    )
 }
 
 // ---- requests by generation
@@ -88,15 +88,14 @@ fn a_request_of_an_ended_generation_gets_the_next_one_whole(rt: HostRuntime) -> 
     asking(&mut actions)?;
     asked_elsewhere(&mut actions)?;
     let (world, _shown) = World::run(rt.alloc(), settings(rt.alloc())?, &actions)?;
-    assert_eq!(rt;
+    expect_eq!(
         (
             sent_above(&world, 6),
             sent_above(&world, 10),
             held_by(&world, C, A)
         ),
         (Some((0, None)), Some((1, Some(0))), Some((10, 1)))
-    );
-    Ok(())
+    )
 }
 
 // C holds A in generation 8 as A starts at 9.
@@ -132,13 +131,12 @@ fn a_request_of_a_later_generation_gets_nothing(rt: HostRuntime) -> Result<(), F
     held_in_8(&mut actions)?;
     asked_in_9(&mut actions)?;
     let (world, _answers) = World::run(rt.alloc(), settings(rt.alloc())?, &actions)?;
-    assert_eq!(rt;
+    expect_eq!(
         (
             sent_above(&world, 9),
             held_by(&world, C, A),
             held_by(&world, B, A)
         ),
         (Some((0, None)), Some((8, 1)), Some((9, 2)))
-    );
-    Ok(())
+    )
 }

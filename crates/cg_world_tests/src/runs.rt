@@ -3,6 +3,7 @@
 use crate::scripts::{
     deliver, held_by, local, outcome, run, sent_above, settings, start, three_nodes,
 };
+use cg_expect::expect_eq;
 use cg_samples::{A, B, C, endpoint};
 use cg_table::{Table, Took};
 use cg_types::Fault;
@@ -41,8 +42,7 @@ fn messages_are_numbered(rt: HostRuntime) -> Result<(), Fail> {
         None,
         None,
     ];
-    assert_eq!(rt; numbers.as_slice(), expected.as_slice());
-    Ok(())
+    expect_eq!(numbers.as_slice(), expected.as_slice())
 }
 
 #[test]
@@ -68,8 +68,7 @@ fn stale_deltas_are_told(rt: HostRuntime) -> Result<(), Fail> {
         None,
         None,
     ];
-    assert_eq!(rt; outcomes.as_slice(), expected.as_slice());
-    Ok(())
+    expect_eq!(outcomes.as_slice(), expected.as_slice())
 }
 
 // What the actions behind the fifteenth are refused for.
@@ -85,8 +84,7 @@ fn refused_actions_keep_their_place(rt: HostRuntime) -> Result<(), Fail> {
     let (_world, shown) = run(rt.alloc())?;
     let done = shown.iter().filter(|shown| shown.is_ok()).count();
     let faults = Some((&Fault::NotRising, &Fault::NoSuchMessage));
-    assert_eq!(rt; (done, last_faults(&shown)), (15, faults));
-    Ok(())
+    expect_eq!((done, last_faults(&shown)), (15, faults))
 }
 
 #[test]
@@ -94,11 +92,10 @@ fn nodes_hold_what_came(rt: HostRuntime) -> Result<(), Fail> {
     let (world, _shown) = run(rt.alloc())?;
     let of_a = (held_by(&world, A, A), held_by(&world, B, A));
     let of_b = (held_by(&world, A, B), held_by(&world, B, B));
-    assert_eq!(rt;
+    expect_eq!(
         (of_a, of_b),
         ((Some((9, 3)), Some((9, 3))), (Some((5, 1)), Some((6, 1))))
-    );
-    Ok(())
+    )
 }
 
 #[test]
@@ -106,11 +103,10 @@ fn all_messages_are_kept(rt: HostRuntime) -> Result<(), Fail> {
     let (world, _shown) = run(rt.alloc())?;
     let kept = (world.message(1).is_some(), world.message(7).is_some());
     let none = (world.message(0).is_some(), world.message(8).is_some());
-    assert_eq!(rt;
+    expect_eq!(
         (kept, none, world.settings().cluster().name()),
         ((true, true), (false, false), "c1")
-    );
-    Ok(())
+    )
 }
 
 // The refusal of an action where A alone has started.
@@ -125,15 +121,14 @@ fn who_never_started_does_nothing(rt: HostRuntime) -> Result<(), Fail> {
     let beat = refusal(rt.alloc(), &local(B, LocalEvent::Beat))?;
     let again = refusal(rt.alloc(), &start(A, 9))?;
     let unsent = refusal(rt.alloc(), &deliver(1, B, 1000))?;
-    assert_eq!(rt;
+    expect_eq!(
         (beat, again, unsent),
         (
             Some(Fault::NoSuchNode),
             Some(Fault::NotRising),
             Some(Fault::NoSuchMessage)
         )
-    );
-    Ok(())
+    )
 }
 
 // The newest version that a table holds of an endpoint.
@@ -146,11 +141,10 @@ fn three_tables_merged(rt: HostRuntime) -> Result<(), Fail> {
     let world = three_nodes(rt.alloc())?;
     let table = merge_is_join(rt.alloc(), &world, endpoint(A), endpoint(B), endpoint(C))?;
     let held = (newest(&table, A), newest(&table, B), newest(&table, C));
-    assert_eq!(rt;
+    expect_eq!(
         (table.own(), held),
         (endpoint(A), (Some(3), Some(1), Some(1)))
-    );
-    Ok(())
+    )
 }
 
 #[test]
@@ -159,26 +153,23 @@ fn digests_of_two_nodes(rt: HostRuntime) -> Result<(), Fail> {
     let others = equal_digests(&world, endpoint(A), endpoint(B))?;
     let same = equal_digests(&world, endpoint(A), endpoint(A))?;
     let nobody = equal_digests(&world, endpoint(A), endpoint(4)).err();
-    assert_eq!(rt;
+    expect_eq!(
         (others, same, nobody),
         (false, true, Some(Fault::NoSuchNode))
-    );
-    Ok(())
+    )
 }
 
 #[test]
 fn what_finds_nothing_to_grant_is_empty(rt: HostRuntime) -> Result<(), Fail> {
     let world = three_nodes(rt.alloc())?;
-    assert_eq!(rt;
+    expect_eq!(
         (sent_above(&world, 6), sent_above(&world, 7)),
         (Some((0, None)), Some((0, None)))
-    );
-    Ok(())
+    )
 }
 
 #[test]
 fn an_answer_brings_what_is_above(rt: HostRuntime) -> Result<(), Fail> {
     let (world, _shown) = run(rt.alloc())?;
-    assert_eq!(rt; sent_above(&world, 5), Some((1, Some(2))));
-    Ok(())
+    expect_eq!(sent_above(&world, 5), Some((1, Some(2))))
 }
