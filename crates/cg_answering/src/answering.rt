@@ -117,10 +117,11 @@ fn answer_links<R: Read, W: Write>(
 /// The reader has a line `ENDPOINT GENERATION CLUSTER` and a line with the SYN's frame in hexadecimal
 /// digits; the last line feed may be missing. What is written is the ACK's frame in lower-case digits and
 /// a line feed, with status 0, or one fault line, with status 1. Faults are found in this order: BadText
-/// (either line is unreadable, a line is missing or there is a further one), BadFrame (first what is wrong
-/// in the frame, then bytes behind it, then a frame of another kind), Truncated, OtherCluster. OutOfMemory
-/// comes where memory runs out on the way, ReadFault where a read fails or 4,294,967,295 reads do not
-/// meet the end. Where the writer fails or takes no byte, a front of the text is written, and the status is 1.
+/// (either line is unreadable, a line is missing or there is a further one), BadFrame (what is wrong in the
+/// frame), Truncated, BadFrame (bytes behind the frame, then a frame of another kind), OtherCluster.
+/// OutOfMemory comes where memory runs out on the way, ReadFault where a read fails or 4,294,967,295 reads
+/// do not meet the end. Where the writer fails or takes no byte, a front of the text is written, and the
+/// status is 1. The whole input is held in memory, and the writer is not flushed.
 pub fn answer<R: Read, W: Write>(
     alloc: Global,
     reader: &mut Counted<R>,

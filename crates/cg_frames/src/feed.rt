@@ -138,7 +138,8 @@ fn take(alloc: Global, layouts: &[Layout], held: &mut Vec<u8>, piece: &[u8]) -> 
 }
 
 /// A stream of frames that comes in pieces: it holds what has come of the next frame, or the fault that stands for
-/// good. It takes room for bytes that came, never for a length that was announced.
+/// good. Between pieces it holds less than one frame of the greatest length. It takes room for bytes that came, never for a
+/// frame's length that was announced; for the counts within a whole frame it does as `decode`.
 #[derive(Drop)]
 pub struct Feed {
     alloc: Global,

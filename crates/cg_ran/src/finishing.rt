@@ -69,9 +69,10 @@ fn confirm_all<N: Name, R: Wait>(
 /// receiver's, the sender's, the ticker's and the operator's. What is left is that history, and the numbers of the rounds
 /// that the sender took.
 ///
-/// `Unstarted` where not all workers were started, whatever the history confirms; `Unconfirmed` has the history, and the
-/// first receipt that it does not confirm, counted through all of them. `seats` is an empty list with room for four. It may
-/// wait for the lock.
+/// `Unstarted`, with OutOfMemory, where not all workers were started, whatever the history confirms; `Unconfirmed` has the
+/// history, and the place, counted from 0 through all receipts in that order, and the fault of the first that it does not
+/// confirm. `work` is what the workers of this board left: all its parts, and both ends of one channel. `seats` is an empty
+/// list with room for four. It may wait for the lock.
 pub fn finish<N: Name, R: Wait>(
     rt: &R,
     shared: Shared<N>,

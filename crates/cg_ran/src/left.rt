@@ -11,7 +11,8 @@ use std::alloc::Global;
 use std::marker::Model;
 use std::sync::Wait;
 
-/// A worker's seat, and its receipts. A contract sees the parts of the seat, and the receipts, which the seat has counted.
+/// A worker's seat, and its receipts. A contract sees the seat's parts of the board's ledger, and the receipts, which the
+/// seat has counted.
 #[derive(Drop)]
 pub struct Left<N: Name> {
     seat: Seat<N>,
@@ -32,7 +33,7 @@ impl<N: Name> Model for Left<N> {
 }
 
 impl<N: Name> Left<N> {
-    /// A seat from which no event was done.
+    /// A seat from which no event was done: one that has counted nothing. It takes no memory.
     pub fn unused(alloc: Global, seat: Seat<N>) -> Left<N>
         requires { seat.share.amount ≡ 0 }
         ensures { result ≡ record { parts = seat.share.parts; receipts = [] } }
