@@ -8,10 +8,9 @@ use Rattle.cg_types.specs.declared.fault.Fault.TheVariants.{ReadFault}
 use Rattle.cg_links.specs.declared.counted.Counted.{Counted}
 use Rattle.cg_links.specs.Counts.{one_more}
 use Rattle.cg_links.specs.Counted.{calls_of, KeepsCounts, CountsCalls, CountsFailed}
-use Rattle.cg_links.specs.declared.transfer.TheConstants.{MOST_READS}
 use Rattle.cg_links.proofs.Counts.{KeepsCounts-trans}
-use Rattle.cg_lines.specs.Lines.{ended_lines, open_line, last_line, lines_of}
-use Rattle.cg_lines.specs.Taken.{Takes, Refuses, Lacks, TakesAll, Stops, StopsLast, IsUnread, Fails, TakesLines}
+use Rattle.cg_lines.specs.Lines.{ended_lines, open_line, last_line}
+use Rattle.cg_lines.specs.Taken.{Takes, Refuses, Lacks, Stops, IsUnread, TakesLines}
 use Rattle.cg_lines.proofs.LineLemmas.{ended_lines-append, open_line-append}
 use Rattle.cg_lines.proofs.TakenLemmas.{takes_on, refuses_on, lacks_on}
 
@@ -22,10 +21,6 @@ Counts old new k = ((calls_of new ≡ calls_of old) × (k ≡ 0)) ⊎ CountsCall
 counts_more : {L : Type 0} (a b c : Counted L) (k : ℕ) → Counts a b k → calls_of c ≡ one_more (calls_of b) → CountsCalls a c (k + 1)
 counts_more a b c k (inl h) e = record { calls = omega (arith, e, h.0, h.1) }
 counts_more a b c k (inr h) e = record { calls = omega (arith, e, h.calls) }
-
-some_counted : {L : Type 0} (a b : Counted L) → Counts a b MOST_READS → CountsCalls a b MOST_READS
-some_counted a b (inl h) = absurd (omega (arith, h.1))
-some_counted a b (inr h) = h
 
 all_lines : (text piece front : List ℕ) → front ≡ open_line [] text → ended_lines [] text ++ ended_lines front piece ≡ ended_lines [] (text ++ piece)
 all_lines text piece front e = ap (λ (l : List ℕ). ended_lines [] text ++ ended_lines l piece) e ∙ sym (ended_lines-append [] text piece)
@@ -119,8 +114,3 @@ module _ {S : Type 0} (takes : S → List ℕ → S → Type 0) (refuses : S →
       caused = inl (record { failed = failed.failed ∙ ap one_more h.kept.failed; idle = failed.idle ∙ h.kept.idle });
       taken = h.taken;
     }
-
-    pub reading_tires : (s t : S) (front : List ℕ) (before after : Option (List ℕ)) (r0 r1 : Counted R) (f : Fault)
-        → Reading s t front before after r0 r1 MOST_READS → f ≡ ReadFault → IsUnread takes refuses before after r0 r1 s t f
-    reading_tires s t front before after r0 r1 f h is =
-        record { text = h.text; read = h.read; fault = is; caused = inr (some_counted r0 r1 h.counted); taken = h.taken }

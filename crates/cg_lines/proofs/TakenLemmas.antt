@@ -1,5 +1,5 @@
 -- Lines that are taken, and then some more.
-use Rattle.std.proofs.Common.{◌≡◌, ℕ, false, length, ◌⊎◌, inl, inr, List, [], ◌∷◌, ◌++◌, Option, Some, None, Result, Ok, Err, IfErr, refl, sym, ap, ◌∙◌, subst, append_assoc, append-nil}
+use Rattle.std.proofs.Common.{◌≡◌, ℕ, false, length, ◌⊎◌, inl, inr, List, [], ◌∷◌, ◌++◌, Some, None, Result, Ok, Err, IfErr, refl, sym, ap, ◌∙◌, subst, append_assoc, append-nil}
 use Rattle.std.specs.Prelude.{OnOk, MatchResult, ◌==◌}
 use Rattle.cg_types.specs.declared.fault.Fault.{Fault}
 use Rattle.cg_types.specs.declared.fault.Fault.TheVariants.{OutOfMemory}
@@ -81,16 +81,20 @@ module _ {S : Type 0} (takes : S → List ℕ → S → Type 0) (refuses : S →
       subst (λ (ls : List (List ℕ)). Lacks takes refuses p ls q f) (sym t.ended)
       (lacks_on p q q t.lines (ended_lines front rest) f t.taken (lacks_now q (ended_lines front rest) f short))
 
-  -- the next line is refused
+  -- the next line is refused, or finds no memory
   pub taking_stops : (p q r : S) (first front piece rest : List ℕ) (parts : List ℕ × List ℕ) (f : Fault)
-      → Taking p q first front piece rest → cut_at 10 rest ≡ Some parts → refuses q (front ++ parts.0) r f
-      → Refuses takes refuses p (ended_lines first piece) r f
-  taking_stops p q r first front piece rest parts f t cut refused =
+      → Taking p q first front piece rest → cut_at 10 rest ≡ Some parts
+      → refuses q (front ++ parts.0) r f ⊎ ((f ≡ OutOfMemory) × (r ≡ q))
+      → Refuses takes refuses p (ended_lines first piece) r f ⊎ Lacks takes refuses p (ended_lines first piece) r f
+  taking_stops p q r first front piece rest parts f t cut (inl refused) =
       let all : t.lines ++ ((front ++ parts.0) ∷ ended_lines [] parts.1) ≡ ended_lines first piece =
       sym (t.ended ∙ ap (λ (ls : List (List ℕ)). t.lines ++ ls) (ended_some front rest parts cut)) in
-      subst (λ (ls : List (List ℕ)). Refuses takes refuses p ls r f) all
+      inl (subst (λ (ls : List (List ℕ)). Refuses takes refuses p ls r f) all
       (refuses_on p q r t.lines ((front ++ parts.0) ∷ ended_lines [] parts.1) f t.taken
-      (refuses_first q r (front ++ parts.0) (ended_lines [] parts.1) f refused))
+      (refuses_first q r (front ++ parts.0) (ended_lines [] parts.1) f refused)))
+  taking_stops p q r first front piece rest parts f t cut (inr short) =
+      inr (subst (λ (s : S). Lacks takes refuses p (ended_lines first piece) s f) (sym short.1)
+      (taking_short p q first front piece rest f t short.0))
 
   -- the rest is kept, or finds no memory
   pub taking_rest : {T : Type 0} (p q : S) (first front piece rest : List ℕ) (r : Result T Fault)

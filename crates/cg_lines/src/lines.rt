@@ -37,6 +37,38 @@ fn hold(front: &mut Vec<u8>, part: &[u8]) -> Result<(), Fault>
     }
 }
 
+// Hands over a line that ends with `part`, and leaves nothing in `front`, which is what stood before that part. A line that
+// stands whole in a piece is handed over where it lies.
+fn take_ended<T: TakeLine>(
+    alloc: Global,
+    taker: &mut T,
+    front: &mut Vec<u8>,
+    part: &[u8],
+) -> Result<(), Fault>
+    ensures taken { MatchResult result
+        (λ _. T.takes taker.old (front.old.items ++ part.now) taker.new)
+        (λ f. T.refuses taker.old (front.old.items ++ part.now) taker.new f
+        ⊎ ((f ≡ fault.OutOfMemory) × (taker.new ≡ taker.old))) }
+    ensures none { OnOk result (front.new.items ≡ []) }
+{
+    if front.is_empty() {
+        return match taker.take_line(alloc, part) {
+            Ok(()) => Ok(()),
+            Err(fault) => Err(fault),
+        };
+    }
+    match hold(front, part) {
+        Ok(()) => {}
+        Err(fault) => return Err(fault),
+    }
+    match taker.take_line(alloc, front) {
+        Ok(()) => {}
+        Err(fault) => return Err(fault),
+    }
+    front.clear();
+    Ok(())
+}
+
 // Hands over each line that ends in a piece of a text. `front` is what stands before the piece in its line, and then
 // what stands behind the last line feed.
 fn take_piece<T: TakeLine>(
@@ -53,15 +85,10 @@ fn take_piece<T: TakeLine>(
 {
     let mut rest = piece;
     while let Some((part, behind)) = cut(rest, b'\n') {
-        match hold(front, part) {
+        match take_ended(alloc, taker, front, part) {
             Ok(()) => {}
             Err(fault) => return Err(fault),
         }
-        match taker.take_line(alloc, front) {
-            Ok(()) => {}
-            Err(fault) => return Err(fault),
-        }
-        front.clear();
         rest = behind;
     }
     hold(front, rest)

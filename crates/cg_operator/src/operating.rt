@@ -8,10 +8,9 @@ ghost use Rattle.cg_operator.specs.Operating.{Operates, TellsLine};
 ghost use Rattle.cg_operator.specs.Steps.{at_of};
 
 use crate::answering::answer;
-use cg_lines::{TakeLine, take_lines};
+use cg_lines::{TakeLine, take_lines, write_text};
 use cg_links::Counted;
 use cg_locked::Name;
-use cg_orders::write_text;
 use cg_seats::SeatGate;
 use cg_types::Fault;
 use cg_views::Pass;

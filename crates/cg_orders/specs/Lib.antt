@@ -1,5 +1,4 @@
 pub mod Orders
 pub mod Shown
-pub use Rattle.cg_links.specs.Counted
 pub use Rattle.cg_script.specs.Gives
 pub use Rattle.cg_script.specs.Words

@@ -1,7 +1,6 @@
 pub mod TextLemmas
 pub mod ToldLemmas
-pub mod TellingLemmas
-pub mod ReadingLemmas
+pub mod StepLemmas
 pub mod SimulatingLemmas
 pub mod Honest
 pub mod RunLemmas

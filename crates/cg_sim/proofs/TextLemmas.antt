@@ -1,6 +1,6 @@
 -- What some lines print, and then some more; fronts of that.
-use Rattle.std.proofs.Common.{◌≡◌, ℕ, ◌+◌, suc, zero, List, [], ◌∷◌, ◌++◌, length, take, refl, sym, ap, ◌∙◌, append_assoc}
-use Rattle.std.proofs.Math.Seq.{take-append-add}
+use Rattle.std.proofs.Common.{◌≡◌, ℕ, ◌+◌, ◌≤◌, suc, zero, List, [], ◌∷◌, ◌++◌, length, take, refl, sym, ap, ◌∙◌, append_assoc, length-append, arith}
+use Rattle.std.proofs.Math.Seq.{take-append-add, take-append_seam, take-append-le}
 use Rattle.cg_sim.specs.declared.play.Play.{Play}
 use Rattle.cg_sim.specs.Script.{after_line, line_text, after_lines, lines_text}
 
@@ -20,10 +20,15 @@ take_front zero xs ys = (0, refl)
 take_front (suc n) [] ys = (0, refl)
 take_front {A} (suc n) (x ∷ xs) ys = let h = take_front n xs ys in (suc h.0, ap (λ (l : List A). x ∷ l) h.1)
 
--- all lines of a first part, and then some of a second
-pub lines_text-more : (p : Play) (xs ys : List (List ℕ)) (n : ℕ)
-    → lines_text p (take (length xs + n) (xs ++ ys)) ≡ lines_text p xs ++ lines_text (after_lines p xs) (take n ys)
-lines_text-more p xs ys n = ap (lines_text p) (take-append-add xs ys n) ∙ lines_text-append p xs (take n ys)
+-- what stands before an element of two parts, of which the second has one at most, is a front of the first part
+pub front_of_first : {A : Type 0} (xs ys front rest : List A) (x : A) → length ys ≤ 1 → xs ++ ys ≡ front ++ x ∷ rest
+    → front ≡ take (length front) xs
+front_of_first xs ys front rest x few are =
+    let lengths : length (xs ++ ys) ≡ length (front ++ x ∷ rest) = ap length are in
+    let whole : length (xs ++ ys) ≡ length xs + length ys = length-append xs ys in
+    let parts : length (front ++ x ∷ rest) ≡ length front + length (x ∷ rest) = length-append front (x ∷ rest) in
+    let within : length front ≤ length xs = omega (arith, few, lengths, whole, parts) in
+    sym (take-append_seam front (x ∷ rest)) ∙ ap (take (length front)) (sym are) ∙ take-append-le (length front) xs ys within
 
 -- all of a first part's text, and then a front of a second's
 pub text_front-more : (p : Play) (xs ys : List (List ℕ)) (n : ℕ)

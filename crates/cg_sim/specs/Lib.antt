@@ -1,5 +1,6 @@
 pub mod Script
 pub mod Told
+pub mod Steps
 pub mod Simulated
 pub mod Runs
 pub use Rattle.cg_types.specs.Fault

@@ -1,77 +1,19 @@
 //! `sim`: a script from a reader, its text to a writer.
 
-ghost use Rattle.std.specs.Prelude.{◌≡◌, ◌<◌, ◌⊎◌, [], MatchResult, IfSome};
+ghost use Rattle.std.specs.Prelude.{◌≡◌, ◌<◌, ◌⊎◌, MatchResult, IfSome};
 ghost use Rattle.cg_links.specs.Counted.{link_of, calls_of, failed_of, idle_of};
 ghost use Rattle.cg_types.specs.declared.fault.Fault.TheVariants as fault;
 ghost use Rattle.cg_types.specs.Fault.{fault_text};
-ghost use Rattle.cg_lines.specs.Lines.{last_line};
-ghost use Rattle.cg_sim.specs.Script.{first_play};
-ghost use Rattle.cg_sim.specs.Told.{AreTold, IsUntold, BreaksOff};
 ghost use Rattle.cg_sim.specs.Simulated.{IsPlayed, Fails, WritesLine, Simulates, PlaysAll, SaysOutOfMemory};
 ghost use Rattle.cg_links.specs.declared.transfer.TheConstants.{MOST_READS};
 
 use crate::play::Play;
-use crate::telling::{tell_line, tell_piece, write_text};
-use cg_links::{Counted, MOST_READS};
+use crate::telling::{Telling, tell_lines};
+use cg_lines::write_text;
+use cg_links::Counted;
 use cg_types::Fault;
 use std::alloc::Global;
 use std::io::{Read, Write};
-
-// Does and tells the last line, where it does not end with a line feed.
-fn tell_last<W: Write>(
-    alloc: Global,
-    play: &mut Play,
-    text: &mut String,
-    writer: &mut Counted<W>,
-    line: &[u8],
-) -> Result<(), Fault>
-    ensures { MatchResult result
-        (λ _. AreTold play.old play.new (last_line line.now)
-        (W.contents (link_of writer.old)) (W.contents (link_of writer.new)) writer.old writer.new)
-        (λ f. IsUntold (W.contents (link_of writer.old)) (W.contents (link_of writer.new)) writer.old writer.new f
-        ⊎ BreaksOff play.old (last_line line.now)
-        (W.contents (link_of writer.old)) (W.contents (link_of writer.new)) writer.old writer.new f) }
-{
-    if line.is_empty() {
-        return Ok(());
-    }
-    tell_line(alloc, play, text, writer, line)
-}
-
-// Does and tells each line of a script, of which nothing was read.
-fn tell_pieces<R: Read, W: Write>(
-    alloc: Global,
-    play: &mut Play,
-    front: &mut Vec<u8>,
-    text: &mut String,
-    reader: &mut Counted<R>,
-    writer: &mut Counted<W>,
-) -> Result<(), Fault>
-    requires first { play.old ≡ first_play }
-    requires none { front.old.items ≡ [] }
-    ensures { MatchResult result
-        (λ _. IsPlayed
-        (R.remaining (link_of reader.old)) (R.remaining (link_of reader.new))
-        (W.contents (link_of writer.old)) (W.contents (link_of writer.new))
-        reader.old reader.new writer.old writer.new)
-        (λ f. Fails
-        (R.remaining (link_of reader.old)) (R.remaining (link_of reader.new))
-        (W.contents (link_of writer.old)) (W.contents (link_of writer.new))
-        reader.old reader.new writer.old writer.new f) }
-{
-    let mut piece = [0u8; 4096];
-    for _ in 0..MOST_READS {
-        match reader.read(&mut piece) {
-            Ok(0) => return tell_last(alloc, play, text, writer, front),
-            Ok(n) => match tell_piece(alloc, play, front, text, writer, &piece[..n]) {
-                Ok(()) => {}
-                Err(fault) => return Err(fault),
-            },
-            Err(_) => return Err(Fault::ReadFault),
-        }
-    }
-    Err(Fault::ReadFault)
-}
 
 // Does and tells each line of a script.
 fn tell_script<R: Read, W: Write>(
@@ -92,9 +34,13 @@ fn tell_script<R: Read, W: Write>(
     let Ok(mut play) = Play::new(alloc) else {
         return Err(Fault::OutOfMemory);
     };
-    let mut front = Vec::new(alloc);
     let mut text = String::new(alloc);
-    tell_pieces(alloc, &mut play, &mut front, &mut text, reader, writer)
+    let mut telling = Telling {
+        play: &mut play,
+        text: &mut text,
+        writer,
+    };
+    tell_lines(alloc, &mut telling, reader)
 }
 
 // Writes a line, whether or not the writer fails.

@@ -1,18 +1,15 @@
-use Rattle.std.proofs.Common.{inl, inr, sym, arith}
+use Rattle.std.proofs.Common.{sym, arith}
 use Rattle.cg_lines.proofs.LineLemmas.{cut_shorter}
-use Rattle.cg_lines.proofs.TakenLemmas.{taking_none, taking_more, taking_rest, taking_kept, taking_short, taking_stops}
+use Rattle.cg_lines.proofs.TakenLemmas.{taking_none, taking_more, taking_rest, taking_kept, taking_stops}
 use Rattle.cg_lines.proofs.lines.take_piece.Goals as goal
 
 pub loop-part-init : goal.loop-part-init
 loop-part-init g c = taking_none _ _ _ _ _
 
 pub returns-in-Err-clause-taken : goal.returns-in-Err-clause-taken
-returns-in-Err-clause-taken g c = inr (taking_short _ _ _ _ _ _ _ _ _ c.loop-part.invariant c.in-Err.ensures.err)
-
-pub returns-in-Err-take_line-clause-taken : goal.returns-in-Err-take_line-clause-taken
-returns-in-Err-take_line-clause-taken g c =
-    inl (taking_stops _ _ _ _ _ _ _ _ _ (c.in-Some.part.now, c.in-Some.behind.now) _ c.loop-part.invariant
-    (sym (rw c.in-Some.is at c.cut.ensures)) (rw (c.deref.ensures.value, c.in-Ok.ensures.ok) at c.in-Err-take_line.ensures))
+returns-in-Err-clause-taken g c =
+    taking_stops _ _ _ _ _ _ _ _ _ (c.in-Some.part.now, c.in-Some.behind.now) _ c.loop-part.invariant
+    (sym (rw c.in-Some.is at c.cut.ensures)) c.in-Err.ensures.taken
 
 pub loop-part-smaller : goal.loop-part-smaller
 loop-part-smaller g c =
@@ -21,14 +18,14 @@ loop-part-smaller g c =
 
 pub loop-part-preserved : goal.loop-part-preserved
 loop-part-preserved g c =
-    rw c.clear.ensures.items
+    rw c.in-Ok.ensures.none
     (taking_more _ _ _ _ _ _ _ _ _ (c.in-Some.part.now, c.in-Some.behind.now) c.loop-part.invariant
-    (sym (rw c.in-Some.is at c.cut.ensures)) (rw (c.deref.ensures.value, c.in-Ok.ensures.ok) at c.in-Ok-take_line.ensures))
+    (sym (rw c.in-Some.is at c.cut.ensures)) c.in-Ok.ensures.taken)
 
 pub returns-clause-taken : goal.returns-clause-taken
 returns-clause-taken g c =
-    taking_rest _ _ _ _ _ _ _ _ c.hold-2.result c.loop-part.invariant (sym (rw c.in_default.is at c.cut.ensures)) c.hold-2.ensures.err
+    taking_rest _ _ _ _ _ _ _ _ c.hold.result c.loop-part.invariant (sym (rw c.in_default.is at c.cut.ensures)) c.hold.ensures.err
 
 pub returns-clause-unended : goal.returns-clause-unended
 returns-clause-unended g c =
-    taking_kept _ _ _ _ _ _ _ _ _ c.hold-2.result c.loop-part.invariant (sym (rw c.in_default.is at c.cut.ensures)) c.hold-2.ensures.ok
+    taking_kept _ _ _ _ _ _ _ _ _ c.hold.result c.loop-part.invariant (sym (rw c.in_default.is at c.cut.ensures)) c.hold.ensures.ok

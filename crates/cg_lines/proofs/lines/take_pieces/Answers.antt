@@ -1,5 +1,5 @@
 use Rattle.std.proofs.Common.{take, refl, inl, inr, arith}
-use Rattle.cg_lines.proofs.ReadingLemmas.{reading_none, reading_more, reading_stops, reading_ends, reading_fails, reading_tires}
+use Rattle.cg_lines.proofs.ReadingLemmas.{reading_none, reading_more, reading_stops, reading_ends, reading_fails}
 use Rattle.cg_lines.proofs.lines.take_pieces.Goals as goal
 
 pub loop-init : goal.loop-init

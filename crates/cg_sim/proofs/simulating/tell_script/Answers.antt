@@ -1,5 +1,5 @@
 use Rattle.std.proofs.Common.{refl, inl}
-use Rattle.cg_sim.proofs.ReadingLemmas.{nothing_read}
+use Rattle.cg_sim.proofs.StepLemmas.{nothing_read}
 use Rattle.cg_sim.proofs.simulating.tell_script.Goals as goal
 
 pub returns-in_default : goal.returns-in_default

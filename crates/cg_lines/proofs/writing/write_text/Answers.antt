@@ -1,6 +1,6 @@
 use Rattle.std.proofs.Common.{[], sym, append-nil}
 use Rattle.cg_links.proofs.Fronts.{front_kept}
-use Rattle.cg_sim.proofs.telling.write_text.Goals as goal
+use Rattle.cg_lines.proofs.writing.write_text.Goals as goal
 
 pub returns-in-Err-flush-clause-front : goal.returns-in-Err-flush-clause-front
 returns-in-Err-flush-clause-front g c =
