@@ -7,5 +7,5 @@ mod transfer;
 mod trials;
 
 pub use counted::Counted;
-pub use transfer::{MOST_READS, read_all, write_bytes};
+pub use transfer::{MOST_READS, read_all, write_and_flush, write_bytes};
 pub use trials::{CountingLink, FailingLink, SlowLink};

@@ -1,8 +1,8 @@
-//! Reading a link to its end, and writing all of some bytes to one.
+//! Reading a link to its end, and writing all of some bytes to one, also flushed.
 
 ghost use Rattle.std.specs.Prelude.{◌≡◌, ℕ, List, ◌⊎◌, take, OnOk, OnErr, IfOk, IfErr, Err};
 ghost use Rattle.std.specs.Io.KnownBytes.{Appends, Consumes, IsAtEnd};
-ghost use Rattle.cg_links.specs.Counted.{link_of, KeepsCounts, CountsCalls, CountsFailed, CountsIdle};
+ghost use Rattle.cg_links.specs.Counted.{link_of, KeepsCounts, CountsCalls, CountsFailed, CountsIdle, IsFlushed};
 ghost use Rattle.cg_types.specs.declared.fault.Fault.TheVariants as fault;
 
 use crate::counted::Counted;
@@ -29,6 +29,27 @@ pub fn write_bytes<W: Write>(writer: &mut Counted<W>, bytes: &[u8]) -> Result<()
         }
     }
     Ok(())
+}
+
+/// Writes all of the bytes, and flushes the writer. WriteFault where that failed, or the writer took none of what was
+/// left, and then a front of the bytes was written.
+pub fn write_and_flush<W: Write>(writer: &mut Counted<W>, bytes: &[u8]) -> Result<(), Fault>
+    ensures ok { OnOk result (Appends (W.contents (link_of writer.old)) (W.contents (link_of writer.new)) bytes.now) }
+    ensures kept { OnOk result (KeepsCounts writer.old writer.new) }
+    ensures flushed { OnOk result (IsFlushed writer.new) }
+    ensures front { OnErr result ((n : ℕ)
+        × Appends (W.contents (link_of writer.old)) (W.contents (link_of writer.new)) (take n bytes.now)) }
+    ensures fault { IfErr result (λ f. f ≡ fault.WriteFault) }
+    ensures caused { OnErr result (CountsFailed writer.old writer.new ⊎ CountsIdle writer.old writer.new) }
+{
+    match write_bytes(writer, bytes) {
+        Ok(()) => {}
+        Err(fault) => return Err(fault),
+    }
+    match writer.flush() {
+        Ok(()) => Ok(()),
+        Err(_) => Err(Fault::WriteFault),
+    }
 }
 
 /// How many reads are made at most to reach a link's end.

@@ -8,8 +8,8 @@ ghost use Rattle.cg_operator.specs.Operating.{Operates, TellsLine};
 ghost use Rattle.cg_operator.specs.Steps.{at_of};
 
 use crate::answering::answer;
-use cg_lines::{TakeLine, take_lines, write_text};
-use cg_links::Counted;
+use cg_lines::{TakeLine, take_lines};
+use cg_links::{Counted, write_and_flush};
 use cg_locked::Name;
 use cg_seats::SeatGate;
 use cg_types::Fault;
@@ -39,7 +39,7 @@ fn tell_line<N: Name, R: Wait, W: Write>(
         line.now (record { gate = gate.new; pass = pass.new; writer = writer.new }) result }
 {
     match answer(alloc, gate, pass, line) {
-        Ok(Some(text)) => match write_text(writer, text.as_bytes()) {
+        Ok(Some(text)) => match write_and_flush(writer, text.as_bytes()) {
             Ok(()) => Ok(true),
             Err(fault) => Err(fault),
         },

@@ -9,8 +9,7 @@ ghost use Rattle.cg_links.specs.declared.transfer.TheConstants.{MOST_READS};
 
 use crate::play::Play;
 use crate::telling::{Telling, tell_lines};
-use cg_lines::write_text;
-use cg_links::Counted;
+use cg_links::{Counted, write_and_flush};
 use cg_types::Fault;
 use std::alloc::Global;
 use std::io::{Read, Write};
@@ -48,7 +47,7 @@ fn say<W: Write>(writer: &mut Counted<W>, line: &[u8])
     ensures { WritesLine
         (W.contents (link_of writer.old)) (W.contents (link_of writer.new)) writer.old writer.new line.now }
 {
-    let _ = write_text(writer, line);
+    let _ = write_and_flush(writer, line);
 }
 
 fn say_out_of_memory<W: Write>(writer: &mut Counted<W>)

@@ -7,8 +7,8 @@ ghost use Rattle.cg_sim.specs.Told.{AreTold, IsUntold, BreaksOff};
 ghost use Rattle.cg_sim.specs.Simulated.{IsPlayed, Fails};
 
 use crate::play::Play;
-use cg_lines::{TakeLine, take_lines, write_text};
-use cg_links::Counted;
+use cg_lines::{TakeLine, take_lines};
+use cg_links::{Counted, write_and_flush};
 use cg_types::Fault;
 use std::alloc::Global;
 use std::io::{Read, Write};
@@ -38,7 +38,7 @@ fn tell_line<W: Write>(
 {
     text.clear();
     match play.line(alloc, text, line) {
-        Ok(()) => write_text(writer, text.as_bytes()),
+        Ok(()) => write_and_flush(writer, text.as_bytes()),
         Err(_) => Err(Fault::OutOfMemory),
     }
 }

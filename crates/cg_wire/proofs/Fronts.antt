@@ -1,29 +1,32 @@
--- All of some bytes was written, and then the writer failed.
-use Rattle.std.proofs.Common.{◌≡◌, ℕ, ◌<◌, List, [], ◌++◌, length, take, Option, refl, sym, ◌∙◌, ap, subst, inl, arith, append-nil, length-append}
-use Rattle.std.proofs.Math.Seq.{take-append_seam}
-use Rattle.std.specs.Io.KnownBytes.{Appends, Keeps}
-use Rattle.std.proofs.KnownBytes.{Appends-kept}
+-- What writing some bytes and flushing sends of them.
+use Rattle.std.proofs.Common.{◌≡◌, ℕ, ◌<◌, ◌⊎◌, List, length, take, Option, Result, Ok, Err, inr, arith, length-append}
+use Rattle.std.specs.Result.{OnOk, OnErr, IfErr}
+use Rattle.std.specs.Io.KnownBytes.{Appends}
+use Rattle.cg_types.specs.declared.fault.Fault.{Fault}
 use Rattle.cg_types.specs.declared.fault.Fault.TheVariants as fault
 use Rattle.cg_exchange.specs.declared.message.Message.{Message}
 use Rattle.cg_frames.specs.declared.layout.Layout.{Layout}
 use Rattle.cg_frames.specs.Spelling.{frame, inside, four_bytes}
 use Rattle.cg_links.specs.declared.counted.Counted.{Counted}
-use Rattle.cg_links.specs.Counted.{KeepsCounts, CountsFailed}
-use Rattle.cg_links.proofs.Counts.{CountsFailed-after}
-use Rattle.cg_wire.specs.Sent.{SendsFront}
+use Rattle.cg_links.specs.Counted.{IsFlushed, KeepsCounts, CountsFailed, CountsIdle}
+use Rattle.cg_wire.specs.Sent.{Sends}
 
-take_whole : (bytes : List ℕ) → bytes ≡ take (length bytes) bytes
-take_whole bytes = sym (take-append_seam bytes []) ∙ ap (take (length bytes)) (append-nil bytes)
-
-pub flush_failed : {L : Type 0} (a b c : Option (List ℕ)) (x y z : Counted L) (bytes : List ℕ) → 0 < length bytes → Appends a b bytes → KeepsCounts x y → Keeps b c → CountsFailed y z
-    → SendsFront a c x z bytes fault.WriteFault
-flush_failed a b c x y z bytes some written kept keeps failed = record {
-  fault = refl;
-  some = some;
-  count = length bytes;
-  written = subst (Appends a c) (take_whole bytes) (Appends-kept a b c bytes written keeps);
-  caused = inl (CountsFailed-after x y z kept failed);
+pub sent_of : {L T : Type 0} (a c : Option (List ℕ)) (x z : Counted L) (due : List ℕ) (r : Result T Fault) → 0 < length due
+    → OnOk r (Appends a c due) → OnOk r (KeepsCounts x z) → OnOk r (IsFlushed z)
+    → OnErr r ((n : ℕ) × Appends a c (take n due)) → IfErr r (λ f. f ≡ fault.WriteFault) → OnErr r (CountsFailed x z ⊎ CountsIdle x z)
+    → Sends a c x z due r
+sent_of a c x z due (Ok v) some all kept flushed front told caused = record {
+  written = all;
+  flushed = λ _. flushed;
+  kept = kept;
 }
+sent_of a c x z due (Err f) some all kept flushed front told caused = inr (record {
+  fault = told;
+  some = some;
+  count = front.0;
+  written = front.1;
+  caused = caused;
+})
 
 -- A frame has bytes.
 pub frame_some : (layout : Layout) (m : Message) → 0 < length (frame layout m)

@@ -9,7 +9,7 @@ ghost use Rattle.cg_wire.specs.Sent.{Sends};
 
 use cg_exchange::Lent;
 use cg_frames::encode_lent;
-use cg_links::{Counted, write_bytes};
+use cg_links::{Counted, write_and_flush};
 use cg_types::Fault;
 use std::alloc::Global;
 use std::io::Write;
@@ -20,13 +20,7 @@ fn send_bytes<W: Write>(writer: &mut Counted<W>, bytes: &[u8]) -> Result<(), Fau
     ensures { Sends (W.contents (link_of writer.old)) (W.contents (link_of writer.new)) writer.old writer.new
         bytes.now result }
 {
-    match write_bytes(writer, bytes) {
-        Ok(()) => match writer.flush() {
-            Ok(()) => Ok(()),
-            Err(_) => Err(Fault::WriteFault),
-        },
-        Err(fault) => Err(fault),
-    }
+    write_and_flush(writer, bytes)
 }
 
 /// Writes the frame of a message, and flushes the writer.

@@ -1,4 +1,4 @@
-use Rattle.std.proofs.Common.{◌≡◌, ◌++◌, take, drop, sym, subst, arith}
+use Rattle.std.proofs.Common.{◌++◌, take, drop, sym, subst, arith}
 use Rattle.std.specs.Io.KnownBytes.{Consumes}
 use Rattle.std.proofs.lemmas.List.{length-take, take-append-le}
 use Rattle.cg_wire.specs.Received.{held_of}

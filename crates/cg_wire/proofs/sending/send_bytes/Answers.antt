@@ -1,8 +1,7 @@
-use Rattle.std.proofs.Common.{inr}
-use Rattle.cg_wire.proofs.Fronts.{flush_failed}
+use Rattle.cg_wire.proofs.Fronts.{sent_of}
 use Rattle.cg_wire.proofs.sending.send_bytes.Goals as goal
 
-pub returns-in-Err-flush : goal.returns-in-Err-flush
-returns-in-Err-flush g c =
-    inr (flush_failed _ _ _ c.args.writer.now c.write_bytes.new.writer c.flush.new.self c.args.bytes.now c.requires
-    c.in-Ok.ensures.ok c.in-Ok.ensures.kept c.in-Err-flush.ensures.bytes c.in-Err-flush.ensures.counts)
+pub returns : goal.returns
+returns g c =
+    sent_of _ _ _ _ _ c.write_and_flush.result c.requires c.write_and_flush.ensures.ok c.write_and_flush.ensures.kept
+    c.write_and_flush.ensures.flushed c.write_and_flush.ensures.front c.write_and_flush.ensures.fault c.write_and_flush.ensures.caused
