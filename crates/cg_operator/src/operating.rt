@@ -104,7 +104,8 @@ fn operate_lines<N: Name, R: Wait, W: Write, I: Read>(
 /// refused set `fault 4 VersionsSpent`.
 ///
 /// `OutOfMemory` where memory runs out, `ReadFault` where a read fails or 4,294,967,295 reads were made, `WriteFault`
-/// where the writer fails or takes no byte, `NoSuchNode` where there is nothing to read any more.
+/// where the writer fails or takes no byte, `NoSuchNode` where there is nothing to read any more. With the first and
+/// the third the set of that line may stand.
 pub fn operate<N: Name, R: Wait, I: Read, W: Write>(
     alloc: Global,
     reader: &mut Counted<I>,

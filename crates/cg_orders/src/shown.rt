@@ -51,7 +51,8 @@ pub fn table_text(alloc: Global, table: &Table, view: View) -> Result<String, Al
     }
 }
 
-/// Adds `version 2 unpublished`: a change was given a version, and those who read do not see it yet.
+/// Adds the line `version 2 unpublished`: a change was given a version, and those who read do not see it yet.
+/// `AllocError` where the text finds no memory.
 #[tactic(auto, unfolding(crate::specs::Shown::unpublished_line))]
 pub fn add_unpublished(text: &mut String, version: Version) -> Result<(), AllocError>
     ensures { OnOk result (string_bytes text.new ≡ string_bytes text.old ++ unpublished_line version) }

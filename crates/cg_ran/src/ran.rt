@@ -16,8 +16,8 @@ pub struct Ran {
 /// A node that did not run, or whose history does not confirm what its workers were told.
 #[derive(Drop)]
 pub enum NotRun {
-    /// The views, the board, the channel or a worker could not be made, for want of memory, and the workers that were
-    /// made have ended. A thread that is refused counts as memory: the fault is OutOfMemory.
+    /// The table's copy, the views, the board, the channel or a worker could not be made, for want of memory, and the
+    /// workers that were made have ended. A thread that is refused counts as memory: the fault is OutOfMemory.
     Unstarted(Fault),
     /// The history that is left, and the first receipt that it does not confirm.
     Unconfirmed(Unconfirmed),

@@ -101,7 +101,7 @@ fn ended<R: Files + Print>(rt: &R, alloc: Global, life: &Result<Lived, Fault>) -
 /// the generation can't be read (`ReadFault`), is none (`BadText`), has none above it (`VersionsSpent`) or can't be
 /// kept (`WriteFault`); another program listens there (`ReadFault`); memory or a thread is refused (`OutOfMemory`). At
 /// the end a receipt that the history does not confirm is told by its fault, and the journal is written all the same;
-/// `WriteFault` where it can't be.
+/// `WriteFault` where it can't be. A fault of a worker ends that worker; it is not told, and leaves the status.
 pub fn serve<R>(rt: &R, alloc: Global, file: &str) -> u8
 where
     R: Threads

@@ -104,13 +104,15 @@ where
 
 /// Runs a node until its workers have ended, and takes its history back.
 ///
-/// The receiver answers up to `exchanges` connections, the ticker begins `rounds` rounds, `interval` milliseconds apart,
-/// the sender sends them, and the operator runs to its end; the receiver works in the caller's thread, each of the others
-/// in one of its own. A fault of one ends that one alone. None begins before all are started. It waits until all have
-/// ended.
+/// The receiver answers up to `exchanges` connections, the ticker begins `rounds` rounds, `interval` milliseconds
+/// apart, the sender sends them, and the operator runs to its end; the receiver works in the caller's thread, each of
+/// the others in one of its own. An exchange that breaks ends itself alone, a fault of the listener or of the operator
+/// that worker alone; where the sender or the ticker stops for want of memory, the other ends too, with fewer rounds.
+/// None begins before all are started. It waits until all have ended.
 ///
-/// `history` has no records yet. `Unstarted`, with OutOfMemory, where the views, the board, the channel or a thread was
-/// refused: then nothing was done, and the history is gone. `Unconfirmed` where the history does not confirm all receipts.
+/// `history` has no records yet. `Unstarted`, with OutOfMemory, where the copy of its table, the views, the board, the
+/// channel or a thread was refused: then nothing was done, and the history is gone. `Unconfirmed` where the history
+/// does not confirm all receipts.
 pub fn run_node<
     R: Threads + Wait + Clock + Sync,
     L: Listen + Drop,
