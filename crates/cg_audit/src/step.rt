@@ -9,7 +9,7 @@ ghost use Rattle.cg_audit.specs.Steps.{run_item};
 
 use crate::item::LifeItem;
 use crate::lives::generation;
-use cg_core::Event;
+use cg_events::Event;
 use cg_exchange::Lent;
 use cg_history::{History, Item};
 use cg_types::{Endpoint, Generation};

@@ -2,9 +2,10 @@
 
 use anyhow::{Context, Result};
 use cg_audit::Lives;
-use cg_core::{Event, Settings};
+use cg_events::Event;
 use cg_exchange::Lent;
 use cg_history::History;
+use cg_settings::Settings;
 use cg_silence::Silence;
 use cg_types::{Cluster, Endpoint, Generation};
 use std::alloc::{AllocError, Global};

@@ -5,9 +5,9 @@ use Rattle.std.specs.Option.{option_to_list}
 use Rattle.std.proofs.lemmas.List.Elements.{Contains-append_cases, Contains-push_cases}
 use Rattle.cg_types.specs.Text.{ClusterValue}
 use Rattle.cg_exchange.specs.declared.message.Message.{Message}
-use Rattle.cg_core.specs.declared.reply.Reply.{Reply}
-use Rattle.cg_core.specs.declared.reply.Reply.TheVariants as replies
-use Rattle.cg_core.specs.Sending as sending
+use Rattle.cg_events.specs.declared.reply.Reply.{Reply}
+use Rattle.cg_events.specs.declared.reply.Reply.TheVariants as replies
+use Rattle.cg_events.specs.Sending as sending
 use Rattle.cg_places.specs.PlaceWorld.{PlaceWorld}
 use Rattle.cg_places.proofs.OnwardLemmas.{Keeps}
 use Rattle.cg_steps.specs.Step.{message_of, SaysSent, IsSentBefore}

@@ -11,8 +11,9 @@ use Rattle.cg_table.specs.Table.{digests_of}
 use Rattle.cg_exchange.specs.declared.outcome.Outcome.{Outcome}
 use Rattle.cg_exchange.specs.declared.owner_delta.OwnerDelta.{OwnerDelta}
 use Rattle.cg_exchange.specs.Spelling.{delta_about, outcome_about}
-use Rattle.cg_core.specs.declared.event.Event.{Event}
-use Rattle.cg_core.specs.Values.{SettingsValue, NodeValue}
+use Rattle.cg_events.specs.declared.event.Event.{Event}
+use Rattle.cg_settings.specs.Values.{SettingsValue}
+use Rattle.cg_core.specs.Values.{NodeValue}
 use Rattle.cg_core.specs.Arrivals.{outcomes_in}
 use Rattle.cg_core.specs.Step.{starting_node}
 use Rattle.cg_places.specs.TableLaws.{AreEqual}

@@ -1,10 +1,11 @@
 //! Histories and lives, and what is printed of an audit of them.
 
 use cg_audit::{AuditFault, LifeItem, Lives, audit, endpoints_differ};
-use cg_core::{Event, Settings};
+use cg_events::Event;
 use cg_exchange::Lent;
 use cg_history::History;
 use cg_samples::{cluster, endpoint, generation};
+use cg_settings::Settings;
 use cg_silence::Silence;
 use std::alloc::{AllocError, Global};
 use std::test::Fail;

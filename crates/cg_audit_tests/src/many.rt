@@ -2,7 +2,7 @@
 
 use crate::made::{audited, begun, event, exchange, hand, life, opened};
 use cg_audit::{LifeItem, Lives, audit, endpoints_differ};
-use cg_core::Event;
+use cg_events::Event;
 use cg_expect::{expect, expect_eq};
 use cg_history::History;
 use cg_samples::{A, B, C, endpoint};

@@ -2,11 +2,12 @@
 
 use crate::made::{arrival, begun, lives};
 use cg_audit::Lives;
-use cg_core::{Event, Settings};
+use cg_events::Event;
 use cg_exchange::{Lent, Message};
 use cg_frames::{decode, encode_lent};
 use cg_history::History;
 use cg_samples::{cluster, endpoint, generation, key};
+use cg_settings::Settings;
 use cg_silence::Silence;
 use cg_types::StateText;
 use cg_world::{Action, LocalEvent, World};

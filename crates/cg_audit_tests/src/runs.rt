@@ -5,7 +5,7 @@ use crate::made::{
     audited, audited_both, audited_one, begun, event, exchange, hand, life, lives, opened,
 };
 use cg_audit::Lives;
-use cg_core::Event;
+use cg_events::Event;
 use cg_expect::{expect, expect_eq};
 use cg_history::History;
 use cg_samples::{A, B, endpoint};

@@ -4,9 +4,11 @@ use crate::inputs::{Newer, Shape, as_ack2, bringing, cluster, endpoint, full, la
 use crate::measure::{Mode, case, named};
 use crate::work::Work;
 use anyhow::{Context, Result};
-use cg_core::{Event, Node, Settings};
+use cg_core::Node;
+use cg_events::Event;
 use cg_exchange::Ack;
 use cg_history::History;
+use cg_settings::Settings;
 use cg_silence::Silence;
 use cg_types::{Generation, StateKey, StateText};
 use std::alloc::Global;

@@ -13,12 +13,13 @@ use Rattle.cg_exchange.specs.Taking.{taking_ack, taking_ack2}
 use Rattle.cg_silence.specs.Values.{SilenceValue, Shown}
 use Rattle.cg_silence.specs.Silence.{after_arrival}
 use Rattle.cg_silence.proofs.WindowLemmas.{shown-push}
-use Rattle.cg_core.specs.declared.event.Event.{Event}
-use Rattle.cg_core.specs.declared.event.Event.TheVariants as event
-use Rattle.cg_core.specs.declared.reply.Reply.{Reply}
-use Rattle.cg_core.specs.declared.reply.Reply.TheVariants as reply
-use Rattle.cg_core.specs.Values.{Heard, SettingsValue, NodeValue}
-use Rattle.cg_core.specs.Windows.{was_taken, tells_taken, with_arrival, arrivals}
+use Rattle.cg_events.specs.declared.event.Event.{Event}
+use Rattle.cg_events.specs.declared.event.Event.TheVariants as event
+use Rattle.cg_events.specs.declared.reply.Reply.{Reply}
+use Rattle.cg_events.specs.declared.reply.Reply.TheVariants as reply
+use Rattle.cg_settings.specs.Values.{SettingsValue}
+use Rattle.cg_core.specs.Values.{NodeValue}
+use Rattle.cg_windows.specs.Windows.{Heard, was_taken, tells_taken, with_arrival, arrivals}
 use Rattle.cg_core.specs.Step.{starting_node, then, next_of, beating, setting, opening, round_of, after_taking, node_step, node_left, after_event, after_events}
 use Rattle.cg_core.specs.Arrivals.{outcomes_in, outcomes_told, moment_of, moments_told, moments_taken, window_of}
 use Rattle.cg_core.specs.Laws.{WindowsShowAllTaken}

@@ -4,31 +4,20 @@ use Rattle.std.specs.List.{filter}
 use Rattle.cg_types.specs.declared.fault.Fault.{Fault}
 use Rattle.cg_types.specs.Rising.{Rises}
 use Rattle.cg_table.specs.Puts.{Put, puts, rows_at}
-use Rattle.cg_exchange.specs.declared.owner_delta.OwnerDelta.{OwnerDelta}
 use Rattle.cg_exchange.specs.declared.outcome.Outcome.{Outcome}
 use Rattle.cg_exchange.specs.Members.{endpoints_of_deltas}
-use Rattle.cg_core.specs.declared.event.Event.{Event}
-use Rattle.cg_core.specs.declared.event.Event.TheVariants as event
-use Rattle.cg_core.specs.declared.reply.Reply.{Reply}
-use Rattle.cg_core.specs.declared.reply.Reply.TheVariants as reply
+use Rattle.cg_events.specs.declared.event.Event.{Event}
+use Rattle.cg_events.specs.Handed.{deltas_in}
+use Rattle.cg_events.specs.declared.reply.Reply.{Reply}
+use Rattle.cg_events.specs.declared.reply.Reply.TheVariants as reply
 use Rattle.cg_core.specs.Values.{NodeValue}
-use Rattle.cg_core.specs.Windows.{was_taken}
+use Rattle.cg_windows.specs.Windows.{was_taken}
 use Rattle.cg_core.specs.Step.{node_step, then}
 use Rattle.cg_core.specs.Laws.{IsSmall, Leads}
 
 -- a step, with the puts that lead to its table
 abbrev pub step_with_puts : NodeValue → Event → Result (NodeValue × Reply × List Put) Fault
 step_with_puts n e = then (node_step n e) (λ x. (x.0, x.1, puts n.table x.0.table))
-
--- the deltas that an event hands a node
-abbrev pub deltas_in : Event → List OwnerDelta
-deltas_in event.Beat = []
-deltas_in (event.Set key text) = []
-deltas_in (event.Tick now words) = []
-deltas_in event.Opening = []
-deltas_in (event.Syn syn) = []
-deltas_in (event.Ack now ack) = ack.deltas
-deltas_in (event.Ack2 now ack2) = ack2.deltas
 
 -- whom the deltas that were taken are about
 abbrev pub taken_owners : List Outcome → List ℕ

@@ -9,19 +9,15 @@ use Rattle.cg_table.specs.Values.{TableValue, IsTable}
 use Rattle.cg_table.specs.Own.{own_entry, with_own}
 use Rattle.cg_exchange.specs.declared.owner_delta.OwnerDelta.{OwnerDelta}
 use Rattle.cg_exchange.specs.Taking.{table_after, held_after}
-use Rattle.cg_core.specs.declared.event.Event.{Event}
-use Rattle.cg_core.specs.declared.event.Event.TheVariants as event
-use Rattle.cg_core.specs.declared.reply.Reply.{Reply}
-use Rattle.cg_core.specs.declared.reply.Reply.TheVariants as reply
-use Rattle.cg_core.specs.declared.limits.TheConstants.{SEED_LIMIT}
-use Rattle.cg_core.specs.Values.{SettingsValue, NodeValue, HearsOthersAlone}
+use Rattle.cg_events.specs.declared.event.Event.{Event}
+use Rattle.cg_events.specs.declared.event.Event.TheVariants as event
+use Rattle.cg_events.specs.declared.reply.Reply.{Reply}
+use Rattle.cg_events.specs.declared.reply.Reply.TheVariants as reply
+use Rattle.cg_settings.specs.Values.{SettingsValue}
+use Rattle.cg_core.specs.Values.{NodeValue, HearsOthersAlone}
 use Rattle.cg_core.specs.Step.{starting_node, node_step, after_events, replay}
 use Rattle.cg_core.specs.Arrivals.{moments_taken, window_of}
 use Rattle.cg_table.specs.Puts.{puts, with_puts, keep_order}
-
--- The seeds of a node.
-abbrev pub LimitsAreThese : Type 0
-LimitsAreThese = SEED_LIMIT ≡ 16
 
 -- The table is one that a member may hold: its own endpoint is held, and few are.
 abbrev pub IsSmall : NodeValue → Type 0

@@ -1,12 +1,6 @@
 pub mod Values
-pub mod Settings
-pub mod Codes
-pub mod EventCodes
-pub mod Windows
 pub mod Claims
-pub mod Round
 pub mod Step
-pub mod Sending
 pub mod Arrivals
 pub mod Parts
 pub mod Laws
@@ -24,3 +18,5 @@ pub use Rattle.cg_tokens.specs.Ring
 pub use Rattle.cg_exchange.specs.Changes as ExchangeChanges
 pub use Rattle.cg_exchange.specs.Lent
 pub use Rattle.cg_exchange.specs.Members
+pub use Rattle.cg_windows.specs.Windows
+pub use Rattle.cg_settings.specs.Values as SettingsValues

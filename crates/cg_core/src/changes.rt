@@ -2,33 +2,14 @@
 
 ghost use Rattle.std.specs.Prelude.{◌≡◌, IfOk};
 ghost use Rattle.cg_types.specs.Answer.{Answers};
-ghost use Rattle.cg_types.specs.Rising.{Rises};
-ghost use Rattle.cg_exchange.specs.Members.{endpoints_of_deltas};
-ghost use Rattle.cg_core.specs.Changes.{step_with_puts, deltas_in, taken_owners as taken_owners_of, changed_owners as changed_owners_of};
+ghost use Rattle.cg_core.specs.Changes.{step_with_puts, taken_owners as taken_owners_of, changed_owners as changed_owners_of};
 
-use crate::event::Event;
 use crate::node::Node;
-use crate::outcomes::Outcomes;
-use crate::reply::Reply;
-use crate::windows::was_taken;
-use cg_exchange::OwnerDelta;
+use cg_events::{Event, Outcomes, Reply};
 use cg_table::Puts;
 use cg_types::{Endpoint, Fault};
+use cg_windows::was_taken;
 use std::alloc::{AllocError, Global};
-
-impl Event {
-    /// The deltas that the event hands a node, rising by owner: those of an ACK or an ACK2.
-    pub fn deltas(&self) -> &[OwnerDelta]
-        ensures value { result.now ≡ deltas_in self.now }
-        ensures rise { Rises (endpoints_of_deltas (deltas_in self.now)) }
-    {
-        match self {
-            Event::Ack { m, .. } => m.deltas(),
-            Event::Ack2 { m, .. } => m.deltas(),
-            _ => &[],
-        }
-    }
-}
 
 // Whom the deltas that were taken are about.
 fn taken_owners(alloc: Global, outcomes: &Outcomes) -> Result<Vec<Endpoint>, AllocError>

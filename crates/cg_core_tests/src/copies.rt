@@ -2,9 +2,10 @@
 
 use crate::messages::{ack, syn};
 use crate::samples::{comes, node, set_event};
-use cg_core::{Event, Outcomes, Peers, Reply};
+use cg_events::{Event, Outcomes, Reply};
 use cg_exchange::Outcome;
 use cg_expect::expect;
+use cg_peers::Peers;
 use cg_samples::{A, B, endpoint, version};
 use cg_table::Took;
 use std::alloc::{AllocError, Global};

@@ -8,6 +8,8 @@ mod messages;
 #[cfg(test)]
 mod own_entry;
 #[cfg(test)]
+mod parts;
+#[cfg(test)]
 mod rounds;
 #[cfg(test)]
 mod samples;

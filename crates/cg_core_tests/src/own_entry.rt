@@ -1,7 +1,8 @@
 //! A node that starts, and changes of its own entry. Endpoint A is 10.0.0.1:7000.
 
 use crate::samples::{after, held, node, set_event};
-use cg_core::{Event, Node, Reply};
+use cg_core::Node;
+use cg_events::{Event, Reply};
 use cg_expect::{expect, expect_eq};
 use cg_samples::{A, endpoint, key};
 use cg_silence::Verdict;

@@ -1,7 +1,8 @@
 //! Rounds: live, silent and seed peers, as four words choose them.
 
 use crate::samples::{hears, node, settings};
-use cg_core::{Event, Node, Reply};
+use cg_core::Node;
+use cg_events::{Event, Reply};
 use cg_expect::{expect, expect_eq};
 use cg_samples::{A, B, C, endpoint, generation};
 use cg_silence::Verdict;

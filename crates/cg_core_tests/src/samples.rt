@@ -1,8 +1,10 @@
 //! Nodes and events that the tests share. The cluster is c1.
 
-use cg_core::{Event, Node, Reply, Settings};
+use cg_core::Node;
+use cg_events::{Event, Reply};
 use cg_exchange::{Ack2, OwnerDelta};
 use cg_samples::{bare_delta, cluster, endpoint, generation, key};
+use cg_settings::Settings;
 use cg_silence::Silence;
 use cg_table::Took;
 use cg_types::{Endpoint, Fault, StateText};

@@ -1,9 +1,9 @@
 //! Settings of a node.
 
 use crate::samples::settings;
-use cg_core::{SEED_LIMIT, Settings, SettingsFault};
 use cg_expect::{expect, expect_eq};
 use cg_samples::{A, B, endpoint};
+use cg_settings::{SEED_LIMIT, Settings, SettingsFault};
 use cg_silence::Silence;
 use cg_types::{Cluster, Endpoint};
 use std::alloc::Global;

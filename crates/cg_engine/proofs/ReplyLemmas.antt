@@ -11,10 +11,10 @@ use Rattle.cg_table.specs.Own.{own_entry}
 use Rattle.cg_exchange.specs.declared.message.Message.TheVariants as message
 use Rattle.cg_exchange.specs.Answering.{same_cluster, answer_to_syn}
 use Rattle.cg_exchange.specs.Taking.{held_after, taking_ack, taking_ack2}
-use Rattle.cg_core.specs.declared.event.Event.{Event}
-use Rattle.cg_core.specs.declared.event.Event.TheVariants as event
-use Rattle.cg_core.specs.declared.reply.Reply.{Reply}
-use Rattle.cg_core.specs.declared.reply.Reply.TheVariants as reply
+use Rattle.cg_events.specs.declared.event.Event.{Event}
+use Rattle.cg_events.specs.declared.event.Event.TheVariants as event
+use Rattle.cg_events.specs.declared.reply.Reply.{Reply}
+use Rattle.cg_events.specs.declared.reply.Reply.TheVariants as reply
 use Rattle.cg_core.specs.Values.{NodeValue}
 use Rattle.cg_core.specs.Step.{node_step, next_of, beating, setting, opening, round_of, after_taking}
 use Rattle.cg_engine.specs.Events.{IsGateFault, IsReplyTo, IsDone, IsRound, IsSyn, IsAck, IsBoth, IsTook}

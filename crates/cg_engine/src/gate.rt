@@ -2,11 +2,11 @@
 
 ghost use Rattle.std.specs.Prelude.{◌≡◌, Option, Some, IfErr, OnErr, OnOk, option_map};
 ghost use Rattle.cg_types.specs.declared.fault.Fault.{Fault as FaultValue};
-ghost use Rattle.cg_core.specs.declared.event.Event.{Event as EventValue};
-ghost use Rattle.cg_core.specs.declared.reply.Reply.{Reply as ReplyValue};
+ghost use Rattle.cg_events.specs.declared.event.Event.{Event as EventValue};
+ghost use Rattle.cg_events.specs.declared.reply.Reply.{Reply as ReplyValue};
 ghost use Rattle.cg_engine.specs.Events.{IsGateFault, IsReplyTo};
 
-use cg_core::{Event, Reply};
+use cg_events::{Event, Reply};
 use cg_types::Fault;
 use std::alloc::Global;
 

@@ -7,7 +7,7 @@ ghost use Rattle.cg_engine.specs.Events.{event_due as event_due_of, written_for}
 ghost use Rattle.cg_engine.specs.Turns.{TakesEvent};
 
 use crate::gate::Gate;
-use cg_core::{Event, Reply};
+use cg_events::{Event, Reply};
 use cg_exchange::{Kind, Lent, Message};
 use cg_links::Counted;
 use cg_types::Fault;

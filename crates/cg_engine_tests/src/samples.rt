@@ -1,11 +1,12 @@
 //! Nodes and frames of the worked exchange: A is 10.0.0.1:7000 in generation 9, B is 10.0.0.2:7000 in generation 5, and
 //! the cluster is c1.
 
-use cg_core::{Node, Settings};
+use cg_core::Node;
 use cg_engine::NodeGate;
 use cg_exchange::Syn;
 use cg_frames::decode;
 use cg_samples::{A, B, cluster, endpoint, generation};
+use cg_settings::Settings;
 use cg_silence::Silence;
 use cg_wire::syn_due;
 use std::alloc::Global;

@@ -5,9 +5,10 @@ use Rattle.cg_types.specs.declared.fault.Fault.{Fault}
 use Rattle.cg_types.specs.declared.fault.Fault.TheVariants as faults
 use Rattle.cg_types.specs.Answer.{IsRefusal}
 use Rattle.cg_table.specs.Puts.{Put, puts}
-use Rattle.cg_core.specs.declared.event.Event.{Event}
-use Rattle.cg_core.specs.declared.reply.Reply.{Reply}
-use Rattle.cg_core.specs.Values.{SettingsValue, NodeValue}
+use Rattle.cg_events.specs.declared.event.Event.{Event}
+use Rattle.cg_events.specs.declared.reply.Reply.{Reply}
+use Rattle.cg_settings.specs.Values.{SettingsValue}
+use Rattle.cg_core.specs.Values.{NodeValue}
 use Rattle.cg_core.specs.Step.{Step, node_step, then}
 use Rattle.cg_core.specs.Changes.{step_with_puts}
 use Rattle.cg_core.proofs.NodeLaws.{nodes_stay_small}

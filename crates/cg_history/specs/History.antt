@@ -3,9 +3,10 @@ use Rattle.std.specs.Prelude.{ℕ, ◌+◌, ◌^◌, ◌-◌, ◌==◌, ◌≡�
 use Rattle.std.specs.Coded.{Coded, code_by, coded×, coded_list}
 use Rattle.cg_types.specs.declared.fault.Fault.{Fault}
 use Rattle.cg_types.specs.declared.fault.Fault.TheVariants.{VersionsSpent}
-use Rattle.cg_core.specs.declared.event.Event.{Event}
-use Rattle.cg_core.specs.declared.reply.Reply.{Reply}
-use Rattle.cg_core.specs.Values.{SettingsValue, NodeValue, node_code}
+use Rattle.cg_events.specs.declared.event.Event.{Event}
+use Rattle.cg_events.specs.declared.reply.Reply.{Reply}
+use Rattle.cg_settings.specs.Values.{SettingsValue}
+use Rattle.cg_core.specs.Values.{NodeValue, node_code}
 use Rattle.cg_core.specs.Step.{Step, node_step, starting_node}
 use Rattle.cg_core.specs.Laws.{IsSmall}
 use Rattle.cg_history.specs.declared.item.Item.{Item}

@@ -6,7 +6,9 @@ ghost use Rattle.cg_core.specs.Step.{node_step};
 ghost use Rattle.cg_history.specs.History.{IsReplayed, LAST_NUMBER, new_history, receipt_of, with_record, with_step, apply as apply_of};
 
 use crate::item::{Item, Receipt};
-use cg_core::{Event, Node, Reply, Settings};
+use cg_core::Node;
+use cg_events::{Event, Reply};
+use cg_settings::Settings;
 use cg_types::{Endpoint, Fault, Generation};
 use std::alloc::{AllocError, Global};
 use std::marker::Model;

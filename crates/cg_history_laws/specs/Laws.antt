@@ -1,8 +1,8 @@
 -- What holds of every history.
 use Rattle.std.specs.Prelude.{ℕ, suc, ◌+◌, ◌≡◌, ◌≢◌, ◌<◌, true, List, [], ◌∷◌, ◌++◌, length, Ok, Some, slice_get}
 use Rattle.cg_table.specs.Puts.{puts, with_puts, keep_order}
-use Rattle.cg_core.specs.declared.event.Event.{Event}
-use Rattle.cg_core.specs.declared.reply.Reply.{Reply}
+use Rattle.cg_events.specs.declared.event.Event.{Event}
+use Rattle.cg_events.specs.declared.reply.Reply.{Reply}
 use Rattle.cg_core.specs.Values.{NodeValue}
 use Rattle.cg_core.specs.Step.{node_step, replay}
 use Rattle.cg_core.specs.Laws.{IsSmall}

@@ -2,8 +2,8 @@
 
 use crate::samples::fault_with;
 use cg_expect::expect_eq;
-use cg_settings::laws::{limits_have_their_values, seeds_rise_and_are_those_listed};
-use cg_settings::{DEFAULT_INTERVAL, DEFAULT_RANDOM, INTERVAL_LIMIT, TURN_LIMIT};
+use cg_settings_file::laws::{limits_have_their_values, seeds_rise_and_are_those_listed};
+use cg_settings_file::{DEFAULT_INTERVAL, DEFAULT_RANDOM, INTERVAL_LIMIT, TURN_LIMIT};
 use cg_types::Fault;
 use std::test::Fail;
 

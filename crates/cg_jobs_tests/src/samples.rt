@@ -1,6 +1,6 @@
 //! Texts of settings, and what they are read as.
 
-use cg_settings::settings_of;
+use cg_settings_file::settings_of;
 use cg_types::Fault;
 use std::alloc::{AllocError, Global};
 

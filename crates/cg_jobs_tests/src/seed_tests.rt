@@ -2,7 +2,7 @@
 
 use crate::samples::{fault_with, text_with};
 use cg_expect::expect_eq;
-use cg_settings::settings_of;
+use cg_settings_file::settings_of;
 use cg_types::Fault;
 use std::alloc::Global;
 use std::test::Fail;

@@ -2,7 +2,7 @@
 
 use crate::samples::{NEEDED, fault_with};
 use cg_expect::{expect, expect_eq};
-use cg_settings::{ServeSettings, Turns, settings_of, settings_of_bytes};
+use cg_settings_file::{ServeSettings, Turns, settings_of, settings_of_bytes};
 use cg_types::Fault;
 use std::alloc::Global;
 use std::test::Fail;

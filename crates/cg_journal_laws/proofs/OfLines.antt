@@ -5,8 +5,8 @@ use Rattle.std.specs.List.{AllByRecursion}
 use Rattle.cg_types.specs.declared.fault.Fault.TheVariants.{VersionsSpent}
 use Rattle.cg_types.specs.OptionSteps.{◌>>=◌}
 use Rattle.cg_types.specs.Words.{cut_at}
-use Rattle.cg_core.specs.declared.event.Event.{Event}
-use Rattle.cg_core.specs.Values.{SettingsValue}
+use Rattle.cg_events.specs.declared.event.Event.{Event}
+use Rattle.cg_settings.specs.Values.{SettingsValue}
 use Rattle.cg_core.specs.Step.{Step, node_step}
 use Rattle.cg_history.specs.declared.item.Item.{Item}
 use Rattle.cg_history.specs.Items.{record_of, events_of}

@@ -6,9 +6,9 @@ use Rattle.cg_types.specs.Numbers.{IsEndpoint, IsGeneration, IsKey}
 use Rattle.cg_types.specs.Text.{IsStateText, IsCluster}
 use Rattle.cg_exchange.specs.Contents.{IsSyn, IsAck, IsAck2}
 use Rattle.cg_silence.specs.Values.{IsSilence}
-use Rattle.cg_core.specs.declared.event.Event.{Event}
-use Rattle.cg_core.specs.declared.event.Event.TheVariants as event
-use Rattle.cg_core.specs.Values.{SettingsValue, IsSettings}
+use Rattle.cg_events.specs.declared.event.Event.{Event}
+use Rattle.cg_events.specs.declared.event.Event.TheVariants as event
+use Rattle.cg_settings.specs.Values.{SettingsValue, IsSettings}
 use Rattle.cg_core.specs.Step.{starting_node}
 use Rattle.cg_history.specs.History.{HistoryValue, IsReplayed, LAST_NUMBER}
 

@@ -3,8 +3,8 @@ use Rattle.std.specs.Prelude.{◌≡◌, ℕ, List, [], ◌∷◌, ◌++◌, map
 use Rattle.std.specs.List.{AllByRecursion}
 use Rattle.cg_history.specs.declared.item.Item.{Item}
 use Rattle.cg_history.specs.Items.{events_of}
-use Rattle.cg_core.specs.declared.event.Event.{Event}
-use Rattle.cg_core.specs.Values.{SettingsValue}
+use Rattle.cg_events.specs.declared.event.Event.{Event}
+use Rattle.cg_settings.specs.Values.{SettingsValue}
 use Rattle.cg_history.specs.declared.item.Receipt.{Receipt}
 use Rattle.cg_history.specs.History.{HistoryValue, new_history, apply}
 use Rattle.cg_lines.specs.Lines.{lines_of}

@@ -1,7 +1,7 @@
 //! A is 10.0.0.1:7000 at generation 9 and B 10.0.0.2:7000 at generation 5, of cluster c1. A opens; B answers the SYN; A
 //! takes the ACK and B the ACK2.
 
-use cg_core::Event;
+use cg_events::Event;
 use cg_expect::{expect, expect_eq};
 use cg_history::History;
 use cg_journal::{read_journal, write_journal};

@@ -3,11 +3,12 @@
 //! A is 10.0.0.1:7000 and B 10.0.0.2:7000; the cluster is c1. The history of the examples is A's at generation 9:
 //! caller 1 sets key 1 to NORMAL, and then caller 2 beats.
 
-use cg_core::{Event, Reply, Settings};
+use cg_events::{Event, Reply};
 use cg_exchange::{Ack2, OwnerDelta, syn};
 use cg_expect::expect_eq;
 use cg_history::{History, Item, Receipt};
 use cg_samples::{A, B, bare_delta, cluster, endpoint, generation, key, version};
+use cg_settings::Settings;
 use cg_silence::Silence;
 use cg_types::{Cluster, Fault, StateText};
 use std::alloc::Global;

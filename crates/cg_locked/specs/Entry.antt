@@ -3,11 +3,12 @@ use Rattle.std.specs.Prelude.{ℕ, ◌≡◌, ◌≤◌, List, [], length, Optio
 use Rattle.cg_types.specs.Answer.{Answers}
 use Rattle.cg_types.specs.declared.fault.Fault.{Fault}
 use Rattle.cg_table.specs.Puts.{Put}
-use Rattle.cg_core.specs.declared.event.Event.{Event}
-use Rattle.cg_core.specs.declared.event.Event.TheVariants as event
-use Rattle.cg_core.specs.declared.reply.Reply.{Reply}
-use Rattle.cg_core.specs.declared.reply.Reply.TheVariants as reply
-use Rattle.cg_core.specs.Values.{NodeValue, settings_of}
+use Rattle.cg_events.specs.declared.event.Event.{Event}
+use Rattle.cg_events.specs.declared.event.Event.TheVariants as event
+use Rattle.cg_events.specs.declared.reply.Reply.{Reply}
+use Rattle.cg_events.specs.declared.reply.Reply.TheVariants as reply
+use Rattle.cg_settings.specs.Values.{settings_of}
+use Rattle.cg_core.specs.Values.{NodeValue}
 use Rattle.cg_core.specs.Step.{starting_node}
 use Rattle.cg_history.specs.declared.item.Receipt.{Receipt}
 use Rattle.cg_history.specs.Items.{puts_of}

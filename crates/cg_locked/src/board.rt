@@ -14,7 +14,7 @@ ghost use Rattle.cg_locked.specs.Entry.{IsEntry, ShowsSet};
 
 use crate::name::Name;
 use crate::seat::Seat;
-use cg_core::Event;
+use cg_events::Event;
 use cg_history::{History, Receipt};
 use cg_table::Puts;
 use cg_types::Fault;

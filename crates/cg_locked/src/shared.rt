@@ -11,7 +11,7 @@ ghost use Rattle.cg_locked.specs.Shared.{callers_up_to, history_of, stray_of};
 use crate::board::Board;
 use crate::name::Name;
 use crate::seat::Seat;
-use cg_core::Event;
+use cg_events::Event;
 use cg_history::{History, Receipt};
 use cg_types::Fault;
 use cg_views::{Publisher, Told};

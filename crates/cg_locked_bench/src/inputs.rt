@@ -4,11 +4,12 @@ ghost use Rattle.std.specs.Prelude.{◌≡◌, [], IfOk};
 
 use crate::counts::Counts;
 use anyhow::{Context, Result};
-use cg_core::{Event, Settings};
 use cg_entry::{Delta, State};
+use cg_events::Event;
 use cg_exchange::{Ack2, OwnerDelta};
 use cg_history::History;
 use cg_samples::{cluster, endpoint, generation, key, long_text, version};
+use cg_settings::Settings;
 use cg_silence::Silence;
 use cg_types::StateText;
 use std::alloc::Global;

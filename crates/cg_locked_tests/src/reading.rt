@@ -3,7 +3,7 @@
 ghost use Rattle.std.specs.Prelude.{◌≡◌, IfOk, IfSome};
 ghost use Rattle.cg_views.specs.Reading.{OwnHasFrom};
 
-use cg_core::{Event, Reply};
+use cg_events::{Event, Reply};
 use cg_history::Receipt;
 use cg_locked::{Name, Seat, Shared};
 use cg_types::{Fault, StateKey, StateText, Version};

@@ -5,7 +5,7 @@ ghost use Rattle.std.specs.List.{sum_by};
 
 use crate::history::new_history;
 use crate::reading::{Read, set_and_read};
-use cg_core::Event;
+use cg_events::Event;
 use cg_expect::expect_eq;
 use cg_history::{History, Receipt};
 use cg_locked::{Board, Name, Seat, Shared};

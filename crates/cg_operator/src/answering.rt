@@ -3,15 +3,15 @@
 ghost use Rattle.std.specs.Prelude.{ℕ, ◌≡◌, ◌⊎◌, Some, None, Ok, Err, IfOk, IfErr, MatchResult, option_map, string_bytes};
 ghost use Rattle.cg_types.specs.declared.fault.Fault.TheVariants as faults;
 ghost use Rattle.cg_table.specs.Puts.{with_puts};
-ghost use Rattle.cg_core.specs.declared.reply.Reply.TheVariants as replies;
+ghost use Rattle.cg_events.specs.declared.reply.Reply.TheVariants as replies;
 ghost use Rattle.cg_views.specs.Lists.{StartsWith};
 ghost use Rattle.cg_seats.specs.Seats.{GoesOn, last_reply};
 ghost use Rattle.cg_orders.specs.Shown.{table_lines};
 ghost use Rattle.cg_orders.specs.Orders.{order_in};
 ghost use Rattle.cg_operator.specs.Doing.{TellsSet, Sets, Answers, Unanswered};
 
-use cg_core::{Event, Reply};
 use cg_engine::Gate;
+use cg_events::{Event, Reply};
 use cg_locked::Name;
 use cg_orders::{Order, add_unpublished, read_order, table_text};
 use cg_printed::add_version;

@@ -1,6 +1,6 @@
 -- What holds of confirmed receipts.
 use Rattle.std.specs.Prelude.{ℕ, ◌≡◌, Bool, List, length}
-use Rattle.cg_core.specs.declared.event.Event.{Event}
+use Rattle.cg_events.specs.declared.event.Event.{Event}
 use Rattle.cg_history.specs.declared.item.Item.{Item}
 use Rattle.cg_history.specs.declared.item.Receipt.{Receipt}
 use Rattle.cg_history.specs.Confirming.{AreConfirmed}

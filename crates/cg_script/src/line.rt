@@ -1,6 +1,6 @@
 //! What a line of a script asks for.
 
-use cg_core::Settings;
+use cg_settings::Settings;
 use cg_tokens::Token;
 use cg_types::Endpoint;
 use cg_world::Action;

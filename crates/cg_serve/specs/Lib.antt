@@ -1,3 +1,3 @@
 pub mod Lives
-pub use Rattle.cg_settings.specs.Seen
+pub use Rattle.cg_settings_file.specs.Seen
 pub use Rattle.cg_version.specs.Version

@@ -4,7 +4,7 @@ use Rattle.cg_types.specs.declared.fault.Fault.{Fault}
 use Rattle.cg_types.specs.declared.fault.Fault.TheVariants as fault
 use Rattle.cg_core.specs.Values.{NodeValue}
 use Rattle.cg_core.specs.Step.{starting_node}
-use Rattle.cg_settings.specs.Settings.{ServeValue, settings_in_bytes}
+use Rattle.cg_settings_file.specs.Settings.{ServeValue, settings_in_bytes}
 use Rattle.cg_ran.specs.declared.ran.Ran.{Ran}
 use Rattle.cg_ran.specs.declared.ran.NotRun.{NotRun}
 use Rattle.cg_ran.specs.declared.ran.NotRun.TheVariants as not_run

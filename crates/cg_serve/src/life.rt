@@ -2,7 +2,7 @@
 
 ghost use Rattle.std.specs.Prelude.{◌≡◌, ◌⊎◌, IfOk, IfErr};
 ghost use Rattle.cg_types.specs.declared.fault.Fault.TheVariants as faults;
-ghost use Rattle.cg_settings.specs.Seen.{settings_view};
+ghost use Rattle.cg_settings_file.specs.Seen.{settings_view};
 ghost use Rattle.cg_version.specs.Version.{generation_at_start};
 ghost use Rattle.cg_serve.specs.Lives.{IsUnsettled, AreTold, IsUnborn, IsOfAStart, KeepsOf};
 
@@ -10,7 +10,7 @@ use cg_clock::seconds_since_1970;
 use cg_files::{Replacement, read_file, store_generation, stored_generation};
 use cg_history::History;
 use cg_journal::write_journal;
-use cg_settings::{ServeSettings, settings_of_bytes};
+use cg_settings_file::{ServeSettings, settings_of_bytes};
 use cg_types::{Fault, Generation};
 use cg_version::next_generation;
 use std::alloc::Global;

@@ -6,10 +6,10 @@ ghost use Rattle.cg_serve.specs.Lives.{node_of, left_after, IsLeft};
 
 use crate::console::Console;
 use cg_clock::HostClock;
-use cg_core::Settings;
 use cg_history::History;
 use cg_rounds::generator;
-use cg_settings::Turns;
+use cg_settings::Settings;
+use cg_settings_file::Turns;
 use cg_sockets::{Dialer, Listener, limit_for};
 use cg_threads::{NotRun, Parts, Ran, run_node};
 use cg_types::{Endpoint, Fault, Generation};

@@ -5,7 +5,7 @@ ghost use Rattle.cg_serve.specs.Lives.{IsUnborn, IsLived, status_after, EndsWith
 
 use crate::life::{next_life, settings_in, write_journal_to};
 use crate::node::{Birth, Left, run};
-use cg_settings::ServeSettings;
+use cg_settings_file::ServeSettings;
 use cg_sockets::Listener;
 use cg_types::Fault;
 use std::alloc::Global;

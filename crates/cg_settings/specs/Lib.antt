@@ -1,8 +1,6 @@
 pub mod Values
-pub mod Seeds
-pub mod Keys
-pub mod Laws
 pub mod Settings
-pub mod Seen
-pub use Rattle.toml.specs.Data
-pub use Rattle.toml.specs.View
+pub mod Laws
+pub use Rattle.cg_types.specs.Rising
+pub use Rattle.cg_types.specs.Text
+pub use Rattle.cg_silence.specs.Values as SilenceValues

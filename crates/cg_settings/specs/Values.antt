@@ -1,36 +1,31 @@
--- The values at the keys of a table.
-use Rattle.std.specs.Prelude.{ℕ, nat_le, List, pos, Option, Some, None, if◌then◌else◌}
-use Rattle.toml.specs.Data.{Data, Members, integer, as_str, get_member}
-use Rattle.cg_types.specs.OptionSteps.{◌>>=◌}
-use Rattle.cg_types.specs.EndpointText.{endpoint_in}
+-- What contracts see of settings.
+use Rattle.std.specs.Prelude.{ℕ, ◌≡◌, ◌≤◌, List, length, refl}
+use Rattle.std.specs.Coded.{Coded, code_by, coded×, coded_ℕ, coded_list}
+use Rattle.cg_types.specs.declared.limits.TheConstants.{PARTITIONER}
+use Rattle.cg_types.specs.Rising.{Rises}
+use Rattle.cg_types.specs.Text.{ClusterValue, cluster_code}
+use Rattle.cg_silence.specs.Values.{SilenceValue, silence_code}
+use Rattle.cg_settings.specs.declared.limits.TheConstants.{SEED_LIMIT}
 
--- the text at a key
-unfoldable pub text_at : List ℕ → Members → Option (List ℕ)
-text_at key table = get_member key table >>= as_str
+-- the cluster, the endpoints that a round falls back on, and how silence is judged
+pub record SettingsValue : Type 0 where
+  pub cluster : ClusterValue
+  pub seeds : List ℕ
+  pub silence : SilenceValue
 
--- the endpoint that a value is the text of
-unfoldable pub endpoint_in_value : Data → Option ℕ
-endpoint_in_value value = as_str value >>= endpoint_in
+abbrev pub settings_of : ClusterValue → List ℕ → SilenceValue → SettingsValue
+settings_of cluster seeds silence = record { cluster = cluster; seeds = seeds; silence = silence }
 
--- the endpoint at a key
-unfoldable pub endpoint_at : List ℕ → Members → Option ℕ
-endpoint_at key table = get_member key table >>= endpoint_in_value
+-- The partitioner is the one in use, and the seeds rise strictly and are few.
+pub record IsSettings (s : SettingsValue) : Type 0 where
+  pub in_use : s.cluster.partitioner ≡ PARTITIONER
+  pub rise : Rises s.seeds
+  pub few : length s.seeds ≤ SEED_LIMIT
 
--- the whole number from 0 on that a value is
-unfoldable pub number_in : Data → Option ℕ
-number_in (integer (pos n)) = Some n
-number_in _ = None
-
--- the whole number from 0 to the greatest that a value is
-unfoldable pub small_number_in : ℕ → Data → Option ℕ
-small_number_in most value = do
-  n ← number_in value
-  if nat_le n most then Some n else None
-
-abbrev pub number_or : ℕ → Option ℕ → Option Data → Option ℕ
-number_or most default None = default
-number_or most default (Some value) = small_number_in most value
-
--- the whole number from 0 to the greatest at a key, or the default, if there is one, where the key is missing
-unfoldable pub number_at : List ℕ → ℕ → Option ℕ → Members → Option ℕ
-number_at key most default table = number_or most default (get_member key table)
+-- the code that models of such values ask for
+abbrev pub settings_code : Coded SettingsValue
+settings_code =
+    code_by (ClusterValue × (List ℕ × SilenceValue))
+    (coded× cluster_code (coded× (coded_list coded_ℕ) silence_code))
+    (λ s. (s.cluster, (s.seeds, s.silence)))
+    (λ p. record { cluster = p.0; seeds = p.1.0; silence = p.1.1 }) (λ _. refl)

@@ -1,15 +1,8 @@
-//! Laws of the settings, each the contract of an empty function.
+//! Laws of the limits of settings.
 
-ghost use Rattle.std.specs.Prelude.{ℕ, List};
-ghost use Rattle.cg_settings.specs.Laws.{LimitValues, AreDistinct};
-ghost use Rattle.cg_settings.specs.Seeds.{distinct};
+ghost use Rattle.cg_settings.specs.Laws.{LimitsAreThese};
 
-/// The values of the limits and of the defaults.
-pub fn limits_have_their_values()
-    ensures { LimitValues }
-{}
-
-/// Seeds that were sorted and made distinct rise strictly, and are the ones that were listed.
-pub fn seeds_rise_and_are_those_listed()
-    ensures { (listed : List ℕ) → AreDistinct listed (distinct listed) }
+/// How many seeds a node may have, as a number.
+pub fn limits_are_these()
+    ensures { LimitsAreThese }
 {}

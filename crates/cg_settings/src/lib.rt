@@ -1,16 +1,14 @@
-//! The settings of a node that serves, as a TOML table holds them.
+//! The settings of a node: its cluster, its seeds, and how it judges silence.
 //!
-//! Each key is a whole number, a text, an endpoint's text or an array of these. A table with another key, without a key
-//! that is needed, or with a value of another type or out of its range is refused.
+//! They are what Apache Cassandra's `DatabaseDescriptor` tells a `Gossiper`: the cluster's name, the partitioner, the
+//! seeds, and the threshold of the failure detector.
 #![tactic(auto)]
 
-mod keys;
+mod fault;
 pub mod laws;
 mod limits;
-mod node;
-mod seeds;
 mod settings;
-mod values;
 
-pub use limits::{DEFAULT_INTERVAL, DEFAULT_RANDOM, INTERVAL_LIMIT, TURN_LIMIT};
-pub use settings::{ServeSettings, Turns, settings_of, settings_of_bytes};
+pub use fault::SettingsFault;
+pub use limits::SEED_LIMIT;
+pub use settings::Settings;

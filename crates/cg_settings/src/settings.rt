@@ -1,149 +1,102 @@
-//! What a node that serves is told.
+//! What a node is set to.
 
-ghost use Rattle.std.specs.Prelude.{◌≡◌, IfOk, option_map, codes};
-ghost use Rattle.toml.specs.View.{table_view};
-ghost use Rattle.cg_settings.specs.Settings.{turns_from as told_turns, random_from as told_random, paths_from as told_paths, settings_from as told_settings};
-ghost use Rattle.cg_settings.specs.Settings.{settings_in, text_in as text_of_bytes, settings_in_bytes};
-ghost use Rattle.cg_settings.specs.Seen.{Finds, turns_view, settings_view};
+ghost use Rattle.std.specs.Prelude.{◌≡◌, ◌↔◌, IsOk, IsSome, IfSome, IfOk};
+ghost use Rattle.cg_settings.specs.Settings.{settings_or_fault};
+ghost use Rattle.cg_settings.specs.Values.{IsSettings, settings_of};
 
-use crate::keys::are_known;
-use crate::limits::{DEFAULT_INTERVAL, DEFAULT_RANDOM, INTERVAL_LIMIT, TURN_LIMIT};
-use crate::node::node_in;
-use crate::values::{endpoint_at, number_at, number_in, text_at, value_at};
-use cg_core::Settings;
-use cg_types::{Endpoint, Fault};
-use std::alloc::Global;
-use toml::Table;
+use crate::fault::SettingsFault;
+use crate::limits::SEED_LIMIT;
+use cg_silence::Silence;
+use cg_types::{Cluster, Endpoint, PARTITIONER, endpoints_rise};
+use std::alloc::{AllocError, Global};
+use std::marker::Model;
 
-/// How long a node serves.
-#[derive(Clone, Copy, Debug, PartialEq, Eq)]
-pub struct Turns {
-    /// The rounds that it begins.
-    pub rounds: u32,
-    /// The exchanges that it takes.
-    pub exchanges: u32,
-    /// Milliseconds between two rounds.
-    pub interval: u32,
-}
-
-/// What a node that serves is told.
+/// A node's cluster, its seeds, and how it judges silence.
 #[derive(Debug, Drop)]
-pub struct ServeSettings {
-    /// Its cluster, its seeds, and how it judges silence.
-    pub node: Settings,
-    /// Where it listens: its own endpoint.
-    pub listen: Endpoint,
-    /// The path of the file that keeps its generation.
-    pub generation_file: String,
-    /// The path of its journal.
-    pub journal: String,
-    /// How long it serves.
-    pub turns: Turns,
-    /// The seed of its random words.
-    pub random: u64,
+pub struct Settings {
+    cluster: Cluster,
+    seeds: Vec<Endpoint>,
+    silence: Silence,
 }
 
-#[tactic(auto, unfolding(crate::specs::Settings::turns_from))]
-fn turns_in(table: &Table) -> Option<Turns>
-    ensures { option_map turns_view result ≡ told_turns (table_view table.now) }
-{
-    let rounds = number_at(table, "rounds", TURN_LIMIT, None)?;
-    let exchanges = number_at(table, "exchanges", TURN_LIMIT, None)?;
-    let interval = number_at(table, "interval", INTERVAL_LIMIT, Some(DEFAULT_INTERVAL))?;
-    Some(Turns {
-        rounds,
-        exchanges,
-        interval,
-    })
+impl Model for Settings {
+    ghost use Rattle.cg_settings.specs.Values.{SettingsValue, IsSettings, settings_of, settings_code};
+
+    ghost Value = { SettingsValue };
+
+    ghost coded = { settings_code };
+
+    ghost view = { λ s. settings_of s.cluster s.seeds.items s.silence };
+
+    ghost invariant = { λ s. IsSettings (settings_of s.cluster s.seeds.items s.silence) };
 }
 
-#[tactic(auto, unfolding(crate::specs::Settings::random_from))]
-fn random_in(table: &Table) -> Option<u64>
-    ensures { result ≡ told_random (table_view table.now) }
-{
-    match value_at(table, "random") {
-        Some(value) => number_in(value),
-        None => Some(DEFAULT_RANDOM),
-    }
-}
-
-#[tactic(auto, unfolding(crate::specs::Settings::paths_from))]
-fn paths_in(table: &Table) -> Option<(&str, &str)>
-    ensures { option_map (λ p. (p.0.now, p.1.now)) result ≡ told_paths (table_view table.now) }
-{
-    let generation_file = text_at(table, "generation_file")?;
-    let journal = text_at(table, "journal")?;
-    Some((generation_file, journal))
-}
-
-#[tactic(auto, unfolding(crate::specs::Settings::settings_from))]
-fn settings_of_table(alloc: Global, table: &Table) -> Result<ServeSettings, Fault>
-    ensures { Finds settings_view result (told_settings (table_view table.now)) }
-{
-    let node = node_in(alloc, table)?;
-    let Some(listen) = endpoint_at(table, "listen") else {
-        return Err(Fault::BadText);
-    };
-    let Some((generation_file, journal)) = paths_in(table) else {
-        return Err(Fault::BadText);
-    };
-    let Some(turns) = turns_in(table) else {
-        return Err(Fault::BadText);
-    };
-    let Some(random) = random_in(table) else {
-        return Err(Fault::BadText);
-    };
-    if !are_known(table) {
-        return Err(Fault::BadText);
-    }
-    Ok(ServeSettings {
-        node,
-        listen,
-        generation_file: String::from_str(alloc, generation_file)?,
-        journal: String::from_str(alloc, journal)?,
-        turns,
-        random,
-    })
-}
-
-/// The settings that a text holds, which is a TOML table.
-///
-/// `BadText` exactly where it is none, where a key has no meaning, where one that is needed is missing, or where a
-/// value is of another type or out of its range; `OutOfMemory` where memory runs out on the way.
-#[tactic(auto, unfolding(crate::specs::Settings::settings_in))]
-pub fn settings_of(alloc: Global, text: &str) -> Result<ServeSettings, Fault>
-    ensures { Finds settings_view result (settings_in text.now) }
-{
-    match toml::table_from_str(alloc, text) {
-        Ok(table) => settings_of_table(alloc, &table),
-        Err(error) => {
-            if error.is_memory() {
-                Err(Fault::OutOfMemory)
-            } else {
-                Err(Fault::BadText)
-            }
+impl Settings {
+    /// The settings, or what is wrong with them, the first in this order: the cluster's partitioner is the one in use,
+    /// the seeds are at most `SEED_LIMIT`, and they rise strictly.
+    pub fn try_new(
+        cluster: Cluster,
+        seeds: Vec<Endpoint>,
+        silence: Silence,
+    ) -> Result<Settings, SettingsFault>
+        ensures due { result ≡ settings_or_fault (settings_of cluster seeds.items silence) }
+        ensures valid { IsOk result ↔ IsSettings (settings_of cluster seeds.items silence) }
+    {
+        if cluster.partitioner() != PARTITIONER {
+            return Err(SettingsFault::Partitioner);
         }
+        if seeds.len() > SEED_LIMIT {
+            return Err(SettingsFault::SeedCount);
+        }
+        if !endpoints_rise(&seeds) {
+            return Err(SettingsFault::SeedOrder);
+        }
+        Ok(Settings {
+            cluster,
+            seeds,
+            silence,
+        })
     }
-}
 
-// The text that bytes are, if they are UTF-8.
-#[tactic(auto, unfolding(crate::specs::Settings::text_in))]
-fn text_in(bytes: &[u8]) -> Option<&str>
-    ensures { option_map (λ t. t.now) result ≡ text_of_bytes bytes.now }
-{
-    match std::str::from_utf8(bytes) {
-        Ok(text) => Some(text),
-        Err(_) => None,
+    /// As `try_new`, with `None` for each fault.
+    pub fn new(cluster: Cluster, seeds: Vec<Endpoint>, silence: Silence) -> Option<Settings>
+        ensures valid { IsSome result ↔ IsSettings (settings_of cluster seeds.items silence) }
+        ensures value { IfSome result (λ s. s ≡ settings_of cluster seeds.items silence) }
+    {
+        Settings::try_new(cluster, seeds, silence).ok()
     }
-}
 
-/// The settings that the bytes of a file hold: as `settings_of`, and `BadText` too where they are not UTF-8.
-#[tactic(auto, unfolding(crate::specs::Settings::settings_in_bytes))]
-pub fn settings_of_bytes(alloc: Global, bytes: &[u8]) -> Result<ServeSettings, Fault>
-    ensures { Finds settings_view result (settings_in_bytes bytes.now) }
-{
-    match text_in(bytes) {
-        Some(text) => settings_of(alloc, text),
-        None => Err(Fault::BadText),
+    /// The cluster that the node is in.
+    pub fn cluster(&self) -> &Cluster
+        ensures value { result.now ≡ self.now.cluster }
+        ensures valid { IsSettings self.now }
+    {
+        &self.cluster
+    }
+
+    /// The endpoints that a round falls back on, rising.
+    pub fn seeds(&self) -> &[Endpoint]
+        ensures value { result.now ≡ self.now.seeds }
+        ensures valid { IsSettings self.now }
+    {
+        &self.seeds
+    }
+
+    /// How silence is judged.
+    pub fn silence(&self) -> Silence
+        ensures { result ≡ self.now.silence }
+    {
+        self.silence
+    }
+
+    /// The same settings, which share the cluster's name.
+    pub fn copy(&self, alloc: Global) -> Result<Settings, AllocError>
+        ensures { IfOk result (λ s. s ≡ self.now) }
+    {
+        Ok(Settings {
+            cluster: self.cluster.copy()?,
+            seeds: Vec::from_slice(alloc, &self.seeds)?,
+            silence: self.silence,
+        })
     }
 }

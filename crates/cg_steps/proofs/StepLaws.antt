@@ -25,10 +25,10 @@ use Rattle.cg_exchange.specs.PlaceMessages.{PlaceMessage, Syn, Ack, Ack2, answer
 use Rattle.cg_exchange.specs.Spelling.{outcome_about}
 use Rattle.cg_exchange.specs.Laws.{Says, IsMoved, AckMoves, IsAnswered}
 use Rattle.cg_exchange.proofs.MessageLaws.{syn_says_places, syn_is_answered, ack_is_taken, ack2_is_taken}
-use Rattle.cg_core.specs.declared.event.Event.{Event}
-use Rattle.cg_core.specs.declared.event.Event.TheVariants as event
-use Rattle.cg_core.specs.declared.reply.Reply.{Reply}
-use Rattle.cg_core.specs.declared.reply.Reply.TheVariants as reply
+use Rattle.cg_events.specs.declared.event.Event.{Event}
+use Rattle.cg_events.specs.declared.event.Event.TheVariants as event
+use Rattle.cg_events.specs.declared.reply.Reply.{Reply}
+use Rattle.cg_events.specs.declared.reply.Reply.TheVariants as reply
 use Rattle.cg_core.specs.Values.{NodeValue}
 use Rattle.cg_core.specs.Arrivals.{outcomes_in}
 use Rattle.cg_core.specs.Step.{Step, then, with_table, next_of, beating, setting, opening, round_of, after_taking, arrival_of, node_step}

@@ -14,6 +14,6 @@ mod site;
 mod work;
 
 pub use cg_ran::{NotRun, Ran};
-pub use cg_settings::Turns;
+pub use cg_settings_file::Turns;
 pub use parts::Parts;
 pub use run::run_node;

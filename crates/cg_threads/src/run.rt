@@ -13,7 +13,7 @@ use cg_locked::{Name, Shared};
 use cg_ran::{NotRun, Ran, WORKERS, finish};
 use cg_rounds::rounds;
 use cg_seats::Operate;
-use cg_settings::Turns;
+use cg_settings_file::Turns;
 use cg_table::Table;
 use cg_types::Fault;
 use cg_views::{Opened, views};

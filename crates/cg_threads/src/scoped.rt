@@ -14,7 +14,7 @@ use cg_locked::Name;
 use cg_ran::{Left, OPERATOR, RECEIVER, SENDER, Sent, TICKER, Ticks, Work};
 use cg_rounds::{Putting, Taking};
 use cg_seats::Operate;
-use cg_settings::Turns;
+use cg_settings_file::Turns;
 use cg_views::Pass;
 use cg_workers::{Dial, Listen};
 use rand_core::Rng;

@@ -10,7 +10,7 @@ use cg_locked::{Name, Seat};
 use cg_ran::{Left, Sent, Ticks};
 use cg_rounds::{Putting, Taking};
 use cg_seats::{Operate, SeatGate, operator};
-use cg_settings::Turns;
+use cg_settings_file::Turns;
 use cg_ticker::ticker;
 use cg_views::Pass;
 use cg_workers::{Dial, Listen, receiver, sender};

@@ -3,8 +3,8 @@
 ghost use Rattle.cg_seats.specs.Seats.{GoesOn};
 
 use crate::calls::{last_version, learn, read_three, set_three};
-use cg_core::Event;
 use cg_engine::Gate;
+use cg_events::Event;
 use cg_exchange::Syn;
 use cg_links::Counted;
 use cg_locked::Name;

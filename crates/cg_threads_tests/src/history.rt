@@ -2,9 +2,9 @@
 
 ghost use Rattle.std.specs.Prelude.{◌≡◌, [], IfOk};
 
-use cg_core::Settings;
 use cg_history::History;
 use cg_samples::{A, cluster, endpoint, generation};
+use cg_settings::Settings;
 use cg_silence::Silence;
 use std::alloc::Global;
 use std::test::Fail;

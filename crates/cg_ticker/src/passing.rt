@@ -5,7 +5,7 @@ ghost use Rattle.cg_engine.specs.Events.{IsRound};
 ghost use Rattle.cg_rounds.specs.Ends.{put_by, PutsWhere};
 ghost use Rattle.cg_ticker.specs.Ticks.{round_in};
 
-use cg_core::Reply;
+use cg_events::Reply;
 use cg_history::Receipt;
 use cg_rounds::{Putting, Round};
 use std::alloc::{AllocError, Global};

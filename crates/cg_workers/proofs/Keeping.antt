@@ -6,9 +6,9 @@ use Rattle.cg_exchange.specs.declared.kind.Kind.TheVariants as kind
 use Rattle.cg_exchange.specs.declared.message.Message.{Message}
 use Rattle.cg_exchange.specs.declared.message.Message.TheVariants as messages
 use Rattle.cg_exchange.specs.Values.{SynValue}
-use Rattle.cg_core.specs.declared.event.Event.{Event}
-use Rattle.cg_core.specs.declared.event.Event.TheVariants as event
-use Rattle.cg_core.specs.declared.reply.Reply.{Reply}
+use Rattle.cg_events.specs.declared.event.Event.{Event}
+use Rattle.cg_events.specs.declared.event.Event.TheVariants as event
+use Rattle.cg_events.specs.declared.reply.Reply.{Reply}
 use Rattle.cg_links.specs.declared.counted.Counted.{Counted}
 use Rattle.cg_engine.specs.declared.exchange.Ended.{Ended}
 use Rattle.cg_engine.specs.declared.exchange.Ended.TheVariants as ended

@@ -1,7 +1,7 @@
 //! Rounds of a number.
 
-use cg_core::Peers;
 use cg_exchange::Syn;
+use cg_peers::Peers;
 use cg_rounds::Round;
 use cg_samples::{cluster, endpoint};
 use std::alloc::Global;

@@ -1,10 +1,10 @@
 //! Tests of rounds that are sent.
 
 use crate::samples::{ACK, SYN, Standing, owners, started};
-use cg_core::Peers;
 use cg_exchange::Syn;
 use cg_expect::{expect, expect_eq};
 use cg_frames::decode;
+use cg_peers::Peers;
 use cg_rounds::{Round, rounds};
 use cg_samples::{A, B, endpoint};
 use cg_types::{Endpoint, Fault};

@@ -17,8 +17,9 @@ use Rattle.cg_exchange.specs.Members.{about}
 use Rattle.cg_exchange.specs.PlaceMessages.{PlaceMessage, Syn, Ack, Ack2, IsPlaceMessage, AreSpans}
 use Rattle.cg_exchange.specs.Places.{took_for, took_of_span}
 use Rattle.cg_exchange.specs.Spelling.{delta_about, outcome_about}
-use Rattle.cg_core.specs.declared.reply.Reply.{Reply}
-use Rattle.cg_core.specs.Values.{SettingsValue, NodeValue}
+use Rattle.cg_events.specs.declared.reply.Reply.{Reply}
+use Rattle.cg_settings.specs.Values.{SettingsValue}
+use Rattle.cg_core.specs.Values.{NodeValue}
 use Rattle.cg_places.specs.PlaceWorld.{PlaceWorld}
 use Rattle.cg_places.proofs.PutLemmas.{same_number}
 use Rattle.cg_world.specs.World.{Action, Deliver, WorldValue, reply_to, run, place_world}

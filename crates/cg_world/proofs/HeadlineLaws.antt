@@ -25,8 +25,9 @@ use Rattle.cg_exchange.specs.Members.{about}
 use Rattle.cg_exchange.specs.PlaceMessages.{AreSpans}
 use Rattle.cg_exchange.specs.Places.{took_for}
 use Rattle.cg_exchange.specs.Spelling.{delta_about, outcome_about}
-use Rattle.cg_core.specs.declared.reply.Reply.{Reply}
-use Rattle.cg_core.specs.Values.{SettingsValue, NodeValue}
+use Rattle.cg_events.specs.declared.reply.Reply.{Reply}
+use Rattle.cg_settings.specs.Values.{SettingsValue}
+use Rattle.cg_core.specs.Values.{NodeValue}
 use Rattle.cg_places.specs.PlaceWorld.{PlaceWorld, nobody}
 use Rattle.cg_places.specs.Join.{furthest, targets, sources}
 use Rattle.cg_places.specs.Laws.{Continues}

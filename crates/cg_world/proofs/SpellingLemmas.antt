@@ -15,7 +15,8 @@ use Rattle.cg_exchange.specs.declared.message.Message.TheVariants as message
 use Rattle.cg_exchange.specs.PlaceMessages.{PlaceMessage, Syn, Ack, Ack2}
 use Rattle.cg_exchange.specs.Spelling.{SpellsMessage}
 use Rattle.cg_exchange.specs.Laws.{Says}
-use Rattle.cg_core.specs.Values.{SettingsValue, NodeValue}
+use Rattle.cg_settings.specs.Values.{SettingsValue}
+use Rattle.cg_core.specs.Values.{NodeValue}
 use Rattle.cg_steps.specs.Step.{IsSent}
 use Rattle.cg_places.specs.PlaceWorld.{PlaceWorld, nobody}
 use Rattle.cg_places.specs.Spelling.{SpellsNodes, StaySpelled, IsReplaced}

@@ -1,6 +1,7 @@
 -- What is true of the nodes that run after a list of actions.
 use Rattle.std.specs.Prelude.{ℕ, ◌≡◌, ◌++◌, List}
-use Rattle.cg_core.specs.Values.{SettingsValue, NodeValue}
+use Rattle.cg_settings.specs.Values.{SettingsValue}
+use Rattle.cg_core.specs.Values.{NodeValue}
 use Rattle.cg_places.specs.Join.{sources, SamePlaces}
 use Rattle.cg_places.specs.TableLaws.{IsJoined, AreEqual}
 use Rattle.cg_world.specs.World.{Action, WorldValue, run, place_world}

@@ -6,11 +6,12 @@ use Rattle.cg_exchange.specs.declared.message.Message.TheVariants as message
 use Rattle.cg_exchange.specs.declared.outcome.Outcome.{Outcome}
 use Rattle.cg_exchange.specs.Values.{AckValue, Ack2Value}
 use Rattle.cg_exchange.specs.Taking.{outcomes_of}
-use Rattle.cg_core.specs.declared.reply.Reply.{Reply}
-use Rattle.cg_core.specs.declared.reply.Reply.TheVariants as reply
-use Rattle.cg_core.specs.Values.{SettingsValue, NodeValue}
+use Rattle.cg_events.specs.declared.reply.Reply.{Reply}
+use Rattle.cg_events.specs.declared.reply.Reply.TheVariants as reply
+use Rattle.cg_settings.specs.Values.{SettingsValue}
+use Rattle.cg_core.specs.Values.{NodeValue}
 pub use Rattle.cg_core.specs.Arrivals.{outcomes_in}
-use Rattle.cg_core.specs.Windows.{arrivals}
+use Rattle.cg_windows.specs.Windows.{arrivals}
 use Rattle.cg_core.specs.Step.{next_of, beating, opening, round_of}
 use Rattle.cg_world.specs.World.{Action, Start, Local, Deliver, LocalEvent, Beat, Set, Tick, WorldValue, reply_to, acting, act, run}
 use Rattle.cg_world.specs.WorldLaws.{Runs}

@@ -16,8 +16,8 @@ use Rattle.cg_exchange.specs.Changes.{endpoints_of_outcomes}
 use Rattle.cg_exchange.specs.Places.{took_for}
 use Rattle.cg_exchange.specs.PlaceMessages.{PlaceMessage}
 use Rattle.cg_exchange.specs.Spelling.{SpellsSpans, delta_about, outcome_about}
-use Rattle.cg_core.specs.declared.reply.Reply.{Reply}
-use Rattle.cg_core.specs.Values.{SettingsValue}
+use Rattle.cg_events.specs.declared.reply.Reply.{Reply}
+use Rattle.cg_settings.specs.Values.{SettingsValue}
 pub use Rattle.cg_steps.specs.Step.{spans_in}
 use Rattle.cg_places.specs.PlaceWorld.{PlaceWorld, unless_gap}
 use Rattle.cg_world.specs.World.{Action, Start, Local, Deliver, WorldValue, reply_to, acting, run, place_world}

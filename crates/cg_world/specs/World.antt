@@ -12,10 +12,11 @@ use Rattle.cg_table.specs.Values.{Entries}
 use Rattle.cg_table.specs.Own.{own_entry}
 use Rattle.cg_exchange.specs.declared.message.Message.{Message}
 use Rattle.cg_exchange.specs.MessageCode.{message_code}
-use Rattle.cg_core.specs.declared.event.Event.{Event}
-use Rattle.cg_core.specs.declared.event.Event.TheVariants as event
-use Rattle.cg_core.specs.declared.reply.Reply.{Reply}
-use Rattle.cg_core.specs.Values.{SettingsValue, NodeValue, settings_code, node_code}
+use Rattle.cg_events.specs.declared.event.Event.{Event}
+use Rattle.cg_events.specs.declared.event.Event.TheVariants as event
+use Rattle.cg_events.specs.declared.reply.Reply.{Reply}
+use Rattle.cg_settings.specs.Values.{SettingsValue, settings_code}
+use Rattle.cg_core.specs.Values.{NodeValue, node_code}
 use Rattle.cg_core.specs.Step.{Step, starting_node, node_step}
 pub use Rattle.cg_core.specs.Step.{arrival_of}
 pub use Rattle.cg_steps.specs.Step.{message_of}

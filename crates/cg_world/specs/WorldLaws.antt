@@ -15,7 +15,8 @@ use Rattle.cg_table.specs.Merge.{merge_of}
 use Rattle.cg_exchange.specs.declared.message.Message.{Message}
 use Rattle.cg_exchange.specs.PlaceMessages.{PlaceMessage}
 use Rattle.cg_steps.specs.Step.{IsSent}
-use Rattle.cg_core.specs.Values.{SettingsValue, NodeValue}
+use Rattle.cg_settings.specs.Values.{SettingsValue}
+use Rattle.cg_core.specs.Values.{NodeValue}
 use Rattle.cg_places.specs.PlaceWorld.{PlaceWorld}
 use Rattle.cg_places.specs.Join.{sources, SamePlaces}
 use Rattle.cg_places.specs.Refusals.{refusal}

@@ -11,9 +11,11 @@ ghost use Rattle.cg_world.specs.World.{Start, Local, Deliver, new_world, act as 
 
 use crate::action::{Action, LocalEvent};
 use crate::world::Shown;
-use cg_core::{Node, Reply, Settings};
+use cg_core::Node;
+use cg_events::Reply;
 use cg_exchange::Message;
 use cg_map::SharedMap;
+use cg_settings::Settings;
 use cg_types::{Endpoint, Fault, Generation, MEMBER_LIMIT};
 use std::alloc::{AllocError, Global};
 use std::marker::Model;

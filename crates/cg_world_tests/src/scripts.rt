@@ -1,8 +1,10 @@
 //! Lists of actions, and what a world shows of the nodes after them.
 
-use cg_core::{Node, Reply, Settings};
+use cg_core::Node;
+use cg_events::Reply;
 use cg_exchange::Message;
 use cg_samples::{A, B, C, cluster, endpoint, generation, key};
+use cg_settings::Settings;
 use cg_silence::Silence;
 use cg_table::Took;
 use cg_types::{Fault, StateText};

@@ -1,6 +1,6 @@
 use Rattle.std.proofs.Common.{subst}
 use Rattle.std.specs.Prelude.{IfSome}
-use Rattle.cg_core.specs.declared.event.Event.TheVariants as event
+use Rattle.cg_events.specs.declared.event.Event.TheVariants as event
 use Rattle.cg_locked.specs.Entry.{ShowsSet}
 use Rattle.cg_locked_tests.proofs.ToldReads.{read_has, starts_on}
 use Rattle.cg_locked_tests.proofs.reading.set_and_read.Goals as goal

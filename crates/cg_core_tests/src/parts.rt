@@ -1,0 +1,59 @@
+//! What a node is put together of, each by itself: windows, and the choice of a round's peers.
+
+use cg_exchange::Outcome;
+use cg_expect::{expect, expect_eq};
+use cg_peers::choose_peers;
+use cg_samples::{A, B, C, endpoint};
+use cg_silence::{Silence, Verdict};
+use cg_table::Took;
+use cg_windows::{Windows, any_taken, was_taken};
+use std::alloc::Global;
+use std::test::Fail;
+
+fn outcome(took: Took) -> Outcome {
+    Outcome {
+        endpoint: endpoint(B),
+        took,
+    }
+}
+
+#[test]
+fn taken_deltas_alone_are_taken(_rt: HostRuntime) -> Result<(), Fail> {
+    let all = [Took::Taken, Took::Old, Took::Gap, Took::Own].map(outcome);
+    let taken = all.map(|one| was_taken(&one));
+    expect_eq!(taken, [true, false, false, false])?;
+    expect_eq!((any_taken(&all), any_taken(&all[1..])), (true, false))
+}
+
+// The verdicts of B's window, and of C's, which has none, after one outcome of B at moment 0.
+fn verdicts(alloc: Global, took: Took, now: u64) -> Result<(Verdict, Verdict), Fail> {
+    let none = Windows::none(alloc, Silence::default());
+    let windows = none.after(alloc, &[outcome(took)], 0)?;
+    Ok((
+        windows.verdict(endpoint(B), now),
+        windows.verdict(endpoint(C), now),
+    ))
+}
+
+#[test]
+fn a_taken_delta_is_an_arrival(rt: HostRuntime) -> Result<(), Fail> {
+    let alloc = rt.alloc();
+    let unheard = Verdict::Unheard;
+    expect_eq!(verdicts(alloc, Took::Taken, 1)?, (Verdict::Alive, unheard))?;
+    expect_eq!(verdicts(alloc, Took::Taken, 50001)?, (Verdict::Silent, unheard))?;
+    expect_eq!(verdicts(alloc, Took::Gap, 1)?, (unheard, unheard))
+}
+
+// Whether these words choose B and C, where B is live, C is silent, and C is the only seed; or B alone without seeds.
+fn are_chosen(alloc: Global, words: [u64; 4]) -> Result<bool, Fail> {
+    let (live, silent) = ([endpoint(B)], [endpoint(C)]);
+    let both = choose_peers(alloc, &live, &silent, &silent, &words)?;
+    let one = choose_peers(alloc, &live, &[], &[], &words)?;
+    Ok(both.as_slice() == &[live[0], silent[0]][..] && one.as_slice() == &live[..])
+}
+
+#[test]
+fn words_choose_peers(rt: HostRuntime) -> Result<(), Fail> {
+    expect!(are_chosen(rt.alloc(), [7, 3, 5, 9])?)?;
+    expect!(are_chosen(rt.alloc(), [7, 2, 5, 9])?)
+}

@@ -1,0 +1,23 @@
+//! What an event hands a node.
+
+ghost use Rattle.std.specs.Prelude.{◌≡◌};
+ghost use Rattle.cg_types.specs.Rising.{Rises};
+ghost use Rattle.cg_exchange.specs.Members.{endpoints_of_deltas};
+ghost use Rattle.cg_events.specs.Handed.{deltas_in};
+
+use crate::event::Event;
+use cg_exchange::OwnerDelta;
+
+impl Event {
+    /// The deltas that the event hands a node, rising by owner: those of an ACK or an ACK2.
+    pub fn deltas(&self) -> &[OwnerDelta]
+        ensures value { result.now ≡ deltas_in self.now }
+        ensures rise { Rises (endpoints_of_deltas (deltas_in self.now)) }
+    {
+        match self {
+            Event::Ack { m, .. } => m.deltas(),
+            Event::Ack2 { m, .. } => m.deltas(),
+            _ => &[],
+        }
+    }
+}

@@ -1,0 +1,24 @@
+//! What a reply sends.
+
+ghost use Rattle.std.specs.Prelude.{◌≡◌};
+ghost use Rattle.std.specs.Option.{option_map};
+ghost use Rattle.cg_exchange.specs.Lent.{lent_message};
+ghost use Rattle.cg_events.specs.Sending.{message_of};
+
+use crate::reply::Reply;
+use cg_exchange::{Lent, Message};
+
+impl Reply {
+    /// The message that it sends, lent; `None` where it sends none, as after a change of the own entry and after an
+    /// ACK2.
+    pub fn message(&self) -> Option<Lent<'_>>
+        ensures { option_map lent_message result ≡ message_of self.now }
+    {
+        match self {
+            Reply::Round { syn, .. } => Some(Lent::Syn(syn)),
+            Reply::Sent(message) => Some(message.lent()),
+            Reply::Both { ack2, .. } => Some(Lent::Ack2(ack2)),
+            Reply::Done(_) | Reply::Took(_) => None,
+        }
+    }
+}

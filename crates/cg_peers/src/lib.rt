@@ -1,0 +1,12 @@
+//! Whom a round is for: a list of endpoints that four random words choose.
+//!
+//! The peers of a round are a list of endpoints that four random words choose among those that are live, those that are
+//! silent, and the seeds. It is what the first lines of a round of Apache Cassandra's `Gossiper` choose; how is a choice
+//! of this project's own.
+#![tactic(auto)]
+
+mod peers;
+mod round;
+
+pub use peers::Peers;
+pub use round::choose_peers;

@@ -1,0 +1,69 @@
+//! How the peers of a round are chosen.
+
+ghost use Rattle.std.specs.Prelude.{◌≡◌, IfOk, length};
+ghost use Rattle.std.specs.List.{list_any};
+ghost use Rattle.cg_types.specs.Rising.{is_among};
+ghost use Rattle.cg_peers.specs.Round.{pick_by, silent_peer as silent_peer_of, seed_peer as seed_peer_of, peers_of};
+
+use cg_map::push_some;
+use cg_types::Endpoint;
+use std::alloc::{AllocError, Global};
+
+// The member that a word picks, if there is any.
+fn pick(members: &[Endpoint], word: u64) -> Option<Endpoint>
+    ensures { result ≡ pick_by members.now word }
+{
+    if members.is_empty() {
+        return None;
+    }
+    let place = word % members.len() as u64;
+    Some(members[place as usize])
+}
+
+// A silent endpoint, the more likely the more of them there are.
+fn silent_peer(live: &[Endpoint], silent: &[Endpoint], odds: u64, word: u64) -> Option<Endpoint>
+    ensures { result ≡ silent_peer_of (length live.now) silent.now odds word }
+{
+    if odds % (live.len() as u64 + 1) < silent.len() as u64 {
+        pick(silent, word)
+    } else {
+        None
+    }
+}
+
+// Whether a seed was chosen.
+fn has_seed(chosen: &[Endpoint], seeds: &[Endpoint]) -> bool
+    ensures { result ≡ list_any (is_among seeds.now) chosen.now }
+{
+    chosen.iter().any(|peer| seeds.contains(peer))
+}
+
+// A seed, where none was chosen so far.
+fn seed_peer(chosen: &[Endpoint], seeds: &[Endpoint], word: u64) -> Option<Endpoint>
+    ensures { result ≡ seed_peer_of chosen.now seeds.now word }
+{
+    if has_seed(chosen, seeds) {
+        None
+    } else {
+        pick(seeds, word)
+    }
+}
+
+/// The peers of a round, chosen with four random words: a live endpoint by the first, perhaps a silent one by the
+/// second and the third, and a seed by the fourth where no seed was chosen.
+pub fn choose_peers(
+    alloc: Global,
+    live: &[Endpoint],
+    silent: &[Endpoint],
+    seeds: &[Endpoint],
+    words: &[u64; 4],
+) -> Result<Vec<Endpoint>, AllocError>
+    ensures { IfOk result (λ peers. peers.items ≡ peers_of live.now silent.now seeds.now words.now) }
+{
+    let mut peers = Vec::with_capacity(alloc, 3)?;
+    push_some(&mut peers, pick(live, words[0]))?;
+    push_some(&mut peers, silent_peer(live, silent, words[1], words[2]))?;
+    let seed = seed_peer(&peers, seeds, words[3]);
+    push_some(&mut peers, seed)?;
+    Ok(peers)
+}

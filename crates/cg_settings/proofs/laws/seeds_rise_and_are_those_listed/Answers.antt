@@ -1,5 +1,0 @@
-use Rattle.cg_settings.proofs.SeedLemmas.{distinct_seeds}
-use Rattle.cg_settings.proofs.laws.seeds_rise_and_are_those_listed.Goals as goal
-
-pub returns : goal.returns
-returns c = distinct_seeds

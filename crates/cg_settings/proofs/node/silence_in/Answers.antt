@@ -1,6 +1,0 @@
-use Rattle.cg_settings.specs.Settings.{silence_from}
-use Rattle.cg_settings.proofs.node.silence_in.Goals as goal
-
-pub returns : goal.returns
-unfolding silence_from
-returns c = rw (← c.in_ok-window.ensures, ← c.in_ok-initial_gap.ensures, ← c.in_ok-max_gap.ensures, ← c.in_ok-threshold.ensures) c.silence_by.ensures

@@ -1,9 +1,0 @@
-use Rattle.std.proofs.Common.{◌≡◌, drop}
-use Rattle.toml.specs.View.{items_view}
-use Rattle.cg_settings.specs.Seeds.{endpoints_in}
-use Rattle.cg_settings.proofs.SeedLemmas.{with_front}
-use Rattle.cg_settings.proofs.seeds.endpoints_in.Given as goal
-
--- what was read, before what the items left are read as, is what all are read as
-abbrev pub invariant-loop-item : goal.invariant-loop-item
-invariant-loop-item l = with_front l.endpoints.items (endpoints_in (items_view (drop l.item-index l.item-items))) ≡ endpoints_in (items_view l.item-items)

@@ -1,0 +1,24 @@
+-- The seeds that an array lists: endpoints, sorted and made distinct.
+use Rattle.std.specs.Prelude.{ℕ, List, [], ◌∷◌, Option, Some}
+use Rattle.std.specs.Ordering.{nat_cmp}
+use Rattle.std.specs.BTreeSet.{insert_key}
+use Rattle.toml.specs.Data.{Items, no_items, item}
+use Rattle.cg_types.specs.OptionSteps.{◌>>=◌}
+use Rattle.cg_settings_file.specs.Values.{endpoint_in_value}
+
+-- the endpoints that the items are the texts of, if each is one
+unfoldable pub endpoints_in : Items → Option (List ℕ)
+endpoints_in no_items = Some []
+endpoints_in (item value items) = do
+  endpoint ← endpoint_in_value value
+  endpoints ← endpoints_in items
+  Some (endpoint ∷ endpoints)
+
+-- endpoints that rise, and others, each at its place unless it stands there
+abbrev pub put_in_order : List ℕ → List ℕ → List ℕ
+put_in_order seeds [] = seeds
+put_in_order seeds (endpoint ∷ endpoints) = put_in_order (insert_key nat_cmp seeds endpoint) endpoints
+
+-- the same endpoints, rising, each once
+unfoldable pub distinct : List ℕ → List ℕ
+distinct = put_in_order []

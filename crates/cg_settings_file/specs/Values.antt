@@ -1,0 +1,36 @@
+-- The values at the keys of a table.
+use Rattle.std.specs.Prelude.{ℕ, nat_le, List, pos, Option, Some, None, if◌then◌else◌}
+use Rattle.toml.specs.Data.{Data, Members, integer, as_str, get_member}
+use Rattle.cg_types.specs.OptionSteps.{◌>>=◌}
+use Rattle.cg_types.specs.EndpointText.{endpoint_in}
+
+-- the text at a key
+unfoldable pub text_at : List ℕ → Members → Option (List ℕ)
+text_at key table = get_member key table >>= as_str
+
+-- the endpoint that a value is the text of
+unfoldable pub endpoint_in_value : Data → Option ℕ
+endpoint_in_value value = as_str value >>= endpoint_in
+
+-- the endpoint at a key
+unfoldable pub endpoint_at : List ℕ → Members → Option ℕ
+endpoint_at key table = get_member key table >>= endpoint_in_value
+
+-- the whole number from 0 on that a value is
+unfoldable pub number_in : Data → Option ℕ
+number_in (integer (pos n)) = Some n
+number_in _ = None
+
+-- the whole number from 0 to the greatest that a value is
+unfoldable pub small_number_in : ℕ → Data → Option ℕ
+small_number_in most value = do
+  n ← number_in value
+  if nat_le n most then Some n else None
+
+abbrev pub number_or : ℕ → Option ℕ → Option Data → Option ℕ
+number_or most default None = default
+number_or most default (Some value) = small_number_in most value
+
+-- the whole number from 0 to the greatest at a key, or the default, if there is one, where the key is missing
+unfoldable pub number_at : List ℕ → ℕ → Option ℕ → Members → Option ℕ
+number_at key most default table = number_or most default (get_member key table)

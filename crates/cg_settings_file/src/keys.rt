@@ -1,0 +1,55 @@
+//! The keys that a table may have.
+
+ghost use Rattle.std.specs.Prelude.{◌≡◌, string_bytes};
+ghost use Rattle.std.specs.List.{list_all};
+ghost use Rattle.std.specs.BTreeMap.{keys};
+ghost use Rattle.toml.specs.View.{table_view};
+ghost use Rattle.cg_settings_file.specs.Keys.{is_text_key as names_text, is_turn_key as names_turn, is_silence_key as names_silence};
+ghost use Rattle.cg_settings_file.specs.Keys.{is_known as is_known_key, are_known as are_known_keys};
+
+use toml::Table;
+
+#[tactic(auto, unfolding(crate::specs::Keys::is_text_key))]
+fn is_text_key(key: &str) -> bool
+    ensures { result ≡ names_text key.now }
+{
+    key == "cluster"
+        || key == "listen"
+        || key == "generation_file"
+        || key == "journal"
+        || key == "seeds"
+}
+
+#[tactic(auto, unfolding(crate::specs::Keys::is_turn_key))]
+fn is_turn_key(key: &str) -> bool
+    ensures { result ≡ names_turn key.now }
+{
+    key == "rounds" || key == "exchanges" || key == "interval" || key == "random"
+}
+
+#[tactic(auto, unfolding(crate::specs::Keys::is_silence_key))]
+fn is_silence_key(key: &str) -> bool
+    ensures { result ≡ names_silence key.now }
+{
+    key == "window" || key == "initial_gap" || key == "max_gap" || key == "threshold"
+}
+
+#[tactic(auto, unfolding(crate::specs::Keys::is_known))]
+fn is_known(key: &str) -> bool
+    ensures { result ≡ is_known_key key.now }
+{
+    is_text_key(key) || is_turn_key(key) || is_silence_key(key)
+}
+
+fn keys_are_known(table: &Table) -> bool
+    ensures { result ≡ list_all (λ k. is_known_key (string_bytes k)) (keys table.now) }
+{
+    table.keys().all(|key| is_known(key.as_str()))
+}
+
+/// Whether each key of the table has a meaning.
+pub(crate) fn are_known(table: &Table) -> bool
+    ensures { result ≡ are_known_keys (table_view table.now) }
+{
+    keys_are_known(table)
+}

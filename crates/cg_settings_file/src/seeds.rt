@@ -1,0 +1,40 @@
+//! The seeds that an array lists.
+
+ghost use Rattle.std.specs.Prelude.{◌≡◌, IfOk, option_map};
+ghost use Rattle.toml.specs.View.{array_view, table_view};
+ghost use Rattle.cg_settings_file.specs.Seeds.{endpoints_in as listed_endpoints, distinct as sorted_distinct};
+
+use crate::values::endpoint_in_value;
+use cg_types::Endpoint;
+use std::alloc::{AllocError, Global};
+use std::collections::BTreeSet;
+use toml::value::Array;
+
+/// The endpoints that the items are the texts of, if each is one.
+pub(crate) fn endpoints_in(
+    alloc: Global,
+    items: &Array,
+) -> Result<Option<Vec<Endpoint>>, AllocError>
+    ensures { IfOk result (λ found. option_map (λ v. v.items) found ≡ listed_endpoints (array_view items.now)) }
+{
+    let mut endpoints = Vec::new(alloc);
+    for item in items {
+        let Some(endpoint) = endpoint_in_value(item) else {
+            return Ok(None);
+        };
+        endpoints.push(endpoint)?;
+    }
+    Ok(Some(endpoints))
+}
+
+/// The same endpoints, rising, each once.
+#[tactic(auto, unfolding(crate::specs::Seeds::distinct))]
+pub(crate) fn distinct(alloc: Global, endpoints: &[Endpoint]) -> Result<Vec<Endpoint>, AllocError>
+    ensures { IfOk result (λ seeds. seeds.items ≡ sorted_distinct endpoints.now) }
+{
+    let mut seeds = BTreeSet::new(alloc);
+    for endpoint in endpoints {
+        seeds.insert(*endpoint)?;
+    }
+    seeds.into_iter().collect(alloc)
+}

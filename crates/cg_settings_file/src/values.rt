@@ -1,0 +1,86 @@
+//! The values at the keys of a table.
+
+ghost use Rattle.std.specs.Prelude.{◌≡◌, option_map};
+ghost use Rattle.toml.specs.Data.{get_member};
+ghost use Rattle.toml.specs.View.{table_view, view};
+ghost use Rattle.cg_settings_file.specs.Values.{text_at as table_text_at, endpoint_in_value as value_endpoint, number_in as value_number};
+ghost use Rattle.cg_settings_file.specs.Values.{small_number_in as value_small_number, endpoint_at as table_endpoint_at, number_at as table_number_at};
+
+use cg_types::Endpoint;
+use toml::{Table, Value};
+
+/// The value at a key.
+pub(crate) fn value_at<'a>(table: &'a Table, key: &str) -> Option<&'a Value>
+    ensures { option_map (λ v. view v.now) result ≡ get_member key.now (table_view table.now) }
+{
+    table.get(key)
+}
+
+/// The text at a key.
+#[tactic(auto, unfolding(crate::specs::Values::text_at))]
+pub(crate) fn text_at<'a>(table: &'a Table, key: &str) -> Option<&'a str>
+    ensures { option_map (λ t. t.now) result ≡ table_text_at key.now (table_view table.now) }
+{
+    match value_at(table, key) {
+        Some(value) => value.as_str(),
+        None => None,
+    }
+}
+
+/// The endpoint that a value is the text of.
+#[tactic(auto, unfolding(crate::specs::Values::endpoint_in_value))]
+pub(crate) fn endpoint_in_value(value: &Value) -> Option<Endpoint>
+    ensures { result ≡ value_endpoint (view value.now) }
+{
+    match value.as_str() {
+        Some(text) => Endpoint::from_bytes(text.as_bytes()),
+        None => None,
+    }
+}
+
+/// The endpoint at a key.
+#[tactic(auto, unfolding(crate::specs::Values::endpoint_at))]
+pub(crate) fn endpoint_at(table: &Table, key: &str) -> Option<Endpoint>
+    ensures { result ≡ table_endpoint_at key.now (table_view table.now) }
+{
+    match value_at(table, key) {
+        Some(value) => endpoint_in_value(value),
+        None => None,
+    }
+}
+
+/// The whole number from 0 on that a value is.
+#[tactic(auto, unfolding(crate::specs::Values::number_in))]
+pub(crate) fn number_in(value: &Value) -> Option<u64>
+    ensures { result ≡ value_number (view value.now) }
+{
+    let number = value.as_integer()?;
+    match u64::try_from(number) {
+        Ok(number) => Some(number),
+        Err(_) => None,
+    }
+}
+
+// The whole number from 0 to `most` that a value is.
+#[tactic(auto, unfolding(crate::specs::Values::small_number_in))]
+fn small_number_in(value: &Value, most: u32) -> Option<u32>
+    ensures { result ≡ value_small_number most (view value.now) }
+{
+    let number = number_in(value)?;
+    if number <= u64::from(most) {
+        Some(number as u32)
+    } else {
+        None
+    }
+}
+
+/// The whole number from 0 to `most` at a key, or the default, if there is one, where the key is missing.
+#[tactic(auto, unfolding(crate::specs::Values::number_at))]
+pub(crate) fn number_at(table: &Table, key: &str, most: u32, default: Option<u32>) -> Option<u32>
+    ensures { result ≡ table_number_at key.now most default (table_view table.now) }
+{
+    match value_at(table, key) {
+        Some(value) => small_number_in(value, most),
+        None => default,
+    }
+}

@@ -1,0 +1,5 @@
+pub mod Windows
+pub use Rattle.cg_types.specs.Rising
+pub use Rattle.cg_silence.specs.Silence
+pub use Rattle.cg_silence.specs.Values
+pub use Rattle.cg_exchange.specs.Changes

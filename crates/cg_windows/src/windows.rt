@@ -1,0 +1,144 @@
+//! A window for each endpoint that was heard, and what counts as an arrival.
+
+ghost use Rattle.std.specs.Prelude.{◌≡◌, IfOk, Some, option_copied};
+ghost use Rattle.std.specs.Option.{option_map};
+ghost use Rattle.std.specs.FinMap as map;
+ghost use Rattle.cg_types.specs.Rising.{Rises};
+ghost use Rattle.cg_exchange.specs.Changes.{endpoints_of_outcomes};
+ghost use Rattle.cg_silence.specs.Values.{WindowValue};
+ghost use Rattle.cg_silence.specs.Silence.{after_arrival};
+ghost use Rattle.cg_windows.specs.Windows.{arrivals, arrival, verdict_by, was_taken as was_taken_of, any_taken as any_taken_of, window_after};
+
+use cg_exchange::Outcome;
+use cg_map::{Row, SharedMap, push_some};
+use cg_silence::{Silence, Verdict, Window};
+use cg_table::Took;
+use cg_types::Endpoint;
+use std::alloc::{AllocError, Global};
+use std::marker::Model;
+
+/// A window for each endpoint that was heard, all with the same settings. Those that are made from one another share
+/// the windows that did not change.
+#[derive(Drop)]
+pub struct Windows {
+    silence: Silence,
+    windows: SharedMap<Window>,
+}
+
+/// A contract sees how the windows judge, and what each shows.
+impl Model for Windows {
+    ghost use Rattle.cg_windows.specs.Windows.{WindowsValue, windows_code, shown_in, AllJudge};
+
+    ghost Value = { WindowsValue };
+
+    ghost coded = { windows_code };
+
+    ghost view = { λ w. record { silence = w.silence; shown = shown_in w.windows } };
+
+    ghost invariant = { λ w. AllJudge w.silence w.windows };
+}
+
+/// Whether a delta was taken.
+pub fn was_taken(outcome: &Outcome) -> bool
+    ensures { result ≡ was_taken_of outcome.now.took }
+{
+    matches!(outcome.took, Took::Taken)
+}
+
+/// Whether any delta was taken.
+pub fn any_taken(outcomes: &[Outcome]) -> bool
+    ensures { result ≡ any_taken_of outcomes.now }
+{
+    outcomes.iter().any(was_taken)
+}
+
+// The window of an endpoint after one more arrival; a new one where it had none.
+fn hear(
+    alloc: Global,
+    silence: Silence,
+    held: Option<&Window>,
+    now: u64,
+) -> Result<Window, AllocError>
+    requires { (w : WindowValue) → option_copied held ≡ Some w → w.silence ≡ silence }
+    ensures { IfOk result (λ w. w ≡ record {
+      silence = silence;
+      shown = after_arrival silence (option_map (λ w. w.shown) (option_copied held.entry)) now;
+    }) }
+{
+    let mut window = match held {
+        Some(window) => window.copy(alloc)?,
+        None => Window::new(alloc, silence)?,
+    };
+    window.arrived(now);
+    Ok(window)
+}
+
+impl Windows {
+    /// No window. It takes no memory.
+    pub fn none(alloc: Global, silence: Silence) -> Windows
+        ensures { result ≡ record { silence = silence; shown = map.empty } }
+    {
+        Windows {
+            silence,
+            windows: SharedMap::new(alloc),
+        }
+    }
+
+    /// The verdict of an endpoint's window, `Unheard` where it has none. It takes no memory.
+    pub fn verdict(&self, endpoint: Endpoint, now: u64) -> Verdict
+        ensures { result ≡ verdict_by self.now.silence (map.get self.now.shown endpoint) now }
+    {
+        match self.windows.get(endpoint) {
+            Some(window) => window.verdict(now),
+            None => Verdict::Unheard,
+        }
+    }
+
+    // The window of an endpoint after one more arrival.
+    fn after_one(&self, alloc: Global, endpoint: Endpoint, now: u64) -> Result<Window, AllocError>
+        ensures { IfOk result (λ w. w ≡ window_after self.now now endpoint) }
+    {
+        Ok(hear(alloc, self.silence, self.windows.get(endpoint), now)?)
+    }
+
+    // The row that an outcome changes, if its delta was taken.
+    fn arrival(
+        &self,
+        alloc: Global,
+        outcome: &Outcome,
+        now: u64,
+    ) -> Result<Option<Row<Window>>, AllocError>
+        ensures { IfOk result (λ r. r ≡ arrival self.now now outcome.now) }
+    {
+        if !was_taken(outcome) {
+            return Ok(None);
+        }
+        let window = self.after_one(alloc, outcome.endpoint, now)?;
+        Ok(Some(Row::new(alloc, outcome.endpoint, window)?))
+    }
+
+    /// The windows after the outcomes of a message: each delta that was taken is an arrival. It shares the windows of
+    /// all other endpoints.
+    pub fn after(
+        &self,
+        alloc: Global,
+        outcomes: &[Outcome],
+        now: u64,
+    ) -> Result<Windows, AllocError>
+        requires { Rises (endpoints_of_outcomes outcomes.now) }
+        ensures { IfOk result (λ w. w ≡ record {
+          silence = self.now.silence;
+          shown = arrivals self.now.silence now self.now.shown outcomes.now;
+        }) }
+    {
+        let mut rows = Vec::new(alloc);
+        for outcome in outcomes {
+            let row = self.arrival(alloc, outcome, now)?;
+            push_some(&mut rows, row)?;
+        }
+        Ok(Windows {
+            silence: self.silence,
+            windows: self.windows.put_rows(alloc, rows)?,
+        })
+    }
+}
