@@ -13,8 +13,8 @@ use Rattle.cg_rounds.specs.declared.ends.Putting.{Putting}
 use Rattle.cg_rounds.specs.declared.ends.Taken.{Taken}
 use Rattle.cg_rounds.specs.Ends.{put_by, taken_in}
 use Rattle.cg_workers.specs.Workers.{numbers_of}
-use Rattle.cg_ran.specs.declared.callers.TheConstants.{RECEIVER, SENDER, TICKER, OPERATOR}
-use Rattle.cg_ran.specs.Left.{AreOf, AreOfWorkers, AreTaken, numbers_of_all, is_received, is_ack, is_tick, is_any}
+use Rattle.cg_left.specs.declared.callers.TheConstants.{RECEIVER, SENDER, TICKER, OPERATOR}
+use Rattle.cg_left.specs.Left.{AreOf, AreOfWorkers, AreTaken, numbers_of_all, is_received, is_ack, is_tick, is_any}
 use Rattle.cg_ran.specs.Ran.{IsRun, IsUnconfirmed}
 use Rattle.cg_ran.proofs.Workers.{all_work, records_are_work, numbers_are_the_tickers}
 

@@ -12,10 +12,10 @@ use Rattle.cg_history.specs.Confirming.{AreConfirmed, IsFirstStray}
 use Rattle.cg_history.specs.History.{HistoryValue, IsReplayed}
 use Rattle.cg_locked.specs.declared.shared.Unconfirmed.{Unconfirmed}
 use Rattle.cg_locked.specs.Shared.{stray_of}
-use Rattle.cg_ran.specs.declared.callers.TheConstants.{RECEIVER, SENDER, TICKER, OPERATOR}
+use Rattle.cg_left.specs.declared.callers.TheConstants.{RECEIVER, SENDER, TICKER, OPERATOR}
 use Rattle.cg_ran.specs.declared.ran.NotRun.{NotRun}
 use Rattle.cg_ran.specs.declared.ran.NotRun.TheVariants as not_run
-use Rattle.cg_ran.specs.Left.{is_received, is_ack, is_tick}
+use Rattle.cg_left.specs.Left.{is_received, is_ack, is_tick}
 use Rattle.cg_ran.specs.Numbers.{numbers_in}
 
 -- The first stray of these receipts is counted behind so many others.

@@ -4,12 +4,12 @@ ghost use Rattle.std.specs.Prelude.{◌≡◌, ◌+◌, ◌≤◌, ◌<◌, ◌+
 ghost use Rattle.std.specs.List.{sum_by};
 ghost use Rattle.cg_history.specs.Confirming.{AreConfirmed, IsFirstStray};
 ghost use Rattle.cg_locked.specs.Shared.{history_of, stray_of};
-ghost use Rattle.cg_ran.specs.Left.{AreOfWorkers, AreTaken};
+ghost use Rattle.cg_left.specs.Left.{AreOfWorkers, AreTaken};
 ghost use Rattle.cg_ran.specs.Ran.{IsStrayBehind, IsRun, IsNotRun, TellsStart};
 
-use crate::left::{Sent, Ticks, Work};
 use crate::ran::{NotRun, Ran};
 use cg_history::{History, Receipt};
+use cg_left::{Sent, Ticks, Work};
 use cg_locked::{Name, Seat, Shared, Unconfirmed};
 use cg_types::Fault;
 use std::sync::Wait;

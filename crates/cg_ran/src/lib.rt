@@ -1,16 +1,11 @@
-//! What the four workers of a node leave, and the node that ran.
+//! The node that ran, put together from what its four workers leave.
 //!
-//! Each worker leaves its seat and its receipts. `finish` puts the seats back together and has the history confirm all
-//! receipts.
+//! `finish` puts the workers' seats back together and has the history confirm all receipts.
 #![tactic(auto)]
 
-mod callers;
 mod finishing;
 pub mod laws;
-mod left;
 mod ran;
 
-pub use callers::{OPERATOR, RECEIVER, SENDER, TICKER, WORKERS};
 pub use finishing::finish;
-pub use left::{Left, Sent, Ticks, Work};
 pub use ran::{NotRun, Ran};

@@ -1,3 +1,3 @@
-pub use Rattle.cg_ran.specs.Left
+pub use Rattle.cg_left.specs.Left
 pub use Rattle.cg_ran.specs.Ran
 pub use Rattle.cg_rounds.specs.Ends

@@ -10,8 +10,7 @@ mod promises;
 mod run;
 mod scoped;
 mod seats;
-mod site;
-mod work;
+mod tools;
 
 pub use cg_ran::{NotRun, Ran};
 pub use cg_settings_file::Turns;

@@ -1,7 +1,7 @@
 //! What a worker's thread promises of what it leaves.
 
+use cg_left::{Left, Sent, Ticks};
 use cg_locked::{Name, Seat};
-use cg_ran::{Left, Sent, Ticks};
 use cg_rounds::{Putting, Taking};
 use std::snapshot::Snapshot;
 use std::thread::Promise;
@@ -13,7 +13,7 @@ pub(crate) struct Operates<N: Name> {
 }
 
 impl<N: Name> Promise<Left<N>> for Operates<N> {
-    ghost use Rattle.cg_ran.specs.Left.{IsLeft, is_any};
+    ghost use Rattle.cg_left.specs.Left.{IsLeft, is_any};
 
     ghost kept_by = { λ p r.
         IsLeft is_any p.seat.value.caller p.seat.value.share.parts r };
@@ -27,7 +27,7 @@ pub(crate) struct Sends<N: Name> {
 }
 
 impl<N: Name> Promise<Sent<N>> for Sends<N> {
-    ghost use Rattle.cg_ran.specs.Left.{IsLeft, HasTaken, is_ack};
+    ghost use Rattle.cg_left.specs.Left.{IsLeft, HasTaken, is_ack};
 
     ghost kept_by = { λ p r.
         IsLeft is_ack p.seat.value.caller p.seat.value.share.parts r.left
@@ -42,7 +42,7 @@ pub(crate) struct TicksOn<N: Name> {
 }
 
 impl<N: Name> Promise<Ticks<N>> for TicksOn<N> {
-    ghost use Rattle.cg_ran.specs.Left.{IsLeft, HasPut, is_tick};
+    ghost use Rattle.cg_left.specs.Left.{IsLeft, HasPut, is_tick};
 
     ghost kept_by = { λ p r.
         IsLeft is_tick p.seat.value.caller p.seat.value.share.parts r.left

@@ -2,20 +2,20 @@
 
 ghost use Rattle.std.specs.Prelude.{◌≡◌, [], IfOk, IfErr};
 ghost use Rattle.cg_rounds.specs.Ends.{AreEnds, put_by, taken_by};
-ghost use Rattle.cg_ran.specs.Left.{IsLeft, HasTaken, HasPut, AreOfWorkers, AreTaken};
-ghost use Rattle.cg_ran.specs.Left.{is_received, is_ack, is_tick, is_any};
+ghost use Rattle.cg_left.specs.Left.{IsLeft, HasTaken, HasPut, AreOfWorkers, AreTaken};
+ghost use Rattle.cg_left.specs.Left.{is_received, is_ack, is_tick, is_any};
 
 use crate::promises::{Operates, Sends, TicksOn};
 use crate::seats::Seats;
-use crate::site::{Site, Tools};
-use crate::work::{operate, receive, send, tick};
+use crate::tools::Tools;
 use cg_clock::Milliseconds;
+use cg_left::{Left, OPERATOR, RECEIVER, SENDER, Sent, TICKER, Ticks, Work};
 use cg_locked::Name;
-use cg_ran::{Left, OPERATOR, RECEIVER, SENDER, Sent, TICKER, Ticks, Work};
 use cg_rounds::{Putting, Taking};
 use cg_seats::Operate;
 use cg_settings_file::Turns;
 use cg_views::Pass;
+use cg_work::{Site, operate, receive, send, tick};
 use cg_workers::{Dial, Listen};
 use rand_core::Rng;
 use std::alloc::Global;

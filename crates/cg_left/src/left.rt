@@ -21,7 +21,7 @@ pub struct Left<N: Name> {
 
 impl<N: Name> Model for Left<N> {
     ghost use Rattle.std.specs.Prelude.{◌≡◌, length};
-    ghost use Rattle.cg_ran.specs.Left.{LeftValue, left_code};
+    ghost use Rattle.cg_left.specs.Left.{LeftValue, left_code};
 
     ghost Value = { LeftValue };
 
@@ -54,8 +54,8 @@ impl<N: Name> Left<N> {
         Left { seat, receipts }
     }
 
-    // The seat, and the receipts.
-    pub(crate) fn into_parts(self) -> (Seat<N>, Vec<Receipt>)
+    /// The seat, and the receipts.
+    pub fn into_parts(self) -> (Seat<N>, Vec<Receipt>)
         ensures seat { (result.0.share.parts ≡ self.parts) × (result.0.share.amount ≡ length self.receipts) }
         ensures receipts { result.1.items ≡ self.receipts }
     {

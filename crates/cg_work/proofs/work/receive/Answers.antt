@@ -1,8 +1,8 @@
 use Rattle.std.proofs.Common.{subst}
 use Rattle.cg_seats.specs.Seats.{SeatValue}
-use Rattle.cg_ran.specs.Left.{is_received}
-use Rattle.cg_threads.proofs.Gates.{More, left_more, received_more}
-use Rattle.cg_threads.proofs.work.receive.Goals as goal
+use Rattle.cg_left.specs.Left.{is_received}
+use Rattle.cg_work.proofs.Gates.{More, left_more, received_more}
+use Rattle.cg_work.proofs.work.receive.Goals as goal
 
 pub returns : goal.returns
 returns g c =

@@ -12,7 +12,7 @@ use Rattle.cg_rounds.specs.declared.ends.Taken.{Taken}
 use Rattle.cg_rounds.specs.Ends.{put_by, taken_in, PutsWhere, IsLeftOf, WereTakenOf}
 use Rattle.cg_seats.specs.Seats.{receipt_code}
 use Rattle.cg_workers.specs.Workers.{numbers_of}
-use Rattle.cg_ran.specs.declared.callers.TheConstants.{RECEIVER, SENDER, TICKER, OPERATOR}
+use Rattle.cg_left.specs.declared.callers.TheConstants.{RECEIVER, SENDER, TICKER, OPERATOR}
 
 -- ---- kinds of events
 

@@ -4,9 +4,9 @@ use Rattle.cg_history.specs.declared.item.Receipt.{Receipt}
 use Rattle.cg_rounds.specs.Ends.{put_by}
 use Rattle.cg_seats.specs.Seats.{SeatValue}
 use Rattle.cg_workers.specs.Workers.{numbers_of}
-use Rattle.cg_ran.specs.Left.{numbers_of_all}
-use Rattle.cg_threads.proofs.Gates.{ticked_first}
-use Rattle.cg_threads.proofs.work.tick.Goals as goal
+use Rattle.cg_left.specs.Left.{numbers_of_all}
+use Rattle.cg_work.proofs.Gates.{ticked_first}
+use Rattle.cg_work.proofs.work.tick.Goals as goal
 
 pub returns-clause-put : goal.returns-clause-put
 returns-clause-put g c =

@@ -2,12 +2,12 @@
 
 ghost use Rattle.std.specs.Prelude.{◌≡◌, []};
 ghost use Rattle.cg_rounds.specs.Ends.{put_by, taken_by};
-ghost use Rattle.cg_ran.specs.Left.{IsLeft, HasTaken, HasPut, is_received, is_ack, is_tick, is_any};
+ghost use Rattle.cg_left.specs.Left.{IsLeft, HasTaken, HasPut, is_received, is_ack, is_tick, is_any};
 
 use crate::site::Site;
 use cg_clock::Milliseconds;
+use cg_left::{Left, Sent, Ticks};
 use cg_locked::{Name, Seat};
-use cg_ran::{Left, Sent, Ticks};
 use cg_rounds::{Putting, Taking};
 use cg_seats::{Operate, SeatGate, operator};
 use cg_settings_file::Turns;
@@ -19,8 +19,8 @@ use std::alloc::Global;
 use std::rt::Clock;
 use std::sync::Wait;
 
-// The receiver's work, where the word is to go.
-pub(crate) fn receive<N: Name, R: Wait, L: Listen + Drop, C: Milliseconds>(
+/// The receiver's: it answers up to `exchanges` connections. A fault of the listener ends it.
+pub fn receive<N: Name, R: Wait, L: Listen + Drop, C: Milliseconds>(
     rt: &R,
     alloc: Global,
     site: &Site<N, C>,
@@ -40,8 +40,8 @@ pub(crate) fn receive<N: Name, R: Wait, L: Listen + Drop, C: Milliseconds>(
     Left::of(gate)
 }
 
-// The sender's.
-pub(crate) fn send<N: Name, R: Wait, D: Dial + Drop, C: Milliseconds>(
+/// The sender's: it sends the rounds that come through the channel, until that ends.
+pub fn send<N: Name, R: Wait, D: Dial + Drop, C: Milliseconds>(
     rt: &R,
     alloc: Global,
     site: &Site<N, C>,
@@ -72,8 +72,8 @@ pub(crate) fn send<N: Name, R: Wait, D: Dial + Drop, C: Milliseconds>(
     }
 }
 
-// The ticker's.
-pub(crate) fn tick<N: Name, R: Wait + Clock, C: Milliseconds, G: Rng + Drop>(
+/// The ticker's: it begins the rounds of these turns, and puts each into the channel.
+pub fn tick<N: Name, R: Wait + Clock, C: Milliseconds, G: Rng + Drop>(
     rt: &R,
     alloc: Global,
     site: &Site<N, C>,
@@ -112,8 +112,8 @@ pub(crate) fn tick<N: Name, R: Wait + Clock, C: Milliseconds, G: Rng + Drop>(
     }
 }
 
-// The operator's.
-pub(crate) fn operate<N: Name, R: Wait, C: Milliseconds, O: Operate + Drop>(
+/// The operator's, to its end.
+pub fn operate<N: Name, R: Wait, C: Milliseconds, O: Operate + Drop>(
     rt: &R,
     alloc: Global,
     site: &Site<N, C>,

@@ -21,7 +21,7 @@ use Rattle.cg_ticker.specs.declared.ticked.Ticked.{Ticked}
 use Rattle.cg_ticker.specs.Ticks.{IsTickOf, IsTick, round_in, rounds_in, Ticks}
 use Rattle.cg_workers.specs.Workers.{numbers_of, Received, Sent}
 use Rattle.cg_workers.proofs.Keeping.{IsEventAt, received_keeps, sent_keeps}
-use Rattle.cg_ran.specs.Left.{LeftValue, IsOf, AreOf, IsLeft, numbers_of_all, is_received, is_ack, is_tick, is_any}
+use Rattle.cg_left.specs.Left.{LeftValue, IsOf, AreOf, IsLeft, numbers_of_all, is_received, is_ack, is_tick, is_any}
 
 -- the gate went on by receipts of events of the kind
 pub record More (kind : Event → Bool) (g h : SeatValue) : Type 0 where

@@ -1,0 +1,3 @@
+pub mod Left
+pub use Rattle.cg_rounds.specs.Ends
+pub use Rattle.cg_seats.specs.Seats

@@ -1,0 +1,8 @@
+//! What each worker of a node leaves: its seat, its receipts, and the ends of the channel that it used.
+#![tactic(auto)]
+
+mod callers;
+mod left;
+
+pub use callers::{OPERATOR, RECEIVER, SENDER, TICKER, WORKERS};
+pub use left::{Left, Sent, Ticks, Work};

@@ -1,0 +1,2 @@
+pub use Rattle.cg_left.specs.Left
+pub use Rattle.cg_rounds.specs.Ends
