@@ -1,6 +1,5 @@
 //! One node alone, and nodes that can't begin.
 
-use crate::ports::free_port;
 use cg_expect::{expect, expect_eq};
 use cg_files::{read_file, replace, stored_generation};
 use cg_journal::read_journal;
@@ -8,10 +7,16 @@ use cg_links::Counted;
 use cg_serve::serve;
 use cg_types::{Endpoint, Fault, Generation};
 use std::alloc::Global;
-use std::fs;
-use std::net::TcpListener;
+use std::net::{Net, TcpListener, TcpStream};
 use std::rt::Files;
 use std::test::Fail;
+use std::{fs, io};
+
+// A port that nobody listens at.
+fn free_port<R: Net<Listener = TcpListener, Stream = TcpStream>>(rt: &R) -> io::Result<u16> {
+    let listener = TcpListener::bind(rt, "127.0.0.1:0")?;
+    listener.local_addr().map(|at| at.port())
+}
 
 // Has a file hold the settings of a node, which begins two rounds and takes nobody.
 fn settle<R: Files>(rt: &R, alloc: Global, name: &str, port: u16) -> Result<String, Fail> {

@@ -1,4 +1,4 @@
-use Rattle.cg_threads_tests.proofs.board.left_after.Given as goal
+use Rattle.cg_seats_tests.proofs.board.left_after.Given as goal
 
 abbrev pub ghosts-left_by-N-Ledger : goal.ghosts-left_by-N-Ledger
 ghosts-left_by-N-Ledger g a = record { name = a.blank.name; parts = a.blank.parts }

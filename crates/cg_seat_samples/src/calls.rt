@@ -14,7 +14,7 @@ use std::alloc::Global;
 use std::sync::Wait;
 
 /// Sets key 3 to x.
-pub(crate) fn set_three<N: Name, R: Wait>(
+pub fn set_three<N: Name, R: Wait>(
     alloc: Global,
     gate: &mut SeatGate<'_, N, R>,
 ) -> Result<(), Fault>
@@ -31,7 +31,7 @@ pub(crate) fn set_three<N: Name, R: Wait>(
 }
 
 /// The version of the last reply.
-pub(crate) fn last_version<N: Name, R: Wait>(gate: &SeatGate<'_, N, R>) -> Option<Version> {
+pub fn last_version<N: Name, R: Wait>(gate: &SeatGate<'_, N, R>) -> Option<Version> {
     match gate.reply() {
         Some(Reply::Done(version)) => Some(*version),
         _ => None,
@@ -39,7 +39,7 @@ pub(crate) fn last_version<N: Name, R: Wait>(gate: &SeatGate<'_, N, R>) -> Optio
 }
 
 /// Learns what is told, and answers whether anything was.
-pub(crate) fn learn<N: Name, R: Wait>(gate: &mut SeatGate<'_, N, R>, pass: &mut Pass<N>) -> bool
+pub fn learn<N: Name, R: Wait>(gate: &mut SeatGate<'_, N, R>, pass: &mut Pass<N>) -> bool
     ensures { GoesOn gate.old gate.new }
 {
     match gate.told() {
@@ -52,7 +52,7 @@ pub(crate) fn learn<N: Name, R: Wait>(gate: &mut SeatGate<'_, N, R>, pass: &mut 
 }
 
 /// The version of key 3 as it is read, where its text is x.
-pub(crate) fn read_three<N: Name>(pass: &mut Pass<N>) -> Result<Option<Version>, Fault>
+pub fn read_three<N: Name>(pass: &mut Pass<N>) -> Result<Option<Version>, Fault>
     ensures { IfErr result IsOperatorFault }
 {
     let shown = pass.read()?;

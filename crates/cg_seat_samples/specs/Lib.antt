@@ -1,0 +1,1 @@
+pub use Rattle.cg_seats.specs.Seats

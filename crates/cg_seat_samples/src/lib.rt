@@ -1,0 +1,6 @@
+//! What operators of tests do at the gate of a seat.
+#![tactic(auto)]
+
+mod calls;
+
+pub use calls::{last_version, learn, read_three, set_three};
