@@ -1,10 +1,14 @@
 //! The program `cg`: `answer`, `sim`, `audit` and `serve`.
 #![tactic(auto)]
 
-use cg_tool::run;
+use cg_serve::serve;
+use cg_tool::{Run, run};
 use std::process::ExitCode;
 
 /// Does what the words ask for.
 fn main(rt: HostRuntime) -> ExitCode {
-    ExitCode::from(run(&rt))
+    ExitCode::from(match run(&rt) {
+        Run::Ended(status) => status,
+        Run::Serves(file) => serve(&rt, rt.alloc(), file.as_str()),
+    })
 }

@@ -2,7 +2,8 @@
 //! of a script.
 //!
 //! It does what a few lines of words ask for, each behind a line that shows them and before one with the status, and
-//! then what its own words do, whose status it ends with. What goes to standard error is not among what it prints.
+//! then what its own words do, whose status it ends with. It serves no node. What goes to standard error is not among what
+//! it prints.
 #![tactic(auto)]
 
 use cg_tool::show_run;

@@ -1,5 +1,5 @@
-//! The program's work, over readers and writers: each job stands in a crate of its own and is passed on; here one is chosen
-//! by the words of the command line.
+//! The program's work, over readers and writers: each job stands in a crate of its own; here one is chosen by the words of
+//! the command line, and done, but for serving, which is left to the program.
 #![tactic(auto)]
 
 mod running;
@@ -9,5 +9,5 @@ pub use cg_answering::answer;
 pub use cg_auditing::audit_files;
 pub use cg_command::{Job, Subcommand, job_of};
 pub use cg_sim::sim;
-pub use running::run;
+pub use running::{Run, run};
 pub use showing::show_run;

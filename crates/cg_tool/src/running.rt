@@ -4,21 +4,27 @@ use cg_answering::answer;
 use cg_auditing::{Journals, Unread, write_report, write_unread};
 use cg_command::{Error, ErrorKind, Job, Subcommand, job_of};
 use cg_links::Counted;
-use cg_serve::serve;
 use cg_sim::sim;
 use cg_types::Fault;
 use std::alloc::{AllocError, Global};
 use std::io::{Eprint, Print};
-use std::net::{Net, TcpListener, TcpStream};
 use std::rt::{Env, Files, Runtime};
-use std::sync::Wait;
-use std::thread::Threads;
 use std::{env, fs, io};
 
-// The status after a fault that ended the work, and after one of the command line.
+// The status after a fault that ended the work.
 const FAILED: u8 = 1;
 
-const MISUSED: u8 = 2;
+/// The status after a fault of the command line.
+pub const MISUSED: u8 = 2;
+
+/// What a run of the program came to.
+#[derive(Drop)]
+pub enum Run {
+    /// All was done; this is the exit status.
+    Ended(u8),
+    /// A node is to be served by the settings in this file.
+    Serves(String),
+}
 
 fn texts(alloc: Global, words: &[String]) -> Result<Vec<&str>, AllocError> {
     let mut texts = Vec::with_capacity(alloc, words.len())?;
@@ -84,33 +90,28 @@ fn audit<R: Print + Eprint + Files>(rt: &R, alloc: Global, files: &[&str]) -> u8
     write_report(alloc, journals, &mut writer)
 }
 
-// Runs a node by the settings in a file.
-fn serve_one<R>(rt: &R, alloc: Global, files: &[&str]) -> u8
-where
-    R: Runtime + Threads + Wait + Sync + Net<Listener = TcpListener, Stream = TcpStream>,
-    R::Reader: Send,
-{
+// By which settings a node is to be served.
+fn serves<R: Print>(rt: &R, alloc: Global, files: &[&str]) -> Run {
     match files {
-        [file] => serve(rt, alloc, file),
+        [file] => match file.to_string(alloc) {
+            Ok(file) => Run::Serves(file),
+            Err(_) => Run::Ended(out_of_memory(rt)),
+        },
         // Never so: the command line asks for one.
-        _ => MISUSED,
+        _ => Run::Ended(MISUSED),
     }
 }
 
-// Does a job over the standard streams, over files and over sockets.
-fn done<R>(rt: &R, alloc: Global, job: &Job) -> u8
-where
-    R: Runtime + Threads + Wait + Sync + Net<Listener = TcpListener, Stream = TcpStream>,
-    R::Reader: Send,
-{
+// Does a job over the standard streams and over files, but for serving.
+fn done<R: Runtime>(rt: &R, alloc: Global, job: &Job) -> Run {
     let mut reader = Counted::new(rt.reader());
     let mut writer = Counted::new(io::writer(rt));
-    match job.subcommand {
+    Run::Ended(match job.subcommand {
         Subcommand::Answer => answer(alloc, &mut reader, &mut writer),
         Subcommand::Sim => sim(alloc, &mut reader, &mut writer),
         Subcommand::Audit => audit(rt, alloc, job.files.as_slice()),
-        Subcommand::Serve => serve_one(rt, alloc, job.files.as_slice()),
-    }
+        Subcommand::Serve => return serves(rt, alloc, job.files.as_slice()),
+    })
 }
 
 // Tells why the words can't be read.
@@ -122,30 +123,22 @@ fn unread<R: Print + Eprint>(rt: &R, error: &io::Error) -> u8 {
     MISUSED
 }
 
-// Does what the words ask for, and tells the status.
-fn ran<R>(rt: &R, alloc: Global, words: &[String]) -> u8
-where
-    R: Runtime + Threads + Wait + Sync + Net<Listener = TcpListener, Stream = TcpStream>,
-    R::Reader: Send,
-{
+// Does what the words ask for.
+fn ran<R: Runtime>(rt: &R, alloc: Global, words: &[String]) -> Run {
     let Ok(words) = texts(alloc, words) else {
-        return out_of_memory(rt);
+        return Run::Ended(out_of_memory(rt));
     };
     match job_of(alloc, words.as_slice()) {
         Ok(job) => done(rt, alloc, &job),
-        Err(error) => told(rt, &error),
+        Err(error) => Run::Ended(told(rt, &error)),
     }
 }
 
 // Does what words ask for, of which the first is the program's name.
-pub(crate) fn run_words<R>(rt: &R, alloc: Global, words: io::Result<Vec<String>>) -> u8
-where
-    R: Runtime + Threads + Wait + Sync + Net<Listener = TcpListener, Stream = TcpStream>,
-    R::Reader: Send,
-{
+pub(crate) fn run_words<R: Runtime>(rt: &R, alloc: Global, words: io::Result<Vec<String>>) -> Run {
     match words {
         Ok(words) => ran(rt, alloc, words.as_slice()),
-        Err(error) => unread(rt, &error),
+        Err(error) => Run::Ended(unread(rt, &error)),
     }
 }
 
@@ -154,20 +147,11 @@ fn words<R: Env + AllocGlobal>(rt: &R) -> io::Result<Vec<String>> {
     Ok(env::args(rt)?.collect(rt.alloc())?)
 }
 
-/// Does what the words of the command line ask for, of which the first is the program's name, over the standard streams,
-/// the files that are named and, to serve, sockets, and answers the exit status. With no further words that is `answer`.
-/// Help and the version go to standard output, with status 0; a fault of the command line goes to standard error, with
-/// status 2, as does a word that is not UTF-8. Want of memory before the work begins is the line `fault 1 OutOfMemory`,
-/// with status 1.
-pub fn run<R>(rt: &R) -> u8
-where
-    R: Runtime
-        + AllocGlobal
-        + Threads
-        + Wait
-        + Sync
-        + Net<Listener = TcpListener, Stream = TcpStream>,
-    R::Reader: Send,
-{
+/// Does what the words of the command line ask for, of which the first is the program's name, over the standard streams and
+/// the files that are named, but for serving: whoever calls it has a node served by the file that it answers. With no
+/// further words the job is `answer`. Help and the version go to standard output, with status 0; a fault of the command
+/// line goes to standard error, with status 2, as does a word that is not UTF-8. Want of memory before the work begins is
+/// the line `fault 1 OutOfMemory`, with status 1.
+pub fn run<R: Runtime + AllocGlobal>(rt: &R) -> Run {
     run_words(rt, rt.alloc(), words(rt))
 }

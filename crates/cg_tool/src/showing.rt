@@ -1,12 +1,9 @@
 //! Runs of the program that are shown, for stored runs.
 
-use crate::running::{run, run_words};
+use crate::running::{MISUSED, Run, run, run_words};
 use std::alloc::Global;
 use std::io;
-use std::net::{Net, TcpListener, TcpStream};
 use std::rt::Runtime;
-use std::sync::Wait;
-use std::thread::Threads;
 
 // The words of a line, which are parted by single spaces.
 fn words_in(alloc: Global, line: &str) -> io::Result<Vec<String>> {
@@ -17,31 +14,27 @@ fn words_in(alloc: Global, line: &str) -> io::Result<Vec<String>> {
     Ok(words)
 }
 
+// The status of a run. No node is served here.
+fn status_of(run: Run) -> u8 {
+    match run {
+        Run::Ended(status) => status,
+        Run::Serves(_) => MISUSED,
+    }
+}
+
 // Does what a line of words asks for.
-fn show<R>(rt: &R, alloc: Global, line: &str)
-where
-    R: Runtime + Threads + Wait + Sync + Net<Listener = TcpListener, Stream = TcpStream>,
-    R::Reader: Send,
-{
+fn show<R: Runtime>(rt: &R, alloc: Global, line: &str) {
     let _ = println!(rt; "> {line}");
-    let status = run_words(rt, alloc, words_in(alloc, line));
+    let status = status_of(run_words(rt, alloc, words_in(alloc, line)));
     let _ = println!(rt; "< {status}");
 }
 
 /// Does what a few lines of words ask for, each behind a line that shows them and before one with the status, and then
-/// what the words of the command line do, whose status it answers.
-pub fn show_run<R>(rt: &R, lines: &[&str]) -> u8
-where
-    R: Runtime
-        + AllocGlobal
-        + Threads
-        + Wait
-        + Sync
-        + Net<Listener = TcpListener, Stream = TcpStream>,
-    R::Reader: Send,
-{
+/// what the words of the command line do, whose status it answers. Where words ask to serve, that is not done, and the
+/// status is 2.
+pub fn show_run<R: Runtime + AllocGlobal>(rt: &R, lines: &[&str]) -> u8 {
     for line in lines {
         show(rt, rt.alloc(), line);
     }
-    run(rt)
+    status_of(run(rt))
 }
