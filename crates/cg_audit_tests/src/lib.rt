@@ -1,15 +1,12 @@
-//! Worked examples of audits and of the messages that were sent, and each call with ample memory.
+//! Audits of lives that no journals are: of starts alone, and of more endpoints than a table holds; and the messages that
+//! were sent. What is said of journals stands among the vectors (docs/VECTORS.md).
 #![tactic(auto)]
 
 #[cfg(test)]
+mod chains;
+#[cfg(test)]
 mod made;
-#[cfg(test)]
-mod many;
-#[cfg(test)]
-mod play;
-#[cfg(test)]
-mod runs;
 #[cfg(test)]
 mod sent;
 #[cfg(test)]
-mod worlds;
+mod starts;

@@ -35,12 +35,9 @@ fn found(alloc: Global, room: usize) -> Result<[bool; 3], Fail> {
 
 #[test]
 fn messages_are_found_by_what_they_say(rt: HostRuntime) -> Result<(), Fail> {
-    let found = found(rt.alloc(), 8)?;
-    expect_eq!(found, [true, true, false])
-}
-
-#[test]
-fn more_messages_than_room_are_found(rt: HostRuntime) -> Result<(), Fail> {
-    let found = found(rt.alloc(), 0)?;
-    expect_eq!(found, [true, true, false])
+    for room in [8, 0] {
+        let found = found(rt.alloc(), room)?;
+        expect_eq!(found, [true, true, false], "room {room}")?;
+    }
+    Ok(())
 }

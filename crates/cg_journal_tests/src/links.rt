@@ -1,7 +1,8 @@
-//! Links of which each call fails in turn.
+//! Links that move a byte a call, of which each call fails in turn.
 
-use cg_expect::{expect, expect_eq};
-use cg_history::History;
+use crate::audited::{A, B, ONE_RUN};
+use cg_auditing::audit_files;
+use cg_expect::expect_eq;
 use cg_journal::{read_journal, write_journal};
 use cg_links::{Counted, FailingLink, SlowLink};
 use std::alloc::Global;
@@ -9,7 +10,7 @@ use std::test::Fail;
 
 const TEXT: &str = "life 10.0.0.1:7000 9 1000 2000 60000 18421 - c1\nopen\nbeat\n";
 
-// What comes of reading a byte a call, where the read of a number fails: the records, or the line and the fault.
+// What comes of reading, where the read of a number fails: the records, or the line and the fault; and how many failed.
 fn read_slowly(alloc: Global, turn: u64) -> (Result<usize, (u64, u8)>, u64) {
     let mut reader = Counted::new(FailingLink::new(SlowLink::new(TEXT.as_bytes()), turn));
     let end = match read_journal(alloc, &mut reader) {
@@ -19,42 +20,11 @@ fn read_slowly(alloc: Global, turn: u64) -> (Result<usize, (u64, u8)>, u64) {
     (end, reader.failed())
 }
 
-// The line that the byte at a place stands in.
-fn line_at(place: u64) -> u64 {
-    if place < 48 {
-        1
-    } else if place < 53 {
-        2
-    } else if place < 58 {
-        3
-    } else {
-        4
-    }
-}
-
-#[test]
-fn each_read_fails_in_turn(rt: HostRuntime) -> Result<(), Fail> {
-    // the reads of 58 bytes, and the one that meets the end
-    for turn in 1..60 {
-        let (end, failed) = read_slowly(rt.alloc(), turn);
-        expect!(
-            end == Err((line_at(turn - 1), 14)) && failed == 1,
-            "read {turn}"
-        )?;
-    }
-    let (end, failed) = read_slowly(rt.alloc(), 60);
-    expect!(end == Ok(2) && failed == 0)
-}
-
-fn history(alloc: Global) -> Result<History, Fail> {
-    let mut reader = Counted::new(TEXT.as_bytes());
-    Ok(read_journal(alloc, &mut reader).ok().ok_or("a history")?)
-}
-
-// What is written a byte a call, where the call of a number fails: how many bytes, whether they are a front of the text,
-// the number of the fault or 0, and whether all was flushed.
+// What is written, where the call of a number fails: how many bytes, whether they are a front of the text, the number of
+// the fault or 0, and whether all was flushed.
 fn written_slowly(alloc: Global, turn: u64) -> Result<(usize, bool, u8, bool), Fail> {
-    let history = history(alloc)?;
+    let mut reader = Counted::new(TEXT.as_bytes());
+    let history = read_journal(alloc, &mut reader).ok().ok_or("a history")?;
     let mut writer = Counted::new(FailingLink::new(SlowLink::new(Vec::new(alloc)), turn));
     let number = match write_journal(alloc, &history, &mut writer) {
         Ok(()) => 0,
@@ -66,19 +36,64 @@ fn written_slowly(alloc: Global, turn: u64) -> Result<(usize, bool, u8, bool), F
     Ok((written.len(), is_front, number, flushed))
 }
 
+// The reads of the bytes of each line, and the one that meets the end.
+const LINES: [(u64, u64, u64); 4] = [(1, 49, 1), (49, 54, 2), (54, 59, 3), (59, 60, 4)];
+
 #[test]
-fn each_write_fails_in_turn(rt: HostRuntime) -> Result<(), Fail> {
-    // the writes of 58 bytes
-    for turn in 1..59 {
-        let end = written_slowly(rt.alloc(), turn)?;
-        expect!(
-            end == (turn as usize - 1, true, 15, turn == 1),
-            "write {turn}"
-        )?;
+fn journals_over_links_that_fail(rt: HostRuntime) -> Result<(), Fail> {
+    for (first, next, line) in LINES {
+        for turn in first..next {
+            let end = read_slowly(rt.alloc(), turn);
+            expect_eq!(end, (Err((line, 14)), 1), "read {turn}")?;
+        }
     }
-    // the flush, and no call
+    expect_eq!(read_slowly(rt.alloc(), 60), (Ok(2), 0))?;
+    // the writes of 58 bytes, the flush, and no call
+    for count in 0..58 {
+        let end = written_slowly(rt.alloc(), count as u64 + 1)?;
+        expect_eq!(end, (count, true, 15, count == 0), "write {count}")?;
+    }
     let unflushed = written_slowly(rt.alloc(), 59)?;
     let whole = written_slowly(rt.alloc(), 60)?;
     expect_eq!(unflushed, (58, true, 15, false))?;
     expect_eq!(whole, (58, true, 0, true))
+}
+
+// No call has this number.
+const NEVER: u64 = 1_000_000;
+
+// What is written of the first exchange, where the read of A's journal, the read of B's and the write of these numbers
+// fail: how many bytes, whether they are a front of what is due, whether they are the fault of a read, and the status.
+fn said_slowly(alloc: Global, turns: (u64, u64, u64)) -> Result<(usize, bool, bool, u8), Fail> {
+    let (opener, answerer, written) = turns;
+    let mut readers = Vec::new(alloc);
+    for (journal, turn) in [(A, opener), (B, answerer)] {
+        let slow = SlowLink::new(journal.as_bytes());
+        readers.push(Counted::new(FailingLink::new(slow, turn)))?;
+    }
+    let mut writer = Counted::new(FailingLink::new(SlowLink::new(Vec::new(alloc)), written));
+    let status = audit_files(alloc, &mut readers, &mut writer);
+    let text = writer.into_link().into_link().into_link();
+    let is_front = ONE_RUN.as_bytes().starts_with(text.as_slice());
+    let is_fault = text.as_slice() == "fault 14 ReadFault\n".as_bytes();
+    Ok((text.len(), is_front, is_fault, status))
+}
+
+#[test]
+fn audits_over_links_that_fail(rt: HostRuntime) -> Result<(), Fail> {
+    // the reads of all bytes, and the one that meets the end
+    for turn in 1..=A.len() as u64 + 1 {
+        let end = said_slowly(rt.alloc(), (turn, NEVER, NEVER))?;
+        expect_eq!(end, (19, false, true, 1), "A, read {turn}")?;
+    }
+    for turn in 1..=B.len() as u64 + 1 {
+        let end = said_slowly(rt.alloc(), (NEVER, turn, NEVER))?;
+        expect_eq!(end, (19, false, true, 1), "B, read {turn}")?;
+    }
+    for count in 0..ONE_RUN.len() {
+        let end = said_slowly(rt.alloc(), (NEVER, NEVER, count as u64 + 1))?;
+        expect_eq!(end, (count, true, false, 1), "write {count}")?;
+    }
+    let whole = said_slowly(rt.alloc(), (NEVER, NEVER, NEVER))?;
+    expect_eq!(whole, (ONE_RUN.len(), true, false, 0))
 }

@@ -1,7 +1,7 @@
 //! Histories of worked examples, and each call once with ample memory.
 //!
-//! A is 10.0.0.1:7000 and B 10.0.0.2:7000; the cluster is c1. The history of the examples is A's at generation 9:
-//! caller 1 sets key 1 to NORMAL, and then caller 2 beats.
+//! A is 10.0.0.1:7000 and B 10.0.0.2:7000; the cluster is c1. A history is A's at generation 9. That of the examples has
+//! two records: caller 1 sets key 1 to NORMAL, and then caller 2 beats.
 
 use cg_events::{Event, Reply};
 use cg_exchange::{Ack2, OwnerDelta, syn};
@@ -20,161 +20,27 @@ fn begun(alloc: Global) -> Result<History, Fail> {
     Ok(History::begin(alloc, endpoint(A), generation(9), settings)?)
 }
 
-// The event that a key is to get a text.
-fn set(alloc: Global, number: u8, text: &str) -> Result<Event, Fail> {
-    let text = StateText::new(alloc, text)?;
-    Ok(Event::Set {
-        key: key(number),
-        text,
-    })
-}
-
-fn set_normal(alloc: Global) -> Result<Event, Fail> {
-    set(alloc, 1, "NORMAL")
-}
-
-// A caller, a number, and the version of a reply that is one.
-fn numbers(receipt: &Receipt) -> (u32, u64, Option<u32>) {
-    let at = match &receipt.reply {
-        Reply::Done(version) => Some(version.get()),
-        _ => None,
-    };
-    (receipt.caller, receipt.number, at)
-}
-
-// The history of the examples; it answers the numbers of its two receipts.
-fn two_records(alloc: Global) -> Result<(History, [(u32, u64, Option<u32>); 2]), Fail> {
-    let mut history = begun(alloc)?;
-    let first = history.apply(alloc, 1, set_normal(alloc)?)?;
-    let second = history.apply(alloc, 2, Event::Beat)?;
-    let numbers = [numbers(&first), numbers(&second)];
-    Ok((history, numbers))
-}
-
-fn receipts_of_two(alloc: Global) -> Result<[(u32, u64, Option<u32>); 2], Fail> {
-    let (_history, receipts) = two_records(alloc)?;
-    Ok(receipts)
-}
-
-#[test]
-fn receipts_have_caller_number_and_reply(rt: HostRuntime) -> Result<(), Fail> {
-    let receipts = receipts_of_two(rt.alloc())?;
-    expect_eq!(receipts, [(1, 1, Some(2)), (2, 2, Some(3))])
-}
-
-// ---- confirming
-
-// What a receipt is of: the Set of the first record, the Beat of the second, or what neither is.
+// What a node is handed here: a SYN of another cluster, an ACK2 of so many endpoints from B on, and others.
+#[derive(Clone, Copy)]
 enum Of {
     Set,
     Beat,
-    BeatAtTwo,
-    OpeningAtThree,
+    Opening,
+    ForeignSyn,
+    Ack2(u16),
 }
 
-fn receipt(alloc: Global, of: &Of, caller: u32, number: u64) -> Result<Receipt, Fail> {
-    let (event, at) = match of {
-        Of::Set => (set_normal(alloc)?, 2),
-        Of::Beat => (Event::Beat, 3),
-        Of::BeatAtTwo => (Event::Beat, 2),
-        Of::OpeningAtThree => (Event::Opening, 3),
-    };
-    let reply = Reply::Done(version(at));
-    Ok(Receipt {
-        caller,
-        number,
-        event,
-        reply,
-    })
-}
-
-fn receipts(alloc: Global, of: &[(Of, u32, u64)]) -> Result<Vec<Receipt>, Fail> {
-    let mut made = Vec::new(alloc);
-    for (of, caller, number) in of {
-        made.push(receipt(alloc, of, *caller, *number)?)?;
+fn event(alloc: Global, of: Of) -> Result<Event, Fail> {
+    match of {
+        Of::Set => Ok(Event::Set {
+            key: key(1),
+            text: StateText::new(alloc, "NORMAL")?,
+        }),
+        Of::Beat => Ok(Event::Beat),
+        Of::Opening => Ok(Event::Opening),
+        Of::ForeignSyn => foreign_syn(alloc),
+        Of::Ack2(count) => ack2_about(alloc, count),
     }
-    Ok(made)
-}
-
-// The place and the number of the fault of the first receipt that is not confirmed.
-fn stray(history: &History, receipts: &[Receipt]) -> Option<(usize, u8)> {
-    match history.confirms(receipts) {
-        Ok(()) => None,
-        Err(stray) => Some((stray.place, stray.fault.number())),
-    }
-}
-
-// The same of receipts by their caller and their number.
-fn stray_of(alloc: Global, of: &[(Of, u32, u64)]) -> Result<Option<(usize, u8)>, Fail> {
-    let (history, _) = two_records(alloc)?;
-    let receipts = receipts(alloc, of)?;
-    Ok(stray(&history, &receipts))
-}
-
-#[test]
-fn callers_are_confirmed_apart(rt: HostRuntime) -> Result<(), Fail> {
-    let alloc = rt.alloc();
-    let rising = stray_of(alloc, &[(Of::Set, 1, 1), (Of::Beat, 2, 2)])?;
-    let falling = stray_of(alloc, &[(Of::Beat, 2, 2), (Of::Set, 1, 1)])?;
-    let twice = stray_of(alloc, &[(Of::Set, 1, 1), (Of::Set, 1, 1)])?;
-    let after_another = stray_of(alloc, &[(Of::Set, 1, 1), (Of::Beat, 2, 2), (Of::Set, 1, 1)])?;
-    expect_eq!((rising, falling), (None, None))?;
-    expect_eq!((twice, after_another), (Some((1, 16)), Some((2, 16))))
-}
-
-#[test]
-fn changed_receipts_are_strangers(rt: HostRuntime) -> Result<(), Fail> {
-    let alloc = rt.alloc();
-    let caller = stray_of(alloc, &[(Of::Set, 2, 1)])?;
-    let number_0 = stray_of(alloc, &[(Of::Set, 1, 0)])?;
-    let number_3 = stray_of(alloc, &[(Of::Set, 1, 1), (Of::Beat, 2, 3)])?;
-    let reply = stray_of(alloc, &[(Of::Set, 1, 1), (Of::BeatAtTwo, 2, 2)])?;
-    let event = stray_of(alloc, &[(Of::Set, 1, 1), (Of::OpeningAtThree, 2, 2)])?;
-    expect_eq!((caller, number_0), (Some((0, 16)), Some((0, 16))))?;
-    expect_eq!(
-        (number_3, reply, event),
-        (Some((1, 16)), Some((1, 16)), Some((1, 16)))
-    )
-}
-
-// So many beats, by two callers in turn, and their receipts.
-fn beats(alloc: Global, count: u32) -> Result<(History, Vec<Receipt>), Fail> {
-    let mut history = begun(alloc)?;
-    let mut receipts = Vec::new(alloc);
-    for turn in 0..count {
-        receipts.push(history.apply(alloc, turn % 2, Event::Beat)?)?;
-    }
-    Ok((history, receipts))
-}
-
-// The same: how many records there are, and what is confirmed of all receipts, and of them with the last one's number
-// changed.
-fn confirmed_of(
-    alloc: Global,
-    count: u32,
-) -> Result<(usize, Option<(usize, u8)>, Option<(usize, u8)>), Fail> {
-    let (history, mut receipts) = beats(alloc, count)?;
-    let all = stray(&history, &receipts);
-    if let Some(last) = receipts.last_mut() {
-        last.number = 1;
-    }
-    let changed = stray(&history, &receipts);
-    Ok((history.records().len(), all, changed))
-}
-
-#[test]
-fn many_records_are_confirmed(rt: HostRuntime) -> Result<(), Fail> {
-    let confirmed = confirmed_of(rt.alloc(), 100_000)?;
-    expect_eq!(confirmed, (100_000, None, Some((99_999, 16))))
-}
-
-// ---- what makes no record
-
-// The fault of an event, and how many records stand after it.
-fn refused(alloc: Global, event: Event) -> Result<(Option<Fault>, usize), Fail> {
-    let (mut history, _) = two_records(alloc)?;
-    let fault = history.apply(alloc, 1, event).err();
-    Ok((fault, history.records().len()))
 }
 
 fn foreign_syn(alloc: Global) -> Result<Event, Fail> {
@@ -184,7 +50,6 @@ fn foreign_syn(alloc: Global) -> Result<Event, Fail> {
     Ok(Event::Syn { m })
 }
 
-// An ACK2 of so many endpoints from B on.
 fn ack2_about(alloc: Global, count: u16) -> Result<Event, Fail> {
     let mut deltas = Vec::new(alloc);
     for number in 0..count {
@@ -197,16 +62,28 @@ fn ack2_about(alloc: Global, count: u16) -> Result<Event, Fail> {
     Ok(Event::Ack2 { now: 1000, m })
 }
 
-#[test]
-fn a_refused_event_makes_no_record(rt: HostRuntime) -> Result<(), Fail> {
-    let alloc = rt.alloc();
-    let of_another_cluster = refused(alloc, foreign_syn(alloc)?)?;
-    let of_too_many = refused(alloc, ack2_about(alloc, 256)?)?;
-    expect_eq!(of_another_cluster, (Some(Fault::OtherCluster), 2))?;
-    expect_eq!(of_too_many, (Some(Fault::TableFull), 2))
+// The history of events, each for its caller.
+fn history_of(alloc: Global, events: &[(Of, u32)]) -> Result<History, Fail> {
+    let mut history = begun(alloc)?;
+    for (of, caller) in events {
+        let event = event(alloc, *of)?;
+        let _receipt = history.apply(alloc, *caller, event)?;
+    }
+    Ok(history)
 }
 
-// ---- puts
+// ---- records
+
+// A caller, a number, and the version of a reply that is one.
+type Numbers = (u32, u64, Option<u32>);
+
+fn numbers(receipt: &Receipt) -> Numbers {
+    let at = match &receipt.reply {
+        Reply::Done(version) => Some(version.get()),
+        _ => None,
+    };
+    (receipt.caller, receipt.number, at)
+}
 
 // How many owners a record puts, and whether the last of them is B.
 fn owners_put(item: &Item) -> (usize, bool) {
@@ -218,23 +95,137 @@ fn owners_put(item: &Item) -> (usize, bool) {
     (rows.len(), last)
 }
 
-// The same of the one record of an event.
-fn puts(alloc: Global, event: Event) -> Result<(usize, bool), Fail> {
-    let mut history = begun(alloc)?;
-    let _receipt = history.apply(alloc, 1, event)?;
-    Ok(match history.records().first() {
+// The receipt of a last event, or its fault; how many records there are behind it; and what the last record puts.
+type Told = (Result<Numbers, Fault>, usize, (usize, bool));
+
+fn told(alloc: Global, before: &[(Of, u32)], last: (Of, u32)) -> Result<Told, Fail> {
+    let (of, caller) = last;
+    let event = event(alloc, of)?;
+    let mut history = history_of(alloc, before)?;
+    let done = match history.apply(alloc, caller, event) {
+        Ok(receipt) => Ok(numbers(&receipt)),
+        Err(fault) => Err(fault),
+    };
+    let records = history.records();
+    let put = match records.last() {
         Some(item) => owners_put(item),
         None => (usize::MAX, false),
-    })
+    };
+    Ok((done, records.len(), put))
+}
+
+const TWO: &[(Of, u32)] = &[(Of::Set, 1), (Of::Beat, 2)];
+
+// The events before the last one, it, and what is told of it.
+const TOLD: [(&[(Of, u32)], (Of, u32), Told); 7] = [
+    (&[], (Of::Set, 1), (Ok((1, 1, Some(2))), 1, (1, false))),
+    (
+        &[(Of::Set, 1)],
+        (Of::Beat, 2),
+        (Ok((2, 2, Some(3))), 2, (1, false)),
+    ),
+    (&[], (Of::Beat, 1), (Ok((1, 1, Some(2))), 1, (1, false))),
+    (&[], (Of::Opening, 1), (Ok((1, 1, None)), 1, (0, false))),
+    (&[], (Of::Ack2(1), 1), (Ok((1, 1, None)), 1, (1, true))),
+    // refused events make no record
+    (
+        TWO,
+        (Of::ForeignSyn, 1),
+        (Err(Fault::OtherCluster), 2, (1, false)),
+    ),
+    (
+        TWO,
+        (Of::Ack2(256), 1),
+        (Err(Fault::TableFull), 2, (1, false)),
+    ),
+];
+
+#[test]
+fn events_make_receipts_and_records(rt: HostRuntime) -> Result<(), Fail> {
+    for (place, (before, last, due)) in TOLD.into_iter().enumerate() {
+        let told = told(rt.alloc(), before, last)?;
+        expect_eq!(told, due, "row {place}")?;
+    }
+    Ok(())
+}
+
+// ---- confirming
+
+// What a receipt is of, the version of its reply, its caller and its number.
+type Row = (Of, u32, u32, u64);
+
+fn receipts(alloc: Global, rows: &[Row]) -> Result<Vec<Receipt>, Fail> {
+    let mut receipts = Vec::new(alloc);
+    for (of, at, caller, number) in rows {
+        receipts.push(Receipt {
+            caller: *caller,
+            number: *number,
+            event: event(alloc, *of)?,
+            reply: Reply::Done(version(*at)),
+        })?;
+    }
+    Ok(receipts)
+}
+
+// The place and the number of the fault of the first receipt that is not confirmed.
+fn stray(history: &History, receipts: &[Receipt]) -> Option<(usize, u8)> {
+    match history.confirms(receipts) {
+        Ok(()) => None,
+        Err(stray) => Some((stray.place, stray.fault.number())),
+    }
+}
+
+// The same of receipts that the history of the examples is asked about.
+fn stray_of(alloc: Global, rows: &[Row]) -> Result<Option<(usize, u8)>, Fail> {
+    let receipts = receipts(alloc, rows)?;
+    let history = history_of(alloc, TWO)?;
+    Ok(stray(&history, &receipts))
+}
+
+// The receipts of its records.
+const SET: Row = (Of::Set, 2, 1, 1);
+
+const BEAT: Row = (Of::Beat, 3, 2, 2);
+
+const STRAYS: [(&[Row], Option<(usize, u8)>); 9] = [
+    // callers are confirmed apart, the numbers of each have to rise
+    (&[SET, BEAT], None),
+    (&[BEAT, SET], None),
+    (&[SET, SET], Some((1, 16))),
+    (&[SET, BEAT, SET], Some((2, 16))),
+    // another caller, number, reply and event
+    (&[(Of::Set, 2, 2, 1)], Some((0, 16))),
+    (&[(Of::Set, 2, 1, 0)], Some((0, 16))),
+    (&[SET, (Of::Beat, 3, 2, 3)], Some((1, 16))),
+    (&[SET, (Of::Beat, 2, 2, 2)], Some((1, 16))),
+    (&[SET, (Of::Opening, 3, 2, 2)], Some((1, 16))),
+];
+
+// Of so many beats by two callers in turn, how many records there are, and what is confirmed of all receipts, and of them
+// with the last one's number changed.
+fn confirmed_of(
+    alloc: Global,
+    count: u32,
+) -> Result<(usize, Option<(usize, u8)>, Option<(usize, u8)>), Fail> {
+    let mut history = begun(alloc)?;
+    let mut receipts = Vec::new(alloc);
+    for turn in 0..count {
+        receipts.push(history.apply(alloc, turn % 2, Event::Beat)?)?;
+    }
+    let all = stray(&history, &receipts);
+    if let Some(last) = receipts.last_mut() {
+        last.number = 1;
+    }
+    let changed = stray(&history, &receipts);
+    Ok((history.records().len(), all, changed))
 }
 
 #[test]
-fn records_put_what_they_changed(rt: HostRuntime) -> Result<(), Fail> {
-    let alloc = rt.alloc();
-    let set = puts(alloc, set_normal(alloc)?)?;
-    let beat = puts(alloc, Event::Beat)?;
-    let opening = puts(alloc, Event::Opening)?;
-    let ack2 = puts(alloc, ack2_about(alloc, 1)?)?;
-    expect_eq!((set, beat), ((1, false), (1, false)))?;
-    expect_eq!((opening, ack2), ((0, false), (1, true)))
+fn receipts_are_confirmed(rt: HostRuntime) -> Result<(), Fail> {
+    for (place, (rows, due)) in STRAYS.into_iter().enumerate() {
+        let stray = stray_of(rt.alloc(), rows)?;
+        expect_eq!(stray, due, "row {place}")?;
+    }
+    let confirmed = confirmed_of(rt.alloc(), 100_000)?;
+    expect_eq!(confirmed, (100_000, None, Some((99_999, 16))))
 }

@@ -1,30 +1,60 @@
 //! Lines that can't be read, and the number that is told of them.
 
-use cg_expect::expect;
+use cg_auditing::Journals;
+use cg_expect::expect_eq;
 use cg_journal::read_journal;
 use cg_links::Counted;
 use std::alloc::Global;
 use std::test::Fail;
 
-// The line in which reading ends and the number of the fault, or how many records were read.
-fn end_of(alloc: Global, text: &[u8]) -> Result<usize, (u64, u8)> {
-    let mut reader = Counted::new(text);
-    match read_journal(alloc, &mut reader) {
+// The line in which reading ends and the number of the fault, or how many records were read: of a journal alone, and of
+// one of some journals, where the records are not told.
+type End = (Result<usize, (u64, u8)>, Result<(), (u64, u8)>);
+
+fn end_of(alloc: Global, text: &[u8]) -> End {
+    let alone = match read_journal(alloc, &mut Counted::new(text)) {
         Ok(history) => Ok(history.records().len()),
         Err(unread) => Err((unread.line, unread.fault.number())),
+    };
+    let mut journals = Journals::new(alloc);
+    let among_others = match journals.read(alloc, &mut Counted::new(text)) {
+        Ok(()) => Ok(()),
+        Err(unread) => Err((unread.line, unread.fault.number())),
+    };
+    (alone, among_others)
+}
+
+// The same of a line between others, which stands there so many times on end.
+fn end_of_line(
+    alloc: Global,
+    front: &str,
+    line: &str,
+    times: u32,
+    behind: &str,
+) -> Result<End, Fail> {
+    let mut text = String::from_str(alloc, front)?;
+    for _ in 0..times {
+        text.push_str(line)?;
     }
+    text.push_str(behind)?;
+    Ok(end_of(alloc, text.as_bytes()))
 }
 
-const LIFE: &str = "life 10.0.0.1:7000 9 1000 2000 60000 18421 - c1\nbeat\n";
+const LIFE: &str = "life 10.0.0.1:7000 9 1000 2000 60000 18421 - c1\n";
 
-// Whether this line, behind a life and a beat and before another, is the one that can't be read.
-fn is_unreadable(alloc: Global, line: &str) -> Result<bool, Fail> {
-    let mut text = String::new(alloc);
-    text.push_str(LIFE)?;
-    text.push_str(line)?;
-    text.push_str("\nbeat\n")?;
-    Ok(end_of(alloc, text.as_bytes()) == Err((3, 2)))
-}
+const LIFE_AND_BEAT: &str = "life 10.0.0.1:7000 9 1000 2000 60000 18421 - c1\nbeat\n";
+
+const LIFE_BEAT_AND_SET: &str = "life 10.0.0.1:7000 9 1000 2000 60000 18421 - c1\nbeat\nset 1 ";
+
+const LIFE_AND_OPEN: &str = "life 10.0.0.1:7000 9 1000 2000 60000 18421 - c1\nopen\n";
+
+// The second line of a life that opens, and the third, with line feeds about them.
+const OPEN_AND_ACK: &str =
+    "\nopen\nack 1000 00000027010200010a0000011b58000000090000000000010a0000021b58\
+00000005000000000000000100\n";
+
+const ACK: &str = "\nack 1000 00000027010200010a0000011b58000000090000000000010a0000021b5800000005\
+000000000000000100\n";
 
 const LINES: [&str; 26] = [
     "",
@@ -55,15 +85,6 @@ const LINES: [&str; 26] = [
     "ack2 1 000000080101026331010000",
 ];
 
-#[test]
-fn each_line_is_unreadable(rt: HostRuntime) -> Result<(), Fail> {
-    for line in LINES {
-        let found = is_unreadable(rt.alloc(), line)?;
-        expect!(found, "{line}")?;
-    }
-    Ok(())
-}
-
 const LIVES: [&str; 16] = [
     "",
     "\n",
@@ -83,63 +104,48 @@ const LIVES: [&str; 16] = [
     "life 10.0.0.1:7000 9 1000 2000 60000 18421 - c1c1c1c1c1c1c1c1c1c1c1c1c1c1c1c1c1c1c1c1c1c1c1c1c\n",
 ];
 
-#[test]
-fn each_first_line_is_unreadable(rt: HostRuntime) -> Result<(), Fail> {
-    for line in LIVES {
-        expect!(end_of(rt.alloc(), line.as_bytes()) == Err((1, 2)), "{line}")?;
-    }
-    Ok(())
-}
+// What no line of a journal may be: words of no event, of another, without their texts, with frames of another kind and
+// with bytes behind a frame.
+const JUNK: [&str; 9] = [
+    "",
+    "lives",
+    "beat 1",
+    "open ",
+    "set 1",
+    "tick 1 2 3 4",
+    "syn 0000",
+    "ack2 1000 0000001601010263310100010a0000011b580000000900000001",
+    "ack2 1000 00000017010300010a0000011b580000000900000000000000010000",
+];
+
+// Lines, what stands before and behind each, and its number.
+const UNREADABLE: [(&[&str], &str, &str, u64); 5] = [
+    (&LINES, LIFE_AND_BEAT, "\nbeat\n", 3),
+    (&LIVES, "", "", 1),
+    (&JUNK, "", OPEN_AND_ACK, 1),
+    (&JUNK, LIFE, ACK, 2),
+    (&JUNK, LIFE_AND_OPEN, "\n", 3),
+];
 
 #[test]
-fn bytes_that_are_no_text_are_unreadable(rt: HostRuntime) -> Result<(), Fail> {
-    let text = b"life 10.0.0.1:7000 9 1000 2000 60000 18421 - \xff\n";
-    expect!(end_of(rt.alloc(), text) == Err((1, 2)))
-}
-
-// What comes of a text of so many bytes.
-fn long_text(alloc: Global, bytes: usize) -> Result<Result<usize, (u64, u8)>, Fail> {
-    let mut text = String::new(alloc);
-    text.push_str(LIFE)?;
-    text.push_str("set 1 ")?;
-    for _ in 0..bytes {
-        text.push_str("41")?;
-    }
-    Ok(end_of(alloc, text.as_bytes()))
-}
-
-#[test]
-fn texts_have_their_limit(rt: HostRuntime) -> Result<(), Fail> {
-    let within = long_text(rt.alloc(), 1024)?;
-    let over = long_text(rt.alloc(), 1025)?;
-    expect!(within == Ok(2) && over == Err((3, 2)))
-}
-
-// A journal that is cut behind so many lines.
-fn cut_behind(text: &str, lines: usize) -> &[u8] {
-    let bytes = text.as_bytes();
-    let mut left = lines;
-    for i in 0..bytes.len() {
-        if left == 0 {
-            return &bytes[..i];
-        }
-        if bytes[i] == b'\n' {
-            left -= 1;
-        }
-    }
-    bytes
-}
-
-#[test]
-fn a_journal_is_read_as_far_as_it_goes(rt: HostRuntime) -> Result<(), Fail> {
+fn each_line_that_cannot_be_read_is_told(rt: HostRuntime) -> Result<(), Fail> {
     let alloc = rt.alloc();
-    let text = "life 10.0.0.1:7000 9 1000 2000 60000 18421 - c1\nbeat\nopen\nset 3 -\nbeat\n";
-    expect!(end_of(alloc, cut_behind(text, 0)) == Err((1, 2)))?;
-    for lines in 1..6 {
-        expect!(
-            end_of(alloc, cut_behind(text, lines)) == Ok(lines - 1),
-            "{lines}"
-        )?;
+    for (lines, front, behind, number) in UNREADABLE {
+        let due = (Err((number, 2)), Err((number, 2)));
+        for line in lines {
+            let end = end_of_line(alloc, front, line, 1, behind)?;
+            expect_eq!(end, due, "line {number}: {line}")?;
+        }
+    }
+    let no_text = end_of(
+        alloc,
+        b"life 10.0.0.1:7000 9 1000 2000 60000 18421 - \xff\n",
+    );
+    expect_eq!(no_text, (Err((1, 2)), Err((1, 2))))?;
+    // a text of the greatest length, and one of a byte more
+    for (bytes, due) in [(1024, (Ok(2), Ok(()))), (1025, (Err((3, 2)), Err((3, 2))))] {
+        let end = end_of_line(alloc, LIFE_BEAT_AND_SET, "41", bytes, "")?;
+        expect_eq!(end, due, "{bytes} bytes")?;
     }
     Ok(())
 }

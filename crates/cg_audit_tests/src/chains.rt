@@ -1,0 +1,78 @@
+//! Chains of endpoints: each opens at generation 9, and all but the last are handed the SYN of the next one.
+
+use crate::made::{begun, said};
+use cg_audit::{LifeItem, Lives, audit, endpoints_differ};
+use cg_events::{Event, Reply};
+use cg_exchange::Message;
+use cg_expect::expect_eq;
+use cg_samples::{endpoint, generation};
+use std::alloc::Global;
+use std::test::Fail;
+
+// An endpoint that opens, and then is handed a SYN, if there is one; and the event that hands its own one over.
+fn linked(alloc: Global, own: u16, handed: Option<Event>) -> Result<(Lives, Event), Fail> {
+    let mut history = begun(alloc, own, 9)?;
+    let receipt = history.apply(alloc, 0, Event::Opening)?;
+    let Reply::Sent(Message::Syn(m)) = receipt.reply else {
+        return Err(Fail::from("a SYN"));
+    };
+    if let Some(syn) = handed {
+        history.apply(alloc, 0, syn)?;
+    }
+    let mut histories = Vec::new(alloc);
+    histories.push(history)?;
+    let lives = Lives::new(endpoint(own), histories).ok_or("lives")?;
+    Ok((lives, Event::Syn { m }))
+}
+
+// The last endpoint comes first.
+fn chain(alloc: Global, count: u16) -> Result<Vec<Lives>, Fail> {
+    let mut all = Vec::new(alloc);
+    let mut handed = None;
+    for own in (1..=count).rev() {
+        let (lives, syn) = linked(alloc, own, handed)?;
+        handed = Some(syn);
+        all.push(lives)?;
+    }
+    Ok(all)
+}
+
+// What is said of a chain of two, and of it without the last one.
+fn two_said(alloc: Global) -> Result<(String, String), Fail> {
+    let all = chain(alloc, 2)?;
+    let Some((_, rest)) = all.split_first() else {
+        return Err(Fail::from("two"));
+    };
+    Ok((said(alloc, &all)?, said(alloc, rest)?))
+}
+
+// How many items there are in the order of a chain, the fifth and the last.
+fn order(alloc: Global, count: u16) -> Result<(usize, Option<LifeItem>, Option<LifeItem>), Fail> {
+    let all = chain(alloc, count)?;
+    if !endpoints_differ(&all) {
+        return Err(Fail::from("twice"));
+    }
+    let Ok(order) = audit(alloc, &all) else {
+        return Err(Fail::from("no order"));
+    };
+    let items = order.items.as_slice();
+    Ok((items.len(), items.get(4).copied(), items.last().copied()))
+}
+
+fn item(own: u16, number: u64) -> Option<LifeItem> {
+    Some(LifeItem {
+        endpoint: endpoint(own),
+        generation: generation(9),
+        number,
+    })
+}
+
+#[test]
+fn a_syn_is_handled_once_it_was_sent(rt: HostRuntime) -> Result<(), Fail> {
+    let (whole, rest) = two_said(rt.alloc())?;
+    expect_eq!(whole.as_str(), "run 1/9/0 1/9/1 2/9/0 2/9/1 1/9/2")?;
+    expect_eq!(rest.as_str(), "stuck 1/9/2")?;
+    // more endpoints than a table holds: a start and an opening of each, and 299 SYNs
+    let many = order(rt.alloc(), 300)?;
+    expect_eq!(many, (899, item(1, 2), item(299, 2)))
+}
