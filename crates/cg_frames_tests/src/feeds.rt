@@ -1,140 +1,22 @@
-//! Bytes in any pieces.
+//! Streams that come in pieces: what a feed wants, what it answers once it has found a fault, and the longest message.
 
-use crate::messages::{bytes_of, is_written_as, read_and_written};
-use cg_entry::State;
+use crate::messages::is_written_as;
 use cg_expect::{expect, expect_eq};
-use cg_frames::{Ack, Feed, Message, OwnerDelta, Request, encode};
-use cg_samples::{delta, endpoint, generation, long_text, state};
-use cg_types::{Cause, Fault, TEXT_LIMIT};
-use std::alloc::Global;
+use cg_frames::{Feed, Message};
+use cg_types::{Cause, Fault};
+use std::alloc::{AllocError, Global};
 use std::test::Fail;
 
-// A SYN of A, the answer of B, and the answer of A.
-const FIRST_EXCHANGE: [&str; 3] = [
-    "00000016 0101 026331 01 0001 0a0000011b58 00000009 00000001",
-    "00000027 0102 0001 0a0000011b58 00000009 00000000 0001 0a0000021b58 00000005 00000000 00000001 00",
-    "00000017 0103 0001 0a0000011b58 00000009 00000000 00000001 00",
-];
+// A SYN that names nothing.
+const EMPTY_SYN: &[u8] = b"\0\0\0\x08\x01\x01\x02c1\x01\0\0";
 
-// A SYN that names nothing, its answer, a SYN of another cluster, and two frames with a fault.
-const OTHER_FRAMES: [(&str, usize); 5] = [
-    ("00000008 0101 026331 01 0000", 1),
-    (
-        "00000019 0102 0000 0001 0a0000021b58 00000005 00000000 00000001 00",
-        1,
-    ),
-    (
-        "00000016 0101 026332 01 0001 0a0000011b58 00000009 00000001",
-        1,
-    ),
-    (
-        "00000022 0102 0002 0a0000011b58 00000009 00000000 0a0000011b58 00000009 00000000 0000",
-        0,
-    ),
-    (
-        "0000001f 0103 0001 0a0000011b58 00000009 00000002 00000003 01 01 00000002 0001 4e",
-        0,
-    ),
-];
-
-const OVER: Fault = Fault::BadFrame {
-    place: 0,
-    cause: Cause::Length,
-};
-
-// How many messages bytes gave, the last fault, how many bytes are wanted then, and how the stream may end.
+// How many messages a piece gave, the fault, how many bytes are wanted then, and how the stream may end.
 type Given = (usize, Option<Fault>, usize, Result<(), Fault>);
 
 // What one more piece gives.
-fn pushed(feed: &mut Feed, piece: &[u8]) -> Result<Given, Fail> {
+fn pushed(feed: &mut Feed, piece: &[u8]) -> Result<Given, Fault> {
     let fed = feed.push(piece)?;
     Ok((fed.messages.len(), fed.fault, feed.wants(), feed.end()))
-}
-
-// The same of a piece in hexadecimal digits.
-fn pushed_text(alloc: Global, feed: &mut Feed, piece: &str) -> Result<Given, Fail> {
-    let bytes = bytes_of(alloc, piece)?;
-    pushed(feed, bytes.as_slice())
-}
-
-// What the pieces of a stream give.
-fn fed_in(alloc: Global, pieces: &[&[u8]]) -> Result<Given, Fail> {
-    let mut feed = Feed::new(alloc);
-    let mut count: usize = 0;
-    let mut fault = None;
-    for piece in pieces {
-        let (more, last, _, _) = pushed(&mut feed, piece)?;
-        count = count.saturating_add(more);
-        fault = last;
-    }
-    Ok((count, fault, feed.wants(), feed.end()))
-}
-
-#[test]
-fn first_exchange(rt: HostRuntime) -> Result<(), Fail> {
-    for text in FIRST_EXCHANGE {
-        let frame = bytes_of(rt.alloc(), text)?;
-        expect_eq!(
-            read_and_written(rt.alloc(), frame.as_slice())?,
-            (frame.len(), true)
-        )?;
-    }
-    Ok(())
-}
-
-// Whether the first piece gives nothing, and the second so many messages, or else a fault.
-fn gives_at_the_end(alloc: Global, front: &[u8], back: &[u8], count: usize) -> Result<bool, Fail> {
-    let (early, early_fault, _, early_end) = fed_in(alloc, &[front])?;
-    let (late, late_fault, _, _) = fed_in(alloc, &[front, back])?;
-    let nothing_early = early == 0 && early_fault.is_none() && early_end == Err(Fault::Truncated);
-    Ok(nothing_early && late == count && late_fault.is_none() == (count > 0))
-}
-
-#[test]
-fn cut_at_every_byte(rt: HostRuntime) -> Result<(), Fail> {
-    for text in FIRST_EXCHANGE {
-        let frame = bytes_of(rt.alloc(), text)?;
-        for cut in 1..frame.len() {
-            let (front, back) = frame.as_slice().split_at(cut);
-            expect!(gives_at_the_end(rt.alloc(), front, back, 1)?)?;
-        }
-    }
-    Ok(())
-}
-
-#[test]
-fn other_frames_cut_at_every_byte(rt: HostRuntime) -> Result<(), Fail> {
-    for (text, count) in OTHER_FRAMES {
-        let frame = bytes_of(rt.alloc(), text)?;
-        for cut in 1..frame.len() {
-            let (front, back) = frame.as_slice().split_at(cut);
-            expect!(gives_at_the_end(rt.alloc(), front, back, count)?)?;
-        }
-    }
-    Ok(())
-}
-
-// Whether a frame, one byte at a time, gives its message with the last byte and nothing before, and may end there.
-fn comes_with_its_last_byte(alloc: Global, frame: &[u8]) -> Result<bool, Fail> {
-    let mut feed = Feed::new(alloc);
-    for (i, byte) in frame.iter().enumerate() {
-        let (count, _, _, _) = pushed(&mut feed, &[*byte])?;
-        let last = i + 1 == frame.len();
-        if count != (if last { 1 } else { 0 }) {
-            return Ok(false);
-        }
-    }
-    Ok(feed.end() == Ok(()))
-}
-
-// Without its last byte the SYN is no message; one byte at a time, the last one gives it.
-#[test]
-fn cut_syn(rt: HostRuntime) -> Result<(), Fail> {
-    let frame = bytes_of(rt.alloc(), FIRST_EXCHANGE[0])?;
-    let (front, _) = frame.as_slice().split_at(frame.len().saturating_sub(1));
-    let (count, fault, _, end) = fed_in(rt.alloc(), &[front])?;
-    expect_eq!((count, fault, end), (0, None, Err(Fault::Truncated)))?;
-    expect!(comes_with_its_last_byte(rt.alloc(), frame.as_slice())?)
 }
 
 #[test]
@@ -142,141 +24,119 @@ fn wants_what_is_lacking(rt: HostRuntime) -> Result<(), Fail> {
     let mut feed = Feed::new(rt.alloc());
     expect_eq!(feed.wants(), 4)?;
     for (piece, wants) in [
-        ("0000", 2),
-        ("0016", 22),
-        ("01", 21),
-        ("01 026331 01 0001 0a0000011b58 00000009 000000", 1),
-        ("01", 4),
+        (b"\0\0".as_slice(), 2),
+        (b"\0\x16", 22),
+        (b"\x01", 21),
+        (
+            b"\x01\x02c1\x01\0\x01\x0a\0\0\x01\x1b\x58\0\0\0\x09\0\0\0",
+            1,
+        ),
+        (b"\x01", 4),
     ] {
-        let (_, _, then, _) = pushed_text(rt.alloc(), &mut feed, piece)?;
-        expect_eq!(then, wants, "after {piece}")?;
+        let (_, _, then, _) = pushed(&mut feed, piece)?;
+        expect_eq!(then, wants)?;
     }
     expect_eq!(feed.end(), Ok(()))
 }
 
-#[test]
-fn a_fault_stands(rt: HostRuntime) -> Result<(), Fail> {
-    let mut feed = Feed::new(rt.alloc());
-    let bytes = "00000008 0101 026331 01 0000 004c4b41";
-    let (count, fault, _, _) = pushed_text(rt.alloc(), &mut feed, bytes)?;
-    expect_eq!((count, fault), (1, Some(OVER)))?;
-    for piece in ["", "00", "00000008 0101 026331 01 0000"] {
-        let given = pushed_text(rt.alloc(), &mut feed, piece)?;
-        expect_eq!(given, (0, Some(OVER), 0, Err(OVER)))?;
+// Whether a feed finds a fault in these bytes, behind so many messages, and answers it to whatever comes then.
+fn stands(alloc: Global, bytes: &[u8], count: usize, fault: Fault) -> Result<bool, Fault> {
+    let mut feed = Feed::new(alloc);
+    let mut due = count;
+    for piece in [bytes, &[], &[0], EMPTY_SYN, bytes] {
+        if pushed(&mut feed, piece)? != (due, Some(fault), 0, Err(fault)) {
+            return Ok(false);
+        }
+        due = 0;
     }
-    Ok(())
-}
-
-// Whether a feed answers this fault to the bytes, and to the same bytes again.
-fn stands_for_good(alloc: Global, text: &str, fault: Fault) -> Result<bool, Fail> {
-    let bytes = bytes_of(alloc, text)?;
-    let (count, last, _, end) = fed_in(alloc, &[bytes.as_slice(), bytes.as_slice()])?;
-    Ok(count == 0 && last == Some(fault) && end == Err(fault))
+    Ok(true)
 }
 
 #[test]
-fn faults_stand_for_good(rt: HostRuntime) -> Result<(), Fail> {
-    for (text, place, cause) in [
-        ("00000000", 4, Cause::Short),
-        ("00000009 0101 026331 01 0000 00", 12, Cause::Rest),
-    ] {
-        expect!(
-            stands_for_good(rt.alloc(), text, Fault::BadFrame { place, cause })?,
-            "{text}"
-        )?;
-    }
-    Ok(())
-}
-
-#[test]
-fn order_and_version_faults(rt: HostRuntime) -> Result<(), Fail> {
-    for (text, place, cause) in [
+fn faults_stand(rt: HostRuntime) -> Result<(), Fail> {
+    for (bytes, count, place, cause) in [
         (
-            "00000022 0102 0002 0a0000011b58 00000009 00000000 0a0000011b58 00000009 00000000 0000",
+            b"\0\0\0\x08\x01\x01\x02c1\x01\0\0\0\x4c\x4b\x41".as_slice(),
+            1,
+            0,
+            Cause::Length,
+        ),
+        (b"\0\0\0\0", 0, 4, Cause::Short),
+        (b"\0\0\0\x09\x01\x01\x02c1\x01\0\0\0", 0, 12, Cause::Rest),
+        (
+            b"\0\0\0\x22\x01\x02\0\x02\x0a\0\0\x01\x1b\x58\0\0\0\x09\0\0\0\0\x0a\0\0\x01\x1b\x58\0\0\0\x09\0\0\0\0\0\0",
+            0,
             22,
             Cause::Order,
         ),
         (
-            "0000001f 0103 0001 0a0000011b58 00000009 00000002 00000003 01 01 00000002 0001 4e",
+            b"\0\0\0\x1f\x01\x03\0\x01\x0a\0\0\x01\x1b\x58\0\0\0\x09\0\0\0\x02\0\0\0\x03\x01\x01\0\0\0\x02\0\x01N",
+            0,
             28,
             Cause::Version,
         ),
     ] {
-        expect!(
-            stands_for_good(rt.alloc(), text, Fault::BadFrame { place, cause })?,
-            "{text}"
-        )?;
+        let fault = Fault::BadFrame { place, cause };
+        expect!(stands(rt.alloc(), bytes, count, fault)?, "{fault}")?;
     }
     Ok(())
 }
 
-// The frames of the first exchange, one after the other, and one byte more.
-fn all_and_a_byte(alloc: Global) -> Result<Vec<u8>, Fail> {
-    let mut bytes = Vec::new(alloc);
-    for text in FIRST_EXCHANGE {
-        bytes.extend_from_slice(bytes_of(alloc, text)?.as_slice())?;
-    }
-    bytes.push(0)?;
-    Ok(bytes)
-}
-
-#[test]
-fn three_at_once(rt: HostRuntime) -> Result<(), Fail> {
-    let bytes = all_and_a_byte(rt.alloc())?;
-    let (count, fault, wants, _) = fed_in(rt.alloc(), &[bytes.as_slice()])?;
-    expect_eq!((count, fault), (3, None))?;
-    expect_eq!(wants, 3)
-}
-
-// As many states as a delta may have, each with the longest text.
-fn most_states(alloc: Global) -> Result<Vec<State>, Fail> {
-    let text = long_text(alloc, TEXT_LIMIT)?;
-    let mut states = Vec::new(alloc);
+// Adds the delta of an endpoint that has as many states as there may be, each with the longest text.
+fn add_longest_delta(frame: &mut Vec<u8>, number: u8) -> Result<(), AllocError> {
+    frame.extend_from_slice(&[10, 0, 0, number])?;
+    frame.extend_from_slice(b"\x1b\x58\0\0\0\x05\0\0\0\0\0\0\0\x01\x10")?;
     for key in 1..=16u8 {
-        states.push(state(alloc, key, 2, &text)?)?;
+        frame.extend_from_slice(&[key, 0, 0, 0, 2, 4, 0])?;
+        frame.resize(frame.len().saturating_add(1_024), b'x')?;
     }
-    Ok(states)
+    Ok(())
 }
 
-// The longest message.
-fn longest(alloc: Global) -> Result<Message, Fail> {
-    let mut requests = Vec::new(alloc);
-    let mut deltas = Vec::new(alloc);
-    for number in 0..256 {
-        requests.push(Request::new(endpoint(number), generation(9), 0).ok_or("a request")?)?;
-        deltas.push(OwnerDelta {
-            endpoint: endpoint(number),
-            delta: delta((5, 0, 1), most_states(alloc)?)?,
-        })?;
+// The frame of the longest message: an ACK with requests of 256 endpoints, and of each the longest delta.
+fn longest(alloc: Global) -> Result<Vec<u8>, AllocError> {
+    let mut frame = Vec::new(alloc);
+    frame.extend_from_slice(b"\0\x40\x91\x06\x01\x02\x01\0")?;
+    for number in 0..=255u8 {
+        frame.extend_from_slice(&[10, 0, 0, number])?;
+        frame.extend_from_slice(b"\x1b\x58\0\0\0\x09\0\0\0\0")?;
     }
-    Ok(Message::Ack(Ack::new(requests, deltas).ok_or("an ACK")?))
+    frame.extend_from_slice(b"\x01\0")?;
+    for number in 0..=255u8 {
+        add_longest_delta(&mut frame, number)?;
+    }
+    Ok(frame)
 }
 
-// How the stream may end of which a frame comes in pieces, and the messages that they give.
-fn in_pieces(alloc: Global, frame: &[u8]) -> Result<(Result<(), Fault>, Vec<Message>), Fail> {
+// How many of the messages are written as this frame.
+fn written_as(alloc: Global, messages: &[Message], frame: &[u8]) -> Result<usize, Fault> {
+    let mut count: usize = 0;
+    for message in messages {
+        if is_written_as(alloc, message, frame)? {
+            count = count.saturating_add(1);
+        }
+    }
+    Ok(count)
+}
+
+// How many messages a frame in pieces gives, how many of them are written as that frame, and how the stream may end.
+fn given_in_pieces(
+    alloc: Global,
+    frame: &[u8],
+) -> Result<(usize, usize, Result<(), Fault>), Fault> {
     let mut feed = Feed::new(alloc);
-    let mut given = Vec::new(alloc);
+    let (mut given, mut same) = (0usize, 0usize);
     for piece in frame.chunks(4096) {
-        given.append(&mut feed.push(piece)?.messages)?;
+        let fed = feed.push(piece)?;
+        given = given.saturating_add(fed.messages.len());
+        same = same.saturating_add(written_as(alloc, &fed.messages, frame)?);
     }
-    Ok((feed.end(), given))
-}
-
-// How the stream may end of which a frame comes in pieces, how many messages they give, and whether the last of them
-// is written as that frame.
-fn given_in_pieces(alloc: Global, frame: &[u8]) -> Result<(Result<(), Fault>, usize, bool), Fail> {
-    let (end, given) = in_pieces(alloc, frame)?;
-    let is_same = match given.last() {
-        Some(message) => is_written_as(alloc, message, frame)?,
-        None => false,
-    };
-    Ok((end, given.len(), is_same))
+    Ok((given, same, feed.end()))
 }
 
 #[test]
 fn longest_message_in_pieces(rt: HostRuntime) -> Result<(), Fail> {
-    let frame = encode(rt.alloc(), &longest(rt.alloc())?)?;
-    expect_eq!(frame.len(), 4 + 4_231_430)?;
-    let given = given_in_pieces(rt.alloc(), frame.as_slice())?;
-    expect_eq!(given, (Ok(()), 1, true))
+    let frame = longest(rt.alloc())?;
+    let given = given_in_pieces(rt.alloc(), &frame)?;
+    expect_eq!((frame.len(), given), (4 + 4_231_430, (1, 1, Ok(()))))
 }

@@ -1,12 +1,18 @@
-//! What is read of bytes, in one piece and in pieces of one byte.
+//! What is read of bytes, in one piece and in others, and of a frame that zeros lengthen.
 
 ghost use Rattle.std.specs.Prelude.{◌<◌};
 
 use crate::keys::bytes_in;
 use crate::messages::add_message;
-use cg_frames::{Feed, Message, encode};
+use cg_frames::{Feed, Message, decode, encode};
 use cg_types::Fault;
 use std::alloc::Global;
+
+// Frames with more bytes than this behind their length are checked before they are read.
+const READ_AT_ONCE: usize = 8_192;
+
+// The longest frames that are cut in two at each of their bytes.
+const CUT: usize = 64;
 
 // Adds a word's space, where it is not the first.
 fn add_space(text: &mut String) -> Result<(), Fault> {
@@ -66,9 +72,105 @@ fn written_again(alloc: Global, bytes: &[u8]) -> Result<Vec<u8>, Fault> {
     Ok(frames)
 }
 
+// Whether the bytes are one frame: a length, and as many bytes as it says.
+fn is_one_frame(bytes: &[u8]) -> bool {
+    match bytes.split_first_chunk::<4>() {
+        Some((length, inside)) => u32::from_be_bytes(*length) as usize == inside.len(),
+        None => false,
+    }
+}
+
+// What is read of bytes that come in two pieces, once the first has come and once both have.
+fn read_in_two(alloc: Global, front: &[u8], back: &[u8]) -> Result<String, Fault> {
+    let mut feed = Feed::new(alloc);
+    let mut text = String::new(alloc);
+    for piece in [front, back] {
+        let fed = feed.push(piece)?;
+        add_messages(alloc, &mut text, &fed.messages)?;
+        add_end(&mut text, &feed)?;
+    }
+    Ok(text)
+}
+
+// Whether a short frame that is cut in two, wherever it is, is waited for at the cut and then read as this text says.
+fn is_read_when_whole(alloc: Global, frame: &[u8], text: &str) -> Result<bool, Fault> {
+    if frame.len() > CUT {
+        return Ok(true);
+    }
+    for place in 1..frame.len() {
+        let (front, back) = frame.split_at(place);
+        let wants = if place < 4 { 4 - place } else { back.len() };
+        let due = format!(in alloc; "partial {wants} {text}")?;
+        let found = read_in_two(alloc, front, back)?;
+        if found.as_bytes() != due.as_bytes() {
+            return Ok(false);
+        }
+    }
+    Ok(true)
+}
+
+// The frame with zeros behind its last field, more of them than are read at once, and the length that this makes.
+fn lengthened(alloc: Global, frame: &[u8]) -> Result<Vec<u8>, Fault> {
+    let size = frame.len().saturating_add(READ_AT_ONCE);
+    let Ok(length) = u32::try_from(size.saturating_sub(4)) else {
+        return Err(Fault::TooLong);
+    };
+    let mut bytes = Vec::new(alloc);
+    bytes.extend_from_slice(&length.to_be_bytes())?;
+    bytes.extend_from_slice(frame.get(4..).unwrap_or(&[]))?;
+    bytes.resize(size, 0)?;
+    Ok(bytes)
+}
+
+// What `decode` finds in one frame.
+fn decoded(alloc: Global, frame: &[u8]) -> Result<String, Fault> {
+    let mut text = String::new(alloc);
+    match decode(alloc, frame) {
+        Ok(Some((message, _))) => add_message(alloc, &mut text, &message)?,
+        Ok(None) => text.push_str("partial")?,
+        Err(fault) => write!(text, "fault {fault}")?,
+    }
+    Ok(text)
+}
+
+// Whether a frame has its fault also where zeros stand behind it. Without one the zeros are its fault; what was Short may
+// find its bytes among them.
+fn is_same_lengthened(alloc: Global, frame: &[u8], text: &str) -> Result<bool, Fault> {
+    if text.ends_with("Short") {
+        return Ok(true);
+    }
+    let long = lengthened(alloc, frame)?;
+    let found = decoded(alloc, &long)?;
+    if text.starts_with("fault") {
+        return Ok(found.as_bytes() == text.as_bytes());
+    }
+    let size = frame.len();
+    let rest = format!(in alloc; "fault 12 BadFrame {size} Rest")?;
+    Ok(found.as_bytes() == rest.as_bytes())
+}
+
+// Adds a note where one frame gives something else by itself, as it is cut, or as it is lengthened.
+fn add_notes(alloc: Global, text: &mut String, frame: &[u8]) -> Result<(), Fault> {
+    let alone = decoded(alloc, frame)?;
+    let is_decoded = alone.as_bytes() == text.as_bytes();
+    let is_read = is_read_when_whole(alloc, frame, text.as_str())?;
+    let is_same = is_same_lengthened(alloc, frame, text.as_str())?;
+    if !is_decoded {
+        text.push_str(", otherwise by itself")?;
+    }
+    if !is_read {
+        text.push_str(", otherwise in two pieces")?;
+    }
+    if !is_same {
+        text.push_str(", otherwise lengthened")?;
+    }
+    Ok(())
+}
+
 /// What is read of the bytes that these digits spell: the messages, and behind them the first fault, or how many bytes
-/// the frame lacks that ends them. It has a note behind it where the same bytes, a byte at a time, give something else, or
-/// where the messages are written otherwise than they were read.
+/// the frame lacks that ends them. It has a note behind it where the same bytes, a byte at a time, give something else,
+/// where the messages are written otherwise than they were read, or where a single frame gives something else by itself,
+/// in two pieces or with zeros behind it.
 pub fn read_of(alloc: Global, digits: &str) -> Result<String, Fault> {
     let bytes = bytes_in(alloc, digits)?;
     let mut text = read_by(alloc, &bytes, bytes.len().max(1))?;
@@ -79,6 +181,9 @@ pub fn read_of(alloc: Global, digits: &str) -> Result<String, Fault> {
     let again = written_again(alloc, &bytes)?;
     if !bytes.as_slice().starts_with(again.as_slice()) {
         text.push_str(", otherwise written")?;
+    }
+    if is_one_frame(&bytes) {
+        add_notes(alloc, &mut text, &bytes)?;
     }
     Ok(text)
 }

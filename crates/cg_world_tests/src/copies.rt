@@ -1,15 +1,15 @@
-//! Copies of actions and of what they show, and who starts, each once with ample memory.
+//! Copies of actions, who starts, and what tells that memory is short, each once with ample memory.
 
-use crate::scripts::{deliver, local, run, set_status, start};
-use cg_expect::{expect, expect_eq};
+use crate::scripts::{deliver, local, set_status, start};
+use cg_expect::expect_eq;
 use cg_samples::{A, B, endpoint};
 use cg_types::Fault;
-use cg_world::{Action, LocalEvent, Shown};
+use cg_world::{Action, LocalEvent, is_out_of_memory};
 use std::alloc::Global;
 use std::test::Fail;
 
 // Whether the copy of an action is shown as the action is.
-fn is_copied(alloc: Global, action: &Action) -> Result<bool, Fail> {
+fn is_copied(alloc: Global, action: Action) -> Result<bool, Fail> {
     let copy = action.copy()?;
     Ok(format!(in alloc; "{copy:?}")? == format!(in alloc; "{action:?}")?)
 }
@@ -20,12 +20,15 @@ fn actions_are_copied(rt: HostRuntime) -> Result<(), Fail> {
         now: 5,
         words: [7, 3, 5, 9],
     };
-    expect!(is_copied(rt.alloc(), &start(A, 9))?)?;
-    expect!(is_copied(rt.alloc(), &deliver(3, A, 5))?)?;
-    expect!(is_copied(rt.alloc(), &local(A, LocalEvent::Beat))?)?;
-    expect!(is_copied(rt.alloc(), &local(A, LocalEvent::Opening))?)?;
-    expect!(is_copied(rt.alloc(), &local(A, tick))?)?;
-    expect!(is_copied(rt.alloc(), &set_status(rt.alloc(), A)?)?)
+    let copied = [
+        is_copied(rt.alloc(), local(A, tick))?,
+        is_copied(rt.alloc(), start(A, 9))?,
+        is_copied(rt.alloc(), deliver(3, A, 5))?,
+        is_copied(rt.alloc(), local(A, LocalEvent::Beat))?,
+        is_copied(rt.alloc(), local(A, LocalEvent::Opening))?,
+        is_copied(rt.alloc(), set_status(rt.alloc(), A)?)?,
+    ];
+    expect_eq!(copied, [true; 6])
 }
 
 #[test]
@@ -41,25 +44,11 @@ fn a_start_starts_its_own_node() -> Result<(), Fail> {
     expect_eq!((by_start, by_others), ((true, false), (false, false)))
 }
 
-// Whether what was shown is equal to its copy, and, where it is not the first, differs from the first.
-fn are_copied(alloc: Global, all: &[Result<Shown, Fault>]) -> Result<bool, Fail> {
-    for shown in all {
-        if let Ok(shown) = shown {
-            let copy = shown.copy(alloc)?;
-            if copy != *shown {
-                return Ok(false);
-            }
-        }
-    }
-    Ok(true)
-}
-
 #[test]
-fn what_is_shown_is_copied(rt: HostRuntime) -> Result<(), Fail> {
-    let (_world, shown) = run(rt.alloc())?;
-    let differ = match shown.as_slice() {
-        [Ok(started), Ok(set), ..] => started != set,
-        _ => false,
-    };
-    expect_eq!((are_copied(rt.alloc(), &shown)?, differ), (true, true))
+fn want_of_memory_is_told() -> Result<(), Fail> {
+    let (none, short) = (Err(Fault::NotRising), Err(Fault::OutOfMemory));
+    expect_eq!(
+        (is_out_of_memory(&none), is_out_of_memory(&short)),
+        (false, true)
+    )
 }

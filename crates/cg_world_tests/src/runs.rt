@@ -1,134 +1,82 @@
-//! A worked run of two nodes, in which one restarts and stale messages come.
+//! What a world shows of itself, and runs that memory may end.
 
-use crate::scripts::{
-    deliver, held_by, local, outcome, run, sent_above, settings, start, three_nodes,
-};
-use cg_expect::expect_eq;
+use crate::scripts::{act_all, deliver, settings, start, three_nodes};
+use cg_exchange::Message;
+use cg_expect::{expect, expect_eq};
 use cg_samples::{A, B, C, endpoint};
-use cg_table::{Table, Took};
-use cg_types::Fault;
-use cg_world::{Action, LocalEvent, Shown, World};
+use cg_table::Table;
+use cg_types::{Endpoint, Fault};
+use cg_world::{Action, Shown, World};
 use cg_world_laws::{equal_digests, merge_is_join};
 use std::alloc::Global;
 use std::test::Fail;
 
-fn number(shown: &Result<Shown, Fault>) -> Option<u64> {
-    match shown {
-        Ok(shown) => shown.sent,
-        Err(_) => None,
-    }
+// What the message of a number sends: the deltas of an ACK or ACK2, and the version that the first of them stands above.
+fn sent_above(world: &World, number: u64) -> Option<(usize, Option<u32>)> {
+    let deltas = match world.message(number)? {
+        Message::Syn(_) => return None,
+        Message::Ack(ack) => ack.deltas(),
+        Message::Ack2(ack2) => ack2.deltas(),
+    };
+    let above = match deltas.first() {
+        Some(delta) => Some(delta.delta.above()),
+        None => None,
+    };
+    Some((deltas.len(), above))
 }
 
-#[test]
-fn messages_are_numbered(rt: HostRuntime) -> Result<(), Fail> {
-    let (_world, shown) = run(rt.alloc())?;
-    let numbers: Vec<Option<u64>> = shown.iter().map(number).collect(rt.alloc())?;
-    let expected = [
-        None,
-        None,
-        None,
-        Some(1),
-        Some(2),
-        Some(3),
-        None,
-        None,
-        Some(4),
-        Some(5),
-        None,
-        Some(6),
-        None,
-        Some(7),
-        None,
-        None,
-        None,
+// How many messages were sent, and which of four numbers one has.
+fn messages(world: &World) -> (u64, [bool; 4]) {
+    let are_there = [
+        world.message(0).is_some(),
+        world.message(1).is_some(),
+        world.message(7).is_some(),
+        world.message(8).is_some(),
     ];
-    expect_eq!(numbers.as_slice(), expected.as_slice())
+    (world.message_count(), are_there)
+}
+
+// Whether these three nodes run and no others.
+fn are_running(alloc: Global, world: &World) -> Result<bool, Fail> {
+    let endpoints = world.endpoints(alloc)?;
+    Ok(endpoints.as_slice() == [endpoint(A), endpoint(B), endpoint(C)].as_slice())
 }
 
 #[test]
-fn stale_deltas_are_told(rt: HostRuntime) -> Result<(), Fail> {
-    let (_world, shown) = run(rt.alloc())?;
-    let outcomes: Vec<Option<Took>> = shown.iter().map(outcome).collect(rt.alloc())?;
-    let expected = [
-        None,
-        None,
-        None,
-        None,
-        None,
-        Some(Took::Taken),
-        Some(Took::Taken),
-        None,
-        None,
-        None,
-        None,
-        Some(Took::Gap),
-        Some(Took::Taken),
-        Some(Took::Taken),
-        Some(Took::Old),
-        None,
-        None,
+fn what_was_sent_and_who_runs(rt: HostRuntime) -> Result<(), Fail> {
+    let world = three_nodes(rt.alloc())?;
+    let running = are_running(rt.alloc(), &world)?;
+    let above = [
+        sent_above(&world, 5),
+        sent_above(&world, 6),
+        sent_above(&world, 7),
     ];
-    expect_eq!(outcomes.as_slice(), expected.as_slice())
-}
-
-// What the actions behind the fifteenth are refused for.
-fn last_faults(shown: &[Result<Shown, Fault>]) -> Option<(&Fault, &Fault)> {
-    match shown.get(15..)? {
-        [Err(first), Err(second)] => Some((first, second)),
-        _ => None,
-    }
-}
-
-#[test]
-fn refused_actions_keep_their_place(rt: HostRuntime) -> Result<(), Fail> {
-    let (_world, shown) = run(rt.alloc())?;
-    let done = shown.iter().filter(|shown| shown.is_ok()).count();
-    let faults = Some((&Fault::NotRising, &Fault::NoSuchMessage));
-    expect_eq!((done, last_faults(&shown)), (15, faults))
-}
-
-#[test]
-fn nodes_hold_what_came(rt: HostRuntime) -> Result<(), Fail> {
-    let (world, _shown) = run(rt.alloc())?;
-    let of_a = (held_by(&world, A, A), held_by(&world, B, A));
-    let of_b = (held_by(&world, A, B), held_by(&world, B, B));
     expect_eq!(
-        (of_a, of_b),
-        ((Some((9, 3)), Some((9, 3))), (Some((5, 1)), Some((6, 1))))
-    )
-}
-
-#[test]
-fn all_messages_are_kept(rt: HostRuntime) -> Result<(), Fail> {
-    let (world, _shown) = run(rt.alloc())?;
-    let kept = (world.message(1).is_some(), world.message(7).is_some());
-    let none = (world.message(0).is_some(), world.message(8).is_some());
-    expect_eq!(
-        (kept, none, world.settings().cluster().name()),
-        ((true, true), (false, false), "c1")
-    )
-}
-
-// The refusal of an action where A alone has started.
-fn refusal(alloc: Global, action: &Action) -> Result<Option<Fault>, Fail> {
-    let mut world = World::new(alloc, settings(alloc)?);
-    world.act(alloc, &start(A, 9))?;
-    Ok(world.act(alloc, action).err())
-}
-
-#[test]
-fn who_never_started_does_nothing(rt: HostRuntime) -> Result<(), Fail> {
-    let beat = refusal(rt.alloc(), &local(B, LocalEvent::Beat))?;
-    let again = refusal(rt.alloc(), &start(A, 9))?;
-    let unsent = refusal(rt.alloc(), &deliver(1, B, 1000))?;
-    expect_eq!(
-        (beat, again, unsent),
         (
-            Some(Fault::NoSuchNode),
-            Some(Fault::NotRising),
-            Some(Fault::NoSuchMessage)
+            messages(&world),
+            above,
+            (world.settings().cluster().name(), running)
+        ),
+        (
+            (7, [false, true, true, false]),
+            [Some((1, Some(2))), Some((0, None)), Some((0, None))],
+            ("c1", true)
         )
     )
+}
+
+// B restarts, and older messages come to it once more: the first of them is a gap.
+#[test]
+fn what_is_shown_is_copied(rt: HostRuntime) -> Result<(), Fail> {
+    let mut world = three_nodes(rt.alloc())?;
+    let actions = [
+        start(B, 6),
+        deliver(5, B, 3000),
+        deliver(3, B, 3000),
+        deliver(5, B, 3100),
+        deliver(3, B, 3200),
+    ];
+    expect!(act_all(rt.alloc(), &mut world, &actions)?)
 }
 
 // The newest version that a table holds of an endpoint.
@@ -136,40 +84,69 @@ fn newest(table: &Table, of: u16) -> Option<u32> {
     Some(table.get(endpoint(of))?.newest().get())
 }
 
-#[test]
-fn three_tables_merged(rt: HostRuntime) -> Result<(), Fail> {
-    let world = three_nodes(rt.alloc())?;
-    let table = merge_is_join(rt.alloc(), &world, endpoint(A), endpoint(B), endpoint(C))?;
-    let held = (newest(&table, A), newest(&table, B), newest(&table, C));
-    expect_eq!(
-        (table.own(), held),
-        (endpoint(A), (Some(3), Some(1), Some(1)))
-    )
+// Whose table the merge of three is, and the newest versions that it holds of the three.
+fn merged(alloc: Global, world: &World) -> Result<(Endpoint, [Option<u32>; 3]), Fault> {
+    let table = merge_is_join(alloc, world, endpoint(A), endpoint(B), endpoint(C))?;
+    let held = [newest(&table, A), newest(&table, B), newest(&table, C)];
+    Ok((table.own(), held))
+}
+
+// What is said of the digests of two nodes, of a node's own, and of a node that does not run.
+fn compared(world: &World) -> [Result<bool, Fault>; 3] {
+    [
+        equal_digests(world, endpoint(A), endpoint(B)),
+        equal_digests(world, endpoint(A), endpoint(A)),
+        equal_digests(world, endpoint(A), endpoint(4)),
+    ]
 }
 
 #[test]
-fn digests_of_two_nodes(rt: HostRuntime) -> Result<(), Fail> {
+fn tables_merged_and_digests_compared(rt: HostRuntime) -> Result<(), Fail> {
     let world = three_nodes(rt.alloc())?;
-    let others = equal_digests(&world, endpoint(A), endpoint(B))?;
-    let same = equal_digests(&world, endpoint(A), endpoint(A))?;
-    let nobody = equal_digests(&world, endpoint(A), endpoint(4)).err();
     expect_eq!(
-        (others, same, nobody),
-        (false, true, Some(Fault::NoSuchNode))
+        (merged(rt.alloc(), &world), compared(&world)),
+        (
+            Ok((endpoint(A), [Some(3), Some(1), Some(1)])),
+            [Ok(false), Ok(true), Err(Fault::NoSuchNode)]
+        )
     )
 }
 
-#[test]
-fn what_finds_nothing_to_grant_is_empty(rt: HostRuntime) -> Result<(), Fail> {
-    let world = three_nodes(rt.alloc())?;
-    expect_eq!(
-        (sent_above(&world, 6), sent_above(&world, 7)),
-        (Some((0, None)), Some((0, None)))
-    )
+// How many of three nodes run.
+fn running(world: &World) -> usize {
+    [A, B, C]
+        .iter()
+        .filter(|node| world.node(endpoint(**node)).is_some())
+        .count()
+}
+
+// Whether so many starts were done, or memory ended their run and those nodes run that started before.
+fn is_kept(world: &World, answers: &[Result<Shown, Fault>], starts: usize) -> bool {
+    let done = answers.iter().filter(|answer| answer.is_ok()).count();
+    let whole = done == starts || matches!(answers.last(), Some(Err(Fault::OutOfMemory)));
+    whole && running(world) == done
+}
+
+fn is_kept_by_run(alloc: Global, starts: &[Action]) -> Result<bool, Fail> {
+    let (world, answers) = World::run(alloc, settings(alloc)?, starts)?;
+    Ok(is_kept(&world, &answers, starts.len()))
+}
+
+// A list with room for the answers is at hand, so memory can't take the world away.
+fn is_kept_by_run_in(alloc: Global, starts: &[Action]) -> Result<bool, Fail> {
+    let set_to = settings(alloc)?;
+    let room = Vec::with_capacity(alloc, starts.len())?;
+    let (world, answers) = World::run_in(alloc, set_to, starts, room);
+    Ok(is_kept(&world, &answers, starts.len()))
 }
 
 #[test]
-fn an_answer_brings_what_is_above(rt: HostRuntime) -> Result<(), Fail> {
-    let (world, _shown) = run(rt.alloc())?;
-    expect_eq!(sent_above(&world, 5), Some((1, Some(2))))
+fn a_run_keeps_what_was_done(rt: HostRuntime) -> Result<(), Fail> {
+    expect!(is_kept_by_run(rt.alloc(), &[])?)?;
+    let starts = [start(A, 9), start(B, 5), start(C, 4)];
+    let kept = (
+        is_kept_by_run(rt.alloc(), &starts)?,
+        is_kept_by_run_in(rt.alloc(), &starts)?,
+    );
+    expect_eq!(kept, (true, true))
 }
