@@ -1,93 +1,85 @@
 //! Copies of events, replies, outcomes and peers, and `==`.
 
-use crate::messages::{ack, syn};
-use crate::samples::{comes, node, set_event};
+use crate::samples::{ack_event, comes, node, set_event, syn_event};
 use cg_events::{Event, Outcomes, Reply};
 use cg_exchange::Outcome;
-use cg_expect::expect;
+use cg_expect::{expect, expect_eq};
 use cg_peers::Peers;
 use cg_samples::{A, B, endpoint, version};
 use cg_table::Took;
 use std::alloc::{AllocError, Global};
 use std::test::Fail;
 
-// Whether a copy of an event is the same, and not the same as an opening.
-fn is_copied(alloc: Global, event: &Event) -> Result<bool, AllocError> {
-    let copy = event.copy(alloc)?;
-    Ok(copy == *event && copy != Event::Opening)
+// An event of each kind, by numbers below 7.
+fn event(alloc: Global, number: u8) -> Result<Event, Fail> {
+    match number {
+        0 => Ok(Event::Beat),
+        1 => Ok(Event::Opening),
+        2 => Ok(Event::Tick {
+            now: 5,
+            words: [7, 3, 5, 9],
+        }),
+        3 => set_event(alloc, 3, "x"),
+        4 => syn_event(alloc, "c1"),
+        5 => ack_event(alloc, 1),
+        _ => comes(alloc, 1, B, (5, 0, 1)),
+    }
 }
 
+fn are_equal(alloc: Global, one: u8, other: u8) -> Result<bool, Fail> {
+    let one = event(alloc, one)?;
+    Ok(one == event(alloc, other)?)
+}
+
+// Whether an event equals its copy, and how many deltas it hands on.
+fn shown(alloc: Global, number: u8) -> Result<(bool, usize), Fail> {
+    let event = event(alloc, number)?;
+    Ok((event.copy(alloc)? == event, event.deltas().len()))
+}
+
+// Of each event, how many deltas it hands on.
 #[test]
-fn a_beat_is_copied(rt: HostRuntime) -> Result<(), Fail> {
-    expect!(is_copied(rt.alloc(), &Event::Beat)?)?;
-    expect!(!is_copied(rt.alloc(), &Event::Opening)?)
+fn events_equal_their_copies_alone(rt: HostRuntime) -> Result<(), Fail> {
+    for (one, deltas) in [(0, 0), (1, 0), (2, 0), (3, 0), (4, 0), (5, 1), (6, 1)] {
+        expect_eq!(shown(rt.alloc(), one)?, (true, deltas), "{one}")?;
+        for other in 0..7 {
+            let equal = are_equal(rt.alloc(), one, other)?;
+            expect_eq!(equal, one == other, "{one} and {other}")?;
+        }
+    }
+    Ok(())
 }
 
+// Whether a reply equals its copy, whether it equals the reply of another version, and whether it sends a message.
+fn replied(alloc: Global, reply: &Reply) -> Result<[bool; 3], AllocError> {
+    let is_copied = reply.copy(alloc)? == *reply;
+    let is_other = *reply == Reply::Done(version(9));
+    Ok([is_copied, is_other, reply.message().is_some()])
+}
+
+// The same of the reply to an event, at A in generation 9.
+fn replied_to(alloc: Global, number: u8) -> Result<[bool; 3], Fail> {
+    let event = event(alloc, number)?;
+    let (_after, reply) = node(alloc, A, 9)?.stepped(alloc, &event)?;
+    Ok(replied(alloc, &reply)?)
+}
+
+// Of the reply to each event, whether it sends a message.
 #[test]
-fn a_set_is_copied(rt: HostRuntime) -> Result<(), Fail> {
-    let set = set_event(rt.alloc(), 3, "x")?;
-    expect!(is_copied(rt.alloc(), &set)?)
-}
-
-#[test]
-fn a_tick_is_copied(rt: HostRuntime) -> Result<(), Fail> {
-    let words = [7, 3, 5, 9];
-    expect!(is_copied(rt.alloc(), &Event::Tick { now: 5, words })?)
-}
-
-#[test]
-fn a_syn_is_copied(rt: HostRuntime) -> Result<(), Fail> {
-    let m = syn(rt.alloc(), "c1")?;
-    let event = Event::Syn { m };
-    expect!(is_copied(rt.alloc(), &event)?)
-}
-
-#[test]
-fn an_ack_is_copied(rt: HostRuntime) -> Result<(), Fail> {
-    let event = ack(rt.alloc(), 1)?;
-    expect!(is_copied(rt.alloc(), &event)?)
-}
-
-#[test]
-fn an_ack2_is_copied(rt: HostRuntime) -> Result<(), Fail> {
-    let event = comes(rt.alloc(), 1, A, (9, 0, 1))?;
-    expect!(is_copied(rt.alloc(), &event)?)
-}
-
-// Whether the reply to an event, at A in generation 9, is copied, and not the same as that of another version.
-fn reply_is_copied(alloc: Global, event: &Event) -> Result<bool, Fail> {
-    let node = node(alloc, A, 9)?;
-    let (_after, reply) = node.stepped(alloc, event)?;
-    let copy = reply.copy(alloc)?;
-    Ok(copy == reply && copy != Reply::Done(version(9)))
-}
-
-#[test]
-fn the_reply_to_a_beat_is_copied(rt: HostRuntime) -> Result<(), Fail> {
-    expect!(reply_is_copied(rt.alloc(), &Event::Beat)?)
-}
-
-#[test]
-fn the_reply_to_a_tick_is_copied(rt: HostRuntime) -> Result<(), Fail> {
-    let words = [7, 3, 5, 9];
-    expect!(reply_is_copied(rt.alloc(), &Event::Tick { now: 5, words })?)
-}
-
-#[test]
-fn the_reply_to_an_opening_is_copied(rt: HostRuntime) -> Result<(), Fail> {
-    expect!(reply_is_copied(rt.alloc(), &Event::Opening)?)
-}
-
-#[test]
-fn the_reply_to_an_ack_is_copied(rt: HostRuntime) -> Result<(), Fail> {
-    let event = ack(rt.alloc(), 1)?;
-    expect!(reply_is_copied(rt.alloc(), &event)?)
-}
-
-#[test]
-fn the_reply_to_an_ack2_is_copied(rt: HostRuntime) -> Result<(), Fail> {
-    let event = comes(rt.alloc(), 1, B, (5, 0, 1))?;
-    expect!(reply_is_copied(rt.alloc(), &event)?)
+fn replies_equal_their_copies(rt: HostRuntime) -> Result<(), Fail> {
+    for (number, sends) in [
+        (0, false),
+        (1, true),
+        (2, true),
+        (3, false),
+        (4, true),
+        (5, true),
+        (6, false),
+    ] {
+        let replied = replied_to(rt.alloc(), number)?;
+        expect_eq!(replied, [true, false, sends], "{number}")?;
+    }
+    Ok(())
 }
 
 #[test]
@@ -103,5 +95,6 @@ fn outcomes_are_compared(rt: HostRuntime) -> Result<(), Fail> {
 fn peers_are_compared(rt: HostRuntime) -> Result<(), Fail> {
     let one = Peers::of(vec![in rt.alloc(); endpoint(B)]?);
     expect!(one.copy(rt.alloc())? == one)?;
-    expect!(one != Peers::of(Vec::new(rt.alloc())))
+    expect!(one != Peers::of(Vec::new(rt.alloc())))?;
+    expect_eq!(one.endpoints().first().copied(), Some(endpoint(B)))
 }

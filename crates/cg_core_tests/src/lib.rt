@@ -4,13 +4,9 @@
 #[cfg(test)]
 mod copies;
 #[cfg(test)]
-mod messages;
-#[cfg(test)]
-mod own_entry;
+mod nodes;
 #[cfg(test)]
 mod parts;
-#[cfg(test)]
-mod rounds;
 #[cfg(test)]
 mod samples;
 #[cfg(test)]

@@ -3,7 +3,7 @@
 use cg_exchange::Outcome;
 use cg_expect::{expect, expect_eq};
 use cg_peers::choose_peers;
-use cg_samples::{A, B, C, endpoint};
+use cg_samples::{B, C, endpoint};
 use cg_silence::{Silence, Verdict};
 use cg_table::Took;
 use cg_windows::{Windows, any_taken, was_taken};
@@ -37,11 +37,15 @@ fn verdicts(alloc: Global, took: Took, now: u64) -> Result<(Verdict, Verdict), F
 
 #[test]
 fn a_taken_delta_is_an_arrival(rt: HostRuntime) -> Result<(), Fail> {
-    let alloc = rt.alloc();
-    let unheard = Verdict::Unheard;
-    expect_eq!(verdicts(alloc, Took::Taken, 1)?, (Verdict::Alive, unheard))?;
-    expect_eq!(verdicts(alloc, Took::Taken, 50001)?, (Verdict::Silent, unheard))?;
-    expect_eq!(verdicts(alloc, Took::Gap, 1)?, (unheard, unheard))
+    for (took, now, due) in [
+        (Took::Taken, 1, Verdict::Alive),
+        (Took::Taken, 50001, Verdict::Silent),
+        (Took::Gap, 1, Verdict::Unheard),
+    ] {
+        let verdicts = verdicts(rt.alloc(), took, now)?;
+        expect_eq!(verdicts, (due, Verdict::Unheard))?;
+    }
+    Ok(())
 }
 
 // Whether these words choose B and C, where B is live, C is silent, and C is the only seed; or B alone without seeds.
@@ -54,6 +58,8 @@ fn are_chosen(alloc: Global, words: [u64; 4]) -> Result<bool, Fail> {
 
 #[test]
 fn words_choose_peers(rt: HostRuntime) -> Result<(), Fail> {
-    expect!(are_chosen(rt.alloc(), [7, 3, 5, 9])?)?;
-    expect!(are_chosen(rt.alloc(), [7, 2, 5, 9])?)
+    for words in [[7, 3, 5, 9], [7, 2, 5, 9]] {
+        expect!(are_chosen(rt.alloc(), words)?)?;
+    }
+    Ok(())
 }

@@ -9,53 +9,43 @@ use cg_types::{Cluster, Endpoint};
 use std::alloc::Global;
 use std::test::Fail;
 
+// The endpoints of these numbers.
+fn endpoints(alloc: Global, numbers: &[u16]) -> Result<Vec<Endpoint>, Fail> {
+    let mut endpoints = Vec::new(alloc);
+    for number in numbers {
+        endpoints.push(endpoint(*number))?;
+    }
+    Ok(endpoints)
+}
+
 // What is wrong with settings of this partitioner and these seeds, or nothing.
-fn fault_of(
-    alloc: Global,
-    partitioner: u8,
-    seeds: Vec<Endpoint>,
-) -> Result<Option<SettingsFault>, Fail> {
+fn fault_of(alloc: Global, partitioner: u8, seeds: &[u16]) -> Result<Option<SettingsFault>, Fail> {
+    let seeds = endpoints(alloc, seeds)?;
     let cluster = Cluster::with(alloc, "c1", partitioner)?;
     Ok(Settings::try_new(cluster, seeds, Silence::default()).err())
 }
 
-// So many seeds, rising.
-fn rising(alloc: Global, count: u16) -> Result<Vec<Endpoint>, Fail> {
-    let mut seeds = Vec::new(alloc);
-    for number in 1..=count {
-        seeds.push(endpoint(number))?;
-    }
-    Ok(seeds)
-}
-
+// Seeds are few and rise, and the partitioner is the one in use.
 #[test]
-fn seeds_are_few(rt: HostRuntime) -> Result<(), Fail> {
+fn settings_are_refused(rt: HostRuntime) -> Result<(), Fail> {
+    let other = Some(SettingsFault::Partitioner);
     let many = Some(SettingsFault::SeedCount);
-    for (count, fault) in [(0, None), (1, None), (16, None), (17, many)] {
-        let seeds = rising(rt.alloc(), count)?;
-        expect_eq!(fault_of(rt.alloc(), 1, seeds)?, fault)?;
+    let order = Some(SettingsFault::SeedOrder);
+    let all = [1, 2, 3, 4, 5, 6, 7, 8, 9, 10, 11, 12, 13, 14, 15, 16, 17];
+    for (partitioner, seeds, fault) in [
+        (1, &all[..0], None),
+        (1, &all[..1], None),
+        (1, &all[..16], None),
+        (1, &all[..], many),
+        (1, &[A, B], None),
+        (1, &[B, A], order),
+        (1, &[A, A], order),
+        (0, &[], other),
+        (2, &[], other),
+    ] {
+        expect_eq!(fault_of(rt.alloc(), partitioner, seeds)?, fault)?;
     }
     expect_eq!(SEED_LIMIT, 16)
-}
-
-#[test]
-fn seeds_rise(rt: HostRuntime) -> Result<(), Fail> {
-    let order = Some(SettingsFault::SeedOrder);
-    for (first, second, fault) in [(A, B, None), (B, A, order), (A, A, order)] {
-        let seeds = vec![in rt.alloc(); endpoint(first), endpoint(second)]?;
-        expect_eq!(fault_of(rt.alloc(), 1, seeds)?, fault)?;
-    }
-    Ok(())
-}
-
-#[test]
-fn the_partitioner_is_the_one_in_use(rt: HostRuntime) -> Result<(), Fail> {
-    let other = Some(SettingsFault::Partitioner);
-    for (partitioner, fault) in [(0, other), (1, None), (2, other)] {
-        let none = Vec::new(rt.alloc());
-        expect_eq!(fault_of(rt.alloc(), partitioner, none)?, fault)?;
-    }
-    Ok(())
 }
 
 // Whether a fault is told in these words.
@@ -93,6 +83,7 @@ fn shown(settings: &Settings) -> (&str, Option<Endpoint>, Silence) {
 
 #[test]
 fn settings_are_shown_and_copied(rt: HostRuntime) -> Result<(), Fail> {
-    let copy = settings(rt.alloc(), Some(B))?.copy(rt.alloc())?;
+    let seeds = endpoints(rt.alloc(), &[B])?;
+    let copy = settings(rt.alloc(), seeds)?.copy(rt.alloc())?;
     expect_eq!(shown(&copy), ("c1", Some(endpoint(B)), Silence::default()))
 }

@@ -1,20 +1,14 @@
 //! What a SYN is answered with.
 
-use crate::samples::{ack_of, answer_of_b, digest, one_delta, syn_of};
-use cg_exchange::Ack;
+use crate::samples::{only, syn_of, table_alone};
+use cg_exchange::{Ack, Syn, answer_syn};
 use cg_expect::expect_eq;
-use cg_samples::{B, endpoint};
-use cg_table::Digest;
+use cg_samples::{B, cluster, endpoint};
 use cg_types::{Endpoint, Fault};
 use std::alloc::Global;
 use std::test::Fail;
 
-// B's answer where a SYN of its cluster names these.
-fn answer_to(alloc: Global, digests: Vec<Digest>) -> Result<Ack, Fail> {
-    Ok(answer_of_b(alloc, &syn_of(alloc, "c1", 1, digests)?)??)
-}
-
-// What the answer asks for: the owner, the generation and the version of its only request.
+// What an ACK asks for, where that is one thing: the owner, the generation and the version.
 fn asked(ack: &Ack) -> Option<(Endpoint, u32, u32)> {
     match ack.requests() {
         [one] => Some((one.endpoint(), one.generation().get(), one.version())),
@@ -22,45 +16,57 @@ fn asked(ack: &Ack) -> Option<(Endpoint, u32, u32)> {
     }
 }
 
-// B's answer where a SYN of its cluster names one endpoint.
-fn answer_to_one(alloc: Global, owner: u16, at: u32, newest: u32) -> Result<Ack, Fail> {
-    answer_to(alloc, vec![in alloc; digest(owner, at, newest)]?)
+// What it asks for, the only delta that it sends, and how many requests and deltas it has.
+type Shown = (
+    Option<(Endpoint, u32, u32)>,
+    Option<(u32, u32, u32)>,
+    (usize, usize),
+);
+
+fn shown(ack: &Ack) -> Shown {
+    let (requests, deltas) = (ack.requests(), ack.deltas());
+    (asked(ack), only(deltas), (requests.len(), deltas.len()))
 }
 
-// Of B: the generation and the newest version that a SYN names, the generation and the version that are asked for,
-// and how many deltas are sent.
+// The same, or why there is none.
+type Answered = Result<Shown, Fault>;
+
+// What B at generation 5, alone in its table and in the cluster c1, answers.
+fn answer_of_b(alloc: Global, syn: &Syn) -> Result<Answered, Fail> {
+    let table = table_alone(alloc, B, 5)?;
+    let cluster = cluster(alloc)?;
+    Ok(match answer_syn(alloc, &table, &cluster, syn) {
+        Ok(ack) => Ok(shown(&ack)),
+        Err(fault) => Err(fault),
+    })
+}
+
+// The same, where the SYN is of this cluster and says this of these owners.
+fn answered(
+    alloc: Global,
+    cluster: (&str, u8),
+    owners: &[u16],
+    of: (u32, u32),
+) -> Result<Answered, Fail> {
+    let syn = syn_of(alloc, cluster, owners, of)?.ok_or("a SYN")?;
+    answer_of_b(alloc, &syn)
+}
+
+// A SYN's cluster, whom it names, and of B the generation and the newest version that it says.
 #[test]
 fn what_is_held_is_answered_by_how_far_it_came(rt: HostRuntime) -> Result<(), Fail> {
-    let owner = endpoint(B);
-    for (at, newest, wanted, sent) in [
-        (5, 1, None, 0),
-        (5, 4, Some((owner, 5, 1)), 0),
-        (6, 2, Some((owner, 6, 0)), 0),
-        (4, 9, None, 1),
+    let (owner, ours) = (endpoint(B), ("c1", 1));
+    let whole = Ok((None, Some((5, 0, 1)), (0, 1)));
+    for (cluster, named, of, due) in [
+        (ours, &[B][..], (5, 1), Ok((None, None, (0, 0)))),
+        (ours, &[B], (5, 4), Ok((Some((owner, 5, 1)), None, (1, 0)))),
+        (ours, &[B], (6, 2), Ok((Some((owner, 6, 0)), None, (1, 0)))),
+        (ours, &[B], (4, 9), whole),
+        (ours, &[], (1, 1), whole),
+        (("c2", 1), &[], (1, 1), Err(Fault::OtherCluster)),
+        (("c1", 2), &[], (1, 1), Err(Fault::OtherCluster)),
     ] {
-        let ack = answer_to_one(rt.alloc(), B, at, newest)?;
-        expect_eq!((asked(&ack), ack.deltas().len()), (wanted, sent))?;
-    }
-    Ok(())
-}
-
-// B's whole entry, and no request.
-fn all_of_b(alloc: Global) -> Result<Ack, Fail> {
-    ack_of(Vec::new(alloc), one_delta(alloc, B, (5, 0, 1))?)
-}
-
-#[test]
-fn empty_syn(rt: HostRuntime) -> Result<(), Fail> {
-    let ack = answer_to(rt.alloc(), Vec::new(rt.alloc()))?;
-    expect_eq!(ack, all_of_b(rt.alloc())?)
-}
-
-#[test]
-fn other_cluster(rt: HostRuntime) -> Result<(), Fail> {
-    for (name, partitioner) in [("c2", 1), ("c1", 2)] {
-        let other = syn_of(rt.alloc(), name, partitioner, Vec::new(rt.alloc()))?;
-        let refusal = answer_of_b(rt.alloc(), &other)?.err();
-        expect_eq!(refusal, Some(Fault::OtherCluster))?;
+        expect_eq!(answered(rt.alloc(), cluster, named, of)?, due)?;
     }
     Ok(())
 }

@@ -1,0 +1,131 @@
+//! A node that starts, a gap after a restart, and events that no script can hand a node.
+
+use crate::samples::{about, ack2_event, comes, held, node, syn_event};
+use cg_core::Node;
+use cg_events::{Event, Reply};
+use cg_exchange::{Ack2, OwnerDelta};
+use cg_expect::expect_eq;
+use cg_samples::{A, B, C, delta, endpoint, state};
+use cg_silence::Verdict;
+use cg_table::Took;
+use cg_types::{Endpoint, Fault, MEMBER_LIMIT};
+use std::alloc::Global;
+use std::test::Fail;
+
+// The own endpoint, the number of owners, the cluster's name, the number of positions, and the verdict of itself.
+fn outlook(node: &Node) -> (Endpoint, usize, &str, usize, Verdict) {
+    let own = node.table().own();
+    let owners = node.table().owners().len();
+    let cluster = node.settings().cluster().name();
+    let positions = node.ring().positions().len();
+    (own, owners, cluster, positions, node.verdict(own, 5))
+}
+
+#[test]
+fn a_node_that_starts(rt: HostRuntime) -> Result<(), Fail> {
+    let node = node(rt.alloc(), A, 9)?.copy()?;
+    let outlook = outlook(&node);
+    expect_eq!(outlook, (endpoint(A), 1, "c1", 0, Verdict::Unheard))?;
+    let (after, _reply) = node.stepped(rt.alloc(), &Event::Beat)?;
+    expect_eq!(
+        (held(&node, A), held(&after, A)),
+        (Some((9, 1)), Some((9, 2)))
+    )
+}
+
+// What becomes of the only delta of an ACK2.
+fn took(reply: &Reply) -> Option<Took> {
+    let Reply::Took(outcomes) = reply else {
+        return None;
+    };
+    match outcomes.as_slice() {
+        [outcome] => Some(outcome.took),
+        _ => None,
+    }
+}
+
+// The same, and of its owner: the generation and the newest version that the node then holds, the verdict at 10,000,
+// and the number of owners.
+type Seen = (Option<Took>, Option<(u32, u32)>, Verdict, usize);
+
+fn seen(alloc: Global, node: &Node, event: &Event, owner: u16) -> Result<Seen, Fault> {
+    let (after, reply) = node.stepped(alloc, event)?;
+    let verdict = after.verdict(endpoint(owner), 10000);
+    let owners = after.table().owners().len();
+    Ok((took(&reply), held(&after, owner), verdict, owners))
+}
+
+// A's delta of generation 9, above 2: heartbeat 5, and a key at 4.
+fn partial(alloc: Global) -> Result<OwnerDelta, Fail> {
+    let states = vec![in alloc; state(alloc, 2, 4, "x")?]?;
+    let delta = delta((9, 2, 5), states)?;
+    Ok(OwnerDelta {
+        endpoint: endpoint(A),
+        delta,
+    })
+}
+
+#[test]
+fn gap_after_restart(rt: HostRuntime) -> Result<(), Fail> {
+    let node = node(rt.alloc(), B, 6)?;
+    let event = ack2_event(rt.alloc(), 10000, partial(rt.alloc())?)?;
+    let seen = seen(rt.alloc(), &node, &event, A)?;
+    expect_eq!(seen, (Some(Took::Gap), None, Verdict::Unheard, 1))
+}
+
+#[test]
+fn own_delta(rt: HostRuntime) -> Result<(), Fail> {
+    let node = node(rt.alloc(), B, 5)?;
+    let event = comes(rt.alloc(), 10000, B, (6, 0, 4))?;
+    let seen = seen(rt.alloc(), &node, &event, B)?;
+    expect_eq!(seen, (Some(Took::Own), Some((5, 1)), Verdict::Unheard, 1))
+}
+
+// ---- events that are refused
+
+// Why an event is refused, where it leaves the table as it was.
+fn refusal(alloc: Global, node: &mut Node, event: &Event) -> Result<Option<Fault>, Fail> {
+    let before = node.table().copy(alloc)?;
+    let fault = node.step(alloc, event).err();
+    let is_same = node.table().same_entries(&before);
+    Ok(if is_same { fault } else { None })
+}
+
+#[test]
+fn another_cluster_changes_nothing(rt: HostRuntime) -> Result<(), Fail> {
+    let mut node = node(rt.alloc(), B, 5)?;
+    let event = syn_event(rt.alloc(), "c2")?;
+    let fault = refusal(rt.alloc(), &mut node, &event)?;
+    expect_eq!(fault, Some(Fault::OtherCluster))
+}
+
+// The event that whole deltas come about 255 endpoints, from the third on.
+fn crowd(alloc: Global) -> Result<Event, Fail> {
+    let mut deltas = Vec::new(alloc);
+    for number in C..258 {
+        deltas.push(about(alloc, number, (4, 0, 1))?)?;
+    }
+    let m = Ack2::new(deltas).ok_or("an ACK2")?;
+    Ok(Event::Ack2 { now: 10000, m })
+}
+
+// B, which holds as many endpoints as a table may hold.
+fn full(alloc: Global) -> Result<Node, Fail> {
+    let event = crowd(alloc)?;
+    let mut node = node(alloc, B, 5)?;
+    node.step(alloc, &event)?;
+    Ok(node)
+}
+
+#[test]
+fn table_full(rt: HostRuntime) -> Result<(), Fail> {
+    let event = comes(rt.alloc(), 20000, A, (9, 0, 1))?;
+    let mut node = full(rt.alloc())?;
+    let fault = refusal(rt.alloc(), &mut node, &event)?;
+    let owners = node.table().owners().len();
+    let seen = (fault, owners, node.verdict(endpoint(A), 20000));
+    expect_eq!(
+        seen,
+        (Some(Fault::TableFull), MEMBER_LIMIT, Verdict::Unheard)
+    )
+}
