@@ -16,13 +16,23 @@ pub fn contents<R: Files + Alloc<A = Global>>(rt: &R, file: &str) -> Result<Vec<
     }
 }
 
-/// What the script of a file prints.
+/// Adds a line where a job ended with another status than is due.
+pub fn add_status(text: &mut Vec<u8>, status: u8, due: u8) -> Result<(), Fault> {
+    if status != due {
+        text.extend_from_slice(b"another status\n")?;
+    }
+    Ok(())
+}
+
+/// What the script of a file prints, and that it did not end well, where it didn't.
 pub fn printed<R: Files + Alloc<A = Global>>(rt: &R, file: &str) -> Result<Vec<u8>, Fault> {
     let script = contents(rt, file)?;
     let mut reader = Counted::new(script.as_slice());
     let mut writer = Counted::new(Vec::new(rt.alloc()));
-    let _ = sim(rt.alloc(), &mut reader, &mut writer);
-    Ok(writer.into_link())
+    let status = sim(rt.alloc(), &mut reader, &mut writer);
+    let mut text = writer.into_link();
+    add_status(&mut text, status, 0)?;
+    Ok(text)
 }
 
 // The texts of the files that are named, parted by single spaces.
