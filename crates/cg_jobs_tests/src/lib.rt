@@ -1,19 +1,15 @@
-//! What the program's jobs make of what they are given: words of the command line, frames that are answered, scripts, and
-//! settings files.
+//! What the program's jobs make of what they are given: words of the command line, links that fail in the middle of an answer
+//! or of a script, and settings files. What they print over links that don't fail, cg_vectors tries.
 #![tactic(auto)]
 
 #[cfg(test)]
 mod answer_link_tests;
-#[cfg(test)]
-mod answer_tests;
 #[cfg(test)]
 mod job_tests;
 #[cfg(test)]
 mod range_tests;
 #[cfg(test)]
 mod samples;
-#[cfg(test)]
-mod script_fault_tests;
 #[cfg(test)]
 mod script_link_tests;
 #[cfg(test)]

@@ -12,16 +12,18 @@ const SCRIPT: &[u8] =
 const TEXT: &[u8] =
     b"started 10.0.0.1:7000 9\nversion 2\nfault 2 BadText\nversion 3\n/10.0.0.1:7000\n  generation:9\n  heartbeat:2\n  STATUS:3:NORMAL\n";
 
+const STARTED: &[u8] = b"started 10.0.0.1:7000 9\n";
+
+const STARTED_UNREAD: &[u8] = b"started 10.0.0.1:7000 9\nfault 14 ReadFault\n";
+
 const UNREAD: &[u8] = b"fault 14 ReadFault\n";
 
-#[test]
-fn a_byte_at_a_time_prints_the_same(rt: HostRuntime) -> Result<(), Fail> {
-    let alloc = rt.alloc();
+// Whether the text is printed, with status 0, where each read gives a byte and each write takes one.
+fn prints_slowly(alloc: Global) -> bool {
     let mut reader = Counted::new(SlowLink::new(SCRIPT));
     let mut writer = Counted::new(SlowLink::new(Vec::new(alloc)));
     let status = sim(alloc, &mut reader, &mut writer);
-    expect_eq!(status, 0)?;
-    expect_eq!(writer.into_link().into_link().as_slice(), TEXT)
+    status == 0 && writer.into_link().into_link().as_slice() == TEXT
 }
 
 // What is written, and the status, where the read of this number fails and each read gives a byte.
@@ -45,23 +47,18 @@ fn a_failed_read_ends_the_script(rt: HostRuntime) -> Result<(), Fail> {
     let reads = SCRIPT.len() as u64 + 1;
     for turn in 1..=reads {
         let (written, status) = unread(rt.alloc(), turn);
-        expect_eq!(status, 1)?;
-        expect!(is_cut(&written), "{turn}")?;
+        expect!(status == 1 && is_cut(&written), "{turn}")?;
     }
-    let (written, status) = unread(rt.alloc(), reads + 1);
-    expect_eq!(status, 0)?;
-    expect_eq!(written.as_slice(), TEXT)
-}
-
-#[test]
-fn lines_that_were_read_are_done_before_the_fault(rt: HostRuntime) -> Result<(), Fail> {
-    let (written, _) = unread(rt.alloc(), 23);
-    expect_eq!(
-        written.as_slice(),
-        b"started 10.0.0.1:7000 9\nfault 14 ReadFault\n".as_slice()
-    )?;
-    let (written, _) = unread(rt.alloc(), 22);
-    expect_eq!(written.as_slice(), UNREAD)
+    // lines that were read are done before the fault; one more read is not called
+    for (turn, text, due) in [
+        (22, UNREAD, 1),
+        (23, STARTED_UNREAD, 1),
+        (reads + 1, TEXT, 0),
+    ] {
+        let (written, status) = unread(rt.alloc(), turn);
+        expect!(status == due && written.as_slice() == text, "{turn}")?;
+    }
+    expect!(prints_slowly(rt.alloc()))
 }
 
 // What is written, and the status, where the writer's call of this number fails.
@@ -70,19 +67,6 @@ fn unwritten(alloc: Global, turn: u64) -> (Vec<u8>, u8) {
     let mut writer = Counted::new(FailingLink::new(Vec::new(alloc), turn));
     let status = sim(alloc, &mut reader, &mut writer);
     (writer.into_link().into_link(), status)
-}
-
-#[test]
-fn a_failed_write_leaves_a_front(rt: HostRuntime) -> Result<(), Fail> {
-    // A write and a flush for each of the five lines.
-    for turn in 1..=10u64 {
-        let (written, status) = unwritten(rt.alloc(), turn);
-        expect_eq!(status, 1)?;
-        expect!(TEXT.starts_with(&written), "{turn}")?;
-    }
-    let (written, status) = unwritten(rt.alloc(), 11);
-    expect_eq!(status, 0)?;
-    expect_eq!(written.as_slice(), TEXT)
 }
 
 // How many reads were made, of a byte each, where the writer's call of this number fails.
@@ -94,8 +78,9 @@ fn reads_before(alloc: Global, turn: u64) -> u64 {
 }
 
 #[test]
-fn each_line_is_answered_before_the_next_is_read(rt: HostRuntime) -> Result<(), Fail> {
-    // A write and a flush for each line; one more read meets the end, since the last line has no line feed.
+fn a_failed_write_leaves_a_front(rt: HostRuntime) -> Result<(), Fail> {
+    // A write and a flush for each of the five lines, each answered before the next is read; one more read meets the end,
+    // since the last line has no line feed.
     for (turn, reads) in [
         (1, 22),
         (2, 22),
@@ -109,12 +94,13 @@ fn each_line_is_answered_before_the_next_is_read(rt: HostRuntime) -> Result<(), 
         (10, 102),
     ] {
         expect_eq!(reads_before(rt.alloc(), turn), reads, "{turn}")?;
+        let (written, status) = unwritten(rt.alloc(), turn);
+        expect!(status == 1 && TEXT.starts_with(&written), "{turn}")?;
+    }
+    // each line is written before the next; one more call is not made
+    for (turn, text, due) in [(3, STARTED, 1), (11, TEXT, 0)] {
+        let (written, status) = unwritten(rt.alloc(), turn);
+        expect!(status == due && written.as_slice() == text, "{turn}")?;
     }
     Ok(())
-}
-
-#[test]
-fn each_line_is_written_before_the_next(rt: HostRuntime) -> Result<(), Fail> {
-    let (written, _) = unwritten(rt.alloc(), 3);
-    expect_eq!(written.as_slice(), b"started 10.0.0.1:7000 9\n".as_slice())
 }

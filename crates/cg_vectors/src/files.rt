@@ -16,13 +16,23 @@ pub fn contents<R: Files + Alloc<A = Global>>(rt: &R, file: &str) -> Result<Vec<
     }
 }
 
-/// What the script of a file prints.
+/// Adds a line where a job ended with another status than is due.
+pub fn add_status(text: &mut Vec<u8>, status: u8, due: u8) -> Result<(), Fault> {
+    if status != due {
+        text.extend_from_slice(b"another status\n")?;
+    }
+    Ok(())
+}
+
+/// What the script of a file prints, and that it did not end well, where it didn't.
 pub fn printed<R: Files + Alloc<A = Global>>(rt: &R, file: &str) -> Result<Vec<u8>, Fault> {
     let script = contents(rt, file)?;
     let mut reader = Counted::new(script.as_slice());
     let mut writer = Counted::new(Vec::new(rt.alloc()));
-    let _ = sim(rt.alloc(), &mut reader, &mut writer);
-    Ok(writer.into_link())
+    let status = sim(rt.alloc(), &mut reader, &mut writer);
+    let mut text = writer.into_link();
+    add_status(&mut text, status, 0)?;
+    Ok(text)
 }
 
 // The texts of the files that are named, parted by single spaces.
@@ -34,15 +44,18 @@ fn texts<R: Files + Alloc<A = Global>>(rt: &R, files: &str) -> Result<Vec<Vec<u8
     Ok(texts)
 }
 
-// What is said of these journals.
+// What is said of these journals, and that the status was another, where it was not 0 for one run alone.
 fn said(alloc: Global, journals: &[Vec<u8>]) -> Result<Vec<u8>, Fault> {
     let mut readers = Vec::new(alloc);
     for journal in journals {
         readers.push(Counted::new(journal.as_slice()))?;
     }
     let mut writer = Counted::new(Vec::new(alloc));
-    let _ = audit_files(alloc, &mut readers, &mut writer);
-    Ok(writer.into_link())
+    let status = audit_files(alloc, &mut readers, &mut writer);
+    let mut text = writer.into_link();
+    let due = if text.ends_with(b"one run\n") { 0 } else { 1 };
+    add_status(&mut text, status, due)?;
+    Ok(text)
 }
 
 /// What is said of the journals of the files that are named.

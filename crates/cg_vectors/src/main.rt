@@ -10,6 +10,7 @@ mod files;
 mod frames;
 mod keys;
 mod messages;
+mod requests;
 mod rings;
 mod silences;
 mod subject;
@@ -25,11 +26,12 @@ use std::process::ExitCode;
 use std::rt::Files;
 
 // Each file of vectors.
-const FILES: [(&str, Subject); 6] = [
+const FILES: [(&str, Subject); 7] = [
     ("frames.txt", Subject::Frames),
     ("keys.txt", Subject::Keys),
     ("rings.txt", Subject::Rings),
     ("silences.txt", Subject::Silences),
+    ("answers.txt", Subject::Answers),
     ("scripts.txt", Subject::Scripts),
     ("journals.txt", Subject::Journals),
 ];
