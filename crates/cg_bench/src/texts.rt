@@ -1,22 +1,11 @@
 //! Texts of states, as the library keeps what is shared: made, and put one behind the other.
 
-use crate::made::Made;
-use crate::measure::{Mode, case, named};
-use crate::work::Work;
-use anyhow::Result;
+use crate::cases::Texts;
 use bytes::ByteStr;
-use std::alloc::Global;
-use std::rt::Clock;
+use std::alloc::{AllocError, Global};
 
-// Texts of 64 and of 200 bytes.
-const SHORT: &str = "0123456789012345678901234567890123456789012345678901234567890123";
-
-const LONG: &str =
-    "01234567890123456789012345678901234567890123456789012345678901234567890123456789\
-01234567890123456789012345678901234567890123456789012345678901234567890123456789\
-0123456789012345678901234567890123456789";
-
-fn copies(alloc: Global, text: &str, count: usize) -> Result<Vec<ByteStr>> {
+/// So many copies of a text.
+pub(crate) fn copies(alloc: Global, text: &str, count: usize) -> Result<Vec<ByteStr>, AllocError> {
     let mut texts = Vec::with_capacity(alloc, count)?;
     for _ in 0..count {
         texts.push(ByteStr::copy_from_str(alloc, text)?)?;
@@ -24,18 +13,33 @@ fn copies(alloc: Global, text: &str, count: usize) -> Result<Vec<ByteStr>> {
     Ok(texts)
 }
 
-/// So many copies of a text.
-pub(crate) fn copied(alloc: Global, text: &str, count: usize) -> Result<Made> {
-    Ok(Made::Texts(copies(alloc, text, count)?))
+/// One of the texts.
+pub(crate) fn text_of(alloc: Global, texts: Texts) -> Result<String, AllocError> {
+    texts.part.repeat(alloc, texts.times)
 }
 
-/// The texts one behind the other.
-pub(crate) fn joined(alloc: Global, texts: &[ByteStr], bytes: usize) -> Result<Made> {
-    let mut all = Vec::with_capacity(alloc, bytes)?;
+/// All of the texts.
+pub(crate) fn texts_of(alloc: Global, texts: Texts) -> Result<Vec<ByteStr>, AllocError> {
+    copies(alloc, &text_of(alloc, texts)?, texts.count)
+}
+
+/// How many bytes all of the texts have, where so many stand before each.
+pub(crate) fn room_for(texts: Texts, before: usize) -> usize {
+    let each = texts
+        .part
+        .len()
+        .saturating_mul(texts.times)
+        .saturating_add(before);
+    each.saturating_mul(texts.count)
+}
+
+/// The texts one behind the other, in room for so many bytes.
+pub(crate) fn joined(alloc: Global, texts: &[ByteStr], room: usize) -> Result<Vec<u8>, AllocError> {
+    let mut all = Vec::with_capacity(alloc, room)?;
     for text in texts {
         all.extend_from_slice(text.as_str().as_bytes())?;
     }
-    Ok(Made::Text(all))
+    Ok(all)
 }
 
 // What stands before a text, as before that of a state: a key, a version and the length.
@@ -55,8 +59,8 @@ fn size_of_each(texts: &[ByteStr]) -> u16 {
 }
 
 /// The texts one behind the other, each behind seven bytes, as a state has it.
-pub(crate) fn headed(alloc: Global, texts: &[ByteStr], bytes: usize) -> Result<Made> {
-    let mut all = Vec::with_capacity(alloc, bytes)?;
+pub(crate) fn headed(alloc: Global, texts: &[ByteStr], room: usize) -> Result<Vec<u8>, AllocError> {
+    let mut all = Vec::with_capacity(alloc, room)?;
     let size = size_of_each(texts);
     let mut version: u32 = 0;
     for text in texts {
@@ -64,49 +68,5 @@ pub(crate) fn headed(alloc: Global, texts: &[ByteStr], bytes: usize) -> Result<M
         all.extend_from_slice(text.as_str().as_bytes())?;
         version = version.wrapping_add(1);
     }
-    Ok(Made::Text(all))
-}
-
-fn put(
-    rt: &(impl Clock + Print + Alloc<A = Global>),
-    mode: Mode,
-    tag: &'static str,
-    text: &str,
-    count: usize,
-) -> Result<()> {
-    let texts = copies(rt.alloc(), text, count)?;
-    let bytes = count.saturating_mul(text.len());
-    case(
-        rt,
-        mode,
-        named("texts", "put", tag),
-        &Work::Join(&texts, bytes),
-    )?;
-    let bytes = bytes.saturating_add(count.saturating_mul(7));
-    case(
-        rt,
-        mode,
-        named("texts", "headed", tag),
-        &Work::Head(&texts, bytes),
-    )
-}
-
-fn each(
-    rt: &(impl Clock + Print + Alloc<A = Global>),
-    mode: Mode,
-    tag: &'static str,
-    text: &str,
-    count: usize,
-) -> Result<()> {
-    let name = named("texts", "made", tag);
-    case(rt, mode, name, &Work::Texts(text, count))?;
-    put(rt, mode, tag, text, count)
-}
-
-/// As many texts as 256 endpoints have with one state of 200 bytes, with 16 of 64, and with 16 of 1,024.
-pub(crate) fn texts(rt: &(impl Clock + Print + Alloc<A = Global>), mode: Mode) -> Result<()> {
-    each(rt, mode, "256x200", LONG, 256)?;
-    each(rt, mode, "4096x64", SHORT, 4096)?;
-    let longest = SHORT.repeat(rt.alloc(), 16)?;
-    each(rt, mode, "4096x1024", longest.as_str(), 4096)
+    Ok(all)
 }

@@ -1,0 +1,239 @@
+//! The list of cases: their names, and what each is to do.
+
+use crate::messages::{Brings, Opens, Said};
+use cg_measure::{Held, Shape};
+
+/// What is done with messages and tables.
+#[derive(Clone, Copy)]
+pub(crate) enum GossipTask {
+    Encode(Said),
+    Decode(Said),
+    Check(Said),
+    /// Makes a SYN of the plain table.
+    Open,
+    /// This table answers a SYN.
+    Answer(Held, Opens),
+    /// This table takes an ACK, and sends an ACK2.
+    TakeAck(Held, Brings),
+    /// This table takes an ACK2 with the deltas of an ACK.
+    TakeAck2(Held, Brings),
+    /// The first table opens an exchange with the second.
+    Exchange(Held, Held),
+}
+
+/// What is done by one member alone: with a ring, with texts, and with a window.
+#[derive(Clone, Copy)]
+pub(crate) enum LocalTask {
+    BuildRing,
+    /// The places of a thousand tokens on a ring.
+    Places,
+    /// So many replicas of each of a thousand tokens.
+    Replicas(usize),
+    /// Three replicas of each of a thousand keys.
+    Keys,
+    /// A thousand MD5s.
+    Digests,
+    MakeTexts(Texts),
+    /// Puts texts one behind the other.
+    Put(Texts),
+    /// Puts them so, each behind seven bytes, as a state has it.
+    Head(Texts),
+    /// Two thousand arrivals at a window.
+    Arrivals,
+    /// A thousand verdicts of a window.
+    Verdicts,
+}
+
+/// So many texts, each of which is a part that is repeated so many times.
+#[derive(Clone, Copy)]
+pub(crate) struct Texts {
+    pub(crate) part: &'static str,
+    pub(crate) times: usize,
+    pub(crate) count: usize,
+}
+
+const SHORT: &str = "0123456789012345678901234567890123456789012345678901234567890123";
+
+const LONG: &str =
+    "01234567890123456789012345678901234567890123456789012345678901234567890123456789\
+01234567890123456789012345678901234567890123456789012345678901234567890123456789\
+0123456789012345678901234567890123456789";
+
+// As many texts as 256 endpoints have with one state of 200 bytes, with 16 of 64, and with 16 of 1,024.
+const LONG_TEXTS: Texts = Texts {
+    part: LONG,
+    times: 1,
+    count: 256,
+};
+
+const SHORT_TEXTS: Texts = Texts {
+    part: SHORT,
+    times: 1,
+    count: 4096,
+};
+
+const LONGEST_TEXTS: Texts = Texts {
+    part: SHORT,
+    times: 16,
+    count: 4096,
+};
+
+/// The shape of the tables of the first cases.
+pub(crate) const SMALL_SHAPE: Shape = Shape {
+    states: 16,
+    text: 64,
+};
+
+/// The shapes of tables, each with its tag.
+pub(crate) const SHAPES: [(&str, Shape); 3] = [
+    (
+        "1x200",
+        Shape {
+            states: 1,
+            text: 200,
+        },
+    ),
+    ("16x64", SMALL_SHAPE),
+    (
+        "16x1024",
+        Shape {
+            states: 16,
+            text: 1024,
+        },
+    ),
+];
+
+const SYN: Said = Said::Syn(Opens::Plain);
+
+const BEATS: Said = Said::Ack(Brings::Beats);
+
+const WHOLE: Said = Said::Ack(Brings::Whole);
+
+/// A SYN of 256 digests, and the ACK that brings 256 heartbeats.
+pub(crate) const SMALL: [(&str, &str, &str, GossipTask); 7] = [
+    ("encode", "syn", "256", GossipTask::Encode(SYN)),
+    ("decode", "syn", "256", GossipTask::Decode(SYN)),
+    ("check", "syn", "256", GossipTask::Check(SYN)),
+    ("encode", "beats", "256", GossipTask::Encode(BEATS)),
+    ("decode", "beats", "256", GossipTask::Decode(BEATS)),
+    ("check", "beats", "256", GossipTask::Check(BEATS)),
+    ("make", "syn", "256", GossipTask::Open),
+];
+
+/// What a seed node does at tables of each shape.
+pub(crate) const SHAPED: [(&str, &str, GossipTask); 18] = [
+    ("encode", "whole", GossipTask::Encode(WHOLE)),
+    ("decode", "whole", GossipTask::Decode(WHOLE)),
+    ("check", "whole", GossipTask::Check(WHOLE)),
+    (
+        "answer_syn_bytes",
+        "equal",
+        GossipTask::Answer(Held::Other, Opens::Plain),
+    ),
+    (
+        "answer_syn_bytes",
+        "beats",
+        GossipTask::Answer(Held::Beats, Opens::Plain),
+    ),
+    (
+        "answer_syn_bytes",
+        "one",
+        GossipTask::Answer(Held::FirstState, Opens::Plain),
+    ),
+    (
+        "answer_syn_bytes",
+        "empty",
+        GossipTask::Answer(Held::Other, Opens::Nobody),
+    ),
+    (
+        "take_ack_bytes",
+        "join",
+        GossipTask::TakeAck(Held::Alone, Brings::Whole),
+    ),
+    (
+        "take_ack2",
+        "join",
+        GossipTask::TakeAck2(Held::Alone, Brings::Whole),
+    ),
+    (
+        "take_ack_bytes",
+        "beats",
+        GossipTask::TakeAck(Held::Plain, Brings::Beats),
+    ),
+    (
+        "take_ack2",
+        "beats",
+        GossipTask::TakeAck2(Held::Plain, Brings::Beats),
+    ),
+    (
+        "take_ack_bytes",
+        "one",
+        GossipTask::TakeAck(Held::Plain, Brings::FirstState),
+    ),
+    (
+        "take_ack2",
+        "one",
+        GossipTask::TakeAck2(Held::Plain, Brings::FirstState),
+    ),
+    (
+        "take_ack_bytes",
+        "single",
+        GossipTask::TakeAck(Held::Plain, Brings::Single),
+    ),
+    (
+        "take_ack2",
+        "single",
+        GossipTask::TakeAck2(Held::Plain, Brings::Single),
+    ),
+    (
+        "exchange",
+        "equal",
+        GossipTask::Exchange(Held::Plain, Held::Other),
+    ),
+    (
+        "exchange",
+        "beats",
+        GossipTask::Exchange(Held::EvenBeats, Held::OddBeats),
+    ),
+    (
+        "exchange",
+        "join",
+        GossipTask::Exchange(Held::Alone, Held::Other),
+    ),
+];
+
+/// Rings, texts as the library keeps what is shared, and windows of silence.
+pub(crate) const LOCAL: [(&str, &str, &str, LocalTask); 17] = [
+    ("ring", "build", "256x16", LocalTask::BuildRing),
+    ("1000", "searches", "4096", LocalTask::Places),
+    ("1000", "replicas", "rf1", LocalTask::Replicas(1)),
+    ("1000", "replicas", "rf3", LocalTask::Replicas(3)),
+    ("1000", "keys_to_replicas", "rf3", LocalTask::Keys),
+    ("1000", "digests", "md5", LocalTask::Digests),
+    ("texts", "made", "256x200", LocalTask::MakeTexts(LONG_TEXTS)),
+    ("texts", "put", "256x200", LocalTask::Put(LONG_TEXTS)),
+    ("texts", "headed", "256x200", LocalTask::Head(LONG_TEXTS)),
+    (
+        "texts",
+        "made",
+        "4096x64",
+        LocalTask::MakeTexts(SHORT_TEXTS),
+    ),
+    ("texts", "put", "4096x64", LocalTask::Put(SHORT_TEXTS)),
+    ("texts", "headed", "4096x64", LocalTask::Head(SHORT_TEXTS)),
+    (
+        "texts",
+        "made",
+        "4096x1024",
+        LocalTask::MakeTexts(LONGEST_TEXTS),
+    ),
+    ("texts", "put", "4096x1024", LocalTask::Put(LONGEST_TEXTS)),
+    (
+        "texts",
+        "headed",
+        "4096x1024",
+        LocalTask::Head(LONGEST_TEXTS),
+    ),
+    ("silence", "2000_arrived", "w1000", LocalTask::Arrivals),
+    ("silence", "1000_verdicts", "w1000", LocalTask::Verdicts),
+];

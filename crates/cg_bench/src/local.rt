@@ -1,0 +1,168 @@
+//! The pieces of work on rings, texts and windows that are measured, what each works on, and what it makes.
+
+use crate::cases::{LOCAL, LocalTask};
+use crate::rings::{claimed, digests, key_tokens, places, replicas, replicas_of_keys, ring};
+use crate::texts::{copies, headed, joined, room_for, text_of, texts_of};
+use crate::windows::{heard, last_verdict, silence, verdicts};
+use bytes::ByteStr;
+use cg_measure::{Failure, Name, Work};
+use cg_silence::{Silence, Verdict, Window};
+use cg_table::Table;
+use cg_tokens::{Ring, Token};
+use cg_types::Endpoint;
+use md5::{Digest, Md5};
+use std::alloc::{AllocError, Global};
+
+/// One piece of work, with what it works on.
+#[derive(Drop)]
+pub(crate) enum LocalWork {
+    BuildRing(Table),
+    Places(Ring, Vec<Token>),
+    /// Finds so many replicas of each token, and keeps those of the last.
+    Replicas(Ring, Vec<Token>, usize),
+    Keys(Ring),
+    Digests,
+    /// Makes so many texts.
+    MakeTexts(String, usize),
+    /// Puts texts in room for so many bytes.
+    Put(Vec<ByteStr>, usize),
+    Head(Vec<ByteStr>, usize),
+    Arrivals(Silence),
+    Verdicts(Window),
+}
+
+/// What one turn makes.
+#[derive(Drop)]
+pub(crate) enum Made {
+    Ring(Ring),
+    Replicas(Vec<Endpoint>),
+    Sum(usize),
+    Digest([u8; 16]),
+    Verdict(Verdict),
+    Text(Vec<u8>),
+    Texts(Vec<ByteStr>),
+}
+
+fn add_endpoint(alloc: Global, digest: &mut Md5, endpoint: Endpoint) -> Result<(), AllocError> {
+    digest.update(format!(in alloc; "{endpoint}\n")?.as_bytes());
+    Ok(())
+}
+
+fn add_ring(alloc: Global, digest: &mut Md5, ring: &Ring) -> Result<(), AllocError> {
+    for (token, endpoint) in ring.positions() {
+        digest.update(format!(in alloc; "{token} ")?.as_bytes());
+        add_endpoint(alloc, digest, *endpoint)?;
+    }
+    Ok(())
+}
+
+fn add_endpoints(
+    alloc: Global,
+    digest: &mut Md5,
+    endpoints: &[Endpoint],
+) -> Result<(), AllocError> {
+    for endpoint in endpoints {
+        add_endpoint(alloc, digest, *endpoint)?;
+    }
+    Ok(())
+}
+
+fn add_texts(digest: &mut Md5, texts: &[ByteStr]) {
+    for text in texts {
+        digest.update(text.as_str().as_bytes());
+    }
+}
+
+// What one turn of the work makes.
+fn turn_of(alloc: Global, work: &LocalWork) -> Result<Made, AllocError> {
+    match work {
+        LocalWork::BuildRing(table) => Ok(Made::Ring(Ring::of_table(alloc, table)?)),
+        LocalWork::Places(ring, tokens) => Ok(Made::Sum(places(ring, tokens))),
+        LocalWork::Replicas(ring, tokens, rf) => {
+            Ok(Made::Replicas(replicas(alloc, ring, tokens, *rf)?))
+        }
+        LocalWork::Keys(ring) => Ok(Made::Replicas(replicas_of_keys(alloc, ring)?)),
+        LocalWork::Digests => Ok(Made::Digest(digests())),
+        LocalWork::MakeTexts(text, count) => Ok(Made::Texts(copies(alloc, text, *count)?)),
+        LocalWork::Put(texts, room) => Ok(Made::Text(joined(alloc, texts, *room)?)),
+        LocalWork::Head(texts, room) => Ok(Made::Text(headed(alloc, texts, *room)?)),
+        LocalWork::Arrivals(silence) => Ok(Made::Verdict(last_verdict(alloc, *silence)?)),
+        LocalWork::Verdicts(window) => Ok(Made::Verdict(verdicts(window))),
+    }
+}
+
+fn add_made(alloc: Global, digest: &mut Md5, made: &Made) -> Result<(), AllocError> {
+    match made {
+        Made::Ring(ring) => add_ring(alloc, digest, ring)?,
+        Made::Replicas(endpoints) => add_endpoints(alloc, digest, endpoints)?,
+        Made::Sum(sum) => digest.update(&sum.to_be_bytes()),
+        Made::Digest(last) => digest.update(last),
+        Made::Verdict(verdict) => digest.update(verdict.name().as_bytes()),
+        Made::Text(text) => digest.update(text),
+        Made::Texts(texts) => add_texts(digest, texts),
+    }
+    Ok(())
+}
+
+impl Work for LocalWork {
+    type Made = Made;
+
+    fn turn(&self, alloc: Global) -> Result<Made, Failure> {
+        Ok(turn_of(alloc, self)?)
+    }
+
+    fn add(alloc: Global, digest: &mut Md5, made: &Made) -> Result<(), Failure> {
+        Ok(add_made(alloc, digest, made)?)
+    }
+}
+
+fn replicas_of(alloc: Global, rf: usize) -> Result<LocalWork, Failure> {
+    let tokens = key_tokens(alloc)?;
+    Ok(LocalWork::Replicas(ring(alloc)?, tokens, rf))
+}
+
+fn places_of(alloc: Global) -> Result<LocalWork, Failure> {
+    let tokens = key_tokens(alloc)?;
+    Ok(LocalWork::Places(ring(alloc)?, tokens))
+}
+
+fn arrivals_of(silence: Option<Silence>) -> Result<LocalWork, Failure> {
+    match silence {
+        Some(silence) => Ok(LocalWork::Arrivals(silence)),
+        None => Err(Failure::Lacking("settings of a window")),
+    }
+}
+
+fn verdicts_of(alloc: Global, silence: Option<Silence>) -> Result<LocalWork, Failure> {
+    match silence {
+        Some(silence) => Ok(LocalWork::Verdicts(heard(alloc, silence)?)),
+        None => Err(Failure::Lacking("settings of a window")),
+    }
+}
+
+// The work of a task.
+fn work_of(alloc: Global, task: LocalTask) -> Result<LocalWork, Failure> {
+    match task {
+        LocalTask::BuildRing => Ok(LocalWork::BuildRing(claimed(alloc)?)),
+        LocalTask::Places => places_of(alloc),
+        LocalTask::Replicas(rf) => replicas_of(alloc, rf),
+        LocalTask::Keys => Ok(LocalWork::Keys(ring(alloc)?)),
+        LocalTask::Digests => Ok(LocalWork::Digests),
+        LocalTask::MakeTexts(texts) => {
+            Ok(LocalWork::MakeTexts(text_of(alloc, texts)?, texts.count))
+        }
+        LocalTask::Put(texts) => Ok(LocalWork::Put(texts_of(alloc, texts)?, room_for(texts, 0))),
+        LocalTask::Head(texts) => Ok(LocalWork::Head(texts_of(alloc, texts)?, room_for(texts, 7))),
+        LocalTask::Arrivals => arrivals_of(silence()),
+        LocalTask::Verdicts => verdicts_of(alloc, silence()),
+    }
+}
+
+/// The cases of rings, texts and windows.
+pub(crate) fn local_cases(alloc: Global) -> Result<Vec<(Name, LocalWork)>, Failure> {
+    let mut cases = Vec::new(alloc);
+    for (work, on, tag, task) in LOCAL {
+        cases.push((Name { work, on, tag }, work_of(alloc, task)?))?;
+    }
+    Ok(cases)
+}

@@ -1,0 +1,110 @@
+//! Cases of gossip made ready: what each task works on.
+
+use crate::cases::{GossipTask, SHAPED, SMALL, SMALL_SHAPE};
+use crate::frames::spoilt;
+use crate::messages::{Brings, Opens, Said, ack2_of, held_in, message, tables_of};
+use crate::work::GossipWork;
+use bytes::Bytes;
+use cg_frames::encode;
+use cg_measure::{Failure, Held, Name, Shape};
+use cg_samples::cluster;
+use cg_table::Table;
+use std::alloc::Global;
+
+fn frame(alloc: Global, tables: &[Table], said: Said) -> Result<Bytes, Failure> {
+    Ok(encode(alloc, &message(alloc, tables, said)?)?)
+}
+
+fn check(alloc: Global, tables: &[Table], said: Said) -> Result<GossipWork, Failure> {
+    let message = message(alloc, tables, said)?;
+    Ok(GossipWork::Check(spoilt(alloc, &message)?))
+}
+
+fn copy(alloc: Global, tables: &[Table], held: Held) -> Result<Table, Failure> {
+    Ok(held_in(tables, held)?.copy(alloc)?)
+}
+
+fn open(alloc: Global, tables: &[Table]) -> Result<GossipWork, Failure> {
+    let cluster = cluster(alloc)?;
+    Ok(GossipWork::Open(copy(alloc, tables, Held::Plain)?, cluster))
+}
+
+fn answer(
+    alloc: Global,
+    tables: &[Table],
+    held: Held,
+    opens: Opens,
+) -> Result<GossipWork, Failure> {
+    let cluster = cluster(alloc)?;
+    let frame = frame(alloc, tables, Said::Syn(opens))?;
+    Ok(GossipWork::Answer(copy(alloc, tables, held)?, cluster, frame))
+}
+
+fn take_ack(
+    alloc: Global,
+    tables: &[Table],
+    held: Held,
+    brings: Brings,
+) -> Result<GossipWork, Failure> {
+    let frame = frame(alloc, tables, Said::Ack(brings))?;
+    Ok(GossipWork::TakeAck(copy(alloc, tables, held)?, frame))
+}
+
+fn take_ack2(
+    alloc: Global,
+    tables: &[Table],
+    held: Held,
+    brings: Brings,
+) -> Result<GossipWork, Failure> {
+    let ack2 = ack2_of(alloc, tables, brings)?;
+    Ok(GossipWork::TakeAck2(copy(alloc, tables, held)?, ack2))
+}
+
+fn exchange(
+    alloc: Global,
+    tables: &[Table],
+    opener: Held,
+    answerer: Held,
+) -> Result<GossipWork, Failure> {
+    let cluster = cluster(alloc)?;
+    let opener = copy(alloc, tables, opener)?;
+    Ok(GossipWork::Exchange(opener, copy(alloc, tables, answerer)?, cluster))
+}
+
+// The work of a task on these tables.
+fn work_of(alloc: Global, tables: &[Table], task: GossipTask) -> Result<GossipWork, Failure> {
+    match task {
+        GossipTask::Encode(said) => Ok(GossipWork::Encode(message(alloc, tables, said)?)),
+        GossipTask::Decode(said) => Ok(GossipWork::Decode(frame(alloc, tables, said)?)),
+        GossipTask::Check(said) => check(alloc, tables, said),
+        GossipTask::Open => open(alloc, tables),
+        GossipTask::Answer(held, opens) => answer(alloc, tables, held, opens),
+        GossipTask::TakeAck(held, brings) => take_ack(alloc, tables, held, brings),
+        GossipTask::TakeAck2(held, brings) => take_ack2(alloc, tables, held, brings),
+        GossipTask::Exchange(opener, answerer) => exchange(alloc, tables, opener, answerer),
+    }
+}
+
+/// The cases of a SYN and of heartbeats.
+pub(crate) fn small(alloc: Global) -> Result<Vec<(Name, GossipWork)>, Failure> {
+    let tables = tables_of(alloc, SMALL_SHAPE)?;
+    let mut cases = Vec::new(alloc);
+    for (work, on, tag, task) in SMALL {
+        cases.push((Name { work, on, tag }, work_of(alloc, &tables, task)?))?;
+    }
+    Ok(cases)
+}
+
+/// The cases at tables of a shape, which has this tag.
+pub(crate) fn shaped(
+    alloc: Global,
+    tag: &'static str,
+    shape: Shape,
+) -> Result<Vec<(Name, GossipWork)>, Failure> {
+    let tables = tables_of(alloc, shape)?;
+    let mut cases = Vec::new(alloc);
+    for (work, on, task) in SHAPED {
+        cases.push((Name { work, on, tag }, work_of(alloc, &tables, task)?))?;
+    }
+    Ok(cases)
+}

@@ -1,0 +1,43 @@
+//! Windows of silence: their arrivals, and their verdicts.
+
+use cg_silence::{Silence, Verdict, Window};
+use std::alloc::{AllocError, Global};
+use std::hint::black_box;
+
+/// The settings of a window of a thousand gaps.
+pub(crate) fn silence() -> Option<Silence> {
+    Silence::new(1000, 2000, 60000, 18421)
+}
+
+/// A window that has heard two thousand arrivals, a second apart.
+pub(crate) fn heard(alloc: Global, silence: Silence) -> Result<Window, AllocError> {
+    let mut window = Window::new(alloc, silence)?;
+    for arrival in 0..2000u64 {
+        window.arrived(black_box(arrival * 1000));
+    }
+    Ok(window)
+}
+
+/// The verdict of a new window, a second after the last of its arrivals.
+pub(crate) fn last_verdict(alloc: Global, silence: Silence) -> Result<Verdict, AllocError> {
+    Ok(heard(alloc, silence)?.verdict(2_000_000))
+}
+
+// The moment of the next verdict. It rests on the last verdict, so that all before the last one are needed too.
+fn next(now: u64, verdict: Verdict) -> u64 {
+    match verdict {
+        Verdict::Silent => now.wrapping_add(10),
+        Verdict::Alive | Verdict::Unheard => now.wrapping_add(20),
+    }
+}
+
+/// The last of a thousand verdicts.
+pub(crate) fn verdicts(window: &Window) -> Verdict {
+    let mut now = 2_000_000;
+    let mut last = Verdict::Unheard;
+    for _ in 0..1000 {
+        last = window.verdict(now);
+        now = next(now, last);
+    }
+    last
+}

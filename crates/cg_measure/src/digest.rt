@@ -1,0 +1,20 @@
+//! Digests of messages and tables.
+
+use crate::failure::Failure;
+use crate::messages::bringing;
+use cg_exchange::Message;
+use cg_frames::encode;
+use cg_table::Table;
+use md5::{Digest, Md5};
+use std::alloc::Global;
+
+/// Adds a message, as its frame.
+pub fn add_message(alloc: Global, digest: &mut Md5, message: &Message) -> Result<(), Failure> {
+    digest.update(encode(alloc, message)?.as_slice());
+    Ok(())
+}
+
+/// Adds all that a table holds, as the ACK that brings it.
+pub fn add_table(alloc: Global, digest: &mut Md5, table: &Table) -> Result<(), Failure> {
+    add_message(alloc, digest, &Message::Ack(bringing(alloc, table)?))
+}

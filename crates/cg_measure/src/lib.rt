@@ -1,0 +1,19 @@
+//! What the programs that measure share: cases and how they are run, the tables and messages that cases work on, and the
+//! digests of what they make.
+#![tactic(auto)]
+
+mod case;
+mod chance;
+mod digest;
+mod failure;
+mod messages;
+mod sampling;
+mod tables;
+mod words;
+
+pub use case::{Mode, Name, Work, run_cases};
+pub use digest::{add_message, add_table};
+pub use failure::Failure;
+pub use messages::{bringing, empty_syn};
+pub use tables::{HELD, Held, Shape, table, table_of};
+pub use words::{is_first_word, mode_of};

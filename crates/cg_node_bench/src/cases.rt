@@ -1,0 +1,118 @@
+//! The list of a node's cases: their names, and what each is to do.
+
+use cg_measure::Shape;
+
+/// What a case does, at tables of its shape where it needs any.
+#[derive(Clone, Copy)]
+pub(crate) enum Task {
+    /// A node takes one heartbeat of another.
+    Heartbeat,
+    /// A node beats.
+    Beat,
+    /// A node sets one key.
+    Set,
+    /// An exchange of two nodes that hold the same, over links in memory.
+    Links,
+    /// The ACK that brings a whole table is read from a link.
+    Receive,
+    /// So many heartbeats, one by one.
+    Steps(u32),
+    /// The same as records of a history.
+    Records(u32),
+    /// A hundred thousand receipts of so many callers, who beat in turn, are confirmed: from one to the next, the number
+    /// rises by this.
+    Confirms { callers: u32, rise: u32 },
+    /// A script of so many nodes and rounds is played.
+    Play(u16, u32),
+    /// Its actions are done.
+    Act(u16, u32),
+}
+
+/// What a case is called (the work, what it is done on, and a tag), what it does, and the shape of its tables.
+pub(crate) type Case = (&'static str, &'static str, &'static str, Task, Shape);
+
+const SMALLEST: Shape = Shape {
+    states: 1,
+    text: 200,
+};
+
+const MIDDLE: Shape = Shape {
+    states: 16,
+    text: 64,
+};
+
+/// The greatest shape of an entry.
+pub(crate) const LARGEST: Shape = Shape {
+    states: 16,
+    text: 1024,
+};
+
+const ONE_CALLER: Task = Task::Confirms {
+    callers: 1,
+    rise: 1,
+};
+
+const EACH_A_CALLER: Task = Task::Confirms {
+    callers: 100_000,
+    rise: 1,
+};
+
+const CALLER_BY_CALLER: Task = Task::Confirms {
+    callers: 250,
+    rise: 250,
+};
+
+/// All cases: steps of nodes at tables of each shape, exchanges over links, histories, and scripts of 8 nodes with a hundred
+/// thousand lines and of 256 nodes.
+pub(crate) const ALL: [Case; 20] = [
+    ("node", "heartbeat", "1x200", Task::Heartbeat, SMALLEST),
+    ("node", "beat", "1x200", Task::Beat, SMALLEST),
+    ("node", "set", "1x200", Task::Set, SMALLEST),
+    ("node", "heartbeat", "16x64", Task::Heartbeat, MIDDLE),
+    ("node", "beat", "16x64", Task::Beat, MIDDLE),
+    ("node", "set", "16x64", Task::Set, MIDDLE),
+    ("node", "heartbeat", "16x1024", Task::Heartbeat, LARGEST),
+    ("node", "beat", "16x1024", Task::Beat, LARGEST),
+    ("node", "set", "16x1024", Task::Set, LARGEST),
+    ("links", "equal", "16x64", Task::Links, MIDDLE),
+    ("receive", "whole", "16x1024", Task::Receive, LARGEST),
+    (
+        "steps",
+        "1000_heartbeats",
+        "16x1024",
+        Task::Steps(1000),
+        LARGEST,
+    ),
+    (
+        "records",
+        "1000_heartbeats",
+        "16x1024",
+        Task::Records(1000),
+        LARGEST,
+    ),
+    ("confirms", "by_number", "1", ONE_CALLER, SMALLEST),
+    ("confirms", "by_number", "100000", EACH_A_CALLER, SMALLEST),
+    ("confirms", "by_caller", "250", CALLER_BY_CALLER, SMALLEST),
+    (
+        "script",
+        "played",
+        "8x100000",
+        Task::Play(8, 16656),
+        SMALLEST,
+    ),
+    ("script", "acted", "8x100000", Task::Act(8, 16656), SMALLEST),
+    (
+        "script",
+        "played",
+        "256x8296",
+        Task::Play(256, 1000),
+        SMALLEST,
+    ),
+    (
+        "script",
+        "acted",
+        "256x8296",
+        Task::Act(256, 1000),
+        SMALLEST,
+    ),
+];

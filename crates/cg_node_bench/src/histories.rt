@@ -1,0 +1,117 @@
+//! Stored histories: records made, beside the steps of the node alone, and receipts confirmed.
+
+use crate::nodes::{after, begun, heartbeat, others, started};
+use cg_core::Node;
+use cg_events::{Event, Reply};
+use cg_history::{History, Receipt};
+use cg_measure::{Failure, Shape};
+use cg_samples::version;
+use cg_types::Fault;
+use std::alloc::{AllocError, Global};
+use std::hint::black_box;
+
+// The next heartbeat: those of the 255 other endpoints come in turn, again and again.
+fn next(alloc: Global, number: u32) -> Result<Event, Failure> {
+    let above = 18 + number / 255;
+    heartbeat(alloc, 1 + (number % 255) as u16, above, above + 1)
+}
+
+/// All that the others hold, and then so many heartbeats.
+pub(crate) fn events(alloc: Global, shape: Shape, count: u32) -> Result<Vec<Event>, Failure> {
+    let mut events = Vec::new(alloc);
+    events.push(others(alloc, shape)?)?;
+    for number in 0..count {
+        events.push(next(alloc, number)?)?;
+    }
+    Ok(events)
+}
+
+/// The node after these events, of which each is copied first.
+pub(crate) fn stepped(alloc: Global, events: &[Event]) -> Result<Node, Failure> {
+    let mut node = started(alloc, 0, 5)?;
+    for event in events {
+        let event = event.copy(alloc)?;
+        node = after(alloc, &node, &event)?;
+    }
+    Ok(node)
+}
+
+// One more record, of whose receipt nothing is kept.
+fn apply(alloc: Global, history: &mut History, caller: u32, event: Event) -> Result<(), Fault> {
+    black_box(history.apply(alloc, caller, event)?);
+    Ok(())
+}
+
+/// The history of these events, of which each is copied first.
+pub(crate) fn recorded(alloc: Global, events: &[Event]) -> Result<History, Failure> {
+    let mut history = begun(alloc)?;
+    for event in events {
+        apply(alloc, &mut history, 1, event.copy(alloc)?)?;
+    }
+    Ok(history)
+}
+
+/// The history of so many heartbeats at a whole table, whose events are handed to it and not copied.
+pub(crate) fn kept(alloc: Global, shape: Shape, count: u32) -> Result<History, Failure> {
+    let mut history = begun(alloc)?;
+    apply(alloc, &mut history, 1, others(alloc, shape)?)?;
+    for number in 0..count {
+        apply(alloc, &mut history, 1, next(alloc, number)?)?;
+    }
+    Ok(history)
+}
+
+// How many records are confirmed.
+const RECEIPTS: u32 = 100_000;
+
+/// The history of a hundred thousand beats of so many callers, who beat in turn.
+pub(crate) fn beats(alloc: Global, callers: u32) -> Result<History, Failure> {
+    let mut history = begun(alloc)?;
+    for number in 1..=RECEIPTS {
+        let caller = number.checked_rem(callers).unwrap_or(0);
+        black_box(history.apply(alloc, caller, Event::Beat)?);
+    }
+    Ok(history)
+}
+
+// The receipt of a beat; the first beat has version 2.
+fn receipt(number: u32, callers: u32) -> Receipt {
+    Receipt {
+        caller: number.checked_rem(callers).unwrap_or(0),
+        number: u64::from(number),
+        event: Event::Beat,
+        reply: Reply::Done(version(number.wrapping_add(1))),
+    }
+}
+
+// Adds the receipts whose numbers rise by this from the first.
+fn add_receipts(
+    receipts: &mut Vec<Receipt>,
+    first: u32,
+    callers: u32,
+    rise: u32,
+) -> Result<(), AllocError> {
+    let mut number = first;
+    for _ in 0..RECEIPTS.checked_div(rise).unwrap_or(0) {
+        receipts.push(receipt(number, callers))?;
+        number = number.wrapping_add(rise);
+    }
+    Ok(())
+}
+
+/// The receipts of all beats, in runs whose numbers rise by this.
+pub(crate) fn receipts(alloc: Global, callers: u32, rise: u32) -> Result<Vec<Receipt>, AllocError> {
+    let mut receipts = Vec::new(alloc);
+    for first in 1..=rise {
+        add_receipts(&mut receipts, first, callers, rise)?;
+    }
+    Ok(receipts)
+}
+
+/// The place of the first receipt that is not confirmed, if there is one.
+pub(crate) fn stray(history: &History, receipts: &[Receipt]) -> Option<usize> {
+    match history.confirms(receipts) {
+        Ok(()) => None,
+        Err(stray) => Some(stray.place),
+    }
+}

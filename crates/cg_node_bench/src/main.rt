@@ -1,0 +1,50 @@
+//! Measures what a node does: its steps, exchanges over links, histories and scripts. With no words it runs each case once
+//! and prints a digest of what it makes, which no clock and no machine changes; with the word `time` it measures each. With
+//! the word `keep` and a number it makes so many records of heartbeats at a whole table, and keeps them to its end, so that
+//! what they take can be seen from outside.
+#![tactic(auto)]
+
+mod cases;
+mod histories;
+mod links;
+mod nodes;
+mod scripts;
+mod work;
+
+use crate::cases::{ALL, LARGEST};
+use crate::histories::kept;
+use crate::work::case_of;
+use cg_measure::{Failure, is_first_word, mode_of, run_cases};
+use std::alloc::Global;
+use std::env::Env;
+
+// The number that the second word is, and 0 where it is none.
+fn second_number(rt: &impl Env) -> u32 {
+    let mut word = [0u8; 8];
+    let Ok(size) = rt.arg(2, &mut word) else {
+        return 0;
+    };
+    let digits = word.get(..size).unwrap_or(b"");
+    match std::str::from_utf8(digits) {
+        Ok(text) => text.parse().unwrap_or(0),
+        Err(_) => 0,
+    }
+}
+
+// Makes so many records, and tells how many it keeps.
+fn keep(rt: &impl Print, alloc: Global, count: u32) -> Result<(), Failure> {
+    let history = kept(alloc, LARGEST, count)?;
+    println!(rt; "{} records", history.records().len())?;
+    Ok(())
+}
+
+fn main(rt: HostRuntime) -> Result<(), Failure> {
+    if is_first_word(&rt, *b"keep") {
+        return keep(&rt, rt.alloc(), second_number(&rt));
+    }
+    let mode = mode_of(&rt);
+    for case in ALL {
+        run_cases(&rt, rt.alloc(), mode, &[case_of(rt.alloc(), case)?])?;
+    }
+    Ok(())
+}

@@ -1,0 +1,157 @@
+//! The pieces of a node's work that are measured, what each works on, and what each makes.
+
+use crate::cases::{Case, Task};
+use crate::histories::{beats, events, receipts, recorded, stepped, stray};
+use crate::links::{Side, answerer_part, equal_sides, opener_part, received};
+use crate::nodes::{after, heartbeat, joined, load, whole};
+use crate::scripts::{acted, actions_of, played, script_of};
+use bytes::Bytes;
+use cg_core::Node;
+use cg_events::Event;
+use cg_exchange::Message;
+use cg_frames::encode;
+use cg_history::{History, Receipt};
+use cg_measure::{Failure, Name, Shape, add_message, add_table};
+use cg_world::{Action, World};
+use md5::{Digest, Md5};
+use std::alloc::Global;
+
+/// One piece of work, with what it works on.
+#[derive(Drop)]
+pub(crate) enum Work {
+    /// One step of a node.
+    Step(Node, Event),
+    /// Both parts of an exchange, over links in memory.
+    Links(Side, Side),
+    /// Reads the one message of a link.
+    Receive(Bytes),
+    /// Steps of a node that starts, one after the other.
+    Steps(Vec<Event>),
+    /// The same as records of a history.
+    Records(Vec<Event>),
+    Confirms(History, Vec<Receipt>),
+    Play(String),
+    Act(Vec<Action>),
+}
+
+/// What one turn makes.
+#[derive(Drop)]
+pub(crate) enum Made {
+    Node(Node),
+    /// Two nodes, each with what it wrote.
+    Linked((Node, Vec<u8>), (Node, Vec<u8>)),
+    Message(Message),
+    History(History),
+    Stray(Option<usize>),
+    Text(Vec<u8>),
+    World(World),
+}
+
+fn linked(alloc: Global, opener: &Side, answerer: &Side) -> Result<Made, Failure> {
+    let answerer = answerer_part(alloc, answerer)?;
+    Ok(Made::Linked(opener_part(alloc, opener)?, answerer))
+}
+
+fn add_stray(alloc: Global, digest: &mut Md5, stray: Option<usize>) -> Result<(), Failure> {
+    match stray {
+        Some(place) => digest.update(format!(in alloc; "{place}\n")?.as_bytes()),
+        None => digest.update(b"confirmed\n"),
+    }
+    Ok(())
+}
+
+fn add_part(alloc: Global, digest: &mut Md5, part: &(Node, Vec<u8>)) -> Result<(), Failure> {
+    let (node, written) = part;
+    add_table(alloc, digest, node.table())?;
+    digest.update(written);
+    Ok(())
+}
+
+// The tables of all nodes that run.
+fn add_world(alloc: Global, digest: &mut Md5, world: &World) -> Result<(), Failure> {
+    for endpoint in world.endpoints(alloc)? {
+        if let Some(node) = world.node(endpoint) {
+            add_table(alloc, digest, node.table())?;
+        }
+    }
+    Ok(())
+}
+
+impl cg_measure::Work for Work {
+    type Made = Made;
+
+    fn turn(&self, alloc: Global) -> Result<Made, Failure> {
+        match self {
+            Work::Step(node, event) => Ok(Made::Node(after(alloc, node, event)?)),
+            Work::Links(opener, answerer) => linked(alloc, opener, answerer),
+            Work::Receive(frame) => Ok(Made::Message(received(alloc, frame)?)),
+            Work::Steps(events) => Ok(Made::Node(stepped(alloc, events)?)),
+            Work::Records(events) => Ok(Made::History(recorded(alloc, events)?)),
+            Work::Confirms(history, receipts) => Ok(Made::Stray(stray(history, receipts))),
+            Work::Play(script) => Ok(Made::Text(played(alloc, script)?)),
+            Work::Act(actions) => Ok(Made::World(acted(alloc, actions)?)),
+        }
+    }
+
+    fn add(alloc: Global, digest: &mut Md5, made: &Made) -> Result<(), Failure> {
+        match made {
+            Made::Node(node) => add_table(alloc, digest, node.table()),
+            Made::Linked(opener, answerer) => {
+                add_part(alloc, digest, opener)?;
+                add_part(alloc, digest, answerer)
+            }
+            Made::Message(message) => add_message(alloc, digest, message),
+            Made::History(history) => add_table(alloc, digest, history.node().table()),
+            Made::Stray(stray) => add_stray(alloc, digest, *stray),
+            Made::Text(text) => {
+                digest.update(text);
+                Ok(())
+            }
+            Made::World(world) => add_world(alloc, digest, world),
+        }
+    }
+}
+
+fn step(alloc: Global, event: Event, shape: Shape) -> Result<Work, Failure> {
+    Ok(Work::Step(joined(alloc, shape)?, event))
+}
+
+fn links(alloc: Global, shape: Shape) -> Result<Work, Failure> {
+    let (opener, answerer) = equal_sides(alloc, shape)?;
+    Ok(Work::Links(opener, answerer))
+}
+
+fn receive(alloc: Global, shape: Shape) -> Result<Work, Failure> {
+    let whole = Message::Ack(whole(alloc, shape)?);
+    Ok(Work::Receive(encode(alloc, &whole)?))
+}
+
+fn confirms(alloc: Global, callers: u32, rise: u32) -> Result<Work, Failure> {
+    let receipts = receipts(alloc, callers, rise)?;
+    Ok(Work::Confirms(beats(alloc, callers)?, receipts))
+}
+
+// The work of a task, with tables of this shape.
+fn work_of(alloc: Global, task: Task, shape: Shape) -> Result<Work, Failure> {
+    match task {
+        Task::Heartbeat => step(alloc, heartbeat(alloc, 7, 18, 21)?, shape),
+        Task::Beat => step(alloc, Event::Beat, shape),
+        Task::Set => step(alloc, load(alloc)?, shape),
+        Task::Links => links(alloc, shape),
+        Task::Receive => receive(alloc, shape),
+        Task::Steps(count) => Ok(Work::Steps(events(alloc, shape, count)?)),
+        Task::Records(count) => Ok(Work::Records(events(alloc, shape, count)?)),
+        Task::Confirms { callers, rise } => confirms(alloc, callers, rise),
+        Task::Play(nodes, rounds) => Ok(Work::Play(script_of(alloc, nodes, rounds)?)),
+        Task::Act(nodes, rounds) => {
+            let script = script_of(alloc, nodes, rounds)?;
+            Ok(Work::Act(actions_of(alloc, &script)?))
+        }
+    }
+}
+
+/// A case made ready.
+pub(crate) fn case_of(alloc: Global, case: Case) -> Result<(Name, Work), Failure> {
+    let (work, on, tag, task, shape) = case;
+    Ok((Name { work, on, tag }, work_of(alloc, task, shape)?))
+}
