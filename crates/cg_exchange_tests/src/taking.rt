@@ -139,16 +139,16 @@ fn refusal(
 // A newer delta of A, and one about a 257th endpoint: whole, and above a version.
 #[test]
 fn table_full(rt: HostRuntime) -> Result<(), Fail> {
-    let (sent, whole) = ([A, 256], (5, 0, 3));
+    let whole = (5, 0, 3);
     let table = crowded(rt.alloc())?;
-    let refused = taken(rt.alloc(), &table, &sent, whole, sent)?;
+    let refused = taken(rt.alloc(), &table, &[A, 256], whole, [A, 256])?;
     expect_eq!(refused, Err(Fault::TableFull))?;
-    let refusal = refusal(rt.alloc(), &table, &sent, whole)?;
+    let refusal = refusal(rt.alloc(), &table, &[A, 256], whole)?;
     expect_eq!(
         (refusal, held(&table, A)),
         (Some(Fault::TableFull), Some((5, 1)))
     )?;
-    let taken = taken(rt.alloc(), &table, &sent, (5, 1, 3), sent)?;
+    let taken = taken(rt.alloc(), &table, &[A, 256], (5, 1, 3), [A, 256])?;
     let outcomes = [outcome(A, Took::Taken), outcome(256, Took::Gap)];
     expect_eq!(taken, Ok((outcomes, [Some((5, 3)), None])))
 }
