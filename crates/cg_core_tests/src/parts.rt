@@ -17,12 +17,18 @@ fn outcome(took: Took) -> Outcome {
     }
 }
 
+fn is_taken(took: Took) -> bool {
+    was_taken(&outcome(took))
+}
+
 #[test]
 fn taken_deltas_alone_are_taken(_rt: HostRuntime) -> Result<(), Fail> {
-    let all = [Took::Taken, Took::Old, Took::Gap, Took::Own].map(outcome);
-    let taken = all.map(|one| was_taken(&one));
-    expect_eq!(taken, [true, false, false, false])?;
-    expect_eq!((any_taken(&all), any_taken(&all[1..])), (true, false))
+    let taken = (is_taken(Took::Taken), is_taken(Took::Old));
+    let others = (is_taken(Took::Gap), is_taken(Took::Own));
+    expect_eq!((taken, others), ((true, false), (false, false)))?;
+    let some = [outcome(Took::Old), outcome(Took::Taken)];
+    let none = [outcome(Took::Old), outcome(Took::Gap)];
+    expect_eq!((any_taken(&some), any_taken(&none)), (true, false))
 }
 
 // The verdicts of B's window, and of C's, which has none, after one outcome of B at moment 0.
