@@ -2,13 +2,13 @@
 #![tactic(auto)]
 
 use cg_serve::serve;
-use cg_tool::{Run, run};
+use cg_tool::{Ending, run};
 use std::process::ExitCode;
 
 /// Does what the words ask for.
 fn main(rt: HostRuntime) -> ExitCode {
     ExitCode::from(match run(&rt) {
-        Run::Ended(status) => status,
-        Run::Serves(file) => serve(&rt, rt.alloc(), file.as_str()),
+        Ending::Status(status) => status,
+        Ending::Serve(file) => serve(&rt, rt.alloc(), file.as_str()),
     })
 }

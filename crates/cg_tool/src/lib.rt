@@ -9,5 +9,5 @@ pub use cg_answering::answer;
 pub use cg_auditing::audit_files;
 pub use cg_command::{Job, Subcommand, job_of};
 pub use cg_sim::sim;
-pub use running::{Run, run};
+pub use running::{Ending, run};
 pub use showing::show_run;

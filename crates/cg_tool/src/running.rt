@@ -17,13 +17,13 @@ const FAILED: u8 = 1;
 /// The status after a fault of the command line.
 pub const MISUSED: u8 = 2;
 
-/// What a run of the program came to.
+/// What a run of the program ends with.
 #[derive(Drop)]
-pub enum Run {
+pub enum Ending {
     /// All was done; this is the exit status.
-    Ended(u8),
+    Status(u8),
     /// A node is to be served by the settings in this file.
-    Serves(String),
+    Serve(String),
 }
 
 fn texts(alloc: Global, words: &[String]) -> Result<Vec<&str>, AllocError> {
@@ -91,22 +91,22 @@ fn audit<R: Print + Eprint + Files>(rt: &R, alloc: Global, files: &[&str]) -> u8
 }
 
 // By which settings a node is to be served.
-fn serves<R: Print>(rt: &R, alloc: Global, files: &[&str]) -> Run {
+fn serves<R: Print>(rt: &R, alloc: Global, files: &[&str]) -> Ending {
     match files {
         [file] => match file.to_string(alloc) {
-            Ok(file) => Run::Serves(file),
-            Err(_) => Run::Ended(out_of_memory(rt)),
+            Ok(file) => Ending::Serve(file),
+            Err(_) => Ending::Status(out_of_memory(rt)),
         },
         // Never so: the command line asks for one.
-        _ => Run::Ended(MISUSED),
+        _ => Ending::Status(MISUSED),
     }
 }
 
 // Does a job over the standard streams and over files, but for serving.
-fn done<R: Runtime>(rt: &R, alloc: Global, job: &Job) -> Run {
+fn done<R: Runtime>(rt: &R, alloc: Global, job: &Job) -> Ending {
     let mut reader = Counted::new(rt.reader());
     let mut writer = Counted::new(io::writer(rt));
-    Run::Ended(match job.subcommand {
+    Ending::Status(match job.subcommand {
         Subcommand::Answer => answer(alloc, &mut reader, &mut writer),
         Subcommand::Sim => sim(alloc, &mut reader, &mut writer),
         Subcommand::Audit => audit(rt, alloc, job.files.as_slice()),
@@ -124,21 +124,25 @@ fn unread<R: Print + Eprint>(rt: &R, error: &io::Error) -> u8 {
 }
 
 // Does what the words ask for.
-fn ran<R: Runtime>(rt: &R, alloc: Global, words: &[String]) -> Run {
+fn ran<R: Runtime>(rt: &R, alloc: Global, words: &[String]) -> Ending {
     let Ok(words) = texts(alloc, words) else {
-        return Run::Ended(out_of_memory(rt));
+        return Ending::Status(out_of_memory(rt));
     };
     match job_of(alloc, words.as_slice()) {
         Ok(job) => done(rt, alloc, &job),
-        Err(error) => Run::Ended(told(rt, &error)),
+        Err(error) => Ending::Status(told(rt, &error)),
     }
 }
 
 // Does what words ask for, of which the first is the program's name.
-pub(crate) fn run_words<R: Runtime>(rt: &R, alloc: Global, words: io::Result<Vec<String>>) -> Run {
+pub(crate) fn run_words<R: Runtime>(
+    rt: &R,
+    alloc: Global,
+    words: io::Result<Vec<String>>,
+) -> Ending {
     match words {
         Ok(words) => ran(rt, alloc, words.as_slice()),
-        Err(error) => Run::Ended(unread(rt, &error)),
+        Err(error) => Ending::Status(unread(rt, &error)),
     }
 }
 
@@ -152,6 +156,6 @@ fn words<R: Env + AllocGlobal>(rt: &R) -> io::Result<Vec<String>> {
 /// further words the job is `answer`. Help and the version go to standard output, with status 0; a fault of the command
 /// line goes to standard error, with status 2, as does a word that is not UTF-8. Want of memory before the work begins is
 /// the line `fault 1 OutOfMemory`, with status 1.
-pub fn run<R: Runtime + AllocGlobal>(rt: &R) -> Run {
+pub fn run<R: Runtime + AllocGlobal>(rt: &R) -> Ending {
     run_words(rt, rt.alloc(), words(rt))
 }

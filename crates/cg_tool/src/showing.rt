@@ -1,6 +1,6 @@
 //! Runs of the program that are shown, for stored runs.
 
-use crate::running::{MISUSED, Run, run, run_words};
+use crate::running::{Ending, MISUSED, run, run_words};
 use std::alloc::Global;
 use std::io;
 use std::rt::Runtime;
@@ -15,10 +15,10 @@ fn words_in(alloc: Global, line: &str) -> io::Result<Vec<String>> {
 }
 
 // The status of a run. No node is served here.
-fn status_of(run: Run) -> u8 {
-    match run {
-        Run::Ended(status) => status,
-        Run::Serves(_) => MISUSED,
+fn status_of(ending: Ending) -> u8 {
+    match ending {
+        Ending::Status(status) => status,
+        Ending::Serve(_) => MISUSED,
     }
 }
 
