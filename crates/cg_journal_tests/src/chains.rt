@@ -3,19 +3,25 @@
 use crate::made::{begun, said};
 use cg_audit::{LifeItem, Lives, audit, endpoints_differ};
 use cg_events::{Event, Reply};
-use cg_exchange::Message;
+use cg_exchange::{Message, Syn};
 use cg_expect::expect_eq;
+use cg_history::Receipt;
 use cg_samples::{endpoint, generation};
 use std::alloc::Global;
 use std::test::Fail;
 
+fn syn_in(reply: Reply) -> Option<Syn> {
+    match reply {
+        Reply::Sent(Message::Syn(m)) => Some(m),
+        _ => None,
+    }
+}
+
 // An endpoint that opens, and then is handed a SYN, if there is one; and the event that hands its own one over.
 fn linked(alloc: Global, own: u16, handed: Option<Event>) -> Result<(Lives, Event), Fail> {
     let mut history = begun(alloc, own, 9)?;
-    let receipt = history.apply(alloc, 0, Event::Opening)?;
-    let Reply::Sent(Message::Syn(m)) = receipt.reply else {
-        return Err(Fail::from("a SYN"));
-    };
+    let Receipt { reply, .. } = history.apply(alloc, 0, Event::Opening)?;
+    let m = syn_in(reply).ok_or("a SYN")?;
     if let Some(syn) = handed {
         history.apply(alloc, 0, syn)?;
     }
