@@ -11,7 +11,6 @@ use Rattle.cg_entry.specs.Values.{EntryValue, DeltaValue}
 use Rattle.cg_entry.specs.Entry.{newest}
 use Rattle.cg_table.specs.declared.digest.Digest.{Digest}
 use Rattle.cg_map.specs.Rows.{keys_of}
-use Rattle.cg_map.proofs.ListLemmas.{rise_mapped}
 use Rattle.cg_table.specs.Values.{Entries}
 use Rattle.cg_exchange.specs.declared.owner_delta.OwnerDelta.{OwnerDelta}
 use Rattle.cg_exchange.specs.Values.{RequestValue}
@@ -21,7 +20,7 @@ use Rattle.cg_exchange.specs.Answering.{request_by, requests_for, delta_by, delt
 use Rattle.std.specs.List.{cons_option}
 use Rattle.cg_exchange.specs.Members.{AreListed, endpoints_of_digests, endpoints_of_requests, endpoints_of_deltas}
 use Rattle.cg_types.specs.Rising.{Rises}
-use Rattle.cg_types.proofs.RisingLemmas.{rise_sorted}
+use Rattle.cg_types.proofs.RisingLemmas.{rise_sorted, rise_mapped}
 
 module _ {X Y : Type 0} (f : X → Option Y) where
   few_mapped : (key : X → ℕ) (kept : Y → ℕ) (xs : List X) → length (map kept (filter_map f xs)) ≤ length (map key xs)

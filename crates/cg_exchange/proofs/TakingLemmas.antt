@@ -5,7 +5,7 @@ use Rattle.std.specs.List.{filter_map, cons_option}
 use Rattle.std.specs.FinMap.{get, insert, len, contains_key}
 use Rattle.cg_types.specs.declared.limits.TheConstants.{MEMBER_LIMIT}
 use Rattle.cg_types.specs.Rising.{is_past, rise_past, Rises}
-use Rattle.cg_types.proofs.RisingLemmas.{first_of, second_of}
+use Rattle.cg_types.proofs.RisingLemmas.{first_of, second_of, rise_mapped}
 use Rattle.cg_map.specs.Rows.{keys_of}
 use Rattle.cg_map.specs.Map.{put_each}
 use Rattle.cg_map.proofs.PastLemmas.{AgreePast, still_agree, agree_later}
@@ -24,7 +24,6 @@ use Rattle.cg_exchange.specs.declared.outcome.Outcome.{Outcome}
 use Rattle.cg_exchange.specs.Members.{endpoints_of_deltas}
 use Rattle.cg_exchange.specs.Taking.{table_after, outcome_of, outcomes_of, held_after}
 use Rattle.cg_exchange.specs.Changes.{row_changed, endpoints_of_outcomes}
-use Rattle.cg_map.proofs.ListLemmas.{rise_mapped}
 
 -- the table that a table's member holds, with these entries
 abbrev pub holding : TableValue → Entries → TableValue

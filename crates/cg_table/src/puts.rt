@@ -7,7 +7,8 @@ ghost use Rattle.cg_table.specs.Puts.{rows_at};
 
 use crate::table::{Table, are_same_rows};
 use cg_entry::Entry;
-use cg_map::{Row, push_some};
+use cg_lists::push_some;
+use cg_map::Row;
 use cg_types::Endpoint;
 use std::alloc::{AllocError, Global};
 use std::marker::Model;

@@ -1,7 +1,8 @@
 //! Maps from endpoints to shared values, their rows, and lists that are made item by item.
 
 use cg_expect::expect_eq;
-use cg_map::{Row, SharedMap, push_some, rows_rise};
+use cg_lists::push_some;
+use cg_map::{Row, SharedMap, rows_rise};
 use cg_samples::endpoint;
 use std::alloc::Global;
 use std::test::Fail;
@@ -10,6 +11,12 @@ use std::test::Fail;
 fn two_values(alloc: Global) -> Result<SharedMap<u32>, Fail> {
     let one = SharedMap::new(alloc).put(alloc, endpoint(3), 30)?;
     Ok(one.put(alloc, endpoint(2), 20)?)
+}
+
+// The same, and 50 at endpoint 5.
+fn three_values(alloc: Global) -> Result<SharedMap<u32>, Fail> {
+    let two = two_values(alloc)?;
+    Ok(two.put(alloc, endpoint(5), 50)?)
 }
 
 // The values of endpoints 1, 2 and 3.
@@ -31,11 +38,11 @@ fn what_is_put_is_got(rt: HostRuntime) -> Result<(), Fail> {
 fn two_changes(alloc: Global) -> Result<Vec<Row<u32>>, Fail> {
     let first = Row::new(alloc, endpoint(2), 21)?;
     let second = Row::new(alloc, endpoint(4), 40)?;
-    Ok(vec![in alloc; first, second]?)
+    Ok(vec![in alloc; first.share()?, second]?)
 }
 
 // Whether a map has these rows and no others: the last part of an endpoint, and its value.
-fn has_rows(map: &SharedMap<u32>, wanted: [(u16, u32); 3]) -> bool {
+fn has_rows(map: &SharedMap<u32>, wanted: [(u16, u32); 4]) -> bool {
     let rows = map.rows();
     for (row, (last, value)) in rows.iter().zip(wanted) {
         if row.endpoint() != endpoint(last) || *row.value() != value {
@@ -45,9 +52,9 @@ fn has_rows(map: &SharedMap<u32>, wanted: [(u16, u32); 3]) -> bool {
     rows.len() == wanted.len()
 }
 
-// The two values with the changes put: as they are handed over, and as they are lent.
+// The three values with the changes put: as they are handed over, and as they are lent.
 fn changed(alloc: Global) -> Result<(SharedMap<u32>, SharedMap<u32>), Fail> {
-    let map = two_values(alloc)?;
+    let map = three_values(alloc)?;
     let changes = two_changes(alloc)?;
     if !rows_rise(&changes) {
         return Err(Fail::from("the changes don't rise"));
@@ -58,7 +65,7 @@ fn changed(alloc: Global) -> Result<(SharedMap<u32>, SharedMap<u32>), Fail> {
 
 #[test]
 fn a_row_is_put_in_place_of_one_with_its_endpoint(rt: HostRuntime) -> Result<(), Fail> {
-    let wanted = [(2, 21), (3, 30), (4, 40)];
+    let wanted = [(2, 21), (3, 30), (4, 40), (5, 50)];
     let (put, lent) = changed(rt.alloc())?;
     expect_eq!(
         (has_rows(&put, wanted), has_rows(&lent, wanted)),

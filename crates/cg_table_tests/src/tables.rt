@@ -2,7 +2,8 @@
 
 use cg_entry::{Delta, Entry};
 use cg_expect::{expect, expect_eq};
-use cg_map::{Row, push_some, rows_rise};
+use cg_lists::push_some;
+use cg_map::{Row, rows_rise};
 use cg_samples::{bare_delta, bare_entry, endpoint, entry_at_start, generation};
 use cg_table::{Digest, Table, Took};
 use cg_types::{Endpoint, Fault, Version};

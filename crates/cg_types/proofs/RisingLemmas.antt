@@ -1,7 +1,7 @@
 -- Rising keys, of a list of pairs and of a finite map.
 use Rattle.std.proofs.Common.{◌≡◌, ℕ, ◌<◌, Bool, true, false, cond, List, [], ◌∷◌, length, ◌++◌, map, Option, Some, None, refl, sym, ap, subst, ◌∙◌, arith, nat_lt, T}
 use Rattle.std.specs.Prelude.{◌&&◌}
-use Rattle.std.specs.List.{filter}
+use Rattle.std.specs.List.{filter, filter_map, cons_option}
 use Rattle.std.specs.Ordering.{nat_cmp, is_lt, is_eq, eq_by_cmp}
 use Rattle.std.specs.FinMap.Entries.{is_sorted, below_all, find}
 use Rattle.std.specs.FinMap.{empty, empty_of_len, len-entries, entries, get, from_sorted, entries-from_sorted, get-from_sorted}
@@ -48,6 +48,17 @@ module _ {X : Type 0} where
         | true ↦ both _ _ here (rise_filter p (Some e.0) es rest)
         | false ↦ rise_filter p last es (rise_earlier last e.0 (keys_of es) here rest)
       ]
+
+-- keys that the mapped items keep rise where those of the items do
+pub rise_mapped : {X Y : Type 0} (f : X → Option Y) (key : X → ℕ) (kept : Y → ℕ) → ((x : X) (y : Y) → f x ≡ Some y → kept y ≡ key x) → (last : Option ℕ) (xs : List X) → rise_past last (map key xs) ≡ true → rise_past last (map kept (filter_map f xs)) ≡ true
+rise_mapped f key kept same last [] h = refl
+rise_mapped f key kept same last (x ∷ xs) h =
+    let here = first_of (is_past last (key x)) (rise_past (Some (key x)) (map key xs)) h in
+    let rest = second_of (is_past last (key x)) (rise_past (Some (key x)) (map key xs)) h in
+    elim (f x) as (λ o. f x ≡ o → rise_past last (map kept (cons_option o (filter_map f xs))) ≡ true) [
+      | Some y ↦ λ e. subst (λ k. (is_past last k && rise_past (Some k) (map kept (filter_map f xs))) ≡ true) (sym (same x y e)) (both _ _ here (rise_mapped f key kept same (Some (key x)) xs rest))
+      | None ↦ λ e. rise_mapped f key kept same last xs (rise_earlier last (key x) (map key xs) here rest)
+    ] refl
 
 T_both : (a b : Bool) → T a → T b → T (a && b)
 T_both true b p q = q

@@ -7,14 +7,13 @@ use Rattle.std.specs.Cmp.{nat_cmp_total}
 use Rattle.std.specs.FinMap.{FinMap, get, insert, empty, entries, entries_sorted, get-entries, get-insert, get-empty, same_map, nat_cmp-IsAntisymmetric}
 use Rattle.std.proofs.lemmas.List.{take_all}
 use Rattle.cg_types.specs.Rising.{is_past, rise_past, Rises}
-use Rattle.cg_types.proofs.RisingLemmas.{rise_sorted, get_rising, first_of, second_of}
+use Rattle.cg_types.proofs.RisingLemmas.{rise_sorted, rise_mapped, get_rising, first_of, second_of}
 use Rattle.cg_map.specs.Rows.{keys_of}
 use Rattle.cg_map.specs.Map.{put_each}
 use Rattle.cg_map.proofs.PastLemmas.{AgreePast, still_agree, agree_later}
 use Rattle.cg_entry.proofs.KeyLemmas.{find-map}
 use Rattle.cg_exchange.specs.declared.outcome.Outcome.{Outcome}
 use Rattle.cg_exchange.specs.Changes.{endpoints_of_outcomes}
-use Rattle.cg_map.proofs.ListLemmas.{rise_mapped}
 use Rattle.cg_silence.specs.Values.{SilenceValue, Shown, WindowValue}
 use Rattle.cg_silence.specs.Silence.{after_arrival, verdict}
 use Rattle.cg_silence.specs.declared.verdict.Verdict.{Verdict}

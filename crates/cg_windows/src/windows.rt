@@ -10,7 +10,8 @@ ghost use Rattle.cg_silence.specs.Silence.{after_arrival};
 ghost use Rattle.cg_windows.specs.Windows.{arrivals, arrival, verdict_by, was_taken as was_taken_of, any_taken as any_taken_of, window_after};
 
 use cg_exchange::Outcome;
-use cg_map::{Row, SharedMap, push_some};
+use cg_lists::push_some;
+use cg_map::{Row, SharedMap};
 use cg_silence::{Silence, Verdict, Window};
 use cg_table::Took;
 use cg_types::Endpoint;

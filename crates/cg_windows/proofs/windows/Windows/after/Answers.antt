@@ -1,6 +1,6 @@
 use Rattle.std.proofs.Common.{◌∙◌, ◌++◌, sym}
 use Rattle.std.specs.Option.{option_to_list}
-use Rattle.cg_map.proofs.ListLemmas.{filter_map_more}
+use Rattle.cg_lists.proofs.ListLemmas.{filter_map_more}
 use Rattle.cg_windows.specs.Windows.{arrival}
 use Rattle.cg_windows.proofs.WindowLemmas.{arrivals_rise, after_judge, after_shows, all_mapped}
 use Rattle.cg_windows.proofs.windows.Windows.after.Goals as goal

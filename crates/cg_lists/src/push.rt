@@ -1,4 +1,4 @@
-//! Lists that are made item by item.
+//! The next item of a list, if there is one.
 
 ghost use Rattle.std.specs.Prelude.{◌≡◌, ◌++◌, IsNone, IsOk, OnErr, OnOk};
 ghost use Rattle.std.specs.Option.{option_to_list};
