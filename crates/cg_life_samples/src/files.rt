@@ -1,0 +1,90 @@
+//! Files of a node that is served, by its name, in the folder where the tests run.
+
+use cg_files::{read_file, replace, stored_generation};
+use cg_journal::read_journal;
+use cg_links::Counted;
+use cg_types::{Endpoint, Fault, Generation};
+use std::alloc::Global;
+use std::net::{Net, TcpListener, TcpStream};
+use std::rt::Files;
+use std::test::Fail;
+use std::{fs, io};
+
+/// A port that nobody listens at.
+pub fn free_port<R: Net<Listener = TcpListener, Stream = TcpStream>>(rt: &R) -> io::Result<u16> {
+    let listener = TcpListener::bind(rt, "127.0.0.1:0")?;
+    listener.local_addr().map(|at| at.port())
+}
+
+// The path of a node's file.
+fn path_of(alloc: Global, name: &str, ending: &str) -> Result<String, Fail> {
+    Ok(format!(in alloc; "{name}.{ending}")?)
+}
+
+/// Writes a node's file, as a whole.
+pub fn write_file<R: Files>(
+    rt: &R,
+    alloc: Global,
+    name: &str,
+    ending: &str,
+    bytes: &[u8],
+) -> Result<(), Fail> {
+    let path = path_of(alloc, name, ending)?;
+    replace(rt, alloc, path.as_str(), bytes)?;
+    Ok(())
+}
+
+/// Writes the settings of a node that begins two rounds and takes nobody; where they then lie.
+pub fn write_settings<R: Files>(
+    rt: &R,
+    alloc: Global,
+    name: &str,
+    port: u16,
+) -> Result<String, Fail> {
+    let text = format!(in alloc;
+        "cluster = \"c1\"\nlisten = \"127.0.0.1:{port}\"\ngeneration_file = \"{name}.generation\"\n\
+         journal = \"{name}.journal\"\nrounds = 2\nexchanges = 0\ninterval = 0\n"
+    )?;
+    write_file(rt, alloc, name, "toml", text.as_bytes())?;
+    path_of(alloc, name, "toml")
+}
+
+/// Removes a node's file, if there is one.
+pub fn remove_file<R: Files>(rt: &R, alloc: Global, name: &str, ending: &str) -> Result<(), Fail> {
+    let path = path_of(alloc, name, ending)?;
+    let _ = fs::remove_file(rt, path.as_str());
+    Ok(())
+}
+
+/// The generation that a node kept, if it kept one, or why it cannot be read.
+pub fn generation_of<R: Files>(
+    rt: &R,
+    alloc: Global,
+    name: &str,
+) -> Result<Result<Option<u32>, Fault>, Fail> {
+    let path = path_of(alloc, name, "generation")?;
+    Ok(match stored_generation(rt, alloc, path.as_str()) {
+        Ok(Some(generation)) => Ok(Some(generation.get())),
+        Ok(None) => Ok(None),
+        Err(fault) => Err(fault),
+    })
+}
+
+/// Whose journal a node left, in which generation, and how many records it has; `None` where there is no file. A journal
+/// that cannot be read is a failure.
+pub fn journal_of<R: Files>(
+    rt: &R,
+    alloc: Global,
+    name: &str,
+) -> Result<Option<(Endpoint, Generation, usize)>, Fail> {
+    let path = path_of(alloc, name, "journal")?;
+    let Some(bytes) = read_file(rt, alloc, path.as_str(), 100000)? else {
+        return Ok(None);
+    };
+    let Ok(history) = read_journal(alloc, &mut Counted::new(bytes.as_slice())) else {
+        return Err(Fail::new("a journal that cannot be read"));
+    };
+    let base = history.base().table();
+    let generation = base.own_entry().generation();
+    Ok(Some((base.own(), generation, history.records().len())))
+}
