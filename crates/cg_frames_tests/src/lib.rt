@@ -4,6 +4,4 @@
 #[cfg(test)]
 mod feeds;
 #[cfg(test)]
-mod layouts;
-#[cfg(test)]
 mod messages;

@@ -1,5 +1,5 @@
 -- A history that confirms the receipts of one worker after another.
-use Rattle.std.proofs.Common.{◌≡◌, ◌+◌, ◌++◌, List, length, Result, Ok, Err, sym, ◌∙◌, subst}
+use Rattle.std.proofs.Common.{◌≡◌, ℕ, ◌+◌, ◌++◌, List, length, Result, Ok, Err, sym, ◌∙◌, subst, arith, length-append}
 use Rattle.std.specs.Prelude.{MatchResult}
 use Rattle.cg_history.specs.declared.item.Receipt.{Receipt}
 use Rattle.cg_history.specs.Confirming.{AreConfirmed, IsFirstStray}
@@ -9,6 +9,12 @@ use Rattle.cg_locked.specs.Shared.{history_of, stray_of}
 use Rattle.cg_left.specs.Left.{AreOfWorkers}
 use Rattle.cg_ran.specs.Ran.{IsStrayBehind}
 use Rattle.cg_ran.proofs.Workers.{stray_of_sender, stray_of_ticker, stray_of_operator, all_confirmed}
+
+-- as many as all workers left
+pub as_many : (receiver sender ticker operator : List Receipt) (n : ℕ) → n ≡ length receiver + length sender + length ticker + length operator
+    → n ≡ length (receiver ++ sender ++ ticker ++ operator)
+as_many receiver sender ticker operator n is =
+    omega (arith, length-append receiver sender, length-append (receiver ++ sender) ticker, length-append (receiver ++ sender ++ ticker) operator)
 
 -- the same history confirms the same
 at : (h k : HistoryValue) (qs : List Receipt) → h ≡ k → AreConfirmed k.records qs → AreConfirmed h.records qs
