@@ -8,7 +8,7 @@ use Rattle.cg_frames.specs.declared.layout.Layout.{Layout}
 use Rattle.cg_frames.specs.Reading.{size_of, frame_at}
 use Rattle.cg_frames.specs.Choosing.{due, frame_among}
 use Rattle.cg_frames.specs.Laws.{WhatIsHeldIsPartial}
-use Rattle.cg_frames.specs.Feeding.{Standing, Cut, lack_of, with_front, cut_by, cut_within, frames_in, cut_of_piece, fed_all, IsPartial, HasAtMostOne}
+use Rattle.cg_frames.specs.Feeding.{Standing, Cut, lack_of, with_front, cut_by, cut_within, frames_in, cut_of_piece, fed_all, HoldsNoFrame, IsPartial, HasAtMostOne}
 use Rattle.cg_frames.proofs.FrameLemmas.{frame_parts}
 use Rattle.cg_frames.proofs.FrontLemmas.{settled_among, fault_among, frame_is_all}
 
@@ -131,22 +131,31 @@ module _ (layouts : List Layout) where
   fed_twice (Ok held) first second = ap (frames_in layouts) (sym (append_assoc held first second)) ∙ frames_longer (held ++ first) second
   fed_twice (Err f) first second = refl
 
-  pub fed_nothing : (s : Standing) → IsPartial layouts s → cut_of_piece layouts s [] ≡ record { messages = []; rest = s }
-  fed_nothing (Ok held) partial = ap (frames_in layouts) (append-nil held) ∙ frames_at held (Ok None) partial
-  fed_nothing (Err f) partial = refl
+  -- The fault that stands may be any.
+  holds_no_frame : (s : Standing) → IsPartial layouts s → HoldsNoFrame layouts s
+  holds_no_frame (Ok held) partial = partial
+  holds_no_frame (Err f) partial = tt
+
+  fed_no_frame : (s : Standing) (piece : List ℕ) → HoldsNoFrame layouts (cut_of_piece layouts s piece).rest
+  fed_no_frame (Ok held) piece = holds_no_frame (frames_in layouts (held ++ piece)).rest (frames_partial (held ++ piece))
+  fed_no_frame (Err f) piece = tt
+
+  pub fed_nothing : (s : Standing) → HoldsNoFrame layouts s → cut_of_piece layouts s [] ≡ record { messages = []; rest = s }
+  fed_nothing (Ok held) none = ap (frames_in layouts) (append-nil held) ∙ frames_at held (Ok None) none
+  fed_nothing (Err f) none = refl
 
   -- However the stream is cut into pieces, they give what the whole gives.
-  pub pieces_add_up : (s : Standing) (pieces : List (List ℕ)) → IsPartial layouts s → fed_all layouts s pieces ≡ cut_of_piece layouts s (flat_map (λ (piece : List ℕ). piece) pieces)
-  pieces_add_up s [] partial = sym (fed_nothing s partial)
-  pieces_add_up s (piece ∷ pieces) partial =
-      ap (with_front (cut_of_piece layouts s piece).messages) (pieces_add_up (cut_of_piece layouts s piece).rest pieces (fed_partial s piece partial))
+  pub pieces_add_up : (s : Standing) (pieces : List (List ℕ)) → HoldsNoFrame layouts s → fed_all layouts s pieces ≡ cut_of_piece layouts s (flat_map (λ (piece : List ℕ). piece) pieces)
+  pieces_add_up s [] none = sym (fed_nothing s none)
+  pieces_add_up s (piece ∷ pieces) none =
+      ap (with_front (cut_of_piece layouts s piece).messages) (pieces_add_up (cut_of_piece layouts s piece).rest pieces (fed_no_frame s piece))
       ∙ sym (fed_twice s piece (flat_map (λ (q : List ℕ). q) pieces))
 
   pub from_nothing : (pieces : List (List ℕ)) → fed_all layouts (Ok []) pieces ≡ frames_in layouts (flat_map (λ (piece : List ℕ). piece) pieces)
   from_nothing pieces = pieces_add_up (Ok []) pieces nothing_at
 
   pub held_partial : WhatIsHeldIsPartial layouts
-  held_partial = record { new = nothing_at; later = fed_partial }
+  held_partial = record { new = nothing_at; later = λ held piece. frames_partial (held ++ piece) }
 
   -- ---- one at a time
 

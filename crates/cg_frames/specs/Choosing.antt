@@ -1,5 +1,5 @@
 -- Which layout of a list a frame is read in: the byte behind the length names it.
-use Rattle.std.specs.Prelude.{◌≡◌, ℕ, ◌<◌, ◌==◌, List, length, Option, Some, None, Result, slice_get, nat_lt, if◌then◌else◌}
+use Rattle.std.specs.Prelude.{◌≡◌, ℕ, ◌<◌, ◌==◌, List, length, Option, Some, None, Result, Ok, slice_get, nat_lt, if◌then◌else◌}
 use Rattle.std.specs.List.{find, reduce, AllByRecursion}
 use Rattle.std.specs.Option.{unwrap_or}
 use Rattle.cg_types.specs.declared.fault.Fault.{Fault}
@@ -34,6 +34,10 @@ due layouts bytes = due_by layouts (slice_get bytes 4)
 -- The frame at the front of the bytes in the layout that is due, and how long it is; None where more bytes are needed.
 abbrev pub frame_among : List Layout → List ℕ → Result (Option (Message × ℕ)) Fault
 frame_among layouts bytes = frame_at (due layouts bytes) bytes
+
+-- More bytes are needed: neither a whole frame nor a fault stands at the front.
+abbrev pub NeedsMore : List Layout → List ℕ → Type 0
+NeedsMore layouts bytes = frame_among layouts bytes ≡ Ok None
 
 -- The layout is one of the list: its byte names it.
 abbrev pub IsOneOf : List Layout → Layout → Type 0

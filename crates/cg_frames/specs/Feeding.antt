@@ -1,5 +1,5 @@
 -- Bytes that come in pieces, cut into messages.
-use Rattle.std.specs.Prelude.{◌≡◌, ℕ, zero, suc, ◌+◌, ◌-◌, ◌≤◌, List, [], ◌∷◌, ◌++◌, length, drop, map, Option, Some, None, Result, Ok, Err, nat_lt, if◌then◌else◌}
+use Rattle.std.specs.Prelude.{◌≡◌, ℕ, zero, suc, ◌+◌, ◌-◌, ◌≤◌, List, [], ◌∷◌, ◌++◌, length, drop, map, Option, Some, None, Result, Ok, Err, IfOk, nat_lt, if◌then◌else◌}
 use Rattle.std.specs.List.{flat_map, AllByRecursion}
 use Rattle.cg_types.specs.declared.fault.Fault.{Fault}
 use Rattle.cg_types.specs.declared.fault.Fault.TheVariants.{Truncated}
@@ -7,7 +7,7 @@ use Rattle.cg_exchange.specs.declared.message.Message.{Message}
 use Rattle.cg_frames.specs.declared.layout.Layout.{Layout}
 use Rattle.cg_frames.specs.Faults.{IsBadFrame}
 use Rattle.cg_frames.specs.Reading.{size_of}
-use Rattle.cg_frames.specs.Choosing.{frame_among, IsOneOf}
+use Rattle.cg_frames.specs.Choosing.{frame_among, NeedsMore, IsOneOf}
 use Rattle.cg_frames.specs.Spelling.{frame}
 use Rattle.cg_frames.specs.Fits.{Fits}
 
@@ -54,14 +54,18 @@ fed_all layouts s [] = record { messages = []; rest = s }
 fed_all layouts s (piece ∷ pieces) =
     with_front (cut_of_piece layouts s piece).messages (fed_all layouts (cut_of_piece layouts s piece).rest pieces)
 
--- Nothing whole and no fault stands in what is held; the fault that stands is a bad frame.
+-- What is held needs more; a fault may stand.
+abbrev pub HoldsNoFrame : List Layout → Standing → Type 0
+HoldsNoFrame layouts s = IfOk s (NeedsMore layouts)
+
+-- What is held needs more; the fault that stands is a bad frame.
 abbrev pub IsPartial : List Layout → Standing → Type 0
-IsPartial layouts (Ok held) = frame_among layouts held ≡ Ok None
+IsPartial layouts (Ok held) = NeedsMore layouts held
 IsPartial layouts (Err f) = IsBadFrame f
 
 -- These bytes stand behind the messages.
 abbrev pub StandsAt : List Layout → Standing → List ℕ → Type 0
-StandsAt layouts (Ok held) rest = (rest ≡ held) × (frame_among layouts held ≡ Ok None)
+StandsAt layouts (Ok held) rest = (rest ≡ held) × NeedsMore layouts held
 StandsAt layouts (Err f) rest = frame_among layouts rest ≡ Err f
 
 -- the frame of a message in the layout beside it

@@ -12,8 +12,8 @@ use Rattle.cg_frames.specs.Fits.{Fits}
 use Rattle.cg_frames.specs.Lengths.{greatest_length}
 use Rattle.cg_frames.specs.Faults.{IsBadFrame}
 use Rattle.cg_frames.specs.Reading.{size_of, frame_at}
-use Rattle.cg_frames.specs.Choosing.{layout_with_byte, frame_among, IsOneOf}
-use Rattle.cg_frames.specs.Feeding.{Standing, Cut, lack_of, with_front, frames_in, cut_of_piece, fed_all, IsPartial, Splits, HasAtMostOne}
+use Rattle.cg_frames.specs.Choosing.{layout_with_byte, frame_among, NeedsMore, IsOneOf}
+use Rattle.cg_frames.specs.Feeding.{Standing, Cut, lack_of, with_front, frames_in, cut_of_piece, fed_all, HoldsNoFrame, IsPartial, Splits, HasAtMostOne}
 
 -- The first bytes, so many of them, are the frame of a message that the layout can spell.
 pub record IsSpelledIn (layout : Layout) (bytes : List ℕ) (message : Message) (size : ℕ) : Type 0 where
@@ -56,7 +56,7 @@ pub record ChoosesByTheByte (layouts : List Layout) : Type 0 where
       → frame_among layouts bytes ≡ Err (faults.BadFrame 0 causes.Length)
   -- one that some layout allows waits for the byte.
   pub waits : (layout : Layout) (bytes : List ℕ) → IsOneOf layouts layout → length bytes ≡ 4 → 0 < size_of bytes
-      → size_of bytes ≤ layout.length → frame_among layouts bytes ≡ Ok None
+      → size_of bytes ≤ layout.length → NeedsMore layouts bytes
   -- A byte that names none is refused once its frame is whole, however long some layout allows it to be.
   pub unnamed : (byte : ℕ) (bytes : List ℕ) → layout_with_byte layouts byte ≡ None → slice_get bytes 4 ≡ Some byte
       → 0 < size_of bytes → 4 + size_of bytes ≤ length bytes
@@ -71,12 +71,12 @@ AreBytes bytes = (i : ℕ) → slice_index bytes i < 256
 
 -- Where more bytes are needed, some are lacking.
 abbrev pub SomeAreLacking : List Layout → Type 0
-SomeAreLacking layouts = (held : List ℕ) → frame_among layouts held ≡ Ok None → 0 < lack_of held
+SomeAreLacking layouts = (held : List ℕ) → NeedsMore layouts held → 0 < lack_of held
 
--- Pieces give what all of them at once give, from wherever a feed may stand.
+-- Pieces give what all of them at once give, from wherever nothing whole is held, and behind any fault.
 abbrev pub PiecesAddUp : List Layout → Type 0
 PiecesAddUp layouts =
-    (s : Standing) (pieces : List (List ℕ)) → IsPartial layouts s
+    (s : Standing) (pieces : List (List ℕ)) → HoldsNoFrame layouts s
     → fed_all layouts s pieces ≡ cut_of_piece layouts s (flat_map (λ (piece : List ℕ). piece) pieces)
 
 -- A stream that is cut into pieces gives what its bytes at once give, whatever the pieces are.
@@ -85,11 +85,11 @@ EveryCuttingIsTheWhole layouts =
     (pieces : List (List ℕ))
     → fed_all layouts (Ok []) pieces ≡ frames_in layouts (flat_map (λ (piece : List ℕ). piece) pieces)
 
--- Nothing whole and no fault stands in what is held after a piece.
+-- What is held needs more, at first and after a piece, whatever was held before it; a fault that follows is a bad
+-- frame.
 pub record WhatIsHeldIsPartial (layouts : List Layout) : Type 0 where
   pub new : IsPartial layouts (Ok [])
-  pub later : (s : Standing) (piece : List ℕ)
-      → IsPartial layouts s → IsPartial layouts (cut_of_piece layouts s piece).rest
+  pub later : (held piece : List ℕ) → IsPartial layouts (cut_of_piece layouts (Ok held) piece).rest
 
 -- A fault of bytes, in whichever layout they are read, and of a feed is a bad frame.
 pub record FaultsAreBadFrames (layouts : List Layout) : Type 0 where
@@ -107,7 +107,7 @@ TwoPiecesAreOne layouts =
 -- A piece that is no longer than what is lacking gives at most one message, and then nothing is held.
 abbrev pub OneAtATime : List Layout → Type 0
 OneAtATime layouts =
-    (held piece : List ℕ) → frame_among layouts held ≡ Ok None → length piece ≤ lack_of held
+    (held piece : List ℕ) → NeedsMore layouts held → length piece ≤ lack_of held
     → HasAtMostOne (frames_in layouts (held ++ piece)).messages (frames_in layouts (held ++ piece)).rest
 
 -- All bytes are the spellings of the messages that they are cut into, and then the rest or the fault.

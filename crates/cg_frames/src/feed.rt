@@ -1,9 +1,9 @@
 //! Bytes that come in pieces, cut into messages.
 
-ghost use Rattle.std.specs.Prelude.{◌≡◌, ◌<◌, ◌≤◌, [], ◌++◌, length, IfOk, IfErr, IfSome, OnErr, OnOk, Ok, None, IsOk, IsErr};
+ghost use Rattle.std.specs.Prelude.{◌≡◌, ◌<◌, ◌≤◌, [], ◌++◌, length, IfOk, IfErr, IfSome, OnErr, OnOk, Ok, IsOk, IsErr};
 ghost use Rattle.cg_types.specs.declared.fault.Fault.TheVariants as faults;
 ghost use Rattle.cg_frames.specs.declared.layout.TheConstants.{LAYOUTS};
-ghost use Rattle.cg_frames.specs.Choosing.{AreRead, frame_among};
+ghost use Rattle.cg_frames.specs.Choosing.{AreRead, NeedsMore, frame_among};
 ghost use Rattle.cg_frames.specs.Faults.{IsBadFrame, IsBadFrameOr};
 ghost use Rattle.cg_frames.specs.Feeding as spec;
 ghost use Rattle.cg_frames.specs.Laws.{AreBytes};
@@ -117,7 +117,7 @@ fn extend(alloc: Global, layouts: &[Layout], held: &mut Vec<u8>, piece: &[u8]) -
 // memory, and where nothing is held a fault at the front needs none.
 fn take(alloc: Global, layouts: &[Layout], held: &mut Vec<u8>, piece: &[u8]) -> Result<Fed, Fault>
     requires layouts { AreRead layouts.now }
-    requires partial { frame_among layouts.now held.old.items ≡ Ok None }
+    requires partial { NeedsMore layouts.now held.old.items }
     ensures ok { IfOk result (λ fed. spec.frames_in layouts.now (held.old.items ++ piece.now)
         ≡ record { messages = fed.messages.items; rest = spec.standing_of held.new.items fed.fault }) }
     ensures bytes { OnOk result (AreBytes (held.old.items ++ piece.now)) }

@@ -12,7 +12,7 @@ use Rattle.cg_types.specs.declared.fault.Fault.TheVariants as fault
 use Rattle.cg_exchange.specs.declared.message.Message.{Message}
 use Rattle.cg_frames.specs.declared.layout.Layout.{Layout}
 use Rattle.cg_frames.specs.declared.layout.TheConstants.{LAYOUT_1, LAYOUTS}
-use Rattle.cg_frames.specs.Choosing.{due, frame_among}
+use Rattle.cg_frames.specs.Choosing.{due, frame_among, NeedsMore}
 use Rattle.cg_frames.specs.Reading.{size_of, frame_at, with_size}
 use Rattle.cg_frames.specs.Feeding.{Standing, SplitsFrom, HasAtMostOne, IsSpellable, fault_standing, lack_of, spelling, wants_of}
 use Rattle.cg_frames.proofs.ChoosingLemmas.{due_all}
@@ -22,7 +22,7 @@ use Rattle.cg_frames.specs.Faults.{IsBadFrame}
 use Rattle.cg_links.specs.declared.counted.Counted.{Counted}
 use Rattle.cg_links.specs.Counted.{KeepsCounts}
 use Rattle.cg_links.proofs.Counts.{KeepsCounts-trans}
-use Rattle.cg_wire.specs.Received.{IsSpelledBy, NeedsMore, IsNextPiece, held_of, FailsToReceive}
+use Rattle.cg_wire.specs.Received.{IsSpelledBy, IsNextPiece, held_of, FailsToReceive}
 
 -- ---- what a piece gives
 
@@ -33,12 +33,12 @@ whole_of_none bytes rest (s ∷ ss) none whole = absurd cc
 
 -- Nothing was whole and no fault stood: all is held.
 pub all_held : (s t : Standing) (piece : List ℕ) → IsOk s → SplitsFrom LAYOUTS s piece (record { messages = []; rest = t }) → fault_standing t ≡ None
-    → (t ≡ Ok (held_of s ++ piece)) × NeedsMore (held_of s ++ piece)
+    → (t ≡ Ok (held_of s ++ piece)) × NeedsMore LAYOUTS (held_of s ++ piece)
 all_held (Err f) t piece sound splits none = absurd cc
 all_held (Ok held) (Err f) piece sound splits none = absurd cc
 all_held (Ok held) (Ok now) piece sound splits none =
     let same : held ++ piece ≡ now = whole_of_none _ _ _ splits.messages splits.whole ∙ splits.stands.0 in
-    (ap Ok (sym same), subst NeedsMore (sym same) splits.stands.1)
+    (ap Ok (sym same), subst (NeedsMore LAYOUTS) (sym same) splits.stands.1)
 
 one_of : (bytes rest : List ℕ) (m : Message) (spelled : List (Layout × Message)) → m ∷ [] ≡ map (λ s. s.1) spelled → bytes ≡ flat_map spelling spelled ++ rest → rest ≡ []
     → AllByRecursion (IsSpellable LAYOUTS) spelled → IsSpelledBy bytes m
@@ -114,11 +114,11 @@ partial_in layout bytes partial = elim (cases_lt (length bytes) 4) [
 due_is_short : (bytes : List ℕ) → (due LAYOUTS bytes).length ≤ LAYOUT_1.length
 due_is_short bytes = due_all (λ l. l.length ≤ LAYOUT_1.length) LAYOUTS bytes (omega arith) (omega arith, tt)
 
-pub partial_is_short : (bytes : List ℕ) → NeedsMore bytes → length bytes < MOST_TURNS
+pub partial_is_short : (bytes : List ℕ) → NeedsMore LAYOUTS bytes → length bytes < MOST_TURNS
 partial_is_short bytes partial = omega (arith, partial_in (due LAYOUTS bytes) bytes partial, due_is_short bytes)
 
 -- what a read gave is the next piece
-pub next_piece : (s : Standing) (n : ℕ) (came rest : List ℕ) → s ≡ Ok (held_of s) → NeedsMore (held_of s) → 0 < n → n ≤ length came → length came ≤ wants_of s → length came ≤ PIECE_LIMIT
+pub next_piece : (s : Standing) (n : ℕ) (came rest : List ℕ) → s ≡ Ok (held_of s) → NeedsMore LAYOUTS (held_of s) → 0 < n → n ≤ length came → length came ≤ wants_of s → length came ≤ PIECE_LIMIT
     → IsNextPiece (held_of s) (take n (came ++ rest))
 next_piece s n came rest sound partial some within fits few =
     let long : length (take n (came ++ rest)) ≡ n = length-take-le n (came ++ rest) (omega (arith, within, length-append came rest)) in

@@ -1,12 +1,12 @@
 -- What is read of one message.
-use Rattle.std.specs.Prelude.{◌≡◌, ℕ, ◌<◌, ◌≤◌, ◌⊎◌, List, [], ◌++◌, length, Option, None, Result, Ok, Err, IsErr, MatchResult, MatchOption}
+use Rattle.std.specs.Prelude.{◌≡◌, ℕ, ◌<◌, ◌≤◌, ◌⊎◌, List, [], ◌++◌, length, Option, Result, Ok, Err, IsErr, MatchResult, MatchOption}
 use Rattle.std.specs.Io.KnownBytes.{Consumes, IsAtEnd}
 use Rattle.cg_types.specs.declared.fault.Fault.{Fault}
 use Rattle.cg_types.specs.declared.fault.Fault.TheVariants as fault
 use Rattle.cg_exchange.specs.declared.message.Message.{Message}
 use Rattle.cg_frames.specs.declared.layout.Layout.{Layout}
 use Rattle.cg_frames.specs.declared.layout.TheConstants.{LAYOUTS}
-use Rattle.cg_frames.specs.Choosing.{frame_among}
+use Rattle.cg_frames.specs.Choosing.{frame_among, NeedsMore}
 use Rattle.cg_frames.specs.Faults.{IsBadFrame}
 use Rattle.cg_frames.specs.Feeding.{Standing, IsSpellable, lack_of}
 use Rattle.cg_frames.specs.Spelling.{frame}
@@ -25,14 +25,10 @@ abbrev pub held_of : Standing → List ℕ
 held_of (Ok held) = held
 held_of (Err f) = []
 
--- More is needed: no whole message and no fault stands at the front.
-abbrev pub NeedsMore : List ℕ → Type 0
-NeedsMore bytes = frame_among LAYOUTS bytes ≡ Ok None
-
 -- A piece came behind what was held of a message. It has no more bytes than the present length or the present frame
 -- lacks, and no more than one read asks for.
 pub record IsNextPiece (held piece : List ℕ) : Type 0 where
-  pub partial : NeedsMore held
+  pub partial : NeedsMore LAYOUTS held
   pub some : 0 < length piece
   pub fits : length piece ≤ lack_of held
   pub few : length piece ≤ PIECE_LIMIT
@@ -69,7 +65,7 @@ module _ {L : Type 0} (before after : Option (List ℕ)) (old new : Counted L) w
     pub fault : f ≡ fault.ReadFault
     pub bytes : List ℕ
     pub read : Consumes before after bytes
-    pub partial : NeedsMore bytes
+    pub partial : NeedsMore LAYOUTS bytes
     pub caused : CountsFailed old new
 
   -- the input ends inside a message
@@ -78,7 +74,7 @@ module _ {L : Type 0} (before after : Option (List ℕ)) (old new : Counted L) w
     pub bytes : List ℕ
     pub read : Consumes before after bytes
     pub some : 0 < length bytes
-    pub partial : NeedsMore bytes
+    pub partial : NeedsMore LAYOUTS bytes
     pub end : IsAtEnd after
     pub kept : KeepsCounts old new
 

@@ -3,11 +3,11 @@
 ghost use Rattle.std.specs.Prelude.{◌≡◌, ◌⊎◌, ◌+◌, ◌≤◌, [], ◌++◌, length, Ok, Err, None, IsOk, IsErr, IfOk, IfErr, IfNone, IfSome};
 ghost use Rattle.cg_types.specs.declared.fault.Fault.TheVariants as faults;
 ghost use Rattle.cg_frames.specs.declared.layout.TheConstants.{LAYOUTS};
-ghost use Rattle.cg_frames.specs.Choosing.{frame_among};
+ghost use Rattle.cg_frames.specs.Choosing.{frame_among, NeedsMore};
 ghost use Rattle.cg_frames.specs.Faults.{IsBadFrame};
 ghost use Rattle.cg_frames.specs.Feeding.{wants_of};
 ghost use Rattle.cg_links.specs.Counted.{calls_of, link_of};
-ghost use Rattle.cg_wire.specs.Received.{IsSpelledBy, NeedsMore, Receives, held_of};
+ghost use Rattle.cg_wire.specs.Received.{IsSpelledBy, Receives, held_of};
 
 use cg_exchange::Message;
 use cg_frames::{Feed, LAYOUT_1};
@@ -29,7 +29,7 @@ fn take_piece(feed: &mut Feed, piece: &[u8]) -> Result<Option<Message>, Fault>
     requires sound { IsOk feed.old }
     requires fits { length piece.now ≤ wants_of feed.old }
     ensures more { IfOk result (λ o. IfNone o ((feed.new ≡ Ok (held_of feed.old ++ piece.now))
-        × NeedsMore (held_of feed.old ++ piece.now))) }
+        × NeedsMore LAYOUTS (held_of feed.old ++ piece.now))) }
     ensures whole { IfOk result (λ o. IfSome o (IsSpelledBy (held_of feed.old ++ piece.now))) }
     ensures err { IfErr result (λ f.
         ((f ≡ faults.OutOfMemory) × (held_of feed.old ≡ [] → IsErr (frame_among LAYOUTS piece.now) → ⊥))
