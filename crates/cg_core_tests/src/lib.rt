@@ -4,6 +4,8 @@
 #[cfg(test)]
 mod copies;
 #[cfg(test)]
+mod heard;
+#[cfg(test)]
 mod nodes;
 #[cfg(test)]
 mod parts;

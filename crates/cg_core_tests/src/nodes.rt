@@ -1,11 +1,12 @@
-//! A node that starts, a gap after a restart, and events that no script can hand a node.
+//! A node that starts, a gap after a restart, what a step leaves of the node before it, and events that no script can hand a
+//! node.
 
-use crate::samples::{about, ack2_event, comes, held, node, syn_event};
+use crate::samples::{about, ack2_event, comes, held, node, set_event, syn_event};
 use cg_core::Node;
 use cg_events::{Event, Reply};
 use cg_exchange::{Ack2, OwnerDelta};
 use cg_expect::expect_eq;
-use cg_samples::{A, B, C, delta, endpoint, state};
+use cg_samples::{A, B, C, delta, endpoint, key, state};
 use cg_silence::Verdict;
 use cg_table::Took;
 use cg_types::{Endpoint, Fault, MEMBER_LIMIT};
@@ -30,6 +31,25 @@ fn a_node_that_starts(rt: HostRuntime) -> Result<(), Fail> {
     expect_eq!(
         (held(&node, A), held(&after, A)),
         (Some((9, 1)), Some((9, 2)))
+    )
+}
+
+// The version that a node's own entry has at a key.
+fn own_version(node: &Node, number: u8) -> Option<u32> {
+    let Some((_text, version)) = node.table().own_entry().get(key(number)) else {
+        return None;
+    };
+    Some(version.get())
+}
+
+#[test]
+fn a_set_leaves_the_node_before_it(rt: HostRuntime) -> Result<(), Fail> {
+    let event = set_event(rt.alloc(), 3, "x")?;
+    let node = node(rt.alloc(), A, 9)?;
+    let (after, _reply) = node.stepped(rt.alloc(), &event)?;
+    expect_eq!(
+        (own_version(&node, 3), own_version(&after, 3)),
+        (None, Some(2))
     )
 }
 

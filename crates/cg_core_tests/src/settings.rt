@@ -18,11 +18,18 @@ fn endpoints(alloc: Global, numbers: &[u16]) -> Result<Vec<Endpoint>, Fail> {
     Ok(endpoints)
 }
 
-// What is wrong with settings of this partitioner and these seeds, or nothing.
-fn fault_of(alloc: Global, partitioner: u8, seeds: &[u16]) -> Result<Option<SettingsFault>, Fail> {
-    let seeds = endpoints(alloc, seeds)?;
+// What is wrong with settings of this partitioner and these seeds, or nothing; and whether `new` makes them.
+type Made = (Option<SettingsFault>, bool);
+
+fn made(alloc: Global, partitioner: u8, seeds: &[u16]) -> Result<Made, Fail> {
     let cluster = Cluster::with(alloc, "c1", partitioner)?;
-    Ok(Settings::try_new(cluster, seeds, Silence::default()).err())
+    let settings = Settings::new(
+        cluster.copy()?,
+        endpoints(alloc, seeds)?,
+        Silence::default(),
+    );
+    let fault = Settings::try_new(cluster, endpoints(alloc, seeds)?, Silence::default()).err();
+    Ok((fault, settings.is_some()))
 }
 
 // Seeds are few and rise, and the partitioner is the one in use.
@@ -43,7 +50,8 @@ fn settings_are_refused(rt: HostRuntime) -> Result<(), Fail> {
         (0, &[], other),
         (2, &[], other),
     ] {
-        expect_eq!(fault_of(rt.alloc(), partitioner, seeds)?, fault)?;
+        let made = made(rt.alloc(), partitioner, seeds)?;
+        expect_eq!(made, (fault, fault.is_none()))?;
     }
     expect_eq!(SEED_LIMIT, 16)
 }

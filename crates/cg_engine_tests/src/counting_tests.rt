@@ -88,6 +88,16 @@ fn a_write_that_takes_nothing_is_counted() -> Result<(), Fail> {
     expect_eq!(writer.idle(), 1)
 }
 
+// The write fails in the outer link, and then the flush in the inner one.
+#[test]
+fn failed_calls_are_counted_each(rt: HostRuntime) -> Result<(), Fail> {
+    let flushes_fail = FailingLink::new(Vec::new(rt.alloc()), 1);
+    let mut writer = Counted::new(FailingLink::new(flushes_fail, 1));
+    expect_eq!(write_bytes(&mut writer, b"a"), Err(Fault::WriteFault))?;
+    expect!(writer.flush().is_err())?;
+    expect_eq!((writer.calls(), writer.failed(), writer.idle()), (2, 2, 0))
+}
+
 // Whether nothing waits for a flush: at first, after a write of no byte, after one of two bytes, and after a flush,
 // where the call of a number fails.
 fn flushed(alloc: Global, turn: u64) -> [bool; 4] {

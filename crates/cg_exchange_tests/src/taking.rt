@@ -1,9 +1,9 @@
 //! What an ACK and an ACK2 make of a table.
 
 use crate::samples::{ack_of, ack2_of, below, only, table_alone};
-use cg_exchange::{Ack, Ack2, Outcome, answer_syn, syn, take_ack, take_ack2};
-use cg_expect::expect_eq;
-use cg_samples::{A, B, cluster, endpoint};
+use cg_exchange::{Ack, Ack2, Outcome, OwnerDelta, answer_syn, syn, take_ack, take_ack2};
+use cg_expect::{expect, expect_eq};
+use cg_samples::{A, B, bare_delta, cluster, endpoint};
 use cg_table::{Table, Took};
 use cg_types::{Cluster, Fault};
 use std::alloc::Global;
@@ -111,7 +111,10 @@ fn a_delta_about_the_receiver(rt: HostRuntime) -> Result<(), Fail> {
     let table = table_alone(rt.alloc(), B, 5)?;
     let taken = taken(rt.alloc(), &table, &[B], (9, 0, 7), [A, B])?;
     let due = ([outcome(B, Took::Own), None], [None, Some((5, 1))]);
-    expect_eq!(taken, Ok(due))
+    expect_eq!(taken, Ok(due))?;
+    let ack2 = ack2_of(rt.alloc(), &[B], (9, 0, 7))?.ok_or("an ACK2")?;
+    let (after, _outcomes) = take_ack2(rt.alloc(), &table, &ack2)?;
+    expect!(after.same_entries(&table))
 }
 
 // ---- a full table
@@ -151,4 +154,27 @@ fn table_full(rt: HostRuntime) -> Result<(), Fail> {
     let taken = taken(rt.alloc(), &table, &[A, 256], (5, 1, 3), [A, 256])?;
     let outcomes = [outcome(A, Took::Taken), outcome(256, Took::Gap)];
     expect_eq!(taken, Ok((outcomes, [Some((5, 3)), None])))
+}
+
+// A newer delta of A above a version, and a whole one about a 257th endpoint.
+fn part_and_whole(alloc: Global) -> Result<Vec<OwnerDelta>, Fail> {
+    let mut deltas = Vec::new(alloc);
+    for (owner, of) in [(A, (5, 1, 3)), (256, (5, 0, 1))] {
+        let delta = bare_delta(alloc, of)?;
+        let endpoint = endpoint(owner);
+        deltas.push(OwnerDelta { endpoint, delta })?;
+    }
+    Ok(deltas)
+}
+
+#[test]
+fn table_full_behind_a_part(rt: HostRuntime) -> Result<(), Fail> {
+    let table = crowded(rt.alloc())?;
+    let ack2 = Ack2::new(part_and_whole(rt.alloc())?).ok_or("an ACK2")?;
+    let ack = Ack::new(Vec::new(rt.alloc()), part_and_whole(rt.alloc())?).ok_or("an ACK")?;
+    let refusals = [
+        take_ack2(rt.alloc(), &table, &ack2).err(),
+        take_ack(rt.alloc(), &table, &ack).err(),
+    ];
+    expect_eq!(refusals, [Some(Fault::TableFull); 2])
 }

@@ -23,18 +23,19 @@ fn pushed(feed: &mut Feed, piece: &[u8]) -> Result<Given, Fault> {
 fn wants_what_is_lacking(rt: HostRuntime) -> Result<(), Fail> {
     let mut feed = Feed::new(rt.alloc());
     expect_eq!(feed.wants(), 4)?;
-    for (piece, wants) in [
-        (b"\0\0".as_slice(), 2),
-        (b"\0\x16", 22),
-        (b"\x01", 21),
+    for (piece, count, wants) in [
+        (b"\0\0".as_slice(), 0, 2),
+        (b"\0\x16", 0, 22),
+        (b"\x01", 0, 21),
         (
             b"\x01\x02c1\x01\0\x01\x0a\0\0\x01\x1b\x58\0\0\0\x09\0\0\0",
+            0,
             1,
         ),
-        (b"\x01", 4),
+        (b"\x01", 1, 4),
     ] {
-        let (_, _, then, _) = pushed(&mut feed, piece)?;
-        expect_eq!(then, wants)?;
+        let (given, fault, then, _) = pushed(&mut feed, piece)?;
+        expect_eq!((given, fault, then), (count, None, wants))?;
     }
     expect_eq!(feed.end(), Ok(()))
 }

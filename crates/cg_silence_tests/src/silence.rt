@@ -2,7 +2,8 @@
 
 use cg_expect::expect_eq;
 use cg_silence::{
-    GAP_LIMIT, Silence, SilenceFault, THRESHOLD_LIMIT, Verdict, WINDOW_LIMIT, Window,
+    DEFAULT_INITIAL_GAP, DEFAULT_MAX_GAP, DEFAULT_THRESHOLD, DEFAULT_WINDOW, GAP_LIMIT, Silence,
+    SilenceFault, THRESHOLD_LIMIT, Verdict, WINDOW_LIMIT, Window,
 };
 use std::alloc::Global;
 use std::test::Fail;
@@ -86,10 +87,15 @@ fn settings_are_read() -> Result<(), Fail> {
 
 #[test]
 fn the_defaults() -> Result<(), Fail> {
-    expect_eq!(
-        Silence::new(1000, 2000, 60000, 18421),
-        Some(Silence::default())
-    )
+    let silence = Silence::default();
+    expect_eq!(Silence::new(1000, 2000, 60000, 18421), Some(silence))?;
+    let named = Silence::new(
+        DEFAULT_WINDOW,
+        DEFAULT_INITIAL_GAP,
+        DEFAULT_MAX_GAP,
+        DEFAULT_THRESHOLD,
+    );
+    expect_eq!(named, Some(silence))
 }
 
 #[test]

@@ -1,12 +1,12 @@
-//! What a world shows of itself, and runs that memory may end.
+//! What a world shows of itself, what a run answers, and runs that memory may end.
 
-use crate::scripts::{act_all, deliver, settings, start, three_nodes};
+use crate::scripts::{act_all, deliver, local, settings, start, three_nodes};
 use cg_exchange::Message;
 use cg_expect::{expect, expect_eq};
 use cg_samples::{A, B, C, endpoint};
 use cg_table::Table;
 use cg_types::{Endpoint, Fault};
-use cg_world::{Action, Shown, World};
+use cg_world::{Action, LocalEvent, Shown, World};
 use cg_world_laws::{equal_digests, merge_is_join};
 use std::alloc::Global;
 use std::test::Fail;
@@ -149,4 +149,38 @@ fn a_run_keeps_what_was_done(rt: HostRuntime) -> Result<(), Fail> {
         is_kept_by_run_in(rt.alloc(), &starts)?,
     );
     expect_eq!(kept, (true, true))
+}
+
+// The number of the message that an action sent, or why it was refused.
+fn sent_by(answer: &Result<Shown, Fault>) -> Result<Option<u64>, Fault> {
+    match answer {
+        Ok(shown) => Ok(shown.sent),
+        Err(fault) => Err(*fault),
+    }
+}
+
+#[test]
+fn a_run_tells_what_each_action_sent(rt: HostRuntime) -> Result<(), Fail> {
+    let actions = [
+        start(A, 9),
+        local(A, LocalEvent::Opening),
+        start(A, 9),
+        start(B, 5),
+        deliver(1, B, 1000),
+        deliver(99, B, 1000),
+    ];
+    let (_world, answers) = World::run(rt.alloc(), settings(rt.alloc())?, &actions)?;
+    let due = [
+        Ok(None),
+        Ok(Some(1)),
+        Err(Fault::NotRising),
+        Ok(None),
+        Ok(Some(2)),
+        Err(Fault::NoSuchMessage),
+    ];
+    expect_eq!(answers.len(), due.len())?;
+    for (answer, due) in answers.iter().zip(due) {
+        expect_eq!(sent_by(answer), due)?;
+    }
+    Ok(())
 }

@@ -1,0 +1,44 @@
+//! Who is heard of by messages that a node is handed.
+
+use crate::samples::{ack_event, comes, node};
+use cg_core::Node;
+use cg_expect::expect_eq;
+use cg_samples::{A, B, C, endpoint};
+use cg_silence::Verdict;
+use std::alloc::Global;
+use std::test::Fail;
+
+// One gap of 2,000 is kept of B, so it is silent 36,843 after the last arrival.
+#[test]
+fn an_ack_is_an_arrival(rt: HostRuntime) -> Result<(), Fail> {
+    let mut node = node(rt.alloc(), A, 9)?;
+    let event = ack_event(rt.alloc(), 10000)?;
+    node.step(rt.alloc(), &event)?;
+    let verdicts = [10000, 46842, 46843].map(|now| node.verdict(endpoint(B), now));
+    expect_eq!(verdicts, [Verdict::Alive, Verdict::Alive, Verdict::Silent])
+}
+
+// A node is handed a delta with no states, by an ACK2, at a moment.
+fn hear(
+    alloc: Global,
+    node: &mut Node,
+    now: u64,
+    owner: u16,
+    of: (u32, u32, u32),
+) -> Result<(), Fail> {
+    let event = comes(alloc, now, owner, of)?;
+    node.step(alloc, &event)?;
+    Ok(())
+}
+
+#[test]
+fn itself_one_alive_and_one_silent(rt: HostRuntime) -> Result<(), Fail> {
+    let mut node = node(rt.alloc(), A, 9)?;
+    hear(rt.alloc(), &mut node, 0, C, (4, 0, 1))?;
+    hear(rt.alloc(), &mut node, 50000, B, (5, 0, 1))?;
+    let verdicts = [A, B, C].map(|owner| node.verdict(endpoint(owner), 50001));
+    expect_eq!(
+        verdicts,
+        [Verdict::Unheard, Verdict::Alive, Verdict::Silent]
+    )
+}
