@@ -8,9 +8,16 @@ use cg_silence::Silence;
 use std::alloc::Global;
 use std::test::Fail;
 
+// Settings with no seeds.
+fn settings(alloc: Global) -> Result<Settings, Fail> {
+    let cluster = cluster(alloc)?;
+    let settings = Settings::new(cluster, Vec::new(alloc), Silence::default());
+    Ok(settings.ok_or("settings")?)
+}
+
+/// The history of a node that starts.
 pub(crate) fn begun(alloc: Global, own: u16, number: u32) -> Result<History, Fail> {
-    let settings = Settings::new(cluster(alloc)?, Vec::new(alloc), Silence::default());
-    let settings = settings.ok_or("settings")?;
+    let settings = settings(alloc)?;
     Ok(History::begin(alloc, endpoint(own), generation(number), settings)?)
 }
 

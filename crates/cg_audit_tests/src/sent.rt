@@ -5,7 +5,7 @@ use cg_exchange::{Ack2, Message, OwnerDelta};
 use cg_expect::expect_eq;
 use cg_samples::{A, B, bare_delta, endpoint};
 use cg_sent::Sent;
-use std::alloc::Global;
+use std::alloc::{AllocError, Global};
 use std::test::Fail;
 
 fn ack2(alloc: Global, about: u16, heartbeat: u32) -> Result<Message, Fail> {
@@ -17,20 +17,35 @@ fn ack2(alloc: Global, about: u16, heartbeat: u32) -> Result<Message, Fail> {
     Ok(Message::Ack2(Ack2::new(deltas).ok_or("an ACK2")?))
 }
 
-// Of messages about A at 1, B at 1 and A at 2, of which the first two were sent, in this order: which are found.
-fn found(alloc: Global, room: usize) -> Result<[bool; 3], Fail> {
-    let first = ack2(alloc, A, 1)?;
-    let second = ack2(alloc, B, 1)?;
-    let third = ack2(alloc, A, 2)?;
+// Messages about A at 1, B at 1, A at 2, and A at 1 once more.
+fn ack2s(alloc: Global) -> Result<Vec<Message>, Fail> {
+    let mut messages = Vec::new(alloc);
+    for (about, heartbeat) in [(A, 1), (B, 1), (A, 2), (A, 1)] {
+        messages.push(ack2(alloc, about, heartbeat)?)?;
+    }
+    Ok(messages)
+}
+
+// Which are found of three messages, where two were sent, in their order.
+fn found_of(
+    alloc: Global,
+    room: usize,
+    [first, second]: [&Message; 2],
+    asked: [&Message; 3],
+) -> Result<[bool; 3], AllocError> {
     let sent = Sent::none(alloc, room)?;
     let sent = sent.with(first.lent())?;
     let sent = sent.with(second.lent())?;
-    let equal = ack2(alloc, A, 1)?;
-    Ok([
-        sent.contains(equal.lent()),
-        sent.contains(second.lent()),
-        sent.contains(third.lent()),
-    ])
+    Ok(asked.map(|message: &Message| sent.contains(message.lent())))
+}
+
+// Of an equal of the first that was sent, of the second, and of one that was not: which are found.
+fn found(alloc: Global, room: usize) -> Result<[bool; 3], Fail> {
+    let messages = ack2s(alloc)?;
+    let [first, second, third, equal] = messages.as_slice() else {
+        return Err(Fail::new("four messages"));
+    };
+    Ok(found_of(alloc, room, [first, second], [equal, second, third])?)
 }
 
 #[test]

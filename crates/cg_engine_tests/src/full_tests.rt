@@ -12,9 +12,14 @@ use cg_types::{StateText, TEXT_LIMIT};
 use std::alloc::Global;
 use std::test::Fail;
 
-// The text of a key of an endpoint: one letter, as often as a text may have it.
+// The letter of a key of an endpoint.
+fn letter(number: u16, at: u8) -> char {
+    char::from(b'a' + (number % 13) as u8 + at % 13)
+}
+
+// The text of a key of an endpoint: its letter, as often as a text may have it.
 fn text(alloc: Global, number: u16, at: u8) -> Result<String, Fail> {
-    let letter = char::from(b'a' + (number % 13) as u8 + at % 13);
+    let letter = letter(number, at);
     let mut text = String::new(alloc);
     for _ in 0..TEXT_LIMIT {
         text.push(letter)?;
