@@ -1,4 +1,4 @@
-//! Tests of a node, over its public calls.
+//! Tests of a node, of what it is set to, and of windows of silence, over their public calls.
 #![tactic(auto)]
 
 #[cfg(test)]
@@ -13,3 +13,7 @@ mod parts;
 mod samples;
 #[cfg(test)]
 mod settings;
+#[cfg(test)]
+mod silence;
+#[cfg(test)]
+mod spent;

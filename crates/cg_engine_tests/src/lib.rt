@@ -1,5 +1,5 @@
-//! Links: what is read from them, written to them and counted; and exchanges over bytes in memory, over links that fail at
-//! each call in turn, and over links that move a byte a call.
+//! Frames and streams of them, both ways and in other layouts; links: what is read from them, written to them and counted;
+//! and exchanges over bytes in memory, over links that fail at each call in turn, and over links that move a byte a call.
 #![tactic(auto)]
 
 #[cfg(test)]
@@ -7,7 +7,13 @@ mod counting_tests;
 #[cfg(test)]
 mod exchange_tests;
 #[cfg(test)]
+mod feed_tests;
+#[cfg(test)]
+mod frame_tests;
+#[cfg(test)]
 mod full_tests;
+#[cfg(test)]
+mod layout_tests;
 #[cfg(test)]
 mod link_tests;
 #[cfg(test)]

@@ -81,9 +81,9 @@ fn read_inside(alloc: Global, layout: &Layout, inside: &[u8]) -> Result<Message,
     }
 }
 
-/// As `decode`, in one layout that messages can hold.
+/// As `decode`, in one layout that messages can hold, whatever its byte: a frame of another byte is a `BadFrame` of `Layout`.
 #[tactic(auto, unfolding(crate::specs::Reading::frame_at))]
-pub(crate) fn decode_in(
+pub fn decode_in(
     alloc: Global,
     layout: &Layout,
     bytes: &[u8],
@@ -111,8 +111,8 @@ pub(crate) fn decode_in(
     Ok(Some((message, 4 + size)))
 }
 
-/// As `decode`, in any layouts that messages can hold.
-pub(crate) fn decode_among(
+/// As `decode`, in any layouts that messages can hold, told apart by their bytes.
+pub fn decode_among(
     alloc: Global,
     layouts: &[Layout],
     bytes: &[u8],

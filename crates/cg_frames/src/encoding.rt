@@ -217,11 +217,7 @@ fn put_message(out: &mut Vec<u8>, message: Lent<'_>) -> Result<(), AllocError>
 
 /// As `encode_lent`, in any layout that allows what messages hold. The message fits it, so its length fits into four
 /// bytes.
-pub(crate) fn encode_in(
-    alloc: Global,
-    layout: &Layout,
-    message: Lent<'_>,
-) -> Result<Bytes, AllocError>
+pub fn encode_in(alloc: Global, layout: &Layout, message: Lent<'_>) -> Result<Bytes, AllocError>
     requires layout { IsLayout layout.now }
     requires written { IsWritten layout.now }
     ensures written { IfOk result (λ b. b ≡ spelling.frame layout.now (lent_message message.entry)) }

@@ -33,6 +33,3 @@ pub const WRITTEN: Layout = LAYOUT_1;
 
 /// The layouts that frames are read in, told apart by their bytes.
 pub const LAYOUTS: [Layout; 1] = [LAYOUT_1];
-
-#[cfg(test)]
-mod tests;

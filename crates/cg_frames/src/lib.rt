@@ -16,8 +16,8 @@ mod misread;
 mod reader;
 
 pub use cg_exchange::{Ack, Ack2, Lent, Message, OwnerDelta, Request, Syn};
-pub use decoding::decode;
-pub use encoding::{encode, encode_lent};
+pub use decoding::{decode, decode_among, decode_in};
+pub use encoding::{encode, encode_in, encode_lent};
 pub use feed::{Fed, Feed};
 pub use fits::every_message_fits;
 pub use layout::{LAYOUT_1, LAYOUTS, Layout, WRITTEN};

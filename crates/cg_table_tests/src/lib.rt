@@ -1,9 +1,22 @@
-//! Tests of maps and tables, over their public calls.
+//! Tests of maps and tables, of tokens and the ring of a table, and of messages and what each makes of a table, over their public
+//! calls.
 #![tactic(auto)]
 
 #[cfg(test)]
+mod answers;
+#[cfg(test)]
 mod maps;
+#[cfg(test)]
+mod messages;
 #[cfg(test)]
 mod puts;
 #[cfg(test)]
+mod ring;
+#[cfg(test)]
+mod samples;
+#[cfg(test)]
 mod tables;
+#[cfg(test)]
+mod taking;
+#[cfg(test)]
+mod tokens;

@@ -1,27 +1,18 @@
-//! A node whose own entry has the last version. No public call makes one, so these tests stand here.
+//! A node whose own entry has the last version.
 
-use crate::node::Node;
+use crate::samples::{node, set_event};
+use cg_core::Node;
 use cg_events::{Event, Reply};
 use cg_exchange::Message;
 use cg_expect::{expect, expect_eq};
-use cg_samples::{A, bare_entry, cluster, endpoint, generation, key};
-use cg_settings::Settings;
-use cg_silence::Silence;
-use cg_types::{Fault, StateText};
+use cg_samples::{A, bare_entry};
+use cg_types::Fault;
 use std::alloc::Global;
 use std::test::Fail;
 
-// A node that starts.
-fn started(alloc: Global) -> Result<Node, Fail> {
-    let settings = Settings::new(cluster(alloc)?, Vec::new(alloc), Silence::default());
-    let settings = settings.ok_or("settings")?;
-    Ok(Node::start(alloc, endpoint(A), generation(9), settings)?)
-}
-
-// A node whose own entry has the last version.
 fn spent(alloc: Global) -> Result<Node, Fail> {
     let last = bare_entry(alloc, 9, 2147483647)?;
-    Ok(started(alloc)?.with_own(alloc, last)?)
+    Ok(node(alloc, A, 9)?.with_own(alloc, last)?)
 }
 
 // Why an event is refused, where it leaves the table as it was.
@@ -35,13 +26,11 @@ fn refusal(alloc: Global, event: &Event) -> Result<Option<Fault>, Fail> {
 
 #[test]
 fn a_spent_node_keeps_its_table(rt: HostRuntime) -> Result<(), Fail> {
-    let text = StateText::new(rt.alloc(), "x")?;
-    let set = Event::Set { key: key(3), text };
     let tick = Event::Tick {
         now: 5,
         words: [7, 3, 5, 9],
     };
-    for event in [Event::Beat, set, tick] {
+    for event in [Event::Beat, set_event(rt.alloc(), 3, "x")?, tick] {
         let fault = refusal(rt.alloc(), &event)?;
         expect_eq!(fault, Some(Fault::VersionsSpent))?;
     }

@@ -1,13 +1,10 @@
-//! Another layout is another record: the same readers and writers take it, and of several the byte names one. The calls over
-//! a layout are private, so these tests stand here.
+//! Another layout is another record: the same readers and writers take it, and of several the byte names one.
 
 ghost use Rattle.cg_frames.specs.Choosing.{AreLayouts, AreRead};
-ghost use Rattle.cg_frames.specs.declared.layout.tests.TheConstants.{BOTH};
+ghost use Rattle.cg_engine_tests.specs.declared.layout_tests.TheConstants.{BOTH};
 
-use crate::decoding::{decode_among, decode_in};
-use crate::encoding::encode_in;
-use crate::layout::{LAYOUT_1, Layout};
 use cg_expect::{expect, expect_eq};
+use cg_frames::{LAYOUT_1, Layout, decode_among, decode_in, encode_in};
 use cg_types::{Cause, Fault, MEMBER_LIMIT, TEXT_LIMIT};
 use std::alloc::Global;
 use std::test::Fail;

@@ -26,10 +26,15 @@ fn answer(alloc: Global, a: &Table, b: &Table, cluster: &Cluster) -> Result<Ack,
 // Whether two tables hold the same after an exchange that the first opened, and what the second then holds of A and B.
 type Exchanged = (bool, Option<(u32, u32)>, Option<(u32, u32)>);
 
-fn exchanged(alloc: Global, a: &Table, b: &Table, ack: &Ack) -> Result<Exchanged, Fault> {
+fn ended(alloc: Global, a: &Table, b: &Table, ack: &Ack) -> Result<Exchanged, Fault> {
     let (a, ack2, _outcomes) = take_ack(alloc, a, ack)?;
     let (b, _outcomes) = take_ack2(alloc, b, &ack2)?;
     Ok((a.same_entries(&b), held(&b, A), held(&b, B)))
+}
+
+fn exchanged(alloc: Global, a: &Table, b: &Table) -> Result<Exchanged, Fault> {
+    let ack = answer(alloc, a, b, &cluster(alloc)?)?;
+    ended(alloc, a, b, &ack)
 }
 
 // The vectors have its messages byte by byte (`journals.txt`), and what becomes of their deltas
@@ -38,8 +43,7 @@ fn exchanged(alloc: Global, a: &Table, b: &Table, ack: &Ack) -> Result<Exchanged
 fn first_exchange_equals_the_tables(rt: HostRuntime) -> Result<(), Fail> {
     let a = table_alone(rt.alloc(), A, 9)?;
     let b = table_alone(rt.alloc(), B, 5)?;
-    let ack = answer(rt.alloc(), &a, &b, &cluster(rt.alloc())?)?;
-    let exchanged = exchanged(rt.alloc(), &a, &b, &ack)?;
+    let exchanged = exchanged(rt.alloc(), &a, &b)?;
     expect_eq!(exchanged, (true, Some((9, 1)), Some((5, 1))))
 }
 
@@ -139,7 +143,7 @@ fn refusal(
     Ok(take_ack(alloc, table, &ack).err())
 }
 
-// A newer delta of A, and one about a 257th endpoint: whole, and above a version.
+// A newer delta of A, and one about a 257th endpoint: whole here, and above a version in the next test.
 #[test]
 fn table_full(rt: HostRuntime) -> Result<(), Fail> {
     let whole = (5, 0, 3);
@@ -150,7 +154,12 @@ fn table_full(rt: HostRuntime) -> Result<(), Fail> {
     expect_eq!(
         (refusal, held(&table, A)),
         (Some(Fault::TableFull), Some((5, 1)))
-    )?;
+    )
+}
+
+#[test]
+fn a_gap_needs_no_room(rt: HostRuntime) -> Result<(), Fail> {
+    let table = crowded(rt.alloc())?;
     let taken = taken(rt.alloc(), &table, &[A, 256], (5, 1, 3), [A, 256])?;
     let outcomes = [outcome(A, Took::Taken), outcome(256, Took::Gap)];
     expect_eq!(taken, Ok((outcomes, [Some((5, 3)), None])))
@@ -167,14 +176,23 @@ fn part_and_whole(alloc: Global) -> Result<Vec<OwnerDelta>, Fail> {
     Ok(deltas)
 }
 
+// Why they are refused in an ACK, and in an ACK2.
+fn ack_refusal(alloc: Global, table: &Table) -> Result<Option<Fault>, Fail> {
+    let ack = Ack::new(Vec::new(alloc), part_and_whole(alloc)?).ok_or("an ACK")?;
+    Ok(take_ack(alloc, table, &ack).err())
+}
+
+fn ack2_refusal(alloc: Global, table: &Table) -> Result<Option<Fault>, Fail> {
+    let ack2 = Ack2::new(part_and_whole(alloc)?).ok_or("an ACK2")?;
+    Ok(take_ack2(alloc, table, &ack2).err())
+}
+
 #[test]
 fn table_full_behind_a_part(rt: HostRuntime) -> Result<(), Fail> {
     let table = crowded(rt.alloc())?;
-    let ack2 = Ack2::new(part_and_whole(rt.alloc())?).ok_or("an ACK2")?;
-    let ack = Ack::new(Vec::new(rt.alloc()), part_and_whole(rt.alloc())?).ok_or("an ACK")?;
-    let refusals = [
-        take_ack2(rt.alloc(), &table, &ack2).err(),
-        take_ack(rt.alloc(), &table, &ack).err(),
-    ];
-    expect_eq!(refusals, [Some(Fault::TableFull); 2])
+    let refusals = (
+        ack_refusal(rt.alloc(), &table)?,
+        ack2_refusal(rt.alloc(), &table)?,
+    );
+    expect_eq!(refusals, (Some(Fault::TableFull), Some(Fault::TableFull)))
 }

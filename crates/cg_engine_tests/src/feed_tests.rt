@@ -1,6 +1,6 @@
 //! Streams that come in pieces: what a feed wants, what it answers once it has found a fault, and the longest message.
 
-use crate::messages::is_written_as;
+use crate::frame_tests::is_written_as;
 use cg_expect::{expect, expect_eq};
 use cg_frames::{Feed, Message};
 use cg_types::{Cause, Fault};
