@@ -32,9 +32,13 @@ module _ (layouts : List Layout) where
   bad_standing held None partial = tt
   bad_standing held (Some f) partial = partial
 
+  bad_fault : (s : Standing) → IsPartial layouts s → IfErr s IsBadFrame
+  bad_fault (Ok held) partial = tt
+  bad_fault (Err f) partial = partial
+
   all_partial : (s : Standing) (pieces : List (List ℕ)) → IsPartial layouts s → IsPartial layouts (fed_all layouts s pieces).rest
   all_partial s [] partial = partial
-  all_partial s (piece ∷ pieces) partial = all_partial (cut_of_piece layouts s piece).rest pieces (fed_partial layouts s piece partial)
+  all_partial s (piece ∷ pieces) partial = all_partial (cut_of_piece layouts s piece).rest pieces (fed_partial layouts s piece (bad_fault s partial))
 
   pub faults_are_bad : FaultsAreBadFrames layouts
   faults_are_bad = record {

@@ -1,10 +1,12 @@
 -- Cutting bytes into messages: by turns, after more bytes, and in pieces.
 use Rattle.std.proofs.Common.{◌≡◌, ℕ, zero, suc, ◌+◌, ◌≤◌, List, [], ◌∷◌, ◌++◌, length, drop, Option, Some, None, Result, Ok, Err, refl, sym, ap, ◌∙◌, subst, inl, inr, arith, length-drop, append_assoc, append-nil}
 use Rattle.std.specs.List.{flat_map}
+use Rattle.std.specs.Prelude.{IfErr}
 use Rattle.std.proofs.lemmas.List.{drop-append-le}
 use Rattle.cg_types.specs.declared.fault.Fault.{Fault}
 use Rattle.cg_exchange.specs.declared.message.Message.{Message}
 use Rattle.cg_frames.specs.declared.layout.Layout.{Layout}
+use Rattle.cg_frames.specs.Faults.{IsBadFrame}
 use Rattle.cg_frames.specs.Reading.{size_of, frame_at}
 use Rattle.cg_frames.specs.Choosing.{due, frame_among}
 use Rattle.cg_frames.specs.Laws.{WhatIsHeldIsPartial}
@@ -122,9 +124,9 @@ module _ (layouts : List Layout) where
   pub frames_partial : (xs : List ℕ) → IsPartial layouts (frames_in layouts xs).rest
   frames_partial xs = partial_within (length xs) xs (omega arith)
 
-  pub fed_partial : (s : Standing) (piece : List ℕ) → IsPartial layouts s → IsPartial layouts (cut_of_piece layouts s piece).rest
-  fed_partial (Ok held) piece partial = frames_partial (held ++ piece)
-  fed_partial (Err f) piece partial = partial
+  pub fed_partial : (s : Standing) (piece : List ℕ) → IfErr s IsBadFrame → IsPartial layouts (cut_of_piece layouts s piece).rest
+  fed_partial (Ok held) piece bad = frames_partial (held ++ piece)
+  fed_partial (Err f) piece bad = bad
 
   -- Two pieces are one.
   pub fed_twice : (s : Standing) (first second : List ℕ) → cut_of_piece layouts s (first ++ second) ≡ carried (cut_of_piece layouts s first).messages (cut_of_piece layouts s first).rest second
@@ -155,7 +157,7 @@ module _ (layouts : List Layout) where
   from_nothing pieces = pieces_add_up (Ok []) pieces nothing_at
 
   pub held_partial : WhatIsHeldIsPartial layouts
-  held_partial = record { new = nothing_at; later = λ held piece. frames_partial (held ++ piece) }
+  held_partial = record { new = nothing_at; later = fed_partial }
 
   -- ---- one at a time
 

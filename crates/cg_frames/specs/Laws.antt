@@ -1,5 +1,5 @@
 -- What is said of spelling, reading and feeding as a whole.
-use Rattle.std.specs.Prelude.{◌≡◌, ℕ, ◌+◌, ◌<◌, ◌≤◌, List, [], ◌++◌, length, take, slice_get, slice_index, Some, None, Result, Ok, Err, Option, IfOk, IfSome}
+use Rattle.std.specs.Prelude.{◌≡◌, ℕ, ◌+◌, ◌<◌, ◌≤◌, List, [], ◌++◌, length, take, slice_get, slice_index, Some, None, Result, Ok, Err, Option, IfOk, IfErr, IfSome}
 use Rattle.std.specs.List.{flat_map, AllByRecursion}
 use Rattle.cg_types.specs.declared.fault.Cause.TheVariants as causes
 use Rattle.cg_types.specs.declared.fault.Fault.{Fault}
@@ -85,11 +85,12 @@ EveryCuttingIsTheWhole layouts =
     (pieces : List (List ℕ))
     → fed_all layouts (Ok []) pieces ≡ frames_in layouts (flat_map (λ (piece : List ℕ). piece) pieces)
 
--- What is held needs more, at first and after a piece, whatever was held before it; a fault that follows is a bad
--- frame.
+-- What is held needs more, at first and after a piece, whatever was held before it; the fault that stands then is a bad
+-- frame, if the one before was.
 pub record WhatIsHeldIsPartial (layouts : List Layout) : Type 0 where
   pub new : IsPartial layouts (Ok [])
-  pub later : (held piece : List ℕ) → IsPartial layouts (cut_of_piece layouts (Ok held) piece).rest
+  pub later : (s : Standing) (piece : List ℕ)
+      → IfErr s IsBadFrame → IsPartial layouts (cut_of_piece layouts s piece).rest
 
 -- A fault of bytes, in whichever layout they are read, and of a feed is a bad frame.
 pub record FaultsAreBadFrames (layouts : List Layout) : Type 0 where
