@@ -28,5 +28,6 @@ pub(crate) fn measure_alone(
     history.apply(alloc, 1, filling(alloc, counts)?)?;
     let start = Instant::now(rt)?;
     apply_all(alloc, &mut history, work, counts)?;
-    print_line(rt, name, counts, history.records().len(), start)
+    let label = format!(in alloc; "apply_{name}")?;
+    print_line(rt, label.as_str(), counts, history.records().len(), start)
 }

@@ -115,6 +115,16 @@ pub(crate) enum Workers {
     Four,
 }
 
+impl Workers {
+    fn count(self) -> u8 {
+        match self {
+            Workers::One => 1,
+            Workers::Two => 2,
+            Workers::Four => 4,
+        }
+    }
+}
+
 // Has the work done by so many threads. The other seats do nothing.
 fn submit_by<N: Name + Send + Sync, R: Threads + Wait + Sync>(
     rt: &R,
@@ -220,5 +230,6 @@ pub(crate) fn measure<R: Threads + Wait + Sync + Clock + Print>(
         work,
         counts,
     )?;
-    print_line(rt, name, counts, records, start)
+    let label = format!(in alloc; "submit_{name}_by_{}", workers.count())?;
+    print_line(rt, label.as_str(), counts, records, start)
 }

@@ -18,73 +18,24 @@ use std::rt::Clock;
 use std::sync::Wait;
 use std::thread::Threads;
 
-fn beats<R: Threads + Wait + Sync + Clock + Print>(
+// Measures the work on a history alone, and on boards by one, two and four threads.
+fn measure_all<R: Threads + Wait + Sync + Clock + Print>(
     rt: &R,
     alloc: Global,
+    work: Work,
     counts: Counts,
+    name: &str,
 ) -> Result<()> {
-    measure_alone(rt, alloc, Work::Beat, counts, "apply_beat")?;
-    measure(
-        rt,
-        alloc,
-        Workers::One,
-        Work::Beat,
-        counts,
-        "submit_beat_by_1",
-    )?;
-    measure(
-        rt,
-        alloc,
-        Workers::Two,
-        Work::Beat,
-        counts,
-        "submit_beat_by_2",
-    )?;
-    measure(
-        rt,
-        alloc,
-        Workers::Four,
-        Work::Beat,
-        counts,
-        "submit_beat_by_4",
-    )
-}
-
-fn sets<R: Threads + Wait + Sync + Clock + Print>(
-    rt: &R,
-    alloc: Global,
-    counts: Counts,
-) -> Result<()> {
-    measure_alone(rt, alloc, Work::Set, counts, "apply_set")?;
-    measure(
-        rt,
-        alloc,
-        Workers::One,
-        Work::Set,
-        counts,
-        "submit_set_by_1",
-    )?;
-    measure(
-        rt,
-        alloc,
-        Workers::Two,
-        Work::Set,
-        counts,
-        "submit_set_by_2",
-    )?;
-    measure(
-        rt,
-        alloc,
-        Workers::Four,
-        Work::Set,
-        counts,
-        "submit_set_by_4",
-    )
+    measure_alone(rt, alloc, work, counts, name)?;
+    for workers in [Workers::One, Workers::Two, Workers::Four] {
+        measure(rt, alloc, workers, work, counts, name)?;
+    }
+    Ok(())
 }
 
 fn main(rt: HostRuntime) -> Result<()> {
     let counts = counts_by_word(&rt);
     let alloc = rt.alloc();
-    beats(&rt, alloc, counts)?;
-    sets(&rt, alloc, counts)
+    measure_all(&rt, alloc, Work::Beat, counts, "beat")?;
+    measure_all(&rt, alloc, Work::Set, counts, "set")
 }

@@ -6,7 +6,7 @@ use crate::history::new_history;
 use crate::reading::set_and_read;
 use cg_expect::expect_eq;
 use cg_history::{History, Receipt};
-use cg_locked::{Name, Seat, Shared};
+use cg_locked::{Name, Seat, Shared, Unconfirmed};
 use cg_samples::key;
 use cg_table::Table;
 use cg_types::StateText;
@@ -71,6 +71,55 @@ struct Left {
     reads: u64,
 }
 
+// Two threads work, one a seat.
+fn work_by_two<N: Name + Send + Sync, R: Threads + Wait + Sync>(
+    rt: &R,
+    alloc: Global,
+    shared: &Shared<N>,
+    one: (Seat<N>, Pass<N>),
+    other: (Seat<N>, Pass<N>),
+    count: u32,
+) -> (Worked<N>, Worked<N>)
+    requires { N.start.table ≡ N.opening }
+    ensures { (result.0.seat.share.parts ≡ one.0.share.parts) × (result.1.seat.share.parts ≡ other.0.share.parts) }
+{
+    let (first, pass) = one;
+    let (second, another) = other;
+    join(
+        rt,
+        move || -> Worked<N>
+            requires { N.start.table ≡ N.opening }
+            ensures { result.seat.share.parts ≡ first.share.parts }
+        { set_all(rt, alloc, shared, first, pass, count) },
+        move || -> Worked<N>
+            requires { N.start.table ≡ N.opening }
+            ensures { result.seat.share.parts ≡ second.share.parts }
+        { set_all(rt, alloc, shared, second, another, count) },
+    )
+}
+
+// The receipts of both, as far as there is memory for them.
+fn together(one: Vec<Receipt>, other: Vec<Receipt>) -> Vec<Receipt> {
+    let mut receipts = one;
+    for receipt in other {
+        if receipts.push(receipt).is_err() {
+            break;
+        }
+    }
+    receipts
+}
+
+// How many records are left, and how many receipts were confirmed or the place of the first that was not.
+fn confirmed(
+    finished: Result<History, Unconfirmed>,
+    count: usize,
+) -> (usize, Result<usize, usize>) {
+    match finished {
+        Ok(history) => (history.records().len(), Ok(count)),
+        Err(left) => (left.history.records().len(), Err(left.place)),
+    }
+}
+
 fn left_by_two<N: Name + Send + Sync, R: Threads + Wait + Sync>(
     rt: &R,
     alloc: Global,
@@ -90,21 +139,10 @@ fn left_by_two<N: Name + Send + Sync, R: Threads + Wait + Sync>(
     let first = seats.pop().unwrap();
     let other = passes.pop().unwrap();
     let pass = passes.pop().unwrap();
-    let lent = &shared;
-    let (first, second) = join(
-        rt,
-        move || -> Worked<N>
-            requires { N.start.table ≡ N.opening }
-            ensures { result.seat.share.parts ≡ first.share.parts }
-        { set_all(rt, alloc, lent, first, pass, count) },
-        move || -> Worked<N>
-            requires { N.start.table ≡ N.opening }
-            ensures { result.seat.share.parts ≡ second.share.parts }
-        { set_all(rt, alloc, lent, second, other, count) },
-    );
+    let (first, second) = work_by_two(rt, alloc, &shared, (first, pass), (second, other), count);
     let Worked {
         seat,
-        mut receipts,
+        receipts,
         reads,
     } = first;
     seats.push_reserved(seat);
@@ -114,23 +152,13 @@ fn left_by_two<N: Name + Send + Sync, R: Threads + Wait + Sync>(
         reads: others,
     } = second;
     seats.push_reserved(seat);
-    for receipt in more {
-        if receipts.push(receipt).is_err() {
-            break;
-        }
-    }
+    let receipts = together(receipts, more);
+    let (records, confirmed) = confirmed(shared.finish(rt, seats, &receipts), receipts.len());
     let reads = reads.saturating_add(others);
-    Ok(match shared.finish(rt, seats, &receipts) {
-        Ok(history) => Left {
-            records: history.records().len(),
-            confirmed: Ok(receipts.len()),
-            reads,
-        },
-        Err(left) => Left {
-            records: left.history.records().len(),
-            confirmed: Err(left.place),
-            reads,
-        },
+    Ok(Left {
+        records,
+        confirmed,
+        reads,
     })
 }
 
