@@ -5,9 +5,7 @@ use cg_audit::Lives;
 use cg_events::Event;
 use cg_exchange::Lent;
 use cg_history::History;
-use cg_settings::Settings;
-use cg_silence::Silence;
-use cg_types::{Cluster, Endpoint, Generation};
+use cg_samples::{endpoint, generation, settings};
 use std::alloc::{AllocError, Global};
 use std::hint::black_box;
 
@@ -24,21 +22,8 @@ const NOW: u64 = 2000;
 // A beat, and the four events of an exchange.
 const EXCHANGE: u32 = 5;
 
-// 10.0.HIGH.LOW:7000
-fn endpoint(number: u16) -> Result<Endpoint> {
-    let [high, low] = number.to_be_bytes();
-    Endpoint::new([10, 0, high, low], 7000).context("an endpoint")
-}
-
-fn settings(alloc: Global) -> Result<Settings> {
-    let silence = Silence::new(1000, 2000, 60000, 18421).context("settings of a window")?;
-    let cluster = Cluster::new(alloc, "c1")?;
-    Settings::new(cluster, Vec::new(alloc), silence).context("settings of a node")
-}
-
 fn begun(alloc: Global, number: u16) -> Result<History> {
-    let generation = Generation::new(5).context("a generation")?;
-    Ok(History::begin(alloc, endpoint(number)?, generation, settings(alloc)?)?)
+    Ok(History::begin(alloc, endpoint(number), generation(5), settings(alloc)?)?)
 }
 
 // The event that hands a message over.
@@ -83,7 +68,7 @@ fn exchange(alloc: Global, opener: &mut History, answerer: &mut History) -> Resu
 fn life(alloc: Global, number: u16, history: History) -> Result<Lives> {
     let mut histories = Vec::with_capacity(alloc, 1)?;
     histories.push(history)?;
-    Lives::new(endpoint(number)?, histories).context("lives")
+    Lives::new(endpoint(number), histories).context("lives")
 }
 
 // The lives of two endpoints after so many exchanges.

@@ -2,23 +2,13 @@
 
 use cg_audit::{AuditFault, Lives, audit, endpoints_differ};
 use cg_history::History;
-use cg_samples::{cluster, endpoint, generation};
-use cg_settings::Settings;
-use cg_silence::Silence;
+use cg_samples::{endpoint, generation, settings};
 use std::alloc::Global;
 use std::test::Fail;
 
-// Settings with no seeds.
-fn settings(alloc: Global) -> Result<Settings, Fail> {
-    let cluster = cluster(alloc)?;
-    let settings = Settings::new(cluster, Vec::new(alloc), Silence::default());
-    Ok(settings.ok_or("settings")?)
-}
-
 /// The history of a node that starts.
 pub(crate) fn begun(alloc: Global, own: u16, number: u32) -> Result<History, Fail> {
-    let settings = settings(alloc)?;
-    Ok(History::begin(alloc, endpoint(own), generation(number), settings)?)
+    Ok(History::begin(alloc, endpoint(own), generation(number), settings(alloc)?)?)
 }
 
 /// `run` with its order, `stuck` with the heads, the name of a fault, or `twice` where two are of one endpoint. An item

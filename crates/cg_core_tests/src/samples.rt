@@ -3,25 +3,15 @@
 use cg_core::Node;
 use cg_events::Event;
 use cg_exchange::{Ack, Ack2, OwnerDelta, Request, Syn};
-use cg_samples::{A, B, bare_delta, cluster, endpoint, generation, key, version};
-use cg_settings::Settings;
-use cg_silence::Silence;
+use cg_samples::{A, B, bare_delta, endpoint, generation, key, settings, version};
 use cg_table::Digest;
 use cg_types::{Cluster, Endpoint, StateText};
 use std::alloc::Global;
 use std::test::Fail;
 
-/// Settings with these seeds.
-pub(crate) fn settings(alloc: Global, seeds: Vec<Endpoint>) -> Result<Settings, Fail> {
-    let cluster = cluster(alloc)?;
-    let settings = Settings::new(cluster, seeds, Silence::default());
-    Ok(settings.ok_or("settings")?)
-}
-
 /// A node that starts in a generation.
 pub(crate) fn node(alloc: Global, own: u16, at: u32) -> Result<Node, Fail> {
-    let settings = settings(alloc, Vec::new(alloc))?;
-    Ok(Node::start(alloc, endpoint(own), generation(at), settings)?)
+    Ok(Node::start(alloc, endpoint(own), generation(at), settings(alloc)?)?)
 }
 
 /// The event that a key is to get a text.

@@ -1,8 +1,7 @@
 //! Settings of a node.
 
-use crate::samples::settings;
 use cg_expect::{expect, expect_eq};
-use cg_samples::{A, B, endpoint};
+use cg_samples::{A, B, cluster, endpoint};
 use cg_settings::{SEED_LIMIT, Settings, SettingsFault};
 use cg_silence::Silence;
 use cg_types::{Cluster, Endpoint};
@@ -89,9 +88,17 @@ fn shown(settings: &Settings) -> (&str, Option<Endpoint>, Silence) {
     (settings.cluster().name(), seed, settings.silence())
 }
 
+// Settings with the seed B.
+fn settings(alloc: Global) -> Result<Settings, Fail> {
+    let seeds = endpoints(alloc, &[B])?;
+    match Settings::new(cluster(alloc)?, seeds, Silence::default()) {
+        Some(settings) => Ok(settings),
+        None => Err(Fail::from("settings")),
+    }
+}
+
 #[test]
 fn settings_are_shown_and_copied(rt: HostRuntime) -> Result<(), Fail> {
-    let seeds = endpoints(rt.alloc(), &[B])?;
-    let copy = settings(rt.alloc(), seeds)?.copy(rt.alloc())?;
+    let copy = settings(rt.alloc())?.copy(rt.alloc())?;
     expect_eq!(shown(&copy), ("c1", Some(endpoint(B)), Silence::default()))
 }

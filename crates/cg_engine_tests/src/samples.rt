@@ -5,9 +5,7 @@ use cg_core::Node;
 use cg_engine::NodeGate;
 use cg_exchange::Syn;
 use cg_frames::decode;
-use cg_samples::{A, B, cluster, endpoint, generation};
-use cg_settings::Settings;
-use cg_silence::Silence;
+use cg_samples::{A, B, endpoint, generation, settings};
 use cg_wire::syn_due;
 use std::alloc::Global;
 use std::test::Fail;
@@ -24,9 +22,7 @@ pub(crate) const ACK2: &[u8] =
 
 // The node of an endpoint that has just started at a generation.
 pub(crate) fn started(alloc: Global, own: u16, start: u32) -> Result<Node, Fail> {
-    let seeds = Vec::new(alloc);
-    let settings = Settings::new(cluster(alloc)?, seeds, Silence::default()).ok_or("settings")?;
-    Ok(Node::start(alloc, endpoint(own), generation(start), settings)?)
+    Ok(Node::start(alloc, endpoint(own), generation(start), settings(alloc)?)?)
 }
 
 fn node(alloc: Global, own: u16, start: u32) -> Result<NodeGate, Fail> {

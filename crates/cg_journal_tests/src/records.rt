@@ -7,17 +7,13 @@ use cg_events::{Event, Reply};
 use cg_exchange::{Ack2, OwnerDelta, syn};
 use cg_expect::expect_eq;
 use cg_history::{History, Item, Receipt};
-use cg_samples::{A, B, bare_delta, cluster, endpoint, generation, key, version};
-use cg_settings::Settings;
-use cg_silence::Silence;
+use cg_samples::{A, B, bare_delta, cluster, endpoint, generation, key, settings, version};
 use cg_types::{Cluster, Fault, StateText};
 use std::alloc::Global;
 use std::test::Fail;
 
 fn begun(alloc: Global) -> Result<History, Fail> {
-    let settings = Settings::new(cluster(alloc)?, Vec::new(alloc), Silence::default());
-    let settings = settings.ok_or("settings")?;
-    Ok(History::begin(alloc, endpoint(A), generation(9), settings)?)
+    Ok(History::begin(alloc, endpoint(A), generation(9), settings(alloc)?)?)
 }
 
 // What a node is handed here: a SYN of another cluster, an ACK2 of so many endpoints from B on, and others.

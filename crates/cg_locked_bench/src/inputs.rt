@@ -8,9 +8,7 @@ use cg_entry::{Delta, State};
 use cg_events::Event;
 use cg_exchange::{Ack2, OwnerDelta};
 use cg_history::History;
-use cg_samples::{cluster, endpoint, generation, key, long_text, version};
-use cg_settings::Settings;
-use cg_silence::Silence;
+use cg_samples::{endpoint, generation, key, long_text, settings, version};
 use cg_types::StateText;
 use std::alloc::Global;
 
@@ -73,7 +71,5 @@ pub(crate) fn filling(alloc: Global, counts: Counts) -> Result<Event> {
 pub(crate) fn new_history(alloc: Global) -> Result<History>
     ensures { IfOk result (λ h. h.records ≡ []) }
 {
-    let settings = Settings::new(cluster(alloc)?, Vec::new(alloc), Silence::default());
-    let settings = settings.context("settings")?;
-    Ok(History::begin(alloc, endpoint(1), generation(9), settings)?)
+    Ok(History::begin(alloc, endpoint(1), generation(9), settings(alloc)?)?)
 }

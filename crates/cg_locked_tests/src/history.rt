@@ -3,9 +3,7 @@
 ghost use Rattle.std.specs.Prelude.{◌≡◌, [], IfOk};
 
 use cg_history::History;
-use cg_samples::{A, cluster, endpoint, generation};
-use cg_settings::Settings;
-use cg_silence::Silence;
+use cg_samples::{A, endpoint, generation, settings};
 use std::alloc::Global;
 use std::test::Fail;
 
@@ -13,7 +11,5 @@ use std::test::Fail;
 pub(crate) fn new_history(alloc: Global) -> Result<History, Fail>
     ensures { IfOk result (λ h. h.records ≡ []) }
 {
-    let settings = Settings::new(cluster(alloc)?, Vec::new(alloc), Silence::default());
-    let settings = settings.ok_or("settings")?;
-    Ok(History::begin(alloc, endpoint(A), generation(9), settings)?)
+    Ok(History::begin(alloc, endpoint(A), generation(9), settings(alloc)?)?)
 }

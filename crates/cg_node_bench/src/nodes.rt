@@ -6,34 +6,18 @@ use cg_events::Event;
 use cg_exchange::{Ack, Ack2, OwnerDelta};
 use cg_history::History;
 use cg_measure::{Failure, Held, Shape, bringing, table};
-use cg_samples::{cluster, endpoint, generation, key, version};
-use cg_settings::Settings;
-use cg_silence::Silence;
+use cg_samples::{endpoint, generation, key, settings, version};
 use cg_types::{Fault, StateText};
 use std::alloc::{AllocError, Global};
 
-fn settings(alloc: Global) -> Result<Option<Settings>, Fault> {
-    let cluster = cluster(alloc)?;
-    match Silence::new(1000, 2000, 60000, 18421) {
-        Some(silence) => Ok(Settings::new(cluster, Vec::new(alloc), silence)),
-        None => Ok(None),
-    }
-}
-
 /// An endpoint that has just started.
 pub(crate) fn started(alloc: Global, number: u16, at: u32) -> Result<Node, Failure> {
-    match settings(alloc)? {
-        Some(settings) => Ok(Node::start(alloc, endpoint(number), generation(at), settings)?),
-        None => Err(Failure::Lacking("settings of a node")),
-    }
+    Ok(Node::start(alloc, endpoint(number), generation(at), settings(alloc)?)?)
 }
 
 /// The history of endpoint 0, which has just started.
 pub(crate) fn begun(alloc: Global) -> Result<History, Failure> {
-    match settings(alloc)? {
-        Some(settings) => Ok(History::begin(alloc, endpoint(0), generation(5), settings)?),
-        None => Err(Failure::Lacking("settings of a node")),
-    }
+    Ok(History::begin(alloc, endpoint(0), generation(5), settings(alloc)?)?)
 }
 
 /// The node after an event.

@@ -4,9 +4,11 @@
 #![tactic(auto)]
 
 mod entries;
+mod nodes;
 mod numbers;
 mod texts;
 
 pub use entries::{bare_delta, bare_entry, delta, entry_at_start, state};
+pub use nodes::settings;
 pub use numbers::{A, B, C, endpoint, generation, key, version};
 pub use texts::{cluster, long_text};

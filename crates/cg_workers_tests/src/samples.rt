@@ -5,9 +5,7 @@
 use cg_clock::Milliseconds;
 use cg_core::Node;
 use cg_engine::NodeGate;
-use cg_samples::{cluster, endpoint, generation};
-use cg_settings::Settings;
-use cg_silence::Silence;
+use cg_samples::{endpoint, generation, settings};
 use std::alloc::Global;
 use std::test::Fail;
 
@@ -25,9 +23,7 @@ pub(crate) const ACK: &[u8] =
 
 // The gate over the node of an endpoint that has just started at a generation.
 pub(crate) fn started(alloc: Global, own: u16, start: u32) -> Result<NodeGate, Fail> {
-    let seeds = Vec::new(alloc);
-    let settings = Settings::new(cluster(alloc)?, seeds, Silence::default()).ok_or("settings")?;
-    let node = Node::start(alloc, endpoint(own), generation(start), settings)?;
+    let node = Node::start(alloc, endpoint(own), generation(start), settings(alloc)?)?;
     Ok(NodeGate::new(node))
 }
 

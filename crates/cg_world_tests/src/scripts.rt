@@ -1,18 +1,11 @@
 //! Lists of actions, and what a world shows of the nodes after them.
 
 use cg_core::Node;
-use cg_samples::{A, B, C, cluster, endpoint, generation, key};
-use cg_settings::Settings;
-use cg_silence::Silence;
+use cg_samples::{A, B, C, endpoint, generation, key, settings};
 use cg_types::{Fault, StateText};
 use cg_world::{Action, LocalEvent, Shown, World};
 use std::alloc::{AllocError, Global};
 use std::test::Fail;
-
-pub fn settings(alloc: Global) -> Result<Settings, Fail> {
-    let settings = Settings::new(cluster(alloc)?, Vec::new(alloc), Silence::default());
-    Ok(settings.ok_or("settings")?)
-}
 
 pub fn start(node: u16, number: u32) -> Action {
     Action::Start(endpoint(node), generation(number))

@@ -1,0 +1,9 @@
+-- What a node of tests is set to.
+use Rattle.std.specs.Prelude.{[], codes}
+use Rattle.cg_types.specs.declared.limits.TheConstants.{PARTITIONER}
+use Rattle.cg_silence.specs.Values.{default_silence}
+use Rattle.cg_settings.specs.Values.{SettingsValue, settings_of}
+
+-- the cluster c1, no seeds, and the default silence
+abbrev pub sample_settings : SettingsValue
+sample_settings = settings_of (record { name = codes "c1"; partitioner = PARTITIONER }) [] default_silence
