@@ -30,8 +30,9 @@ fn a_spent_node_keeps_its_table(rt: HostRuntime) -> Result<(), Fail> {
         now: 5,
         words: [7, 3, 5, 9],
     };
-    for event in [Event::Beat, set_event(rt.alloc(), 3, "x")?, tick] {
-        let fault = refusal(rt.alloc(), &event)?;
+    let set = set_event(rt.alloc(), 3, "x")?;
+    for event in [&Event::Beat, &set, &tick] {
+        let fault = refusal(rt.alloc(), event)?;
         expect_eq!(fault, Some(Fault::VersionsSpent))?;
     }
     Ok(())

@@ -1,6 +1,7 @@
 //! Tests of rounds that are sent.
 
 use crate::samples::{ACK, SYN, Standing, owners, started};
+use cg_engine::NodeGate;
 use cg_exchange::Syn;
 use cg_expect::{expect, expect_eq};
 use cg_frames::decode;
@@ -64,7 +65,31 @@ fn round(alloc: Global, number: u64, peers: &[u16]) -> Result<Round, Fail> {
 // rounds were put in.
 type Came = (Vec<u64>, Vec<Endpoint>, usize, bool);
 
-// What comes of a round of number 5 for these peers, and one of number 9 for those, where B alone is reached.
+// What comes of two rounds at a gate, where B alone is reached: the numbers, whom it dialed, and whether both were put in.
+fn sent_from<R: Wait>(
+    rt: &R,
+    alloc: Global,
+    gate: &mut NodeGate,
+    two: (Round, Round),
+    bytes: &'static [u8],
+) -> Result<(Vec<u64>, Vec<Endpoint>, bool), Fail> {
+    let (first, second) = two;
+    let (mut putting, mut taking) = rounds(alloc)?;
+    let is_first = putting.put(rt, first).is_ok();
+    let is_second = putting.put(rt, second).is_ok();
+    putting.end(rt);
+    let mut dialer = Book {
+        alloc,
+        reached: endpoint(B),
+        bytes,
+        dialed: Vec::new(alloc),
+    };
+    let numbers = sender(rt, alloc, gate, &mut dialer, &Standing(1000), &mut taking);
+    let Book { dialed, .. } = dialer;
+    Ok((numbers, dialed, is_first && is_second))
+}
+
+// The same of a round of number 5 for these peers, and one of number 9 for those, at A.
 fn sent<R: Wait>(
     rt: &R,
     alloc: Global,
@@ -72,29 +97,10 @@ fn sent<R: Wait>(
     those: &[u16],
     bytes: &'static [u8],
 ) -> Result<Came, Fail> {
+    let two = (round(alloc, 5, these)?, round(alloc, 9, those)?);
     let mut gate = started(alloc, A, 9)?;
-    let mut dialer = Book {
-        alloc,
-        reached: endpoint(B),
-        bytes,
-        dialed: Vec::new(alloc),
-    };
-    let (first, second) = (round(alloc, 5, these)?, round(alloc, 9, those)?);
-    let (mut putting, mut taking) = rounds(alloc)?;
-    let is_first = putting.put(rt, first).is_ok();
-    let is_second = putting.put(rt, second).is_ok();
-    putting.end(rt);
-    let numbers = sender(
-        rt,
-        alloc,
-        &mut gate,
-        &mut dialer,
-        &Standing(1000),
-        &mut taking,
-    );
-    let held = owners(&gate);
-    let Book { dialed, .. } = dialer;
-    Ok((numbers, dialed, held, is_first && is_second))
+    let (numbers, dialed, are_put) = sent_from(rt, alloc, &mut gate, two, bytes)?;
+    Ok((numbers, dialed, owners(&gate), are_put))
 }
 
 // Whether these were dialed, in this order.
