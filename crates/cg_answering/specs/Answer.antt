@@ -9,9 +9,9 @@ use Rattle.cg_types.specs.ResultSteps.{◌>>=◌}
 use Rattle.cg_entry.specs.Entry.{starting_entry}
 use Rattle.cg_table.specs.Values.{TableValue}
 use Rattle.cg_table.specs.Table.{lone_table}
-use Rattle.cg_exchange.specs.declared.message.Message.{Message}
-use Rattle.cg_exchange.specs.declared.message.Message.TheVariants as messages
-use Rattle.cg_exchange.specs.Values.{SynValue}
+use Rattle.cg_messages.specs.declared.message.Message.{Message}
+use Rattle.cg_messages.specs.declared.message.Message.TheVariants as messages
+use Rattle.cg_messages.specs.Values.{SynValue}
 use Rattle.cg_exchange.specs.Answering.{answer_to_syn}
 use Rattle.cg_frames.specs.declared.layout.TheConstants.{WRITTEN, LAYOUTS}
 use Rattle.cg_frames.specs.Choosing.{frame_among}

@@ -12,9 +12,10 @@ ghost use Rattle.cg_answering.specs.Answered.{IsDue, AnswersAll, SaysOutOfMemory
 use crate::request::{Header, request};
 use bytes::Bytes;
 use cg_entry::Entry;
-use cg_exchange::{Message, Syn, answer_syn};
+use cg_exchange::answer_syn;
 use cg_frames::{decode, encode};
 use cg_links::{Counted, read_all, write_bytes};
+use cg_messages::{Message, Syn};
 use cg_table::Table;
 use cg_types::{Cause, Fault};
 use cg_wire::syn_due;

@@ -5,7 +5,7 @@ use Rattle.std.specs.Option.{option_to_list}
 use Rattle.std.proofs.Math.ListN.{set, length-set}
 use Rattle.std.proofs.lemmas.List.{append-nil, append_assoc, length-map, map-append}
 use Rattle.std.proofs.lemmas.Option.{slice_get_within}
-use Rattle.cg_exchange.specs.declared.message.Message.{Message}
+use Rattle.cg_messages.specs.declared.message.Message.{Message}
 use Rattle.cg_sent.specs.Index.{HaveTheSame}
 use Rattle.cg_one_run.specs.Items.{RunItem, LivesValue}
 use Rattle.cg_one_run.specs.OneRun.{messages_of}

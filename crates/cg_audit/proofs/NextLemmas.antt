@@ -7,7 +7,7 @@ use Rattle.std.proofs.Math.ListN.{set}
 use Rattle.std.proofs.lemmas.Option.{slice_get-get_or, slice_get_past, slice_get_within}
 use Rattle.std.proofs.lemmas.Bool.Decides.{leb_tells}
 use Rattle.cg_types.specs.Rising.{is_among}
-use Rattle.cg_exchange.specs.declared.message.Message.{Message}
+use Rattle.cg_messages.specs.declared.message.Message.{Message}
 use Rattle.cg_history.specs.History.{HistoryValue}
 use Rattle.cg_one_run.specs.Items.{RunItem, LivesValue, items_of_life, items_of_lives}
 use Rattle.cg_one_run.specs.Turns as turns

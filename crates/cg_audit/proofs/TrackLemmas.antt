@@ -5,7 +5,7 @@ use Rattle.std.specs.List.{AllByRecursion, Contains}
 use Rattle.std.specs.Cmp.{both_ways}
 use Rattle.std.proofs.Math.ListN.{set}
 use Rattle.cg_types.specs.Rising.{is_among}
-use Rattle.cg_exchange.specs.declared.message.Message.{Message}
+use Rattle.cg_messages.specs.declared.message.Message.{Message}
 use Rattle.cg_sent.specs.Index.{HaveTheSame}
 use Rattle.cg_one_run.specs.Items.{RunItem}
 use Rattle.cg_one_run.specs.OneRun.{messages_of}

@@ -5,7 +5,7 @@ pub mod Track
 pub mod Audit
 pub mod Tracks
 pub use Rattle.cg_types.specs.Rising
-pub use Rattle.cg_exchange.specs.Lent
+pub use Rattle.cg_messages.specs.Lent
 pub use Rattle.cg_steps.specs.Step
 pub use Rattle.cg_one_run.specs.Items
 pub use Rattle.cg_one_run.specs.Turns

@@ -1,6 +1,6 @@
 -- Items as they are kept.
 use Rattle.std.specs.Option.{option_map}
-use Rattle.cg_exchange.specs.Lent.{lent_message}
+use Rattle.cg_messages.specs.Lent.{lent_message}
 use Rattle.cg_one_run.specs.Items.{RunItem}
 use Rattle.cg_audit.specs.declared.step.Step.{Step}
 

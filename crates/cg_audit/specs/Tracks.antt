@@ -3,7 +3,7 @@ use Rattle.std.specs.Prelude.{ℕ, ◌≡◌, ◌≤◌, ◌==◌, ◌&&◌, is_
 use Rattle.std.specs.Option.{option_and_then}
 use Rattle.cg_types.specs.Rising.{is_among}
 use Rattle.cg_types.specs.declared.fault.Fault.TheVariants.{OutOfMemory}
-use Rattle.cg_exchange.specs.declared.message.Message.{Message}
+use Rattle.cg_messages.specs.declared.message.Message.{Message}
 use Rattle.cg_history.specs.History.{HistoryValue}
 use Rattle.cg_one_run.specs.Items.{RunItem, LivesValue, items_of_life, items_of_lives}
 use Rattle.cg_one_run.specs.Turns as turns

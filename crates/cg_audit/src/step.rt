@@ -2,7 +2,7 @@
 
 ghost use Rattle.std.specs.Prelude.{◌≡◌, option_copied, slice_get};
 ghost use Rattle.std.specs.Option.{option_map};
-ghost use Rattle.cg_exchange.specs.Lent.{lent_message};
+ghost use Rattle.cg_messages.specs.Lent.{lent_message};
 ghost use Rattle.cg_steps.specs.Step.{message_in};
 ghost use Rattle.cg_one_run.specs.Items.{generation_of, start_item, item_of, items_of_life};
 ghost use Rattle.cg_audit.specs.Steps.{run_item};
@@ -10,8 +10,8 @@ ghost use Rattle.cg_audit.specs.Steps.{run_item};
 use crate::item::LifeItem;
 use crate::lives::generation;
 use cg_events::Event;
-use cg_exchange::Lent;
 use cg_history::{History, Item};
+use cg_messages::Lent;
 use cg_types::{Endpoint, Generation};
 
 /// An item of a life, the message that it handles and the one that it sends.

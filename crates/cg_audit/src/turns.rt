@@ -2,7 +2,7 @@
 
 ghost use Rattle.std.specs.Prelude.{◌≡◌, ◌<◌, ◌==◌, ◌++◌, ◌&&◌, IsTrue, IfOk, IfSome, Some, length, map, is_some, nat_lt, slice_get, slice_index};
 ghost use Rattle.std.specs.Option.{option_map, option_to_list};
-ghost use Rattle.cg_exchange.specs.Lent.{lent_message};
+ghost use Rattle.cg_messages.specs.Lent.{lent_message};
 ghost use Rattle.cg_one_run.specs.Turns.{endpoints_of};
 ghost use Rattle.cg_sent.specs.Index.{HaveTheSame};
 ghost use Rattle.cg_audit.specs.Steps.{run_item};
@@ -13,7 +13,7 @@ ghost use Rattle.cg_audit.specs.Tracks.{IsFound, IsNext, better_place, found_of,
 use crate::cursor::{Cursor, advanced, cursors, first};
 use crate::item::{AuditFault, LifeItem, Order};
 use crate::lives::Lives;
-use cg_exchange::Lent;
+use cg_messages::Lent;
 use cg_sent::Sent;
 use cg_types::Endpoint;
 use std::alloc::{AllocError, Global};

@@ -3,8 +3,8 @@
 use anyhow::{Context, Result};
 use cg_audit::Lives;
 use cg_events::Event;
-use cg_exchange::Lent;
 use cg_history::History;
+use cg_messages::Lent;
 use cg_samples::{endpoint, generation, settings};
 use std::alloc::{AllocError, Global};
 use std::hint::black_box;

@@ -7,13 +7,13 @@ use Rattle.cg_entry.specs.Values.{EntryValue}
 use Rattle.cg_entry.specs.History.{IsHistory, at_place}
 use Rattle.cg_entry.specs.Place.{Span, IsSpan}
 use Rattle.cg_entry.specs.Spelling.{delta_of}
-use Rattle.cg_table.specs.declared.took.Took.{Took}
-use Rattle.cg_table.specs.declared.took.Took.TheVariants as took
-use Rattle.cg_exchange.specs.declared.message.Message.{Message}
-use Rattle.cg_exchange.specs.declared.message.Message.TheVariants as kinds
-use Rattle.cg_exchange.specs.declared.outcome.Outcome.{Outcome}
-use Rattle.cg_exchange.specs.declared.owner_delta.OwnerDelta.{OwnerDelta}
-use Rattle.cg_exchange.specs.Members.{about}
+use Rattle.cg_entry.specs.declared.took.Took.{Took}
+use Rattle.cg_entry.specs.declared.took.Took.TheVariants as took
+use Rattle.cg_messages.specs.declared.message.Message.{Message}
+use Rattle.cg_messages.specs.declared.message.Message.TheVariants as kinds
+use Rattle.cg_messages.specs.declared.outcome.Outcome.{Outcome}
+use Rattle.cg_messages.specs.declared.owner_delta.OwnerDelta.{OwnerDelta}
+use Rattle.cg_messages.specs.Members.{about}
 use Rattle.cg_exchange.specs.Places.{took_for}
 use Rattle.cg_exchange.specs.PlaceMessages.{PlaceMessage, Syn, Ack, Ack2, AreSpans}
 use Rattle.cg_exchange.specs.Spelling.{SpellsSpans, delta_about, outcome_about}

@@ -14,7 +14,7 @@ use Rattle.cg_entry.specs.History.{at_place, generation_of as generation_in, gen
 use Rattle.cg_table.specs.Values.{TableValue}
 use Rattle.cg_table.specs.Own.{own_entry, with_own}
 use Rattle.cg_table.specs.Table.{lone_table}
-use Rattle.cg_exchange.specs.declared.message.Message.{Message}
+use Rattle.cg_messages.specs.declared.message.Message.{Message}
 use Rattle.cg_exchange.specs.PlaceMessages.{PlaceMessage}
 use Rattle.cg_exchange.specs.Spelling.{outcome_about}
 use Rattle.cg_events.specs.declared.event.Event.{Event}

@@ -8,8 +8,8 @@ use Rattle.cg_types.specs.Numbers.{IsGeneration}
 use Rattle.cg_entry.specs.Values.{EntryValue}
 use Rattle.cg_table.specs.Own.{own_entry}
 use Rattle.cg_table.specs.Table.{digests_of}
-use Rattle.cg_exchange.specs.declared.outcome.Outcome.{Outcome}
-use Rattle.cg_exchange.specs.declared.owner_delta.OwnerDelta.{OwnerDelta}
+use Rattle.cg_messages.specs.declared.outcome.Outcome.{Outcome}
+use Rattle.cg_messages.specs.declared.owner_delta.OwnerDelta.{OwnerDelta}
 use Rattle.cg_exchange.specs.Spelling.{delta_about, outcome_about}
 use Rattle.cg_events.specs.declared.event.Event.{Event}
 use Rattle.cg_settings.specs.Values.{SettingsValue}

@@ -3,9 +3,9 @@
 use crate::made::{begun, said};
 use cg_audit::{LifeItem, Lives, audit, endpoints_differ};
 use cg_events::{Event, Reply};
-use cg_exchange::{Message, Syn};
 use cg_expect::expect_eq;
 use cg_history::Receipt;
+use cg_messages::{Message, Syn};
 use cg_samples::{endpoint, generation};
 use std::alloc::Global;
 use std::test::Fail;

@@ -1,9 +1,9 @@
 //! Frames: written, read, spoilt and checked.
 
 use bytes::Bytes;
-use cg_exchange::Message;
 use cg_frames::{decode, encode};
 use cg_measure::Failure;
+use cg_messages::Message;
 use cg_types::Fault;
 use std::alloc::{AllocError, Global};
 

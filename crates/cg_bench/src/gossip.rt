@@ -2,9 +2,10 @@
 
 use crate::frames::read;
 use bytes::Bytes;
-use cg_exchange::{Ack, Ack2, Message, Syn, answer_syn, syn, take_ack, take_ack2};
+use cg_exchange::{answer_syn, syn, take_ack, take_ack2};
 use cg_frames::encode;
 use cg_measure::Failure;
+use cg_messages::{Ack, Ack2, Message, Syn};
 use cg_table::Table;
 use cg_types::{Cluster, Fault};
 use std::alloc::{AllocError, Global};

@@ -1,7 +1,8 @@
 //! Tables of one shape, and the messages that are made of them.
 
-use cg_exchange::{Ack, Ack2, Message, OwnerDelta, Syn, answer_syn, syn};
+use cg_exchange::{answer_syn, syn};
 use cg_measure::{Failure, HELD, Held, Shape, bringing, empty_syn, table};
+use cg_messages::{Ack, Ack2, Message, OwnerDelta, Syn};
 use cg_samples::cluster;
 use cg_table::Table;
 use std::alloc::{AllocError, Global};

@@ -3,9 +3,9 @@
 use crate::frames::{fault, read};
 use crate::gossip::{answered, ended, exchanged, opened, taken};
 use bytes::Bytes;
-use cg_exchange::{Ack2, Message};
 use cg_frames::encode;
 use cg_measure::{Failure, Work, add_message, add_table};
+use cg_messages::{Ack2, Message};
 use cg_table::Table;
 use cg_types::{Cluster, Fault};
 use md5::{Digest, Md5};

@@ -6,8 +6,8 @@ use Rattle.std.specs.Cmp.{nat_cmp_total, eq_by_cmp_equiv}
 use Rattle.std.specs.FinMap.{get, get-insert, get-empty}
 use Rattle.std.proofs.lemmas.List.{append-nil}
 use Rattle.cg_types.specs.declared.fault.Fault.{Fault}
-use Rattle.cg_exchange.specs.declared.outcome.Outcome.{Outcome}
-use Rattle.cg_exchange.specs.declared.message.Message.TheVariants as message
+use Rattle.cg_messages.specs.declared.outcome.Outcome.{Outcome}
+use Rattle.cg_messages.specs.declared.message.Message.TheVariants as message
 use Rattle.cg_exchange.specs.Answering.{answer_to_syn}
 use Rattle.cg_exchange.specs.Taking.{taking_ack, taking_ack2}
 use Rattle.cg_silence.specs.Values.{SilenceValue, Shown}

@@ -16,7 +16,7 @@ use Rattle.cg_entry.specs.declared.entry.Absorbed.TheVariants as absorbed
 use Rattle.cg_entry.specs.Values.{EntryValue, DeltaValue}
 use Rattle.cg_entry.specs.Entry.{starting_entry, entry_after_beat, with_state, is_later}
 use Rattle.cg_entry.specs.Taking.{meeting}
-use Rattle.cg_table.specs.declared.took.Took.TheVariants as took
+use Rattle.cg_entry.specs.declared.took.Took.TheVariants as took
 use Rattle.cg_table.specs.Values.{TableValue, Entries}
 use Rattle.cg_table.specs.Own.{own_entry, with_own}
 use Rattle.cg_table.specs.Merge.{is_ahead}
@@ -24,13 +24,13 @@ use Rattle.cg_table.specs.Puts.{Put, puts, rows_at}
 use Rattle.cg_table.specs.Taking.{change_by}
 use Rattle.cg_table.proofs.PlaceLaws.{row_key}
 use Rattle.cg_table.proofs.PutsLemmas.{AreHeld, later_entries-put_each, put_each-held}
-use Rattle.cg_exchange.specs.declared.message.Message.TheVariants as message
-use Rattle.cg_exchange.specs.declared.outcome.Outcome.{Outcome}
-use Rattle.cg_exchange.specs.declared.owner_delta.OwnerDelta.{OwnerDelta}
-use Rattle.cg_exchange.specs.Values.{Ack2Value}
-use Rattle.cg_exchange.specs.Members.{endpoints_of_deltas}
+use Rattle.cg_messages.specs.declared.message.Message.TheVariants as message
+use Rattle.cg_messages.specs.declared.outcome.Outcome.{Outcome}
+use Rattle.cg_messages.specs.declared.owner_delta.OwnerDelta.{OwnerDelta}
+use Rattle.cg_messages.specs.Values.{Ack2Value}
+use Rattle.cg_messages.specs.Members.{endpoints_of_deltas, endpoints_of_outcomes}
 use Rattle.cg_exchange.specs.Answering.{answer_to_syn}
-use Rattle.cg_exchange.specs.Changes.{row_changed, endpoints_of_outcomes}
+use Rattle.cg_exchange.specs.Changes.{row_changed}
 use Rattle.cg_exchange.specs.Taking.{outcome_of, taking_ack, taking_ack2}
 use Rattle.cg_exchange.proofs.TakingLemmas.{rows_rise, taken_at_once, outcomes_rise}
 use Rattle.cg_events.specs.declared.event.Event.{Event}

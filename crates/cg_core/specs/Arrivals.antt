@@ -1,6 +1,6 @@
 -- At which moments deltas of an endpoint were taken, and what a window shows of them.
 use Rattle.std.specs.Prelude.{ℕ, List, [], ◌∷◌, ◌++◌, map, filter, Option, Some, None, Ok, Err}
-use Rattle.cg_exchange.specs.declared.outcome.Outcome.{Outcome}
+use Rattle.cg_messages.specs.declared.outcome.Outcome.{Outcome}
 use Rattle.cg_silence.specs.Values.{SilenceValue, Shown}
 use Rattle.cg_silence.specs.Silence.{window_of_all}
 use Rattle.cg_events.specs.declared.event.Event.{Event}

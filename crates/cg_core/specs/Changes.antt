@@ -4,8 +4,8 @@ use Rattle.std.specs.List.{filter}
 use Rattle.cg_types.specs.declared.fault.Fault.{Fault}
 use Rattle.cg_types.specs.Rising.{Rises}
 use Rattle.cg_table.specs.Puts.{Put, puts, rows_at}
-use Rattle.cg_exchange.specs.declared.outcome.Outcome.{Outcome}
-use Rattle.cg_exchange.specs.Members.{endpoints_of_deltas}
+use Rattle.cg_messages.specs.declared.outcome.Outcome.{Outcome}
+use Rattle.cg_messages.specs.Members.{endpoints_of_deltas}
 use Rattle.cg_events.specs.declared.event.Event.{Event}
 use Rattle.cg_events.specs.Handed.{deltas_in}
 use Rattle.cg_events.specs.declared.reply.Reply.{Reply}

@@ -7,7 +7,7 @@ use Rattle.cg_map.specs.Rows.{keys_of}
 use Rattle.cg_entry.specs.Entry.{newest, entry_after_beat, with_state}
 use Rattle.cg_table.specs.Values.{TableValue, IsTable}
 use Rattle.cg_table.specs.Own.{own_entry, with_own}
-use Rattle.cg_exchange.specs.declared.owner_delta.OwnerDelta.{OwnerDelta}
+use Rattle.cg_messages.specs.declared.owner_delta.OwnerDelta.{OwnerDelta}
 use Rattle.cg_exchange.specs.Taking.{table_after, held_after}
 use Rattle.cg_events.specs.declared.event.Event.{Event}
 use Rattle.cg_events.specs.declared.event.Event.TheVariants as event

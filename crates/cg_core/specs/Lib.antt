@@ -16,7 +16,7 @@ pub use Rattle.cg_silence.specs.Silence
 pub use Rattle.cg_silence.specs.Values as SilenceValues
 pub use Rattle.cg_tokens.specs.Ring
 pub use Rattle.cg_exchange.specs.Changes as ExchangeChanges
-pub use Rattle.cg_exchange.specs.Lent
-pub use Rattle.cg_exchange.specs.Members
+pub use Rattle.cg_messages.specs.Lent
+pub use Rattle.cg_messages.specs.Members
 pub use Rattle.cg_windows.specs.Windows
 pub use Rattle.cg_settings.specs.Values as SettingsValues

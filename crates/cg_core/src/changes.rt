@@ -2,11 +2,13 @@
 
 ghost use Rattle.std.specs.Prelude.{◌≡◌, IfOk};
 ghost use Rattle.cg_types.specs.Answer.{Answers};
+ghost use Rattle.cg_types.specs.Rising.{Rises};
+ghost use Rattle.cg_table.specs.Puts.{rows_at};
 ghost use Rattle.cg_core.specs.Changes.{step_with_puts, taken_owners as taken_owners_of, changed_owners as changed_owners_of};
 
 use crate::node::Node;
 use cg_events::{Event, Outcomes, Reply};
-use cg_table::Puts;
+use cg_table::{Puts, Table};
 use cg_types::{Endpoint, Fault};
 use cg_windows::was_taken;
 use std::alloc::{AllocError, Global};
@@ -36,6 +38,20 @@ fn changed_owners(alloc: Global, own: Endpoint, reply: &Reply) -> Result<Vec<End
     }
 }
 
+// The rows of these owners in the table after a step.
+fn changed_rows(
+    alloc: Global,
+    own: Endpoint,
+    after: &Table,
+    reply: &Reply,
+) -> Result<Puts, AllocError>
+    requires { Rises (changed_owners_of own reply.now) }
+    ensures { IfOk result (λ p. p ≡ rows_at after.now.entries (changed_owners_of own reply.now)) }
+{
+    let owners = changed_owners(alloc, own, reply)?;
+    Puts::of_owners(alloc, after, &owners)
+}
+
 impl Node {
     /// The node after an event, what it answers, and the puts of the step: the owners whose entry it changed, rising,
     /// each with its whole new entry, which is the new table's. They are found by what is answered, not by a walk over
@@ -49,8 +65,7 @@ impl Node {
     {
         let (node, reply) = self.stepped(alloc, event)?;
         let _deltas = event.deltas();
-        let owners = changed_owners(alloc, self.table().own(), &reply)?;
-        let puts = Puts::of_owners(alloc, node.table(), &owners)?;
+        let puts = changed_rows(alloc, self.table().own(), node.table(), &reply)?;
         Ok((node, reply, puts))
     }
 }

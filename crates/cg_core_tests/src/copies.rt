@@ -1,12 +1,12 @@
 //! Copies of events, replies, outcomes and peers, and `==`.
 
 use crate::samples::{ack_event, comes, node, set_event, syn_event};
+use cg_entry::Took;
 use cg_events::{Event, Outcomes, Reply};
-use cg_exchange::Outcome;
 use cg_expect::{expect, expect_eq};
+use cg_messages::Outcome;
 use cg_peers::Peers;
 use cg_samples::{A, B, endpoint, version};
-use cg_table::Took;
 use std::alloc::{AllocError, Global};
 use std::test::Fail;
 

@@ -3,12 +3,12 @@
 
 use crate::samples::{about, ack2_event, comes, held, node, set_event, syn_event};
 use cg_core::Node;
+use cg_entry::Took;
 use cg_events::{Event, Reply};
-use cg_exchange::{Ack2, OwnerDelta};
 use cg_expect::expect_eq;
+use cg_messages::{Ack2, OwnerDelta};
 use cg_samples::{A, B, C, delta, endpoint, key, state};
 use cg_silence::Verdict;
-use cg_table::Took;
 use cg_types::{Endpoint, Fault, MEMBER_LIMIT};
 use std::alloc::Global;
 use std::test::Fail;

@@ -1,11 +1,11 @@
 //! What a node is put together of, each by itself: windows, and the choice of a round's peers.
 
-use cg_exchange::Outcome;
+use cg_entry::Took;
 use cg_expect::{expect, expect_eq};
+use cg_messages::Outcome;
 use cg_peers::choose_peers;
 use cg_samples::{B, C, endpoint};
 use cg_silence::{Silence, Verdict};
-use cg_table::Took;
 use cg_windows::{Windows, any_taken, was_taken};
 use std::alloc::Global;
 use std::test::Fail;

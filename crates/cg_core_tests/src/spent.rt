@@ -3,8 +3,8 @@
 use crate::samples::{node, set_event};
 use cg_core::Node;
 use cg_events::{Event, Reply};
-use cg_exchange::Message;
 use cg_expect::{expect, expect_eq};
+use cg_messages::Message;
 use cg_samples::{A, bare_entry};
 use cg_types::Fault;
 use std::alloc::Global;

@@ -8,7 +8,7 @@ use Rattle.cg_types.specs.declared.fault.Fault.TheVariants as fault
 use Rattle.cg_types.specs.declared.limits.TheConstants.{NUMBER_LIMIT, MEMBER_LIMIT}
 use Rattle.cg_entry.specs.Entry.{newest}
 use Rattle.cg_table.specs.Own.{own_entry}
-use Rattle.cg_exchange.specs.declared.message.Message.TheVariants as message
+use Rattle.cg_messages.specs.declared.message.Message.TheVariants as message
 use Rattle.cg_exchange.specs.Answering.{same_cluster, answer_to_syn}
 use Rattle.cg_exchange.specs.Taking.{held_after, taking_ack, taking_ack2}
 use Rattle.cg_events.specs.declared.event.Event.{Event}

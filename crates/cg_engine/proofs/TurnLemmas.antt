@@ -12,7 +12,7 @@ use Rattle.cg_links.specs.declared.counted.Counted.{Counted}
 use Rattle.cg_links.proofs.Counts.{KeepsCounts-trans}
 use Rattle.cg_wire.specs.Received.{MeetsEnd}
 use Rattle.cg_wire.specs.Sent.{LeavesFlushed, SendsAll}
-use Rattle.cg_exchange.specs.declared.kind.Kind.{Kind}
+use Rattle.cg_messages.specs.declared.kind.Kind.{Kind}
 use Rattle.cg_engine.specs.Events.{written_for}
 use Rattle.cg_engine.specs.Turns.{DoesEvent}
 use Rattle.cg_engine.specs.Exchanged.{Turn, IsTurn, AreTurns, read_of, written_of, Runs, Turned, AllWritten}

@@ -3,8 +3,8 @@ use Rattle.std.specs.Prelude.{ℕ, List, [], Result}
 use Rattle.cg_types.specs.ResultSteps.{then}
 use Rattle.cg_types.specs.declared.fault.Fault.{Fault}
 use Rattle.cg_types.specs.declared.fault.Fault.TheVariants as fault
-use Rattle.cg_exchange.specs.declared.message.Message.{Message}
-use Rattle.cg_exchange.specs.declared.message.Message.TheVariants as messages
+use Rattle.cg_messages.specs.declared.message.Message.{Message}
+use Rattle.cg_messages.specs.declared.message.Message.TheVariants as messages
 use Rattle.cg_frames.specs.declared.layout.TheConstants.{WRITTEN}
 use Rattle.cg_frames.specs.Spelling.{frame}
 use Rattle.cg_events.specs.declared.event.Event.{Event}
@@ -12,8 +12,8 @@ use Rattle.cg_events.specs.declared.event.Event.TheVariants as event
 use Rattle.cg_events.specs.declared.reply.Reply.{Reply}
 use Rattle.cg_events.specs.declared.reply.Reply.TheVariants as reply
 use Rattle.cg_wire.specs.Due.{syn_due, ack_due, ack2_due}
-use Rattle.cg_exchange.specs.declared.kind.Kind.{Kind}
-use Rattle.cg_exchange.specs.declared.kind.Kind.TheVariants as kind
+use Rattle.cg_messages.specs.declared.kind.Kind.{Kind}
+use Rattle.cg_messages.specs.declared.kind.Kind.TheVariants as kind
 
 -- The event of a message of the kind that is due, as it comes at a moment; the fault of another kind.
 abbrev pub event_due : Kind → ℕ → Message → Result Event Fault

@@ -3,7 +3,7 @@ use Rattle.std.specs.Prelude.{◌≡◌, ℕ, ◌+◌, ◌<◌, ◌⊎◌, List,
 use Rattle.std.specs.List.{flat_map}
 use Rattle.std.specs.Io.KnownBytes.{Appends, Consumes, IsAtEnd}
 use Rattle.cg_types.specs.declared.fault.Fault.{Fault}
-use Rattle.cg_exchange.specs.declared.message.Message.{Message}
+use Rattle.cg_messages.specs.declared.message.Message.{Message}
 use Rattle.cg_events.specs.declared.event.Event.{Event}
 use Rattle.cg_events.specs.declared.reply.Reply.{Reply}
 use Rattle.cg_links.specs.declared.counted.Counted.{Counted}
@@ -11,7 +11,7 @@ use Rattle.cg_links.specs.Counted.{KeepsCounts}
 use Rattle.cg_wire.specs.Received.{IsSpelledBy, ReceivesMessage, FailsToReceive}
 use Rattle.cg_wire.specs.Sent.{LeavesFlushed, FailsToSend}
 use Rattle.cg_engine.specs.Events.{event_due, written_for, IsGateFault, IsReplyTo}
-use Rattle.cg_exchange.specs.declared.kind.Kind.{Kind}
+use Rattle.cg_messages.specs.declared.kind.Kind.{Kind}
 use Rattle.cg_engine.specs.declared.exchange.Ended.{Ended}
 use Rattle.cg_engine.specs.declared.exchange.Ended.TheVariants as ended
 use Rattle.cg_engine.specs.declared.exchange.Broken.{Broken}

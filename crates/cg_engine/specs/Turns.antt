@@ -1,13 +1,13 @@
 -- What one turn of an exchange comes to: a message is read, and its event is done.
 use Rattle.std.specs.Prelude.{◌≡◌, ℕ, ◌⊎◌, List, Bool, true, false, Option, Some, Result, Ok, Err}
 use Rattle.cg_types.specs.declared.fault.Fault.{Fault}
-use Rattle.cg_exchange.specs.declared.message.Message.{Message}
+use Rattle.cg_messages.specs.declared.message.Message.{Message}
 use Rattle.cg_events.specs.declared.event.Event.{Event}
 use Rattle.cg_events.specs.declared.reply.Reply.{Reply}
 use Rattle.cg_links.specs.declared.counted.Counted.{Counted}
 use Rattle.cg_wire.specs.Received.{ReceivesMessage, MeetsEnd, FailsToReceive}
 use Rattle.cg_engine.specs.Events.{event_due, IsGateFault, IsReplyTo}
-use Rattle.cg_exchange.specs.declared.kind.Kind.{Kind}
+use Rattle.cg_messages.specs.declared.kind.Kind.{Kind}
 
 -- What a gate does, by its ghost members: a state, an event, its reply and the state after it; the refusals of an event
 -- in a state; a state and one that a refused event left; the reply of the last event done.

@@ -1,17 +1,17 @@
 //! Whole exchanges, of which one side begins and the other answers.
 
 ghost use Rattle.std.specs.Prelude.{◌≡◌, [], ◌∷◌, length, ◌<◌, ◌^◌};
-ghost use Rattle.cg_exchange.specs.declared.message.Message.TheVariants as messages;
+ghost use Rattle.cg_messages.specs.declared.message.Message.TheVariants as messages;
 ghost use Rattle.cg_frames.specs.declared.layout.TheConstants.{WRITTEN};
 ghost use Rattle.cg_frames.specs.Spelling.{frame};
 ghost use Rattle.cg_links.specs.Counted.{link_of, failed_of, idle_of};
-ghost use Rattle.cg_exchange.specs.declared.kind.Kind.TheVariants as message_kind;
+ghost use Rattle.cg_messages.specs.declared.kind.Kind.TheVariants as message_kind;
 ghost use Rattle.cg_engine.specs.Exchanged.{Exchanges};
 
 use crate::gate::Gate;
 use crate::turn::{send_last, take_event};
-use cg_exchange::{Kind, Lent, Syn};
 use cg_links::Counted;
+use cg_messages::{Kind, Lent, Syn};
 use cg_types::Fault;
 use cg_wire::send;
 use std::alloc::Global;

@@ -8,8 +8,8 @@ ghost use Rattle.cg_engine.specs.Turns.{TakesEvent};
 
 use crate::gate::Gate;
 use cg_events::{Event, Reply};
-use cg_exchange::{Kind, Lent, Message};
 use cg_links::Counted;
+use cg_messages::{Kind, Lent, Message};
 use cg_types::Fault;
 use cg_wire::{ack_due, ack2_due, receive, send, syn_due};
 use std::alloc::Global;

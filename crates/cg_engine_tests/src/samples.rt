@@ -3,8 +3,8 @@
 
 use cg_core::Node;
 use cg_engine::NodeGate;
-use cg_exchange::Syn;
 use cg_frames::decode;
+use cg_messages::Syn;
 use cg_samples::{A, B, endpoint, generation, settings};
 use cg_wire::syn_due;
 use std::alloc::Global;

@@ -1,6 +1,7 @@
 pub mod Versioned
 pub mod State
 pub mod Values
+pub mod Took
 pub mod Entry
 pub mod Contents
 pub mod Held

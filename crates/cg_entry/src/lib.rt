@@ -7,12 +7,16 @@
 #![tactic(auto)]
 
 mod delta;
+mod digest;
 mod entry;
 mod held;
 pub mod laws;
 mod state;
 mod states;
+mod took;
 
 pub use delta::Delta;
+pub use digest::Digest;
 pub use entry::{Absorbed, Entry, meet};
 pub use state::State;
+pub use took::Took;

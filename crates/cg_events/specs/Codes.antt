@@ -1,8 +1,8 @@
 -- The code of what became of the deltas of a message, by which `==` tells it apart.
 use Rattle.std.specs.Prelude.{List}
 use Rattle.std.specs.Coded.{Coded, coded_list}
-use Rattle.cg_exchange.specs.declared.outcome.Outcome.{Outcome}
-use Rattle.cg_exchange.specs.Values.{outcome_code}
+use Rattle.cg_messages.specs.declared.outcome.Outcome.{Outcome}
+use Rattle.cg_messages.specs.Values.{outcome_code}
 
 abbrev pub outcomes_code : Coded (List Outcome)
 outcomes_code = coded_list outcome_code

@@ -3,7 +3,7 @@
 ghost use Rattle.std.specs.Prelude.{◌≡◌, ◌↔◌, IsTrue, IfOk};
 
 use crate::same::{same_ack, same_ack2, same_syn, same_text, same_words};
-use cg_exchange::{Ack, Ack2, Syn};
+use cg_messages::{Ack, Ack2, Syn};
 use cg_types::{StateKey, StateText};
 use std::alloc::{AllocError, Global};
 

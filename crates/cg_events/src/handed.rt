@@ -2,11 +2,11 @@
 
 ghost use Rattle.std.specs.Prelude.{◌≡◌};
 ghost use Rattle.cg_types.specs.Rising.{Rises};
-ghost use Rattle.cg_exchange.specs.Members.{endpoints_of_deltas};
+ghost use Rattle.cg_messages.specs.Members.{endpoints_of_deltas};
 ghost use Rattle.cg_events.specs.Handed.{deltas_in};
 
 use crate::event::Event;
-use cg_exchange::OwnerDelta;
+use cg_messages::OwnerDelta;
 
 impl Event {
     /// The deltas that the event hands a node, rising by owner: those of an ACK or an ACK2.

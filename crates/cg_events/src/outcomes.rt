@@ -2,7 +2,7 @@
 
 ghost use Rattle.std.specs.Prelude.{◌≡◌, ◌↔◌, IsTrue, IfOk};
 
-use cg_exchange::Outcome;
+use cg_messages::Outcome;
 use std::alloc::{AllocError, Global};
 use std::marker::Model;
 
@@ -15,7 +15,7 @@ pub struct Outcomes {
 /// A contract sees the list of outcomes.
 impl Model for Outcomes {
     ghost use Rattle.std.specs.Prelude.{List};
-    ghost use Rattle.cg_exchange.specs.declared.outcome.Outcome.{Outcome};
+    ghost use Rattle.cg_messages.specs.declared.outcome.Outcome.{Outcome};
 
     ghost Value = { List Outcome };
 

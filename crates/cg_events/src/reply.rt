@@ -4,7 +4,7 @@ ghost use Rattle.std.specs.Prelude.{◌≡◌, ◌↔◌, IsTrue, IfOk};
 
 use crate::outcomes::Outcomes;
 use crate::same::{same_ack2, same_message, same_outcomes, same_peers, same_syn};
-use cg_exchange::{Ack2, Message, Syn};
+use cg_messages::{Ack2, Message, Syn};
 use cg_peers::Peers;
 use cg_types::Version;
 use std::alloc::{AllocError, Global};

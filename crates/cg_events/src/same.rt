@@ -3,7 +3,7 @@
 ghost use Rattle.std.specs.Prelude.{◌≡◌, ◌↔◌, IsTrue};
 
 use crate::outcomes::Outcomes;
-use cg_exchange::{Ack, Ack2, Message, Syn};
+use cg_messages::{Ack, Ack2, Message, Syn};
 use cg_peers::Peers;
 use cg_types::StateText;
 

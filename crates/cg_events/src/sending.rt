@@ -2,11 +2,11 @@
 
 ghost use Rattle.std.specs.Prelude.{◌≡◌};
 ghost use Rattle.std.specs.Option.{option_map};
-ghost use Rattle.cg_exchange.specs.Lent.{lent_message};
+ghost use Rattle.cg_messages.specs.Lent.{lent_message};
 ghost use Rattle.cg_events.specs.Sending.{message_of};
 
 use crate::reply::Reply;
-use cg_exchange::{Lent, Message};
+use cg_messages::{Lent, Message};
 
 impl Reply {
     /// The message that it sends, lent; `None` where it sends none, as after a change of the own entry and after an

@@ -13,16 +13,16 @@ use Rattle.cg_entry.specs.Spelling.{version_of, version_at, delta_of}
 use Rattle.cg_entry.proofs.PlaceLemmas.{at_place_none, at_place_within}
 use Rattle.cg_entry.proofs.HistoryLemmas.{Compared, Behind, Ahead, SameBehind, SameAhead, SamePlace, compared, version_tells}
 use Rattle.cg_entry.proofs.TakingLemmas.{above_none}
-use Rattle.cg_table.specs.declared.digest.Digest.{Digest}
+use Rattle.cg_entry.specs.declared.digest.Digest.{Digest}
 use Rattle.cg_table.specs.Table.{digest_of, digests_of}
 use Rattle.cg_table.specs.Spelling.{SpellsPlaces}
 use Rattle.cg_table.specs.Values.{Entries}
-use Rattle.cg_exchange.specs.declared.owner_delta.OwnerDelta.{OwnerDelta}
-use Rattle.cg_exchange.specs.Values.{RequestValue}
+use Rattle.cg_messages.specs.declared.owner_delta.OwnerDelta.{OwnerDelta}
+use Rattle.cg_messages.specs.Values.{RequestValue}
 use Rattle.cg_exchange.specs.Answering.{request_by, delta_by, delta_for, requests_for, deltas_for}
 use Rattle.cg_exchange.specs.Taking.{grant_of, delta_granted, deltas_granted}
 use Rattle.cg_exchange.specs.Places.{Ask, IsAsk, within_generation, span_for, ask_for, span_asked}
-use Rattle.cg_exchange.specs.Members.{about, endpoints_of_digests, endpoints_of_requests}
+use Rattle.cg_messages.specs.Members.{about, endpoints_of_digests, endpoints_of_requests}
 use Rattle.cg_exchange.specs.Spelling.{request_of, SpellsDigests, SpellsAsks, SpellsSpans}
 use Rattle.cg_exchange.specs.PlaceMessages.{Stand, AreAsks, grants_at}
 use Rattle.cg_exchange.proofs.AnswerLemmas.{asked_same, delta_same, granted_same}

@@ -9,16 +9,16 @@ use Rattle.std.specs.FinMap as table
 use Rattle.cg_types.specs.declared.limits.TheConstants.{MEMBER_LIMIT}
 use Rattle.cg_entry.specs.Values.{EntryValue, DeltaValue}
 use Rattle.cg_entry.specs.Entry.{newest}
-use Rattle.cg_table.specs.declared.digest.Digest.{Digest}
+use Rattle.cg_entry.specs.declared.digest.Digest.{Digest}
 use Rattle.cg_map.specs.Rows.{keys_of}
 use Rattle.cg_table.specs.Values.{Entries}
-use Rattle.cg_exchange.specs.declared.owner_delta.OwnerDelta.{OwnerDelta}
-use Rattle.cg_exchange.specs.Values.{RequestValue}
+use Rattle.cg_messages.specs.declared.owner_delta.OwnerDelta.{OwnerDelta}
+use Rattle.cg_messages.specs.Values.{RequestValue}
 use Rattle.cg_exchange.specs.Taking.{grant_of, delta_granted, deltas_granted}
 use Rattle.cg_table.specs.Table.{digest_of, digests_of}
 use Rattle.cg_exchange.specs.Answering.{request_by, requests_for, delta_by, delta_for, deltas_for}
 use Rattle.std.specs.List.{cons_option}
-use Rattle.cg_exchange.specs.Members.{AreListed, endpoints_of_digests, endpoints_of_requests, endpoints_of_deltas}
+use Rattle.cg_messages.specs.Members.{AreListed, endpoints_of_digests, endpoints_of_requests, endpoints_of_deltas}
 use Rattle.cg_types.specs.Rising.{Rises}
 use Rattle.cg_types.proofs.RisingLemmas.{rise_sorted, rise_mapped}
 

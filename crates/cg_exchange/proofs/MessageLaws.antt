@@ -9,10 +9,10 @@ use Rattle.cg_entry.specs.History.{IsHistory}
 use Rattle.cg_entry.specs.Place.{Span, IsSpan}
 use Rattle.cg_table.specs.Values.{TableValue}
 use Rattle.cg_table.specs.Spelling.{SpellsPlaces}
-use Rattle.cg_exchange.specs.declared.owner_delta.OwnerDelta.{OwnerDelta}
-use Rattle.cg_exchange.specs.declared.outcome.Outcome.{Outcome}
-use Rattle.cg_exchange.specs.Values.{Ack2Value}
-use Rattle.cg_exchange.specs.Members.{endpoints_of_deltas}
+use Rattle.cg_messages.specs.declared.owner_delta.OwnerDelta.{OwnerDelta}
+use Rattle.cg_messages.specs.declared.outcome.Outcome.{Outcome}
+use Rattle.cg_messages.specs.Values.{Ack2Value}
+use Rattle.cg_messages.specs.Members.{endpoints_of_deltas}
 use Rattle.cg_exchange.specs.Answering.{requests_for, deltas_for}
 use Rattle.cg_exchange.specs.Taking.{table_after, outcomes_of, deltas_granted, held_after}
 use Rattle.cg_exchange.specs.Places.{Ask, IsAsk, span_asked}

@@ -15,15 +15,15 @@ use Rattle.cg_entry.specs.Spelling.{version_at, delta_of}
 use Rattle.cg_entry.proofs.PlaceLemmas.{at_place_some}
 use Rattle.cg_entry.proofs.TakingLemmas.{part, above_some}
 use Rattle.cg_entry.proofs.SpellingLemmas.{span_below}
-use Rattle.cg_table.specs.declared.took.Took.{Took}
+use Rattle.cg_entry.specs.declared.took.Took.{Took}
 use Rattle.cg_table.specs.Values.{TableValue}
 use Rattle.cg_table.specs.Spelling.{SpellsPlaces}
 use Rattle.cg_table.specs.Places.{took_for, place_with}
 use Rattle.cg_table.proofs.MergeLemmas.{get-put_each}
 use Rattle.cg_table.proofs.PlaceLaws.{held_with, row_key, IsChangedAsItsSpan, changed_as_its_span, place_with_stands}
-use Rattle.cg_exchange.specs.declared.owner_delta.OwnerDelta.{OwnerDelta}
-use Rattle.cg_exchange.specs.declared.outcome.Outcome.{Outcome}
-use Rattle.cg_exchange.specs.Members.{about, endpoints_of_deltas}
+use Rattle.cg_messages.specs.declared.owner_delta.OwnerDelta.{OwnerDelta}
+use Rattle.cg_messages.specs.declared.outcome.Outcome.{Outcome}
+use Rattle.cg_messages.specs.Members.{about, endpoints_of_deltas}
 use Rattle.cg_exchange.specs.Taking.{table_after, outcome_of, outcomes_of}
 use Rattle.cg_exchange.specs.Changes.{row_changed}
 use Rattle.cg_exchange.specs.Spelling.{SpellsSpans, outcome_about}

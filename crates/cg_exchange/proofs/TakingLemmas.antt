@@ -13,17 +13,17 @@ use Rattle.cg_entry.specs.declared.entry.Absorbed.{Absorbed}
 use Rattle.cg_entry.specs.declared.entry.Absorbed.TheVariants as absorbed
 use Rattle.cg_entry.specs.Values.{EntryValue, DeltaValue}
 use Rattle.cg_entry.specs.Taking.{meeting, taken_or_gap}
-use Rattle.cg_table.specs.declared.took.Took.TheVariants as took
+use Rattle.cg_entry.specs.declared.took.Took.TheVariants as took
 use Rattle.cg_table.specs.Values.{TableValue, Entries}
 use Rattle.cg_table.specs.Taking.{Change, change_by, after_change, take_one, needs_room}
 use Rattle.cg_table.specs.Merge.{strangers}
 use Rattle.cg_table.proofs.PlaceLaws.{row_key}
 use Rattle.cg_table.proofs.RoomLemmas.{count_by-cons, len-put_each}
-use Rattle.cg_exchange.specs.declared.owner_delta.OwnerDelta.{OwnerDelta}
-use Rattle.cg_exchange.specs.declared.outcome.Outcome.{Outcome}
-use Rattle.cg_exchange.specs.Members.{endpoints_of_deltas}
+use Rattle.cg_messages.specs.declared.owner_delta.OwnerDelta.{OwnerDelta}
+use Rattle.cg_messages.specs.declared.outcome.Outcome.{Outcome}
+use Rattle.cg_messages.specs.Members.{endpoints_of_deltas, endpoints_of_outcomes}
 use Rattle.cg_exchange.specs.Taking.{table_after, outcome_of, outcomes_of, held_after}
-use Rattle.cg_exchange.specs.Changes.{row_changed, endpoints_of_outcomes}
+use Rattle.cg_exchange.specs.Changes.{row_changed}
 
 -- the table that a table's member holds, with these entries
 abbrev pub holding : TableValue → Entries → TableValue

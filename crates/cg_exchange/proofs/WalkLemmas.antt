@@ -14,11 +14,11 @@ use Rattle.std.proofs.lemmas.Bool.Decides.{nat_tests}
 use Rattle.cg_types.specs.Rising.{is_past, rise_past, Rises}
 use Rattle.cg_types.proofs.RisingLemmas.{first_of, second_of, past_trans, rise_earlier, rise_sorted}
 use Rattle.cg_entry.specs.Values.{EntryValue}
-use Rattle.cg_table.specs.declared.digest.Digest.{Digest}
+use Rattle.cg_entry.specs.declared.digest.Digest.{Digest}
 use Rattle.cg_table.specs.Values.{TableValue, Entries}
 use Rattle.cg_table.specs.Taking.{change_at, change_of}
-use Rattle.cg_exchange.specs.declared.owner_delta.OwnerDelta.{OwnerDelta}
-use Rattle.cg_exchange.specs.Members.{endpoints_of_digests, endpoints_of_deltas}
+use Rattle.cg_messages.specs.declared.owner_delta.OwnerDelta.{OwnerDelta}
+use Rattle.cg_messages.specs.Members.{endpoints_of_digests, endpoints_of_deltas}
 use Rattle.cg_exchange.specs.Taking.{outcome_of}
 use Rattle.cg_exchange.specs.Changes.{changed_by, row_by, outcome_by, row_changed}
 use Rattle.cg_exchange.specs.Answering.{request_by, requests_for, deltas_for}

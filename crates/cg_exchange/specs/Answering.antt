@@ -9,12 +9,12 @@ use Rattle.cg_types.specs.declared.fault.Fault.TheVariants.{OtherCluster}
 use Rattle.cg_types.specs.Text.{ClusterValue}
 use Rattle.cg_entry.specs.Values.{EntryValue, DeltaValue}
 use Rattle.cg_entry.specs.Entry.{newest, delta_above}
-use Rattle.cg_table.specs.declared.digest.Digest.{Digest}
+use Rattle.cg_entry.specs.declared.digest.Digest.{Digest}
 use Rattle.cg_table.specs.Table.{digests_of}
 use Rattle.cg_table.specs.Values.{TableValue, Entries}
-use Rattle.cg_exchange.specs.declared.owner_delta.OwnerDelta.{OwnerDelta}
-use Rattle.cg_exchange.specs.Values.{RequestValue, SynValue, AckValue}
-use Rattle.cg_exchange.specs.Members.{about, digest_about}
+use Rattle.cg_messages.specs.declared.owner_delta.OwnerDelta.{OwnerDelta}
+use Rattle.cg_messages.specs.Values.{RequestValue, SynValue, AckValue}
+use Rattle.cg_messages.specs.Members.{about, digest_about}
 
 -- the same name and the same partitioner
 abbrev pub same_cluster : ClusterValue → ClusterValue → Bool

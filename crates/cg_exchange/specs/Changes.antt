@@ -1,11 +1,11 @@
 -- What each delta of a message changes in a table, where each is about another owner.
-use Rattle.std.specs.Prelude.{ℕ, List, map, Option, Some}
+use Rattle.std.specs.Prelude.{ℕ, Option, Some}
 use Rattle.std.specs.Option.{option_map}
 use Rattle.cg_entry.specs.Values.{EntryValue}
 use Rattle.cg_table.specs.Taking.{Change, change_at, change_of}
 use Rattle.cg_table.specs.Values.{TableValue}
-use Rattle.cg_exchange.specs.declared.owner_delta.OwnerDelta.{OwnerDelta}
-use Rattle.cg_exchange.specs.declared.outcome.Outcome.{Outcome}
+use Rattle.cg_messages.specs.declared.owner_delta.OwnerDelta.{OwnerDelta}
+use Rattle.cg_messages.specs.declared.outcome.Outcome.{Outcome}
 
 -- the row that a delta changes, if it changes one
 abbrev pub row_changed : TableValue → OwnerDelta → Option (ℕ × EntryValue)
@@ -22,7 +22,3 @@ row_by t d row = (changed_by t d row).0
 -- what becomes of a delta, by the row of its endpoint
 abbrev pub outcome_by : TableValue → OwnerDelta → Option (ℕ × EntryValue) → Option Outcome
 outcome_by t d row = Some (record { endpoint = d.endpoint; took = (changed_by t d row).1 })
-
--- whom the outcomes are about
-abbrev pub endpoints_of_outcomes : List Outcome → List ℕ
-endpoints_of_outcomes outcomes = map (λ o. o.endpoint) outcomes

@@ -7,10 +7,10 @@ use Rattle.cg_entry.specs.History.{IsHistory}
 use Rattle.cg_entry.specs.Place.{Span, IsSpan}
 use Rattle.cg_table.specs.Values.{TableValue}
 use Rattle.cg_table.specs.Spelling.{SpellsPlaces}
-use Rattle.cg_exchange.specs.declared.message.Message.{Message}
-use Rattle.cg_exchange.specs.declared.message.Message.TheVariants as kinds
-use Rattle.cg_exchange.specs.declared.outcome.Outcome.{Outcome}
-use Rattle.cg_exchange.specs.Values.{SynValue, AckValue, Ack2Value}
+use Rattle.cg_messages.specs.declared.message.Message.{Message}
+use Rattle.cg_messages.specs.declared.message.Message.TheVariants as kinds
+use Rattle.cg_messages.specs.declared.outcome.Outcome.{Outcome}
+use Rattle.cg_messages.specs.Values.{SynValue, AckValue, Ack2Value}
 use Rattle.cg_exchange.specs.Answering.{same_cluster, syn_of, answer_to_syn}
 use Rattle.cg_exchange.specs.Taking.{taking_ack, taking_ack2}
 use Rattle.cg_exchange.specs.Places.{Ask, IsAsk, span_for, ask_for, span_asked, took_for}

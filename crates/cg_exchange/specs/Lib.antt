@@ -1,10 +1,3 @@
-pub mod Values
-pub mod MessageCode
-pub mod Kind
-pub mod Members
-pub mod Contents
-pub mod Messages
-pub mod Lent
 pub mod Answering
 pub mod Walking
 pub mod Taking
@@ -14,6 +7,5 @@ pub mod PlaceMessages
 pub mod Spelling
 pub mod Laws
 pub use Rattle.cg_types.specs.Answer
-pub use Rattle.cg_types.specs.Equality
-pub use Rattle.cg_types.specs.Numbers
 pub use Rattle.cg_types.specs.Rising
+pub use Rattle.cg_messages.specs.Members

@@ -6,15 +6,15 @@ use Rattle.cg_entry.specs.Values.{EntryValue}
 use Rattle.cg_entry.specs.History.{at_place}
 use Rattle.cg_entry.specs.Place.{Span}
 use Rattle.cg_entry.specs.Spelling.{version_at, delta_of}
-use Rattle.cg_table.specs.declared.digest.Digest.{Digest}
+use Rattle.cg_entry.specs.declared.digest.Digest.{Digest}
 use Rattle.cg_table.specs.Table.{digest_of}
-use Rattle.cg_exchange.specs.declared.owner_delta.OwnerDelta.{OwnerDelta}
-use Rattle.cg_exchange.specs.declared.message.Message.{Message}
-use Rattle.cg_exchange.specs.declared.message.Message.TheVariants as kinds
-use Rattle.cg_exchange.specs.declared.outcome.Outcome.{Outcome}
-use Rattle.cg_exchange.specs.Values.{RequestValue, SynValue, AckValue, Ack2Value}
-pub use Rattle.cg_exchange.specs.Members.{digest_about}
-use Rattle.cg_exchange.specs.Members.{about, endpoints_of_digests, endpoints_of_requests, endpoints_of_deltas}
+use Rattle.cg_messages.specs.declared.owner_delta.OwnerDelta.{OwnerDelta}
+use Rattle.cg_messages.specs.declared.message.Message.{Message}
+use Rattle.cg_messages.specs.declared.message.Message.TheVariants as kinds
+use Rattle.cg_messages.specs.declared.outcome.Outcome.{Outcome}
+use Rattle.cg_messages.specs.Values.{RequestValue, SynValue, AckValue, Ack2Value}
+pub use Rattle.cg_messages.specs.Members.{digest_about}
+use Rattle.cg_messages.specs.Members.{about, endpoints_of_digests, endpoints_of_requests, endpoints_of_deltas}
 use Rattle.cg_exchange.specs.Places.{Ask}
 use Rattle.cg_exchange.specs.PlaceMessages.{PlaceMessage, Syn, Ack, Ack2}
 

@@ -10,10 +10,10 @@ use Rattle.cg_entry.specs.Values.{EntryValue, DeltaValue}
 use Rattle.cg_entry.specs.Entry.{delta_above}
 use Rattle.cg_table.specs.Values.{TableValue, Entries}
 use Rattle.cg_table.specs.Taking.{take_one, needs_room}
-use Rattle.cg_exchange.specs.declared.owner_delta.OwnerDelta.{OwnerDelta}
-use Rattle.cg_exchange.specs.declared.outcome.Outcome.{Outcome}
-use Rattle.cg_exchange.specs.Values.{RequestValue, AckValue, Ack2Value}
-use Rattle.cg_exchange.specs.Members.{about}
+use Rattle.cg_messages.specs.declared.owner_delta.OwnerDelta.{OwnerDelta}
+use Rattle.cg_messages.specs.declared.outcome.Outcome.{Outcome}
+use Rattle.cg_messages.specs.Values.{RequestValue, AckValue, Ack2Value}
+use Rattle.cg_messages.specs.Members.{about}
 
 -- the table after deltas, one after the other
 abbrev pub table_after : TableValue → List OwnerDelta → TableValue

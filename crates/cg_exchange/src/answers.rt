@@ -3,19 +3,16 @@
 ghost use Rattle.std.specs.Prelude.{◌≡◌, IfOk, option_copied};
 ghost use Rattle.cg_types.specs.Answer.{Answers};
 ghost use Rattle.cg_types.specs.Rising.{Rises};
-ghost use Rattle.cg_exchange.specs.Members.{AreListed, endpoints_of_digests, endpoints_of_deltas};
+ghost use Rattle.cg_messages.specs.Members.{AreListed, endpoints_of_digests, endpoints_of_deltas};
 ghost use Rattle.cg_exchange.specs.Answering.{request_by, delta_by, requests_for as requests_of, deltas_for as deltas_of, answer_to_syn, syn_of};
 ghost use Rattle.cg_exchange.specs.Walking.{of_member, row_request, row_delta};
 
-use crate::ack::Ack;
-use crate::opening::Syn;
-use crate::owned::next;
-use crate::owner_delta::OwnerDelta;
-use crate::request::Request;
-use cg_entry::{Delta, Entry};
+use crate::walking::next;
+use cg_entry::{Delta, Digest, Entry};
 use cg_lists::push_some;
 use cg_map::Row;
-use cg_table::{Digest, Table};
+use cg_messages::{Ack, OwnerDelta, Request, Syn};
+use cg_table::Table;
 use cg_types::{Cluster, Fault};
 use std::alloc::{AllocError, Global};
 

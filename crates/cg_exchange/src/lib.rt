@@ -1,34 +1,13 @@
-//! The three messages of an exchange between two members, and what each makes of a table.
+//! What each message of an exchange makes of a table.
 //!
-//! An exchange has the shape of Apache Cassandra's: a SYN of digests (`GossipDigestSyn`), an ACK of what is asked for
-//! and what is sent (`GossipDigestAck`), and an ACK2 of what was asked for (`GossipDigestAck2`). Each list of a message
-//! rises strictly by endpoint and has at most `MEMBER_LIMIT` members. Each rule is a function from tables and messages
-//! to tables and messages.
+//! Each rule is a function from tables and messages to tables and messages: the SYN of a table, the answer to a SYN, and
+//! the taking of an ACK and of an ACK2.
 #![tactic(auto)]
 
-mod ack;
-mod ack2;
 mod answers;
-mod kind;
 pub mod laws;
-mod lent;
-mod message;
-mod opening;
-mod outcome;
-mod owned;
-mod owner_delta;
-mod parts;
-mod request;
 mod taking;
+mod walking;
 
-pub use ack::Ack;
-pub use ack2::Ack2;
 pub use answers::{answer_syn, syn};
-pub use kind::Kind;
-pub use lent::Lent;
-pub use message::Message;
-pub use opening::Syn;
-pub use outcome::Outcome;
-pub use owner_delta::OwnerDelta;
-pub use request::Request;
 pub use taking::{take_ack, take_ack2};

@@ -4,20 +4,16 @@ ghost use Rattle.std.specs.Prelude.{◌≡◌, ◌≤◌, IfOk, length, map, opt
 ghost use Rattle.std.specs.List.{filter_map};
 ghost use Rattle.cg_types.specs.Answer.{Answers};
 ghost use Rattle.cg_types.specs.Rising.{Rises};
-ghost use Rattle.cg_exchange.specs.Members.{endpoints_of_deltas};
+ghost use Rattle.cg_messages.specs.Members.{endpoints_of_deltas, endpoints_of_outcomes};
 ghost use Rattle.cg_exchange.specs.Taking.{table_after, outcome_of, outcomes_of, held_after as held_after_of, grant_of, delta_granted as delta_granted_of, deltas_granted as deltas_granted_of, taking_ack, taking_ack2};
-ghost use Rattle.cg_exchange.specs.Changes.{changed_by as changed_by_of, row_changed, endpoints_of_outcomes};
+ghost use Rattle.cg_exchange.specs.Changes.{changed_by as changed_by_of, row_changed};
 
-use crate::ack::Ack;
-use crate::ack2::Ack2;
-use crate::outcome::Outcome;
-use crate::owned::{first_about, rising_from};
-use crate::owner_delta::OwnerDelta;
-use crate::request::Request;
-use cg_entry::{Delta, Entry};
+use crate::walking::{first_about, rising_from};
+use cg_entry::{Delta, Entry, Took};
 use cg_lists::push_some;
 use cg_map::Row;
-use cg_table::{Table, Took};
+use cg_messages::{Ack, Ack2, Outcome, OwnerDelta, Request};
+use cg_table::Table;
 use cg_types::{Fault, MEMBER_LIMIT};
 use std::alloc::{AllocError, Global};
 

@@ -6,7 +6,7 @@ use Rattle.std.proofs.lemmas.Bool.{eqb-true}
 use Rattle.std.proofs.lemmas.Option.{get_or_from_slice_get}
 use Rattle.cg_types.specs.declared.fault.Cause.TheVariants as causes
 use Rattle.cg_types.specs.declared.fault.Fault.TheVariants as faults
-use Rattle.cg_exchange.specs.declared.message.Message.{Message}
+use Rattle.cg_messages.specs.declared.message.Message.{Message}
 use Rattle.cg_frames.specs.declared.layout.Layout.{Layout}
 use Rattle.cg_frames.specs.declared.misread.Misread.{Misread}
 use Rattle.cg_types.specs.ResultSteps.{◌>>=◌}

@@ -4,7 +4,7 @@ use Rattle.std.specs.Prelude.{IfSome, IfErr}
 use Rattle.cg_types.specs.Answer.{Answers}
 use Rattle.cg_types.specs.declared.fault.Fault.{Fault}
 use Rattle.cg_types.specs.declared.fault.Fault.TheVariants as faults
-use Rattle.cg_exchange.specs.declared.message.Message.{Message}
+use Rattle.cg_messages.specs.declared.message.Message.{Message}
 use Rattle.cg_frames.specs.declared.layout.Layout.{Layout}
 use Rattle.cg_frames.specs.Choosing.{frame_among}
 use Rattle.cg_frames.specs.Faults.{IsBadFrame, IsBadFrameOr}

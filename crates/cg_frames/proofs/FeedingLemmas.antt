@@ -4,7 +4,7 @@ use Rattle.std.specs.List.{flat_map}
 use Rattle.std.specs.Prelude.{IfErr}
 use Rattle.std.proofs.lemmas.List.{drop-append-le}
 use Rattle.cg_types.specs.declared.fault.Fault.{Fault}
-use Rattle.cg_exchange.specs.declared.message.Message.{Message}
+use Rattle.cg_messages.specs.declared.message.Message.{Message}
 use Rattle.cg_frames.specs.declared.layout.Layout.{Layout}
 use Rattle.cg_frames.specs.Faults.{IsBadFrame}
 use Rattle.cg_frames.specs.Reading.{size_of, frame_at}

@@ -7,12 +7,12 @@ use Rattle.cg_types.specs.Rising.{Rises}
 use Rattle.cg_types.specs.Text.{plain, IsClusterName}
 use Rattle.cg_entry.specs.Versioned.{Versioned}
 use Rattle.cg_entry.specs.Entry.{greatest}
-use Rattle.cg_exchange.specs.declared.owner_delta.OwnerDelta.{OwnerDelta}
-use Rattle.cg_exchange.specs.declared.message.Message.{Message}
-use Rattle.cg_exchange.specs.declared.message.Message.TheVariants.{Syn, Ack, Ack2}
-use Rattle.cg_exchange.specs.Values.{SynValue, AckValue, Ack2Value}
-use Rattle.cg_exchange.specs.Members.{endpoints_of_digests, endpoints_of_requests, endpoints_of_deltas}
-use Rattle.cg_exchange.specs.Contents.{IsDigest, IsRequest}
+use Rattle.cg_messages.specs.declared.owner_delta.OwnerDelta.{OwnerDelta}
+use Rattle.cg_messages.specs.declared.message.Message.{Message}
+use Rattle.cg_messages.specs.declared.message.Message.TheVariants.{Syn, Ack, Ack2}
+use Rattle.cg_messages.specs.Values.{SynValue, AckValue, Ack2Value}
+use Rattle.cg_messages.specs.Members.{endpoints_of_digests, endpoints_of_requests, endpoints_of_deltas}
+use Rattle.cg_messages.specs.Contents.{IsDigest, IsRequest}
 use Rattle.cg_frames.specs.declared.layout.Layout.{Layout}
 
 -- a state of a delta above a version

@@ -8,20 +8,20 @@ use Rattle.std.specs.FinMap.{entries, entries_sorted, from_sorted, entries-from_
 use Rattle.std.specs.Ordering.{nat_cmp}
 use Rattle.std.proofs.lemmas.List.{length-map}
 use Rattle.std.proofs.lemmas.Bool.{ltb-true, lt-ltb}
-use Rattle.cg_table.specs.declared.digest.Digest.{Digest}
+use Rattle.cg_entry.specs.declared.digest.Digest.{Digest}
 use Rattle.cg_entry.specs.Versioned.{Versioned, States}
 use Rattle.cg_entry.specs.State.{pairs}
 use Rattle.cg_entry.specs.declared.state.State.{State}
 use Rattle.cg_entry.specs.Entry.{newer_than}
 use Rattle.cg_entry.proofs.DeltaLemmas.{entries-newer_than}
-use Rattle.cg_exchange.specs.declared.owner_delta.OwnerDelta.{OwnerDelta}
-use Rattle.cg_exchange.specs.declared.message.Message.{Message}
-use Rattle.cg_exchange.specs.declared.message.Message.TheVariants.{Syn, Ack, Ack2}
-use Rattle.cg_exchange.specs.Values.{RequestValue}
-use Rattle.cg_exchange.specs.Members.{AreListed, endpoints_of_deltas}
+use Rattle.cg_messages.specs.declared.owner_delta.OwnerDelta.{OwnerDelta}
+use Rattle.cg_messages.specs.declared.message.Message.{Message}
+use Rattle.cg_messages.specs.declared.message.Message.TheVariants.{Syn, Ack, Ack2}
+use Rattle.cg_messages.specs.Values.{RequestValue}
+use Rattle.cg_messages.specs.Members.{AreListed, endpoints_of_deltas}
 use Rattle.cg_entry.specs.Contents.{IsState}
-use Rattle.cg_exchange.specs.Contents.{IsOwnerDelta}
-use Rattle.cg_exchange.specs.Messages.{IsMessage}
+use Rattle.cg_messages.specs.Contents.{IsOwnerDelta}
+use Rattle.cg_messages.specs.Messages.{IsMessage}
 pub use Rattle.cg_entry.proofs.ContentLemmas.{all_pairs}
 use Rattle.cg_frames.specs.declared.layout.Layout.{Layout}
 use Rattle.cg_frames.specs.Layouts.{IsRead, IsWritten}

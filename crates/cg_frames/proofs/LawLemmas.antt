@@ -15,12 +15,12 @@ use Rattle.cg_types.specs.Answer.{Answers}
 use Rattle.cg_types.specs.declared.fault.Fault.{Fault}
 use Rattle.cg_types.proofs.RisingLemmas.{rise_sorted}
 use Rattle.cg_entry.specs.Versioned.{Versioned}
-use Rattle.cg_table.specs.declared.digest.Digest.{Digest}
-use Rattle.cg_exchange.specs.declared.owner_delta.OwnerDelta.{OwnerDelta}
-use Rattle.cg_exchange.specs.declared.message.Message.{Message}
-use Rattle.cg_exchange.specs.declared.message.Message.TheVariants.{Syn, Ack, Ack2}
-use Rattle.cg_exchange.specs.Members.{endpoints_of_requests, endpoints_of_deltas}
-use Rattle.cg_exchange.specs.Values.{RequestValue, SynValue}
+use Rattle.cg_entry.specs.declared.digest.Digest.{Digest}
+use Rattle.cg_messages.specs.declared.owner_delta.OwnerDelta.{OwnerDelta}
+use Rattle.cg_messages.specs.declared.message.Message.{Message}
+use Rattle.cg_messages.specs.declared.message.Message.TheVariants.{Syn, Ack, Ack2}
+use Rattle.cg_messages.specs.Members.{endpoints_of_requests, endpoints_of_deltas}
+use Rattle.cg_messages.specs.Values.{RequestValue, SynValue}
 use Rattle.cg_frames.specs.declared.layout.Layout.{Layout}
 use Rattle.cg_frames.specs.declared.layout.TheConstants.{LAYOUT_1, LAYOUTS}
 use Rattle.cg_frames.specs.declared.misread.Misread.{Misread}

@@ -9,9 +9,9 @@ use Rattle.cg_entry.specs.State.{pair, pairs}
 use Rattle.std.specs.List.{flat_map}
 use Rattle.std.proofs.lemmas.List.Concat.{flat_map-cons}
 use Rattle.cg_entry.specs.Versioned.{Versioned}
-use Rattle.cg_table.specs.declared.digest.Digest.{Digest}
-use Rattle.cg_exchange.specs.declared.owner_delta.OwnerDelta.{OwnerDelta}
-use Rattle.cg_exchange.specs.Values.{RequestValue}
+use Rattle.cg_entry.specs.declared.digest.Digest.{Digest}
+use Rattle.cg_messages.specs.declared.owner_delta.OwnerDelta.{OwnerDelta}
+use Rattle.cg_messages.specs.Values.{RequestValue}
 use Rattle.cg_frames.specs.Spelling.{two_bytes, four_bytes, endpoint, digest, request, text, state, delta, members}
 
 pub length-two_bytes : (n : ℕ) → length (two_bytes n) ≡ 2

@@ -8,11 +8,11 @@ use Rattle.std.proofs.lemmas.Nat.{be_bytes_4}
 use Rattle.cg_types.specs.declared.fault.Cause.TheVariants as causes
 use Rattle.cg_types.specs.declared.fault.Fault.{Fault}
 use Rattle.cg_types.specs.Answer.{Answers}
-use Rattle.cg_table.specs.declared.digest.Digest.{Digest}
-use Rattle.cg_exchange.specs.declared.owner_delta.OwnerDelta.{OwnerDelta}
-use Rattle.cg_exchange.specs.declared.message.Message.{Message}
-use Rattle.cg_exchange.specs.declared.message.Message.TheVariants.{Syn, Ack, Ack2}
-use Rattle.cg_exchange.specs.Values.{RequestValue, SynValue, AckValue, Ack2Value}
+use Rattle.cg_entry.specs.declared.digest.Digest.{Digest}
+use Rattle.cg_messages.specs.declared.owner_delta.OwnerDelta.{OwnerDelta}
+use Rattle.cg_messages.specs.declared.message.Message.{Message}
+use Rattle.cg_messages.specs.declared.message.Message.TheVariants.{Syn, Ack, Ack2}
+use Rattle.cg_messages.specs.Values.{RequestValue, SynValue, AckValue, Ack2Value}
 use Rattle.cg_frames.specs.declared.layout.Layout.{Layout}
 use Rattle.cg_frames.specs.declared.misread.Misread.{Misread}
 use Rattle.cg_frames.specs.declared.reader.Kind.{Kind}
@@ -23,7 +23,7 @@ use Rattle.cg_frames.specs.Lists.{digest_at, request_at, delta_at, listed_reques
 use Rattle.cg_frames.specs.Reading.{syn_at, ack_at, ack2_at, whole_field, as_message, layout_at, kind_from, kind_at, of_kind, inside_at, frame_at}
 use Rattle.cg_frames.specs.Choosing.{due, frame_among, IsOneOf, AreRead}
 use Rattle.cg_frames.specs.Spelling.{four_bytes, digest, request, delta, cluster, members, kind, body, inside, frame}
-use Rattle.cg_exchange.specs.Contents.{IsDigest, IsRequest}
+use Rattle.cg_messages.specs.Contents.{IsDigest, IsRequest}
 use Rattle.cg_frames.specs.Layouts.{IsRead}
 use Rattle.cg_frames.proofs.FitsFields.{FitsFields, FitsDelta, FitsSyn, FitsAck, FitsAck2}
 use Rattle.cg_frames.proofs.FitsLemmas.{fits_of}

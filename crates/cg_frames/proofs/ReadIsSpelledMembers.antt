@@ -16,14 +16,14 @@ use Rattle.cg_entry.specs.Versioned.{Versioned}
 use Rattle.cg_entry.specs.Entry.{greatest_of}
 use Rattle.cg_entry.proofs.StateLemmas.{entries-pairs}
 use Rattle.cg_entry.proofs.DeltaLemmas.{greatest_over}
-use Rattle.cg_exchange.specs.declared.owner_delta.OwnerDelta.{OwnerDelta}
-use Rattle.cg_exchange.specs.Values.{RequestValue}
+use Rattle.cg_messages.specs.declared.owner_delta.OwnerDelta.{OwnerDelta}
+use Rattle.cg_messages.specs.Values.{RequestValue}
 use Rattle.cg_frames.specs.declared.layout.Layout.{Layout}
 use Rattle.cg_frames.specs.declared.misread.Misread.{Misread}
 use Rattle.cg_frames.specs.Fields.{number_at, plain_at, key_at, state_count_at, text_at}
 use Rattle.cg_frames.specs.Lists.{request_at, state_at, carries, delta_at}
 use Rattle.cg_frames.specs.Spelling.{two_bytes, four_bytes, endpoint, request, text, state, delta}
-use Rattle.cg_exchange.specs.Contents.{IsRequest}
+use Rattle.cg_messages.specs.Contents.{IsRequest}
 use Rattle.cg_frames.proofs.FitsFields.{FitsState, FitsDelta}
 use Rattle.cg_frames.specs.Laws.{AreBytes}
 use Rattle.cg_frames.proofs.FitsLemmas.{all_pairs}

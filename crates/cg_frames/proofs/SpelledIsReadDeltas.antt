@@ -13,7 +13,7 @@ use Rattle.cg_entry.specs.State.{pair, pairs}
 use Rattle.cg_entry.specs.Versioned.{Versioned, States}
 use Rattle.cg_entry.specs.Entry.{greatest_of}
 use Rattle.cg_entry.proofs.FewLemmas.{states_few}
-use Rattle.cg_exchange.specs.declared.owner_delta.OwnerDelta.{OwnerDelta}
+use Rattle.cg_messages.specs.declared.owner_delta.OwnerDelta.{OwnerDelta}
 use Rattle.cg_frames.specs.declared.layout.Layout.{Layout}
 use Rattle.cg_types.specs.declared.limits.TheConstants.{STATE_LIMIT}
 use Rattle.cg_types.specs.ResultSteps.{◌>>=◌}

@@ -11,18 +11,18 @@ use Rattle.cg_types.specs.declared.fault.Cause.{Cause}
 use Rattle.cg_types.specs.declared.fault.Cause.TheVariants as causes
 use Rattle.cg_types.specs.declared.limits.TheConstants.{NUMBER_LIMIT, NAME_LIMIT}
 use Rattle.cg_types.specs.Text.{IsClusterName}
-use Rattle.cg_exchange.specs.declared.message.Message.TheVariants.{Syn}
-use Rattle.cg_exchange.specs.Values.{SynValue}
+use Rattle.cg_messages.specs.declared.message.Message.TheVariants.{Syn}
+use Rattle.cg_messages.specs.Values.{SynValue}
 use Rattle.cg_frames.specs.declared.layout.Layout.{Layout}
 use Rattle.cg_types.specs.Numbers.{IsEndpoint, address_of, port_of, endpoint_of}
 use Rattle.cg_types.specs.Rising.{is_past, rise_past}
 use Rattle.cg_types.proofs.RisingLemmas.{first_of, second_of}
-use Rattle.cg_table.specs.declared.digest.Digest.{Digest}
+use Rattle.cg_entry.specs.declared.digest.Digest.{Digest}
 use Rattle.cg_types.specs.ResultSteps.{◌>>=◌}
 use Rattle.cg_frames.specs.Fields.{Field, bytes_at, number_at, endpoint_from, endpoint_at, ranged_at, count_at, plain_at, name_at}
 use Rattle.cg_frames.specs.Lists.{digest_at, rising_at}
 use Rattle.cg_frames.specs.Reading.{syn_at}
-use Rattle.cg_exchange.specs.Contents.{IsDigest}
+use Rattle.cg_messages.specs.Contents.{IsDigest}
 use Rattle.cg_frames.proofs.FitsFields.{FitsSyn}
 use Rattle.cg_frames.proofs.ReadIsSpelledParts.{syn_made, after_count, after_partitioner, after_name}
 use Rattle.cg_frames.specs.Spelling.{two_bytes, four_bytes, endpoint, digest, members, body}

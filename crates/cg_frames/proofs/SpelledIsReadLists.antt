@@ -1,14 +1,14 @@
 -- An ACK or an ACK2 that is spelled so is read, whatever follows.
 use Rattle.std.proofs.Common.{◌≡◌, ℕ, ◌^◌, ◌<◌, ◌≤◌, List, ◌++◌, length, Ok, ap, ◌∙◌, append_assoc, arith}
-use Rattle.cg_exchange.specs.declared.owner_delta.OwnerDelta.{OwnerDelta}
-use Rattle.cg_exchange.specs.Values.{RequestValue, AckValue, Ack2Value}
+use Rattle.cg_messages.specs.declared.owner_delta.OwnerDelta.{OwnerDelta}
+use Rattle.cg_messages.specs.Values.{RequestValue, AckValue, Ack2Value}
 use Rattle.cg_frames.specs.declared.layout.Layout.{Layout}
 use Rattle.cg_types.specs.ResultSteps.{◌>>=◌}
 use Rattle.cg_frames.specs.Fields.{Field}
 use Rattle.cg_frames.specs.Lists.{request_at, delta_at, listed_deltas_at}
 use Rattle.cg_frames.specs.Reading.{ack_at, ack2_at}
 use Rattle.cg_frames.specs.Spelling.{members, request, delta}
-use Rattle.cg_exchange.specs.Contents.{IsRequest}
+use Rattle.cg_messages.specs.Contents.{IsRequest}
 use Rattle.cg_frames.proofs.FitsFields.{FitsDelta, FitsAck, FitsAck2}
 use Rattle.cg_frames.proofs.SpelledIsReadLemmas.{counted_again, length_keys}
 use Rattle.cg_frames.proofs.SpelledIsReadMembers.{request_again}

@@ -8,13 +8,13 @@ use Rattle.cg_types.specs.Rising.{is_past}
 use Rattle.cg_types.specs.Text.{plain}
 use Rattle.cg_entry.specs.declared.state.State.{State}
 use Rattle.cg_entry.specs.State.{pair}
-use Rattle.cg_exchange.specs.Values.{RequestValue}
+use Rattle.cg_messages.specs.Values.{RequestValue}
 use Rattle.cg_frames.specs.declared.layout.Layout.{Layout}
 use Rattle.cg_types.specs.ResultSteps.{◌>>=◌}
 use Rattle.cg_frames.specs.Fields.{Field, held_at, key_from, key_at, version_above_at, text_at}
 use Rattle.cg_frames.specs.Lists.{request_at, state_at}
 use Rattle.cg_frames.specs.Spelling.{two_bytes, four_bytes, endpoint, request, text, state}
-use Rattle.cg_exchange.specs.Contents.{IsRequest}
+use Rattle.cg_messages.specs.Contents.{IsRequest}
 use Rattle.cg_frames.proofs.FitsFields.{FitsState}
 use Rattle.cg_types.specs.declared.fault.Cause.TheVariants as causes
 use Rattle.cg_frames.proofs.SpelledIsReadLemmas.{bytes_again, byte_again, two_again, four_again, ranged_again, endpoint_again}

@@ -5,7 +5,7 @@ use Rattle.cg_types.specs.declared.fault.Cause.TheVariants as causes
 use Rattle.cg_types.specs.declared.fault.Fault.{Fault}
 use Rattle.cg_types.specs.declared.fault.Fault.TheVariants as faults
 use Rattle.cg_types.specs.Answer.{Answers}
-use Rattle.cg_exchange.specs.declared.message.Message.{Message}
+use Rattle.cg_messages.specs.declared.message.Message.{Message}
 use Rattle.cg_frames.specs.declared.layout.Layout.{Layout}
 use Rattle.cg_frames.specs.Spelling.{inside, frame}
 use Rattle.cg_frames.specs.Fits.{Fits}

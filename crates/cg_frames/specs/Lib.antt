@@ -14,6 +14,6 @@ pub use Rattle.cg_types.specs.Answer
 pub use Rattle.cg_types.specs.Numbers
 pub use Rattle.cg_types.specs.Text
 pub use Rattle.cg_entry.specs.State
-pub use Rattle.cg_exchange.specs.Contents
-pub use Rattle.cg_exchange.specs.Lent
-pub use Rattle.cg_exchange.specs.Messages
+pub use Rattle.cg_messages.specs.Contents
+pub use Rattle.cg_messages.specs.Lent
+pub use Rattle.cg_messages.specs.Messages

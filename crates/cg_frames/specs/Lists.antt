@@ -5,9 +5,9 @@ use Rattle.cg_types.specs.declared.fault.Cause.TheVariants as causes
 use Rattle.cg_types.specs.ResultSteps.{◌>>=◌}
 use Rattle.cg_entry.specs.declared.state.State.{State}
 use Rattle.cg_entry.specs.State.{pairs}
-use Rattle.cg_table.specs.declared.digest.Digest.{Digest}
-use Rattle.cg_exchange.specs.declared.owner_delta.OwnerDelta.{OwnerDelta}
-use Rattle.cg_exchange.specs.Values.{RequestValue}
+use Rattle.cg_entry.specs.declared.digest.Digest.{Digest}
+use Rattle.cg_messages.specs.declared.owner_delta.OwnerDelta.{OwnerDelta}
+use Rattle.cg_messages.specs.Values.{RequestValue}
 use Rattle.cg_frames.specs.declared.layout.Layout.{Layout}
 use Rattle.cg_frames.specs.Fields.{Field, wrong, count_at, endpoint_at, generation_at, version_at, heartbeat_at, held_at, version_above_at, key_at, state_count_at, text_at}
 

@@ -6,11 +6,11 @@ use Rattle.std.specs.FinMap as map
 use Rattle.cg_types.specs.Numbers.{address_of, port_of}
 use Rattle.cg_types.specs.Text.{ClusterValue}
 use Rattle.cg_entry.specs.Versioned.{Versioned}
-use Rattle.cg_table.specs.declared.digest.Digest.{Digest}
-use Rattle.cg_exchange.specs.declared.owner_delta.OwnerDelta.{OwnerDelta}
-use Rattle.cg_exchange.specs.declared.message.Message.{Message}
-use Rattle.cg_exchange.specs.declared.message.Message.TheVariants.{Syn, Ack, Ack2}
-use Rattle.cg_exchange.specs.Values.{RequestValue}
+use Rattle.cg_entry.specs.declared.digest.Digest.{Digest}
+use Rattle.cg_messages.specs.declared.owner_delta.OwnerDelta.{OwnerDelta}
+use Rattle.cg_messages.specs.declared.message.Message.{Message}
+use Rattle.cg_messages.specs.declared.message.Message.TheVariants.{Syn, Ack, Ack2}
+use Rattle.cg_messages.specs.Values.{RequestValue}
 use Rattle.cg_frames.specs.declared.layout.Layout.{Layout}
 
 -- Numbers, the greatest byte first. They stay closed, so that goals name the number and not its bytes.

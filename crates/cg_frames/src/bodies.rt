@@ -2,7 +2,7 @@
 
 ghost use Rattle.std.specs.Prelude.{◌≡◌, Ok};
 ghost use Rattle.cg_types.specs.Text.{cluster_of as cluster_due};
-ghost use Rattle.cg_exchange.specs.declared.message.Message.TheVariants as kinds;
+ghost use Rattle.cg_messages.specs.declared.message.Message.TheVariants as kinds;
 ghost use Rattle.cg_frames.specs.Layouts.{IsRead};
 ghost use Rattle.cg_frames.specs.Reading as spec;
 
@@ -11,7 +11,7 @@ use crate::layout::Layout;
 use crate::lists::{check_digests, check_requests, digests_of, requests_of};
 use crate::misread::{Misread, ReadError};
 use crate::reader::{Kind, Reader};
-use cg_exchange::{Ack, Ack2, Message, OwnerDelta, Request, Syn};
+use cg_messages::{Ack, Ack2, Message, OwnerDelta, Request, Syn};
 use cg_types::{Cluster, Fault};
 use std::alloc::Global;
 

@@ -14,7 +14,7 @@ use crate::bodies::{check, read};
 use crate::layout::{LAYOUTS, Layout};
 use crate::layouts::due;
 use crate::misread::{Misread, ReadError};
-use cg_exchange::Message;
+use cg_messages::Message;
 use cg_types::{Cause, Fault};
 use std::alloc::Global;
 

@@ -9,7 +9,7 @@ use crate::layout::Layout;
 use crate::misread::{Misread, ReadError};
 use crate::reader::Reader;
 use cg_entry::{Delta, State};
-use cg_exchange::OwnerDelta;
+use cg_messages::OwnerDelta;
 use cg_types::{Cause, Endpoint, StateKey, StateText};
 use std::alloc::Global;
 

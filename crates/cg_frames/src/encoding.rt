@@ -3,9 +3,9 @@
 ghost use Rattle.std.specs.Prelude.{◌≡◌, ◌++◌, ◌∷◌, [], ◌<◌, ◌^◌, length, IfOk, OnOk};
 ghost use Rattle.cg_entry.specs.State.{pair, pairs};
 ghost use Rattle.std.specs.List.{AllByRecursion, flat_map};
-ghost use Rattle.cg_exchange.specs.declared.message.Message.TheVariants as messages;
-ghost use Rattle.cg_exchange.specs.Contents.{IsOwnerDelta};
-ghost use Rattle.cg_exchange.specs.Lent.{lent_message};
+ghost use Rattle.cg_messages.specs.declared.message.Message.TheVariants as messages;
+ghost use Rattle.cg_messages.specs.Contents.{IsOwnerDelta};
+ghost use Rattle.cg_messages.specs.Lent.{lent_message};
 ghost use Rattle.cg_frames.specs.declared.layout.TheConstants.{WRITTEN};
 ghost use Rattle.cg_frames.specs.Fits.{Fits};
 ghost use Rattle.cg_frames.specs.Layouts.{IsLayout, IsWritten};
@@ -15,9 +15,8 @@ use crate::fits::message_fits;
 use crate::layout::{Layout, WRITTEN};
 use crate::lengths::message_length;
 use bytes::{BufMut, Bytes};
-use cg_entry::State;
-use cg_exchange::{Ack, Ack2, Lent, Message, OwnerDelta, Request, Syn};
-use cg_table::Digest;
+use cg_entry::{Digest, State};
+use cg_messages::{Ack, Ack2, Lent, Message, OwnerDelta, Request, Syn};
 use cg_types::{Cluster, Endpoint};
 use std::alloc::{AllocError, Global};
 

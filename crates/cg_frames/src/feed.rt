@@ -10,7 +10,7 @@ ghost use Rattle.cg_frames.specs.Laws.{AreBytes};
 
 use crate::decoding::decode_among;
 use crate::layout::{LAYOUTS, Layout};
-use cg_exchange::Message;
+use cg_messages::Message;
 use cg_types::Fault;
 use std::alloc::Global;
 use std::marker::Model;

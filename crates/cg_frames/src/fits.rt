@@ -1,13 +1,13 @@
 //! That messages in hand fit a layout. None of this takes memory.
 
-ghost use Rattle.cg_exchange.specs.Lent.{lent_message};
-ghost use Rattle.cg_exchange.specs.Messages.{IsMessage};
+ghost use Rattle.cg_messages.specs.Lent.{lent_message};
+ghost use Rattle.cg_messages.specs.Messages.{IsMessage};
 ghost use Rattle.cg_frames.specs.declared.layout.TheConstants.{WRITTEN};
 ghost use Rattle.cg_frames.specs.Fits.{Fits};
 ghost use Rattle.cg_frames.specs.Layouts.{IsWritten};
 
 use crate::layout::{Layout, WRITTEN};
-use cg_exchange::{Lent, Message};
+use cg_messages::{Lent, Message};
 
 // What is true of every message, as the readers of its lists tell it.
 fn show_message(message: Lent<'_>)

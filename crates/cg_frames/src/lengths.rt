@@ -1,12 +1,12 @@
 //! How long the spellings of messages are. None of this takes memory.
 
 ghost use Rattle.std.specs.Prelude.{◌≡◌, ◌<◌, ◌+◌, ◌^◌, length};
-ghost use Rattle.cg_exchange.specs.declared.message.Message.TheVariants as messages;
-ghost use Rattle.cg_exchange.specs.Lent.{lent_message};
+ghost use Rattle.cg_messages.specs.declared.message.Message.TheVariants as messages;
+ghost use Rattle.cg_messages.specs.Lent.{lent_message};
 ghost use Rattle.cg_frames.specs.Spelling as spelling;
 
-use cg_exchange::{Ack, Ack2, Lent, OwnerDelta, Request, Syn};
-use cg_table::Digest;
+use cg_entry::Digest;
+use cg_messages::{Ack, Ack2, Lent, OwnerDelta, Request, Syn};
 
 fn digests_length(digests: &[Digest]) -> usize
     requires { length (spelling.members spelling.digest digests.now) < 2 ^ 32 }

@@ -15,7 +15,7 @@ mod lists;
 mod misread;
 mod reader;
 
-pub use cg_exchange::{Ack, Ack2, Lent, Message, OwnerDelta, Request, Syn};
+pub use cg_messages::{Ack, Ack2, Lent, Message, OwnerDelta, Request, Syn};
 pub use decoding::{decode, decode_among, decode_in};
 pub use encoding::{encode, encode_in, encode_lent};
 pub use feed::{Fed, Feed};

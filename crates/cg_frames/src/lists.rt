@@ -5,8 +5,8 @@ ghost use Rattle.cg_frames.specs.Reading as spec;
 
 use crate::misread::{Misread, ReadError};
 use crate::reader::Reader;
-use cg_exchange::Request;
-use cg_table::Digest;
+use cg_entry::Digest;
+use cg_messages::Request;
 use cg_types::Endpoint;
 use std::alloc::Global;
 

@@ -8,8 +8,8 @@ ghost use Rattle.cg_frames.specs.Reading as spec;
 
 use crate::layout::Layout;
 use crate::misread::Misread;
-use cg_exchange::Request;
-use cg_table::Digest;
+use cg_entry::Digest;
+use cg_messages::Request;
 use cg_types::{
     Cause, Endpoint, Generation, NAME_LIMIT, NUMBER_LIMIT, STATE_LIMIT, StateKey, Version, is_plain,
 };

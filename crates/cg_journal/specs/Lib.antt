@@ -4,7 +4,7 @@ pub mod Written
 pub mod Read
 pub use Rattle.hex.specs.Hex
 pub use Rattle.cg_table.specs.Own
-pub use Rattle.cg_exchange.specs.Lent
+pub use Rattle.cg_messages.specs.Lent
 pub use Rattle.cg_history.specs.History
 pub use Rattle.cg_script.specs.Gives
 pub use Rattle.cg_script.specs.Words

@@ -6,7 +6,7 @@ use Rattle.cg_types.specs.declared.limits.TheConstants.{PARTITIONER}
 use Rattle.cg_types.specs.OptionSteps.{◌>>=◌}
 use Rattle.cg_types.specs.Text.{cluster_of}
 use Rattle.cg_types.specs.Words.{cut_at, number_of, generation_in}
-use Rattle.cg_exchange.specs.declared.message.Message.{Message}
+use Rattle.cg_messages.specs.declared.message.Message.{Message}
 use Rattle.cg_silence.specs.Values.{SilenceValue, silence_of}
 use Rattle.cg_silence.specs.Settings.{settings_or_fault as silence_or_fault}
 use Rattle.cg_events.specs.declared.event.Event.{Event}

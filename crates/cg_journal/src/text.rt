@@ -4,7 +4,7 @@ ghost use Rattle.std.specs.Prelude.{◌≡◌, ◌++◌, List, ℕ, OnOk, IfOk, 
 ghost use Rattle.std.specs.List.{flat_map};
 ghost use Rattle.hex.specs.Hex.{encode_lower};
 ghost use Rattle.cg_table.specs.Own.{own_entry};
-ghost use Rattle.cg_exchange.specs.Lent.{lent_message};
+ghost use Rattle.cg_messages.specs.Lent.{lent_message};
 ghost use Rattle.cg_journal.specs.Text.{silence_text, further_seed, seeds_text, settings_text, life_line, text_digits, frame_digits, further_word, set_line, tick_line, syn_line, ack_line, ack2_line, event_line};
 
 use cg_core::Node;

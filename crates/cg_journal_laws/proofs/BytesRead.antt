@@ -10,12 +10,12 @@ use Rattle.hex.specs.Hex.{IsBytes}
 use Rattle.cg_types.specs.Text.{plain, printable}
 use Rattle.cg_types.proofs.RisingLemmas.{rise_sorted}
 use Rattle.cg_entry.specs.Versioned.{Versioned}
-use Rattle.cg_table.specs.declared.digest.Digest.{Digest}
-use Rattle.cg_exchange.specs.declared.owner_delta.OwnerDelta.{OwnerDelta}
-use Rattle.cg_exchange.specs.declared.message.Message.{Message}
-use Rattle.cg_exchange.specs.declared.message.Message.TheVariants.{Syn, Ack, Ack2}
-use Rattle.cg_exchange.specs.Contents.{IsDigest, IsRequest}
-use Rattle.cg_exchange.specs.Values.{RequestValue}
+use Rattle.cg_entry.specs.declared.digest.Digest.{Digest}
+use Rattle.cg_messages.specs.declared.owner_delta.OwnerDelta.{OwnerDelta}
+use Rattle.cg_messages.specs.declared.message.Message.{Message}
+use Rattle.cg_messages.specs.declared.message.Message.TheVariants.{Syn, Ack, Ack2}
+use Rattle.cg_messages.specs.Contents.{IsDigest, IsRequest}
+use Rattle.cg_messages.specs.Values.{RequestValue}
 use Rattle.cg_frames.specs.declared.layout.Layout.{Layout}
 use Rattle.cg_frames.specs.Spelling.{two_bytes, four_bytes, endpoint, digest, request, text, state, delta, members, cluster, kind, body, inside, frame}
 use Rattle.cg_frames.specs.Fits.{Fits}

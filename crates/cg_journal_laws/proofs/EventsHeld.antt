@@ -14,9 +14,9 @@ use Rattle.cg_types.specs.OptionSteps.{◌>>=◌}
 use Rattle.cg_types.specs.Text.{plain, IsStateText}
 use Rattle.cg_types.specs.Words.{cut_at, number_of, key_in}
 use Rattle.cg_types.proofs.WordLemmas.{numbers_found, between_found}
-use Rattle.cg_exchange.specs.declared.message.Message.{Message}
-use Rattle.cg_exchange.specs.declared.message.Message.TheVariants as messages
-use Rattle.cg_exchange.specs.Messages.{IsMessage}
+use Rattle.cg_messages.specs.declared.message.Message.{Message}
+use Rattle.cg_messages.specs.declared.message.Message.TheVariants as messages
+use Rattle.cg_messages.specs.Messages.{IsMessage}
 use Rattle.cg_events.specs.declared.event.Event.TheVariants as event
 use Rattle.cg_frames.specs.declared.layout.TheConstants.{LAYOUTS}
 use Rattle.cg_frames.specs.Choosing.{frame_among}

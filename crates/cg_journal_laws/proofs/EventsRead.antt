@@ -15,9 +15,9 @@ use Rattle.cg_types.specs.OptionSteps.{◌>>=◌}
 use Rattle.cg_types.specs.Text.{plain, printable, IsStateText}
 use Rattle.cg_types.specs.Words.{key_in}
 use Rattle.cg_types.proofs.WordLemmas.{number_of-decimal}
-use Rattle.cg_exchange.specs.declared.message.Message.{Message}
-use Rattle.cg_exchange.specs.declared.message.Message.TheVariants as messages
-use Rattle.cg_exchange.specs.Messages.{IsMessage}
+use Rattle.cg_messages.specs.declared.message.Message.{Message}
+use Rattle.cg_messages.specs.declared.message.Message.TheVariants as messages
+use Rattle.cg_messages.specs.Messages.{IsMessage}
 use Rattle.cg_events.specs.declared.event.Event.{Event}
 use Rattle.cg_events.specs.declared.event.Event.TheVariants as event
 use Rattle.cg_frames.specs.declared.layout.TheConstants.{WRITTEN, LAYOUTS}

@@ -4,7 +4,7 @@ use Rattle.std.specs.Prelude.{ℕ, ◌≡◌, ◌<◌, ◌≤◌, ◌^◌, List,
 use Rattle.std.specs.List.{AllByRecursion}
 use Rattle.cg_types.specs.Numbers.{IsEndpoint, IsGeneration, IsKey}
 use Rattle.cg_types.specs.Text.{IsStateText, IsCluster}
-use Rattle.cg_exchange.specs.Contents.{IsSyn, IsAck, IsAck2}
+use Rattle.cg_messages.specs.Contents.{IsSyn, IsAck, IsAck2}
 use Rattle.cg_silence.specs.Values.{IsSilence}
 use Rattle.cg_events.specs.declared.event.Event.{Event}
 use Rattle.cg_events.specs.declared.event.Event.TheVariants as event

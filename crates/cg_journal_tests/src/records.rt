@@ -4,9 +4,10 @@
 //! two records: caller 1 sets key 1 to NORMAL, and then caller 2 beats.
 
 use cg_events::{Event, Reply};
-use cg_exchange::{Ack2, OwnerDelta, syn};
+use cg_exchange::syn;
 use cg_expect::expect_eq;
 use cg_history::{History, Item, Receipt};
+use cg_messages::{Ack2, OwnerDelta};
 use cg_samples::{A, B, bare_delta, cluster, endpoint, generation, key, settings, version};
 use cg_types::{Cluster, Fault, StateText};
 use std::alloc::Global;

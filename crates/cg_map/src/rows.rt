@@ -4,7 +4,7 @@ ghost use Rattle.std.specs.Prelude.{◌≡◌, ◌↔◌, ◌++◌, IsTrue, IfOk
 ghost use Rattle.cg_types.specs.Rising.{Rises};
 ghost use Rattle.cg_map.specs.Rows.{keys_of, before, after, walk, IsRowAt, IsGapAt};
 
-use cg_types::Endpoint;
+use cg_types::{Endpoint, Owned};
 use std::alloc::{AllocError, Global};
 use std::marker::Model;
 use std::ops::Deref;
@@ -66,6 +66,14 @@ impl<T> Row<T> {
             endpoint: self.endpoint,
             value: Arc::try_clone(&self.value)?,
         })
+    }
+}
+
+impl<T> Owned for Row<T> {
+    ghost owner_of = { λ r. r.0 };
+
+    fn owner(&self) -> Endpoint {
+        self.endpoint
     }
 }
 

@@ -2,8 +2,8 @@
 
 use crate::failure::Failure;
 use crate::messages::bringing;
-use cg_exchange::Message;
 use cg_frames::encode;
+use cg_messages::Message;
 use cg_table::Table;
 use md5::{Digest, Md5};
 use std::alloc::Global;

@@ -1,7 +1,8 @@
 //! Messages that both programs make of tables.
 
 use crate::failure::Failure;
-use cg_exchange::{Ack, Syn, answer_syn};
+use cg_exchange::answer_syn;
+use cg_messages::{Ack, Syn};
 use cg_samples::cluster;
 use cg_table::Table;
 use std::alloc::Global;

@@ -3,9 +3,9 @@
 use cg_core::Node;
 use cg_entry::Delta;
 use cg_events::Event;
-use cg_exchange::{Ack, Ack2, OwnerDelta};
 use cg_history::History;
 use cg_measure::{Failure, Held, Shape, bringing, table};
+use cg_messages::{Ack, Ack2, OwnerDelta};
 use cg_samples::{endpoint, generation, key, settings, version};
 use cg_types::{Fault, StateText};
 use std::alloc::{AllocError, Global};

@@ -5,8 +5,8 @@ use Rattle.std.specs.List.{AllByRecursion, Contains}
 use Rattle.std.proofs.lemmas.List.{append-nil, append_assoc}
 use Rattle.std.proofs.lemmas.List.Elements.{Contains-append_left, Contains-append_right, Contains-append_cases, Contains-push, Contains-push_cases, filter-append, filter_map-append}
 use Rattle.cg_types.specs.Equality.{same_by, same_by-Decides}
-use Rattle.cg_exchange.specs.declared.message.Message.{Message}
-use Rattle.cg_exchange.specs.MessageCode.{message_code}
+use Rattle.cg_messages.specs.declared.message.Message.{Message}
+use Rattle.cg_messages.specs.MessageCode.{message_code}
 use Rattle.cg_history.specs.declared.item.Item.{Item}
 use Rattle.cg_history.specs.History.{HistoryValue}
 use Rattle.cg_one_run.specs.Items.{RunItem, LivesValue, generation_of, items_from, items_of_life, items_of_lives, items_at}

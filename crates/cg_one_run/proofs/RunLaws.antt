@@ -4,7 +4,7 @@ use Rattle.std.specs.Prelude.{◌==◌}
 use Rattle.std.specs.List.{AllByRecursion, Contains}
 use Rattle.std.proofs.lemmas.List.{append-nil, append_assoc, append_cancel_left}
 use Rattle.std.proofs.lemmas.List.Elements.{Contains-append_left, Contains-append_right, Contains-append_cases}
-use Rattle.cg_exchange.specs.declared.message.Message.{Message}
+use Rattle.cg_messages.specs.declared.message.Message.{Message}
 use Rattle.cg_one_run.specs.Items.{RunItem, LivesValue, items_at}
 use Rattle.cg_one_run.specs.OneRun.{messages_of, items_by, WasSent, EachWasSent, GenerationsRise, IsOneRun}
 use Rattle.cg_one_run.specs.Turns.{Found, Order, Stuck, can_go, next, without_next, first, heads, found, after_turn, turns, count_left, endpoints_of}

@@ -1,7 +1,7 @@
 -- What nodes did, one item at a time.
 use Rattle.std.specs.Prelude.{ℕ, suc, ◌==◌, List, [], ◌∷◌, ◌++◌, Option, None, if◌then◌else◌}
 use Rattle.cg_table.specs.Own.{own_entry}
-use Rattle.cg_exchange.specs.declared.message.Message.{Message}
+use Rattle.cg_messages.specs.declared.message.Message.{Message}
 use Rattle.cg_events.specs.Sending.{message_of}
 use Rattle.cg_steps.specs.Step.{message_in}
 use Rattle.cg_history.specs.declared.item.Item.{Item}

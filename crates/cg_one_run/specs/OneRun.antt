@@ -2,7 +2,7 @@
 use Rattle.std.specs.Prelude.{ℕ, ◌≡◌, ◌==◌, ⊤, List, [], ◌∷◌, ◌++◌, Option, Some, None, map}
 use Rattle.std.specs.List.{AllByRecursion, Contains, filter, filter_map}
 use Rattle.cg_types.specs.Rising.{Rises}
-use Rattle.cg_exchange.specs.declared.message.Message.{Message}
+use Rattle.cg_messages.specs.declared.message.Message.{Message}
 use Rattle.cg_one_run.specs.Items.{RunItem, LivesValue, generation_of, items_at}
 
 -- what these items sent

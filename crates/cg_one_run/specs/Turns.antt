@@ -2,8 +2,8 @@
 use Rattle.std.specs.Prelude.{ℕ, zero, suc, ◌==◌, ◌||◌, ◌+◌, Bool, true, false, nat_le, if◌then◌else◌}
 use Rattle.std.specs.Prelude.{List, [], ◌∷◌, ◌++◌, length, map, Option, Some, None}
 use Rattle.cg_types.specs.Equality.{same_by}
-use Rattle.cg_exchange.specs.declared.message.Message.{Message}
-use Rattle.cg_exchange.specs.MessageCode.{message_code}
+use Rattle.cg_messages.specs.declared.message.Message.{Message}
+use Rattle.cg_messages.specs.MessageCode.{message_code}
 use Rattle.cg_one_run.specs.Items.{RunItem, LivesValue, items_at}
 use Rattle.cg_one_run.specs.OneRun.{messages_of}
 

@@ -4,8 +4,8 @@ use Rattle.cg_entry.specs.Values.{EntryValue}
 use Rattle.cg_entry.specs.Entry.{starting_entry, entry_after_beat, with_state}
 use Rattle.cg_entry.specs.History.{at_place, generation_at}
 use Rattle.cg_entry.specs.Place.{Span}
-use Rattle.cg_table.specs.declared.took.Took.{Took}
-use Rattle.cg_table.specs.declared.took.Took.TheVariants as took
+use Rattle.cg_entry.specs.declared.took.Took.{Took}
+use Rattle.cg_entry.specs.declared.took.Took.TheVariants as took
 use Rattle.cg_exchange.specs.Places.{Ask, took_for}
 use Rattle.cg_exchange.specs.PlaceMessages.{PlaceMessage, Syn, Ack, Ack2, answer_at, places_after, grants_at}
 

@@ -4,12 +4,12 @@ use Rattle.std.specs.FinMap as table
 use Rattle.cg_entry.specs.Values.{EntryValue}
 use Rattle.cg_entry.specs.Entry.{starting_entry}
 use Rattle.cg_entry.specs.Place.{Span}
-use Rattle.cg_table.specs.declared.digest.Digest.{Digest}
+use Rattle.cg_entry.specs.declared.digest.Digest.{Digest}
 use Rattle.cg_table.specs.Values.{Entries}
 use Rattle.cg_table.specs.Table.{lone_table}
 use Rattle.cg_table.specs.Spelling.{SpellsPlaces}
-use Rattle.cg_exchange.specs.declared.owner_delta.OwnerDelta.{OwnerDelta}
-use Rattle.cg_exchange.specs.Values.{RequestValue}
+use Rattle.cg_messages.specs.declared.owner_delta.OwnerDelta.{OwnerDelta}
+use Rattle.cg_messages.specs.Values.{RequestValue}
 use Rattle.cg_exchange.specs.Places.{Ask}
 use Rattle.cg_exchange.specs.PlaceMessages.{PlaceMessage, Stand, AreAsks, AreSpans, places_after}
 use Rattle.cg_exchange.specs.Spelling.{SpellsDigests, SpellsAsks, SpellsSpans}

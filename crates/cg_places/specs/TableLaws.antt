@@ -9,8 +9,8 @@ use Rattle.cg_table.specs.Values.{TableValue, Entries}
 use Rattle.cg_table.specs.Table.{digests_of}
 use Rattle.cg_table.specs.Merge.{merge_of, owners_together}
 use Rattle.cg_table.specs.Spelling.{SpellsPlaces}
-use Rattle.cg_exchange.specs.declared.owner_delta.OwnerDelta.{OwnerDelta}
-use Rattle.cg_exchange.specs.Members.{endpoints_of_deltas}
+use Rattle.cg_messages.specs.declared.owner_delta.OwnerDelta.{OwnerDelta}
+use Rattle.cg_messages.specs.Members.{endpoints_of_deltas}
 use Rattle.cg_exchange.specs.PlaceMessages.{AreSpans}
 use Rattle.cg_exchange.specs.Spelling.{SpellsSpans}
 use Rattle.cg_exchange.specs.Taking.{held_after}

@@ -7,13 +7,13 @@ use Rattle.cg_types.specs.Key.{key_name}
 use Rattle.cg_entry.specs.Versioned.{Versioned}
 use Rattle.cg_entry.specs.Values.{EntryValue}
 use Rattle.cg_entry.specs.Entry.{newest}
-use Rattle.cg_table.specs.Took.{took_name}
+use Rattle.cg_entry.specs.Took.{took_name}
 use Rattle.cg_table.specs.Values.{Entries}
 use Rattle.cg_tokens.specs.Tokens.{token_text}
 use Rattle.cg_tokens.specs.Ring.{Positions, replicas}
-use Rattle.cg_exchange.specs.declared.kind.Kind.{Kind}
-use Rattle.cg_exchange.specs.Kind.{kind_name}
-use Rattle.cg_exchange.specs.declared.outcome.Outcome.{Outcome}
+use Rattle.cg_messages.specs.declared.kind.Kind.{Kind}
+use Rattle.cg_messages.specs.Kind.{kind_name}
+use Rattle.cg_messages.specs.declared.outcome.Outcome.{Outcome}
 
 -- ---- what was done
 

@@ -5,7 +5,7 @@ ghost use Rattle.cg_printed.specs.Printed.{started_line, version_line, message_l
 ghost use Rattle.std.specs.List.{flat_map};
 
 use crate::parts::{add_number, add_peer};
-use cg_exchange::{Kind, Outcome};
+use cg_messages::{Kind, Outcome};
 use cg_types::{Endpoint, Generation, Version};
 use std::alloc::AllocError;
 use std::fmt::Write;

@@ -1,6 +1,6 @@
 //! A round of a node.
 
-use cg_exchange::Syn;
+use cg_messages::Syn;
 use cg_peers::Peers;
 
 /// Whom a round is for, what they are sent, and the number of the record that it came of.

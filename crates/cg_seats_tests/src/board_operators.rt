@@ -4,9 +4,9 @@ ghost use Rattle.cg_seats.specs.Seats.{GoesOn};
 
 use cg_engine::Gate;
 use cg_events::Event;
-use cg_exchange::Syn;
 use cg_links::Counted;
 use cg_locked::Name;
+use cg_messages::Syn;
 use cg_operator::operate;
 use cg_seat_samples::{last_version, learn, read_three, set_three};
 use cg_seats::{Operate, SeatGate};

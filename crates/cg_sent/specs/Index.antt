@@ -1,6 +1,6 @@
 -- Lists of messages that are found by their hashes.
 use Rattle.std.specs.Prelude.{ℕ, suc, ◌≡◌, ◌<◌, ◌≤◌, ◌%◌, ◌↔◌, List, length, map, Contains, slice_index}
-use Rattle.cg_exchange.specs.declared.message.Message.{Message}
+use Rattle.cg_messages.specs.declared.message.Message.{Message}
 use Rattle.cg_sent.specs.Hash.{hash_of}
 
 -- Of the first ones, so many, the greatest number of a bucket, or 0 where the bucket has none of them.

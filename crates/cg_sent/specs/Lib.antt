@@ -1,4 +1,4 @@
 pub mod Hash
 pub mod Index
-pub use Rattle.cg_exchange.specs.Lent
-pub use Rattle.cg_exchange.specs.MessageCode
+pub use Rattle.cg_messages.specs.Lent
+pub use Rattle.cg_messages.specs.MessageCode

@@ -1,11 +1,11 @@
 //! A number that equal messages have in common.
 
 ghost use Rattle.std.specs.Prelude.{◌≡◌, fold};
-ghost use Rattle.cg_exchange.specs.Lent.{lent_message};
+ghost use Rattle.cg_messages.specs.Lent.{lent_message};
 ghost use Rattle.cg_sent.specs.Hash.{mixed as mixed_of, endpoint_number as endpoint_number_of, with_digest, with_request, with_delta, hash_of as hash_of_lem};
 
-use cg_exchange::{Ack, Ack2, Lent, OwnerDelta, Request, Syn};
-use cg_table::Digest;
+use cg_entry::Digest;
+use cg_messages::{Ack, Ack2, Lent, OwnerDelta, Request, Syn};
 use cg_types::Endpoint;
 
 /// What a hash is multiplied by before a number is added: odd, and with its bits spread out.

@@ -1,13 +1,13 @@
 //! The messages that were sent, in buckets by their hashes.
 
 ghost use Rattle.std.specs.Prelude.{◌≡◌, ◌<◌, ◌+◌, ◌%◌, ◌↔◌, ◌∷◌, ◌++◌, [], IsTrue, IfOk, Contains, Some, length, map, slice_get};
-ghost use Rattle.cg_exchange.specs.Lent.{lent_message};
+ghost use Rattle.cg_messages.specs.Lent.{lent_message};
 ghost use Rattle.cg_sent.specs.Hash.{hash_of as hash_of_lem};
 ghost use Rattle.cg_sent.specs.Index.{IsIndex, HaveTheSame};
 
 use crate::hash::hash_of;
 use crate::same::is_same;
-use cg_exchange::Lent;
+use cg_messages::Lent;
 use std::alloc::{AllocError, Global};
 use std::marker::Model;
 
@@ -27,9 +27,9 @@ pub struct Sent<'a> {
 impl<'a> Model for Sent<'a> {
     ghost use Rattle.std.specs.Prelude.{List, map};
     ghost use Rattle.std.specs.Coded.{coded_list};
-    ghost use Rattle.cg_exchange.specs.declared.message.Message.{Message};
-    ghost use Rattle.cg_exchange.specs.MessageCode.{message_code};
-    ghost use Rattle.cg_exchange.specs.Lent.{lent_message};
+    ghost use Rattle.cg_messages.specs.declared.message.Message.{Message};
+    ghost use Rattle.cg_messages.specs.MessageCode.{message_code};
+    ghost use Rattle.cg_messages.specs.Lent.{lent_message};
     ghost use Rattle.cg_sent.specs.Index.{IsIndex};
 
     ghost Value = { List Message };

@@ -1,9 +1,9 @@
 //! Whether two messages that are lent are the same.
 
 ghost use Rattle.std.specs.Prelude.{◌≡◌, ◌↔◌, IsTrue};
-ghost use Rattle.cg_exchange.specs.Lent.{lent_message};
+ghost use Rattle.cg_messages.specs.Lent.{lent_message};
 
-use cg_exchange::{Ack, Ack2, Lent, Syn};
+use cg_messages::{Ack, Ack2, Lent, Syn};
 
 fn same_syn(one: &Syn, other: &Syn) -> bool
     ensures { IsTrue result ↔ (one.now ≡ other.now) }

@@ -4,7 +4,7 @@ pub mod Steps
 pub mod Simulated
 pub mod Runs
 pub use Rattle.cg_types.specs.Fault
-pub use Rattle.cg_exchange.specs.Kind
+pub use Rattle.cg_messages.specs.Kind
 pub use Rattle.cg_steps.specs.Step
 pub use Rattle.cg_world.specs.Acting
 pub use Rattle.cg_world.specs.World

@@ -2,12 +2,12 @@
 
 ghost use Rattle.std.specs.Prelude.{◌≡◌, ◌++◌, OnOk, string_bytes, option_map};
 ghost use Rattle.cg_steps.specs.Step.{message_of};
-ghost use Rattle.cg_exchange.specs.Kind.{kind_of};
+ghost use Rattle.cg_messages.specs.Kind.{kind_of};
 ghost use Rattle.cg_sim.specs.Script.{reply_lines, sent_lines, answer_lines, shown_lines, node_lines};
 
 use cg_core::Node;
 use cg_events::Reply;
-use cg_exchange::Kind;
+use cg_messages::Kind;
 use cg_printed::{
     add_digests, add_gossipinfo, add_message, add_outcomes, add_replicas, add_ring, add_round,
     add_started, add_version,

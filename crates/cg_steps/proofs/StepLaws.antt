@@ -14,10 +14,10 @@ use Rattle.cg_entry.proofs.PlaceLemmas.{at_place_none}
 use Rattle.cg_table.specs.Values.{TableValue}
 use Rattle.cg_table.specs.Own.{own_entry, with_own}
 use Rattle.cg_table.specs.Spelling.{SpellsPlaces}
-use Rattle.cg_exchange.specs.declared.message.Message.{Message}
-use Rattle.cg_exchange.specs.declared.message.Message.TheVariants as message
-use Rattle.cg_exchange.specs.declared.outcome.Outcome.{Outcome}
-use Rattle.cg_exchange.specs.Values.{SynValue, AckValue, Ack2Value}
+use Rattle.cg_messages.specs.declared.message.Message.{Message}
+use Rattle.cg_messages.specs.declared.message.Message.TheVariants as message
+use Rattle.cg_messages.specs.declared.outcome.Outcome.{Outcome}
+use Rattle.cg_messages.specs.Values.{SynValue, AckValue, Ack2Value}
 use Rattle.cg_exchange.specs.Answering.{same_cluster, answer_to_syn}
 use Rattle.cg_exchange.specs.Taking.{taking_ack, taking_ack2}
 use Rattle.cg_exchange.specs.Places.{Ask, took_for}

@@ -16,8 +16,8 @@ use Rattle.cg_entry.specs.Place as place
 use Rattle.cg_entry.specs.Spelling.{delta_of, absorbed_of}
 use Rattle.cg_entry.proofs.PlaceLemmas.{at_place_some}
 use Rattle.cg_entry.proofs.SpellingLaws.{spelled_deltas_are_taken}
-use Rattle.cg_table.specs.declared.took.Took.{Took}
-use Rattle.cg_table.specs.declared.took.Took.TheVariants as took
+use Rattle.cg_entry.specs.declared.took.Took.{Took}
+use Rattle.cg_entry.specs.declared.took.Took.TheVariants as took
 use Rattle.cg_table.specs.Values.{TableValue, Entries}
 use Rattle.cg_table.specs.Taking.{change_by, change_of, with_row, take_one, is_full_for}
 use Rattle.cg_table.specs.Spelling.{SpellsPlaces}

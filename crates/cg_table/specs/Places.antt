@@ -2,8 +2,8 @@
 use Rattle.std.specs.Prelude.{ℕ, Bool, Option, Some, None, if◌then◌else◌}
 use Rattle.cg_entry.specs.Place.{Span, SpanOutcome, span_outcome, place_after}
 use Rattle.cg_entry.specs.Place as place
-use Rattle.cg_table.specs.declared.took.Took.{Took}
-use Rattle.cg_table.specs.declared.took.Took.TheVariants as took
+use Rattle.cg_entry.specs.declared.took.Took.{Took}
+use Rattle.cg_entry.specs.declared.took.Took.TheVariants as took
 
 -- what becomes of a span, in the words of deltas
 abbrev pub took_of_span : SpanOutcome → Took

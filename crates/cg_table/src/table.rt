@@ -14,9 +14,7 @@ ghost use Rattle.cg_table.specs.Puts.{row_at};
 ghost use Rattle.cg_table.specs.Table.{lone_table, digest_of, digests_of};
 ghost use Rattle.cg_table.specs.Values.{AreOwnerEntries, IsOwnerRow};
 
-use crate::digest::Digest;
-use crate::took::Took;
-use cg_entry::{Absorbed, Delta, Entry, meet};
+use cg_entry::{Absorbed, Delta, Digest, Entry, Took, meet};
 use cg_map::{Row, SharedMap};
 use cg_types::{Endpoint, Fault, MEMBER_LIMIT};
 use std::alloc::{AllocError, Global};

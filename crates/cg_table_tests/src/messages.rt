@@ -1,9 +1,9 @@
 //! Messages made, copied and compared, and lists that are none.
 
 use crate::samples::{ack_of, ack2_of, below, syn_of};
-use cg_exchange::{Kind, Message, Request};
 use cg_expect::expect_eq;
-use cg_samples::{A, B, C, endpoint, generation};
+use cg_messages::{Ack, Ack2, Kind, Message, Request, Syn};
+use cg_samples::{A, B, C, cluster, endpoint, generation};
 use cg_types::{MEMBER_LIMIT, NUMBER_LIMIT};
 use std::alloc::{AllocError, Global};
 use std::test::Fail;
@@ -15,6 +15,15 @@ fn a_request_has_its_parts() -> Result<(), Fail> {
     let parts = (request.endpoint(), request.generation(), request.version());
     expect_eq!(parts, (owner, at, 2))?;
     expect_eq!(Request::new(owner, at, NUMBER_LIMIT), None)
+}
+
+#[test]
+fn messages_of_empty_lists(rt: HostRuntime) -> Result<(), Fail> {
+    let syn = Syn::of_parts(cluster(rt.alloc())?, Vec::new(rt.alloc()));
+    expect_eq!((syn.digests().len(), syn.cluster().name()), (0, "c1"))?;
+    let ack = Ack::of_parts(Vec::new(rt.alloc()), Vec::new(rt.alloc()));
+    expect_eq!((ack.requests().len(), ack.deltas().len()), (0, 0))?;
+    expect_eq!(Ack2::of_parts(Vec::new(rt.alloc())).deltas().len(), 0)
 }
 
 // ---- which lists a message takes

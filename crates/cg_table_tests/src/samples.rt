@@ -1,8 +1,9 @@
 //! Parts of messages and messages that the tests of messages share.
 
-use cg_exchange::{Ack, Ack2, OwnerDelta, Request, Syn};
+use cg_entry::Digest;
+use cg_messages::{Ack, Ack2, OwnerDelta, Request, Syn};
 use cg_samples::{bare_delta, endpoint, entry_at_start, generation, version};
-use cg_table::{Digest, Table};
+use cg_table::Table;
 use cg_types::Cluster;
 use std::alloc::Global;
 use std::test::Fail;

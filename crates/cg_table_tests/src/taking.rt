@@ -1,10 +1,12 @@
 //! What an ACK and an ACK2 make of a table.
 
 use crate::samples::{ack_of, ack2_of, below, only, table_alone};
-use cg_exchange::{Ack, Ack2, Outcome, OwnerDelta, answer_syn, syn, take_ack, take_ack2};
+use cg_entry::Took;
+use cg_exchange::{answer_syn, syn, take_ack, take_ack2};
 use cg_expect::{expect, expect_eq};
+use cg_messages::{Ack, Ack2, Outcome, OwnerDelta};
 use cg_samples::{A, B, bare_delta, cluster, endpoint};
-use cg_table::{Table, Took};
+use cg_table::Table;
 use cg_types::{Cluster, Fault};
 use std::alloc::Global;
 use std::test::Fail;

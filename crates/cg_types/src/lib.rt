@@ -6,6 +6,7 @@ mod fault;
 mod generation;
 pub mod laws;
 mod limits;
+mod owned;
 mod state_key;
 mod text;
 mod version;
@@ -18,6 +19,7 @@ pub use limits::{
     MEMBER_LIMIT, NAME_LIMIT, NUMBER_LIMIT, PARTITIONER, STATE_LIMIT, STATUS_KEY, TEXT_LIMIT,
     TOKENS_KEY,
 };
+pub use owned::Owned;
 pub use state_key::StateKey;
 pub use text::{Cluster, StateText, is_plain};
 pub use version::Version;

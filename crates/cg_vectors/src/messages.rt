@@ -1,8 +1,7 @@
 //! Messages as words.
 
-use cg_entry::State;
-use cg_exchange::{Ack, Ack2, Message, OwnerDelta, Request, Syn};
-use cg_table::Digest;
+use cg_entry::{Digest, State};
+use cg_messages::{Ack, Ack2, Message, OwnerDelta, Request, Syn};
 use std::alloc::{AllocError, Global};
 
 // Adds bytes as hexadecimal digits, and `-` where there are none.

@@ -12,8 +12,8 @@ use Rattle.cg_map.specs.Rows.{keys_of}
 use Rattle.cg_map.specs.Map.{put_each}
 use Rattle.cg_map.proofs.PastLemmas.{AgreePast, still_agree, agree_later}
 use Rattle.cg_entry.proofs.KeyLemmas.{find-map}
-use Rattle.cg_exchange.specs.declared.outcome.Outcome.{Outcome}
-use Rattle.cg_exchange.specs.Changes.{endpoints_of_outcomes}
+use Rattle.cg_messages.specs.declared.outcome.Outcome.{Outcome}
+use Rattle.cg_messages.specs.Members.{endpoints_of_outcomes}
 use Rattle.cg_silence.specs.Values.{SilenceValue, Shown, WindowValue}
 use Rattle.cg_silence.specs.Silence.{after_arrival, verdict}
 use Rattle.cg_silence.specs.declared.verdict.Verdict.{Verdict}

@@ -2,4 +2,4 @@ pub mod Windows
 pub use Rattle.cg_types.specs.Rising
 pub use Rattle.cg_silence.specs.Silence
 pub use Rattle.cg_silence.specs.Values
-pub use Rattle.cg_exchange.specs.Changes
+pub use Rattle.cg_messages.specs.Members

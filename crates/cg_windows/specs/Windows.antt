@@ -4,9 +4,9 @@ use Rattle.std.specs.Coded.{Coded, code_by, coded×, coded_ℕ}
 use Rattle.std.specs.List.{list_any}
 use Rattle.std.specs.Ordering.{nat_cmp}
 use Rattle.std.specs.FinMap as map
-use Rattle.cg_table.specs.declared.took.Took.{Took}
-use Rattle.cg_table.specs.declared.took.Took.TheVariants as took
-use Rattle.cg_exchange.specs.declared.outcome.Outcome.{Outcome}
+use Rattle.cg_entry.specs.declared.took.Took.{Took}
+use Rattle.cg_entry.specs.declared.took.Took.TheVariants as took
+use Rattle.cg_messages.specs.declared.outcome.Outcome.{Outcome}
 use Rattle.cg_silence.specs.declared.verdict.Verdict.{Verdict}
 use Rattle.cg_silence.specs.declared.verdict.Verdict.TheVariants.{Unheard}
 use Rattle.cg_silence.specs.Values.{SilenceValue, Shown, WindowValue, silence_code, shown_code}

@@ -1,9 +1,9 @@
 -- The kind of message that is due: the message itself, or the fault of another kind.
 use Rattle.std.specs.Prelude.{Result, Ok, Err}
 use Rattle.cg_types.specs.declared.fault.Fault.{Fault}
-use Rattle.cg_exchange.specs.declared.message.Message.{Message}
-use Rattle.cg_exchange.specs.declared.message.Message.TheVariants.{Syn, Ack, Ack2}
-use Rattle.cg_exchange.specs.Values.{SynValue, AckValue, Ack2Value}
+use Rattle.cg_messages.specs.declared.message.Message.{Message}
+use Rattle.cg_messages.specs.declared.message.Message.TheVariants.{Syn, Ack, Ack2}
+use Rattle.cg_messages.specs.Values.{SynValue, AckValue, Ack2Value}
 use Rattle.cg_wire.specs.declared.due.TheConstants.{UNEXPECTED}
 
 abbrev pub syn_due : Message → Result SynValue Fault

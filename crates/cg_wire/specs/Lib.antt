@@ -2,7 +2,7 @@ pub mod Due
 pub mod Received
 pub mod Sent
 pub mod Laws
-pub use Rattle.cg_exchange.specs.Lent
+pub use Rattle.cg_messages.specs.Lent
 pub use Rattle.cg_frames.specs.Choosing
 pub use Rattle.cg_frames.specs.Faults
 pub use Rattle.cg_frames.specs.Feeding

@@ -3,7 +3,7 @@
 ghost use Rattle.std.specs.Prelude.{◌≡◌};
 ghost use Rattle.cg_wire.specs.Due as spec;
 
-use cg_exchange::{Ack, Ack2, Message, Syn};
+use cg_messages::{Ack, Ack2, Message, Syn};
 use cg_types::{Cause, Fault};
 
 /// The fault of a message of another kind than the one that is due: the place is that of the kind, behind the length

@@ -9,9 +9,9 @@ ghost use Rattle.cg_frames.specs.Feeding.{wants_of};
 ghost use Rattle.cg_links.specs.Counted.{calls_of, link_of};
 ghost use Rattle.cg_wire.specs.Received.{IsSpelledBy, Receives, held_of};
 
-use cg_exchange::Message;
 use cg_frames::{Feed, LAYOUT_1};
 use cg_links::Counted;
+use cg_messages::Message;
 use cg_types::Fault;
 use std::alloc::Global;
 use std::io::Read;

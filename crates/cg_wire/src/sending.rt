@@ -1,15 +1,15 @@
 //! One message to a link.
 
 ghost use Rattle.std.specs.Prelude.{◌≡◌, ◌<◌, length};
-ghost use Rattle.cg_exchange.specs.Lent.{lent_message};
+ghost use Rattle.cg_messages.specs.Lent.{lent_message};
 ghost use Rattle.cg_frames.specs.declared.layout.TheConstants.{WRITTEN};
 ghost use Rattle.cg_frames.specs.Spelling.{frame};
 ghost use Rattle.cg_links.specs.Counted.{link_of};
 ghost use Rattle.cg_wire.specs.Sent.{Sends};
 
-use cg_exchange::Lent;
 use cg_frames::encode_lent;
 use cg_links::{Counted, write_and_flush};
+use cg_messages::Lent;
 use cg_types::Fault;
 use std::alloc::Global;
 use std::io::Write;

@@ -1,10 +1,10 @@
 -- What the workers of a node do over links.
 use Rattle.std.specs.Prelude.{◌≡◌, ℕ, ◌<◌, ◌⊎◌, List, [], ◌∷◌, ◌++◌, length, map, Option, Some, Result, Ok, Err}
 use Rattle.cg_types.specs.declared.fault.Fault.{Fault}
-use Rattle.cg_exchange.specs.declared.kind.Kind.{Kind}
-use Rattle.cg_exchange.specs.declared.kind.Kind.TheVariants as kind
-use Rattle.cg_exchange.specs.declared.message.Message.TheVariants as messages
-use Rattle.cg_exchange.specs.Values.{SynValue}
+use Rattle.cg_messages.specs.declared.kind.Kind.{Kind}
+use Rattle.cg_messages.specs.declared.kind.Kind.TheVariants as kind
+use Rattle.cg_messages.specs.declared.message.Message.TheVariants as messages
+use Rattle.cg_messages.specs.Values.{SynValue}
 use Rattle.cg_frames.specs.declared.layout.TheConstants.{WRITTEN}
 use Rattle.cg_frames.specs.Spelling.{frame}
 use Rattle.cg_events.specs.declared.event.Event.{Event}

@@ -7,7 +7,7 @@ ghost use Rattle.cg_workers.specs.Workers.{Begun, Reached, SentRound, Sent};
 use crate::links::Dial;
 use cg_clock::Milliseconds;
 use cg_engine::{Counted, Gate, initiate};
-use cg_exchange::Syn;
+use cg_messages::Syn;
 use cg_rounds::{Round, Taking};
 use cg_types::Endpoint;
 use std::alloc::Global;

@@ -1,6 +1,6 @@
 //! Rounds of a number.
 
-use cg_exchange::Syn;
+use cg_messages::Syn;
 use cg_peers::Peers;
 use cg_rounds::Round;
 use cg_samples::{cluster, endpoint};

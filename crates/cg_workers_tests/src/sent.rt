@@ -2,9 +2,9 @@
 
 use crate::samples::{ACK, SYN, Standing, owners, started};
 use cg_engine::NodeGate;
-use cg_exchange::Syn;
 use cg_expect::{expect, expect_eq};
 use cg_frames::decode;
+use cg_messages::Syn;
 use cg_peers::Peers;
 use cg_rounds::{Round, rounds};
 use cg_samples::{A, B, endpoint};

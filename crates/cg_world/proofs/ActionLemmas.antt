@@ -16,13 +16,13 @@ use Rattle.cg_entry.specs.History.{at_place, generation_of, generation_at}
 use Rattle.cg_entry.specs.Place.{Span}
 use Rattle.cg_table.specs.Values.{TableValue}
 use Rattle.cg_table.specs.Own.{own_entry}
-use Rattle.cg_exchange.specs.declared.message.Message.{Message}
-use Rattle.cg_exchange.specs.declared.message.Message.TheVariants as message
-use Rattle.cg_exchange.specs.declared.owner_delta.OwnerDelta.{OwnerDelta}
-use Rattle.cg_exchange.specs.Members.{endpoints_of_deltas}
-use Rattle.cg_exchange.specs.Values.{SynValue, AckValue, Ack2Value}
+use Rattle.cg_messages.specs.declared.message.Message.{Message}
+use Rattle.cg_messages.specs.declared.message.Message.TheVariants as message
+use Rattle.cg_messages.specs.declared.owner_delta.OwnerDelta.{OwnerDelta}
+use Rattle.cg_messages.specs.Members.{endpoints_of_deltas}
+use Rattle.cg_messages.specs.Values.{SynValue, AckValue, Ack2Value}
 use Rattle.cg_exchange.specs.Answering.{same_cluster}
-use Rattle.cg_exchange.specs.declared.outcome.Outcome.{Outcome}
+use Rattle.cg_messages.specs.declared.outcome.Outcome.{Outcome}
 use Rattle.cg_exchange.specs.Taking.{table_after, outcomes_of, held_after, deltas_granted, taking_ack, taking_ack2}
 use Rattle.cg_exchange.specs.Spelling.{SpellsSpans}
 use Rattle.cg_exchange.specs.Places.{Ask}

@@ -11,9 +11,9 @@ use Rattle.cg_entry.specs.Place.{Span, IsSpan, Taken, Old, Gap}
 use Rattle.cg_entry.specs.Spelling.{version_of, version_at, delta_of}
 use Rattle.cg_entry.proofs.PlaceLemmas.{at_place_none}
 use Rattle.cg_entry.proofs.HistoryLemmas.{ComesBefore, comes_before, version_positive}
-use Rattle.cg_exchange.specs.declared.outcome.Outcome.{Outcome}
-use Rattle.cg_exchange.specs.declared.owner_delta.OwnerDelta.{OwnerDelta}
-use Rattle.cg_exchange.specs.Members.{about}
+use Rattle.cg_messages.specs.declared.outcome.Outcome.{Outcome}
+use Rattle.cg_messages.specs.declared.owner_delta.OwnerDelta.{OwnerDelta}
+use Rattle.cg_messages.specs.Members.{about}
 use Rattle.cg_exchange.specs.PlaceMessages.{PlaceMessage, Syn, Ack, Ack2, IsPlaceMessage, AreSpans}
 use Rattle.cg_exchange.specs.Places.{took_for, took_of_span}
 use Rattle.cg_exchange.specs.Spelling.{delta_about, outcome_about}

@@ -14,14 +14,14 @@ use Rattle.cg_entry.specs.Place.{Span, IsSpan}
 use Rattle.cg_entry.specs.Spelling.{delta_of}
 use Rattle.cg_entry.proofs.PlaceLemmas.{at_place_some}
 use Rattle.cg_entry.proofs.HistoryLaws.{versions_name_entries}
-use Rattle.cg_table.specs.declared.took.Took.{Took}
-use Rattle.cg_table.specs.declared.took.Took.TheVariants as took
+use Rattle.cg_entry.specs.declared.took.Took.{Took}
+use Rattle.cg_entry.specs.declared.took.Took.TheVariants as took
 use Rattle.cg_table.specs.Own.{own_entry}
 use Rattle.cg_tokens.specs.Ring.{ring}
-use Rattle.cg_exchange.specs.declared.message.Message.{Message}
-use Rattle.cg_exchange.specs.declared.outcome.Outcome.{Outcome}
-use Rattle.cg_exchange.specs.declared.owner_delta.OwnerDelta.{OwnerDelta}
-use Rattle.cg_exchange.specs.Members.{about}
+use Rattle.cg_messages.specs.declared.message.Message.{Message}
+use Rattle.cg_messages.specs.declared.outcome.Outcome.{Outcome}
+use Rattle.cg_messages.specs.declared.owner_delta.OwnerDelta.{OwnerDelta}
+use Rattle.cg_messages.specs.Members.{about}
 use Rattle.cg_exchange.specs.PlaceMessages.{AreSpans}
 use Rattle.cg_exchange.specs.Places.{took_for}
 use Rattle.cg_exchange.specs.Spelling.{delta_about, outcome_about}

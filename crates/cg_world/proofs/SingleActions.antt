@@ -7,10 +7,10 @@ use Rattle.cg_types.specs.declared.fault.Fault.TheVariants.{TableFull, NotRising
 use Rattle.cg_types.specs.declared.limits.TheConstants.{MEMBER_LIMIT}
 use Rattle.cg_entry.specs.History.{at_place}
 use Rattle.cg_table.specs.Values.{TableValue}
-use Rattle.cg_exchange.specs.declared.message.Message.{Message}
-use Rattle.cg_exchange.specs.declared.message.Message.TheVariants as message
-use Rattle.cg_exchange.specs.declared.outcome.Outcome.{Outcome}
-use Rattle.cg_exchange.specs.Values.{AckValue, Ack2Value}
+use Rattle.cg_messages.specs.declared.message.Message.{Message}
+use Rattle.cg_messages.specs.declared.message.Message.TheVariants as message
+use Rattle.cg_messages.specs.declared.outcome.Outcome.{Outcome}
+use Rattle.cg_messages.specs.Values.{AckValue, Ack2Value}
 use Rattle.cg_exchange.specs.Answering.{answer_to_syn}
 use Rattle.cg_exchange.specs.Taking.{table_after, outcomes_of, held_after, deltas_granted, taking_ack, taking_ack2}
 use Rattle.cg_events.specs.declared.event.Event.{Event}

@@ -13,12 +13,11 @@ use Rattle.cg_entry.specs.Entry.{entry_after_beat, with_state}
 use Rattle.cg_entry.specs.History.{at_place}
 use Rattle.cg_entry.specs.Place.{Span}
 use Rattle.cg_table.specs.Values.{TableValue}
-use Rattle.cg_exchange.specs.declared.message.Message.{Message}
-use Rattle.cg_exchange.specs.declared.message.Message.TheVariants as kinds
-use Rattle.cg_exchange.specs.declared.outcome.Outcome.{Outcome}
-use Rattle.cg_exchange.specs.Values.{SynValue, AckValue, Ack2Value}
-use Rattle.cg_exchange.specs.Members.{endpoints_of_deltas}
-use Rattle.cg_exchange.specs.Changes.{endpoints_of_outcomes}
+use Rattle.cg_messages.specs.declared.message.Message.{Message}
+use Rattle.cg_messages.specs.declared.message.Message.TheVariants as kinds
+use Rattle.cg_messages.specs.declared.outcome.Outcome.{Outcome}
+use Rattle.cg_messages.specs.Values.{SynValue, AckValue, Ack2Value}
+use Rattle.cg_messages.specs.Members.{endpoints_of_deltas, endpoints_of_outcomes}
 use Rattle.cg_exchange.specs.Taking.{table_after, outcomes_of, deltas_granted}
 use Rattle.cg_exchange.specs.Places.{Ask, took_for}
 use Rattle.cg_exchange.specs.PlaceMessages.{PlaceMessage, Syn, Ack, Ack2}

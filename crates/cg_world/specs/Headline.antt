@@ -6,8 +6,8 @@ use Rattle.std.specs.FinMap as map
 use Rattle.cg_entry.specs.Values.{EntryValue}
 use Rattle.cg_table.specs.Own.{own_entry}
 use Rattle.cg_table.specs.Table.{digests_of}
-use Rattle.cg_exchange.specs.declared.outcome.Outcome.{Outcome}
-use Rattle.cg_exchange.specs.declared.owner_delta.OwnerDelta.{OwnerDelta}
+use Rattle.cg_messages.specs.declared.outcome.Outcome.{Outcome}
+use Rattle.cg_messages.specs.declared.owner_delta.OwnerDelta.{OwnerDelta}
 use Rattle.cg_settings.specs.Values.{SettingsValue}
 use Rattle.cg_core.specs.Values.{NodeValue}
 use Rattle.cg_places.specs.TableLaws.{AreEqual}

@@ -2,9 +2,9 @@
 use Rattle.std.specs.Prelude.{ℕ, ◌≡◌, ◌≢◌, IsOk, is_ok, is_some, List, [], Option, Some, None, Ok}
 use Rattle.std.specs.FinMap as map
 use Rattle.cg_entry.specs.History.{at_place}
-use Rattle.cg_exchange.specs.declared.message.Message.TheVariants as message
-use Rattle.cg_exchange.specs.declared.outcome.Outcome.{Outcome}
-use Rattle.cg_exchange.specs.Values.{AckValue, Ack2Value}
+use Rattle.cg_messages.specs.declared.message.Message.TheVariants as message
+use Rattle.cg_messages.specs.declared.outcome.Outcome.{Outcome}
+use Rattle.cg_messages.specs.Values.{AckValue, Ack2Value}
 use Rattle.cg_exchange.specs.Taking.{outcomes_of}
 use Rattle.cg_events.specs.declared.reply.Reply.{Reply}
 use Rattle.cg_events.specs.declared.reply.Reply.TheVariants as reply

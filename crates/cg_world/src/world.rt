@@ -13,7 +13,7 @@ use crate::action::Action;
 use crate::nodes::Nodes;
 use cg_core::Node;
 use cg_events::Reply;
-use cg_exchange::Message;
+use cg_messages::Message;
 use cg_settings::Settings;
 use cg_types::{Endpoint, Fault};
 use std::alloc::{AllocError, Global};

@@ -1,8 +1,8 @@
 //! What a world shows of itself, what a run answers, and runs that memory may end.
 
 use crate::scripts::{act_all, deliver, local, start, three_nodes};
-use cg_exchange::Message;
 use cg_expect::{expect, expect_eq};
+use cg_messages::Message;
 use cg_samples::{A, B, C, endpoint, settings};
 use cg_table::Table;
 use cg_types::{Endpoint, Fault};

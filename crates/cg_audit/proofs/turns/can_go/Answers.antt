@@ -1,6 +1,6 @@
 use Rattle.std.proofs.Common.{sym, ap, ◌∙◌}
 use Rattle.std.specs.Option.{option_map}
-use Rattle.cg_exchange.specs.Lent.{lent_message}
+use Rattle.cg_messages.specs.Lent.{lent_message}
 use Rattle.cg_audit.specs.Tracks.{goes}
 use Rattle.cg_audit.proofs.TrackLemmas.{among_decides}
 use Rattle.cg_audit.proofs.turns.can_go.Goals as goal

@@ -1,8 +1,8 @@
 use Rattle.std.proofs.Common.{[], ◌∷◌}
-use Rattle.cg_exchange.specs.declared.message.Message.TheVariants as messages
+use Rattle.cg_messages.specs.declared.message.Message.TheVariants as messages
 use Rattle.cg_frames.specs.declared.layout.TheConstants.{WRITTEN}
 use Rattle.cg_frames.specs.Spelling.{frame}
-use Rattle.cg_exchange.specs.declared.kind.Kind.TheVariants as message_kind
+use Rattle.cg_messages.specs.declared.kind.Kind.TheVariants as message_kind
 use Rattle.cg_engine.proofs.ExchangeLemmas.{opening_broken, after_opening}
 use Rattle.cg_engine.proofs.exchange.initiate.Goals as goal
 

@@ -1,7 +1,7 @@
 use Rattle.std.proofs.Common.{◌≡◌, ◌∙◌, ℕ, length, ap, sym, rules}
 use Rattle.std.specs.List.{filter_map}
 use Rattle.cg_entry.specs.Values.{EntryValue}
-use Rattle.cg_table.specs.declared.digest.Digest.{Digest}
+use Rattle.cg_entry.specs.declared.digest.Digest.{Digest}
 use Rattle.cg_exchange.specs.Walking.{row_request, row_delta}
 use Rattle.cg_exchange.specs.Answering.{delta_for}
 use Rattle.cg_exchange.proofs.AnswerLemmas.{deltas_listed}

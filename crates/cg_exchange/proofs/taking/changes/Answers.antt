@@ -2,8 +2,8 @@ use Rattle.std.proofs.Common.{◌≡◌, ◌∙◌, ◌+◌, ◌++◌, ℕ, List
 use Rattle.std.specs.Option.{option_to_list}
 use Rattle.cg_entry.specs.Values.{EntryValue}
 use Rattle.cg_table.specs.Taking.{Change}
-use Rattle.cg_exchange.specs.declared.owner_delta.OwnerDelta.{OwnerDelta}
-use Rattle.cg_exchange.specs.declared.outcome.Outcome.{Outcome}
+use Rattle.cg_messages.specs.declared.owner_delta.OwnerDelta.{OwnerDelta}
+use Rattle.cg_messages.specs.declared.outcome.Outcome.{Outcome}
 use Rattle.cg_exchange.specs.Changes.{changed_by, row_by, outcome_by}
 use Rattle.cg_exchange.specs.Walking.{first_about, from_owner}
 use Rattle.cg_exchange.proofs.WalkLemmas.{side_by_side, rise_from, walk_step, walk_end, rows_walked, outcomes_walked}

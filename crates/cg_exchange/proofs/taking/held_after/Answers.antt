@@ -3,7 +3,7 @@ use Rattle.std.specs.FinMap as table
 use Rattle.std.proofs.lemmas.List.Sums.{count_by-le-length}
 use Rattle.std.proofs.lemmas.List.{length-take-le}
 use Rattle.cg_table.specs.Taking.{needs_room}
-use Rattle.cg_exchange.specs.declared.owner_delta.OwnerDelta.{OwnerDelta}
+use Rattle.cg_messages.specs.declared.owner_delta.OwnerDelta.{OwnerDelta}
 use Rattle.cg_exchange.proofs.taking.held_after.Goals as goal
 
 pub loop-sent-init : goal.loop-sent-init

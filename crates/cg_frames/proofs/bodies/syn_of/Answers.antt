@@ -1,5 +1,5 @@
 use Rattle.std.proofs.Common.{◌≡◌, true}
-use Rattle.cg_exchange.specs.Members.{is_member_list, endpoints_of_digests}
+use Rattle.cg_messages.specs.Members.{is_member_list, endpoints_of_digests}
 use Rattle.cg_frames.proofs.ReadIsSpelledParts.{digests_listed}
 use Rattle.cg_frames.proofs.bodies.syn_of.Goals as goal
 

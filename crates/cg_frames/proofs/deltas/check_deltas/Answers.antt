@@ -1,6 +1,6 @@
 use Rattle.std.proofs.Common.{None}
 use Rattle.std.proofs.lemmas.Result.{err_from_is_err_and}
-use Rattle.cg_exchange.specs.declared.owner_delta.OwnerDelta.{OwnerDelta}
+use Rattle.cg_messages.specs.declared.owner_delta.OwnerDelta.{OwnerDelta}
 use Rattle.cg_frames.specs.Lists.{deltas_at, delta_at}
 use Rattle.cg_frames.specs.Readers.{behind}
 use Rattle.cg_frames.proofs.ListLemmas.{passes_on_key, passes_fault_key, passed}

@@ -1,6 +1,6 @@
 use Rattle.std.proofs.Common.{None}
 use Rattle.std.proofs.lemmas.Result.{err_from_is_err_and}
-use Rattle.cg_exchange.specs.declared.owner_delta.OwnerDelta.{OwnerDelta}
+use Rattle.cg_messages.specs.declared.owner_delta.OwnerDelta.{OwnerDelta}
 use Rattle.cg_frames.specs.Lists.{deltas_at, delta_at}
 use Rattle.cg_frames.proofs.ListLemmas.{goes_on, ends, is_done}
 use Rattle.cg_frames.proofs.deltas.deltas_of.Goals as goal

@@ -1,5 +1,5 @@
 use Rattle.std.proofs.Common.{◌≡◌, ◌-◌, None}
-use Rattle.cg_exchange.specs.declared.owner_delta.OwnerDelta.{OwnerDelta}
+use Rattle.cg_messages.specs.declared.owner_delta.OwnerDelta.{OwnerDelta}
 use Rattle.cg_frames.specs.Lists.{deltas_at, delta_at}
 use Rattle.cg_frames.proofs.ListLemmas.{with_front}
 use Rattle.cg_frames.proofs.deltas.deltas_of.Given as goal

@@ -1,4 +1,4 @@
-use Rattle.cg_exchange.specs.Lent.{lent_message}
+use Rattle.cg_messages.specs.Lent.{lent_message}
 use Rattle.cg_frames.proofs.FitsLemmas.{message_fits}
 use Rattle.cg_frames.proofs.fits.message_fits.Goals as goal
 

@@ -1,5 +1,5 @@
 use Rattle.std.proofs.Common.{◌≡◌, ℕ, suc, ◌<◌, ◌-◌, ◌%◌, map, length, refl, ap, ◌∙◌, subst, arith}
-use Rattle.cg_exchange.specs.Lent.{lent_message}
+use Rattle.cg_messages.specs.Lent.{lent_message}
 use Rattle.cg_sent.specs.Hash.{hash_of}
 use Rattle.cg_sent.proofs.IndexLemmas.{IsPassed, passed_first, passed_next, contains_at, at_contained}
 use Rattle.cg_sent.proofs.index.is_among.Goals as goal

@@ -1,5 +1,5 @@
 use Rattle.std.proofs.Common.{map, length}
-use Rattle.cg_exchange.specs.Lent.{lent_message}
+use Rattle.cg_messages.specs.Lent.{lent_message}
 use Rattle.cg_sent.proofs.IndexLemmas.{IsPassed}
 use Rattle.cg_sent.proofs.index.is_among.Given as goal
 

@@ -1,6 +1,6 @@
 use Rattle.std.proofs.Common.{◌∙◌, sym, rules}
 use Rattle.std.proofs.lemmas.Slice.Eq.{slice_eq-Decides}
-use Rattle.cg_exchange.specs.declared.outcome.Outcome.{Outcome}
+use Rattle.cg_messages.specs.declared.outcome.Outcome.{Outcome}
 use Rattle.cg_events.proofs.outcomes.OutcomesPartialEq.eq.Goals as goal
 
 pub returns : goal.returns

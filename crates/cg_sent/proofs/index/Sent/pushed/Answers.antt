@@ -1,8 +1,8 @@
 use Rattle.std.proofs.Common.{◌≡◌, ◌<◌, ◌%◌, ◌++◌, ◌∷◌, [], ℕ, suc, List, map, length, get_or, sym, ap, ◌∙◌, subst, arith, length-append}
 use Rattle.std.proofs.lemmas.List.{map-append, get_or_default}
 use Rattle.std.proofs.Math.ListN.{set}
-use Rattle.cg_exchange.specs.declared.message.Message.{Message}
-use Rattle.cg_exchange.specs.Lent.{lent_message}
+use Rattle.cg_messages.specs.declared.message.Message.{Message}
+use Rattle.cg_messages.specs.Lent.{lent_message}
 use Rattle.cg_sent.specs.Hash.{hash_of}
 use Rattle.cg_sent.specs.Index.{IsIndex}
 use Rattle.cg_sent.proofs.PushLemmas.{pushed_index}

@@ -1,0 +1,20 @@
+//! Digests.
+
+use cg_types::{Endpoint, Generation, Owned, Version};
+
+/// How far what is held of an endpoint has come: its generation, and the greatest version of that generation
+/// (Apache Cassandra's `GossipDigest`).
+#[derive(Clone, Copy, Debug, PartialEq, Eq)]
+pub struct Digest {
+    pub endpoint: Endpoint,
+    pub generation: Generation,
+    pub newest: Version,
+}
+
+impl Owned for Digest {
+    ghost owner_of = { λ d. d.endpoint };
+
+    fn owner(&self) -> Endpoint {
+        self.endpoint
+    }
+}

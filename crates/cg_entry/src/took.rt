@@ -1,0 +1,28 @@
+//! What became of a delta.
+
+ghost use Rattle.std.specs.Prelude.{◌≡◌};
+ghost use Rattle.cg_entry.specs.Took.{took_name};
+
+/// What became of a delta about an owner: taken, old (it brings nothing new), a gap (the holder lacks something below
+/// it), or about the holder's own endpoint, which no delta changes.
+#[derive(Clone, Copy, Debug, PartialEq, Eq)]
+pub enum Took {
+    Taken,
+    Old,
+    Gap,
+    Own,
+}
+
+impl Took {
+    /// Its name: `took`, `old`, `gap` or `own`.
+    pub fn name(self) -> &'static str
+        ensures { result.now ≡ took_name self }
+    {
+        match self {
+            Took::Taken => "took",
+            Took::Old => "old",
+            Took::Gap => "gap",
+            Took::Own => "own",
+        }
+    }
+}

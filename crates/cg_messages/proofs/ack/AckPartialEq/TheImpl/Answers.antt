@@ -1,0 +1,6 @@
+use Rattle.cg_messages.specs.Values.{ack_code}
+use Rattle.cg_types.specs.Equality.{same_by-is}
+use Rattle.cg_messages.proofs.ack.AckPartialEq.TheImpl.Goals as goal
+
+pub eq-tells : goal.eq-tells
+eq-tells c = same_by-is ack_code c.args.self.now c.args.other.now c.result c.ensures

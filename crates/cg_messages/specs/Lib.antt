@@ -1,0 +1,10 @@
+pub mod Values
+pub mod MessageCode
+pub mod Kind
+pub mod Members
+pub mod Contents
+pub mod Messages
+pub mod Lent
+pub use Rattle.cg_types.specs.Equality
+pub use Rattle.cg_types.specs.Numbers
+pub use Rattle.cg_types.specs.Rising

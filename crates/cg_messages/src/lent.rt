@@ -1,0 +1,44 @@
+//! Messages that are lent, so that what holds one in another form, as a node's reply, can be written without a copy.
+
+ghost use Rattle.std.specs.Prelude.{◌≡◌, IfOk};
+ghost use Rattle.cg_messages.specs.Lent.{lent_message};
+
+use crate::ack::Ack;
+use crate::ack2::Ack2;
+use crate::message::Message;
+use crate::opening::Syn;
+use std::alloc::{AllocError, Global};
+
+/// A message of which each kind is lent.
+#[derive(Clone, Copy, Debug)]
+pub enum Lent<'a> {
+    Syn(&'a Syn),
+    Ack(&'a Ack),
+    Ack2(&'a Ack2),
+}
+
+impl Lent<'_> {
+    /// The message, which shares its texts. `AllocError` where there is no memory for its lists.
+    pub fn copy(self, alloc: Global) -> Result<Message, AllocError>
+        ensures { IfOk result (λ m. m ≡ lent_message self.entry) }
+    {
+        Ok(match self {
+            Lent::Syn(syn) => Message::Syn(syn.copy(alloc)?),
+            Lent::Ack(ack) => Message::Ack(ack.copy(alloc)?),
+            Lent::Ack2(ack2) => Message::Ack2(ack2.copy(alloc)?),
+        })
+    }
+}
+
+impl Message {
+    /// The message, lent.
+    pub fn lent(&self) -> Lent<'_>
+        ensures { lent_message result ≡ self.now }
+    {
+        match self {
+            Message::Syn(syn) => Lent::Syn(syn),
+            Message::Ack(ack) => Lent::Ack(ack),
+            Message::Ack2(ack2) => Lent::Ack2(ack2),
+        }
+    }
+}

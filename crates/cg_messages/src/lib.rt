@@ -1,0 +1,28 @@
+//! The three messages of an exchange between two members.
+//!
+//! An exchange has the shape of Apache Cassandra's: a SYN of digests (`GossipDigestSyn`), an ACK of what is asked for
+//! and what is sent (`GossipDigestAck`), and an ACK2 of what was asked for (`GossipDigestAck2`). Each list of a message
+//! rises strictly by endpoint and has at most `MEMBER_LIMIT` members.
+#![tactic(auto)]
+
+mod ack;
+mod ack2;
+mod kind;
+mod lent;
+mod message;
+mod opening;
+mod outcome;
+mod owned;
+mod owner_delta;
+mod parts;
+mod request;
+
+pub use ack::Ack;
+pub use ack2::Ack2;
+pub use kind::Kind;
+pub use lent::Lent;
+pub use message::Message;
+pub use opening::Syn;
+pub use outcome::Outcome;
+pub use owner_delta::OwnerDelta;
+pub use request::Request;

@@ -1,0 +1,69 @@
+//! Requests.
+
+ghost use Rattle.std.specs.Prelude.{◌≡◌, ◌↔◌, IsSome, IfSome};
+ghost use Rattle.cg_types.specs.Numbers.{IsVersionHeld};
+
+use cg_types::{Endpoint, Generation, NUMBER_LIMIT};
+use std::marker::Model;
+
+/// Asks for what stands above a version in an endpoint's entry of a generation, or for the whole entry at version 0: a
+/// `GossipDigest` in the list of Apache Cassandra's `GossipDigestAck`.
+#[derive(Clone, Copy, Debug, PartialEq, Eq)]
+pub struct Request {
+    endpoint: Endpoint,
+    generation: Generation,
+    version: u32,
+}
+
+impl Model for Request {
+    ghost use Rattle.cg_types.specs.Numbers.{IsVersionHeld};
+    ghost use Rattle.cg_messages.specs.Values.{RequestValue};
+
+    ghost Value = { RequestValue };
+
+    ghost view = { λ r. record { endpoint = r.endpoint; generation = r.generation; version = r.version } };
+
+    ghost invariant = { λ r. IsVersionHeld r.version };
+
+    ghost inverse = { λ r. record { endpoint = r.endpoint; generation = r.generation; version = r.version } };
+}
+
+impl Request {
+    /// `None` where `version` is neither a version nor 0.
+    pub fn new(endpoint: Endpoint, generation: Generation, version: u32) -> Option<Request>
+        ensures valid { IsSome result ↔ IsVersionHeld version }
+        ensures value { IfSome result (λ r.
+            r ≡ record { endpoint = endpoint; generation = generation; version = version }) }
+    {
+        if version >= NUMBER_LIMIT {
+            return None;
+        }
+        Some(Request {
+            endpoint,
+            generation,
+            version,
+        })
+    }
+
+    /// Whose entry is asked for.
+    pub fn endpoint(self) -> Endpoint
+        ensures { result ≡ self.endpoint }
+    {
+        self.endpoint
+    }
+
+    /// The generation that is asked for.
+    pub fn generation(self) -> Generation
+        ensures { result ≡ self.generation }
+    {
+        self.generation
+    }
+
+    /// The greatest version of the generation that the asker holds, or 0 where it holds nothing of it.
+    pub fn version(self) -> u32
+        ensures value { result ≡ self.version }
+        ensures range { IsVersionHeld result }
+    {
+        self.version
+    }
+}
