@@ -6,8 +6,17 @@ use cg_life_samples::{
 };
 use cg_serve::serve;
 use cg_types::{Endpoint, Fault, Generation};
+use std::alloc::Global;
 use std::net::TcpListener;
+use std::rt::Files;
 use std::test::Fail;
+
+// Expects that the journal is of one life, in the greatest generation, with two records.
+fn is_of_the_last_life<R: Files>(rt: &R, alloc: Global, name: &str, port: u16) -> Result<(), Fail> {
+    let own = Endpoint::new([127, 0, 0, 1], port).ok_or("endpoint")?;
+    let generation = Generation::new(2147483647).ok_or("generation")?;
+    expect!(journal_of(rt, alloc, name)? == Some((own, generation, 2)))
+}
 
 #[test]
 fn a_node_alone(rt: HostRuntime) -> Result<(), Fail> {
@@ -18,12 +27,10 @@ fn a_node_alone(rt: HostRuntime) -> Result<(), Fail> {
     write_file(&rt, alloc, name, "generation", b"2147483646\n")?;
     expect_eq!(serve(&rt, alloc, settings.as_str()), 0)?;
     expect!(generation_of(&rt, alloc, name)? == Ok(Some(2147483647)))?;
-    let own = Endpoint::new([127, 0, 0, 1], port).ok_or("endpoint")?;
-    let generation = Generation::new(2147483647).ok_or("generation")?;
-    expect!(journal_of(&rt, alloc, name)? == Some((own, generation, 2)))?;
+    is_of_the_last_life(&rt, alloc, name, port)?;
     // there is no greater generation, and the journal of the first life stays
     expect_eq!(serve(&rt, alloc, settings.as_str()), 1)?;
-    expect!(journal_of(&rt, alloc, name)? == Some((own, generation, 2)))
+    is_of_the_last_life(&rt, alloc, name, port)
 }
 
 #[test]

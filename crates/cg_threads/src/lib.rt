@@ -9,7 +9,7 @@ mod parts;
 mod promises;
 mod run;
 mod scoped;
-mod seats;
+mod started;
 mod tools;
 
 pub use cg_ran::{NotRun, Ran};

@@ -5,19 +5,18 @@ ghost use Rattle.cg_ran.specs.Ran.{IsRun, IsNotRun};
 
 use crate::parts::Parts;
 use crate::scoped::work;
-use crate::seats::Seats;
 use crate::tools::Tools;
+use cg_begun::{Begun, begin};
 use cg_clock::Milliseconds;
 use cg_history::History;
 use cg_left::WORKERS;
-use cg_locked::{Name, Shared};
+use cg_locked::Name;
 use cg_ran::{NotRun, Ran, finish};
-use cg_rounds::rounds;
 use cg_seats::Operate;
 use cg_settings_file::Turns;
 use cg_table::Table;
 use cg_types::Fault;
-use cg_views::{Opened, views};
+use cg_views::Opened;
 use cg_work::Site;
 use cg_workers::{Dial, Listen};
 use rand_core::Rng;
@@ -56,27 +55,16 @@ where
     ensures ran { IfOk result (λ r. IsRun history.base r.history r.rounds.items) }
     ensures not { IfErr result (IsNotRun history.base) }
 {
-    let Ok(ends) = rounds(alloc) else {
+    let Ok(begun) = begin::<N, R>(rt, alloc, opened, table, history, blank) else {
         return Err(NotRun::Unstarted(Fault::OutOfMemory));
     };
-    let Ok((publisher, mut passes)) = views::<N>(alloc, opened, table, 1) else {
-        return Err(NotRun::Unstarted(Fault::OutOfMemory));
-    };
-    let begun = Shared::begin(rt, alloc, history, publisher, blank, WORKERS);
-    let Ok((shared, mut seats)) = begun else {
-        return Err(NotRun::Unstarted(Fault::OutOfMemory));
-    };
-    let pass = passes.pop().unwrap();
-    let operator = seats.pop().unwrap();
-    let ticker = seats.pop().unwrap();
-    let sender = seats.pop().unwrap();
-    let receiver = seats.pop().unwrap();
-    let of_workers = Seats {
-        receiver,
-        sender,
-        ticker,
-        operator,
-    };
+    let Begun {
+        shared,
+        seats,
+        list,
+        pass,
+        ends,
+    } = begun;
     let Parts {
         listener,
         dialer,
@@ -95,13 +83,13 @@ where
         clock,
         go: OnceLock::new(),
     };
-    let work = work(rt, alloc, &site, of_workers, pass, ends, tools, turns);
+    let work = work(rt, alloc, &site, seats, pass, ends, tools, turns);
     let Site {
         shared,
         clock: _clock,
         go: _go,
     } = site;
-    finish(rt, shared, seats, work)
+    finish(rt, shared, list, work)
 }
 
 /// Runs a node until its workers have ended, and takes its history back.

@@ -1,13 +1,14 @@
 //! The workers in their threads.
 
-ghost use Rattle.std.specs.Prelude.{◌≡◌, [], IfOk, IfErr};
+ghost use Rattle.std.specs.Prelude.{◌≡◌, []};
 ghost use Rattle.cg_rounds.specs.Ends.{AreEnds, put_by, taken_by};
 ghost use Rattle.cg_left.specs.Left.{IsLeft, HasTaken, HasPut, AreOfWorkers, AreTaken};
 ghost use Rattle.cg_left.specs.Left.{is_received, is_ack, is_tick, is_any};
 
 use crate::promises::{Operates, Sends, TicksOn};
-use crate::seats::Seats;
+use crate::started::start;
 use crate::tools::Tools;
+use cg_begun::Seats;
 use cg_clock::Milliseconds;
 use cg_left::{Left, OPERATOR, RECEIVER, SENDER, Sent, TICKER, Ticks, Work};
 use cg_locked::Name;
@@ -23,27 +24,7 @@ use std::rt::Clock;
 use std::snapshot::Snapshot;
 use std::sync::Wait;
 use std::thread;
-use std::thread::{Promise, PromisedHandle, SpawnError, Threads};
-
-// What a worker leaves, once its thread has ended, as it promised; a worker that no thread could be made for works here.
-fn ended<T, P: Promise<T>, F: FnOnce() -> T, R: Threads>(
-    rt: &R,
-    promise: Snapshot<P>,
-    worker: Result<PromisedHandle<T, P>, SpawnError<F>>,
-) -> T
-    requires promised { IfOk worker (λ h. h.promise ≡ promise.value) }
-    requires runs { IfErr worker (λ e. F.pre e.value) }
-    requires keeps { IfErr worker (λ e. (r : T) → F.post e.value r → P.kept_by promise.value r) }
-    ensures { P.kept_by promise.value result }
-{
-    match worker {
-        Ok(handle) => handle.join(rt),
-        Err(refused) => {
-            let SpawnError { value: work } = refused;
-            work()
-        }
-    }
-}
+use std::thread::Threads;
 
 // Starts the workers, the receiver in this thread, and waits for their ends. Each begins once all are started; where one
 // could not be started, all end at once.
@@ -124,8 +105,8 @@ where
             ensures put { HasPut putting result.ticker.putting result.ticker.left.receipts }
             ensures operator { IsLeft is_any fourth.caller fourth.share.parts result.operator }
         {
-            let sent = Snapshot::of(&sends);
-            let sender = scope.spawn_with(
+            let sender = start(
+                scope,
                 sends,
                 move || -> Sent<N>
                     requires { (second.share.amount ≡ 0) × (taken_by taking ≡ []) }
@@ -133,8 +114,8 @@ where
                     ensures taken { HasTaken taking result.taken result.numbers.items }
                 { send(rt, alloc, site, second, dialer, taking) },
             );
-            let ticked = Snapshot::of(&ticks);
-            let ticker = scope.spawn_with(
+            let ticker = start(
+                scope,
                 ticks,
                 move || -> Ticks<N>
                     requires { (third.share.amount ≡ 0) × (put_by putting ≡ []) }
@@ -142,23 +123,23 @@ where
                     ensures put { HasPut putting result.putting result.left.receipts }
                 { tick(rt, alloc, site, third, generator, putting, turns) },
             );
-            let operated = Snapshot::of(&operates);
-            let operator = scope.spawn_with(
+            let operator = start(
+                scope,
                 operates,
                 move || -> Left<N>
                     requires { fourth.share.amount ≡ 0 }
                     ensures { IsLeft is_any fourth.caller fourth.share.parts result }
                 { operate(rt, alloc, site, fourth, operator, pass) },
             );
-            let started = sender.is_ok() && ticker.is_ok() && operator.is_ok();
+            let started = sender.has_thread() && ticker.has_thread() && operator.has_thread();
             let _said = site.go.try_set(started);
             let receiver = receive(rt, alloc, site, first, listener, turns.exchanges);
             Work {
                 started,
                 receiver,
-                sender: ended(rt, sent, sender),
-                ticker: ended(rt, ticked, ticker),
-                operator: ended(rt, operated, operator),
+                sender: sender.ended(rt),
+                ticker: ticker.ended(rt),
+                operator: operator.ended(rt),
             }
         },
     )

@@ -1,5 +1,5 @@
 use Rattle.std.proofs.Common.{subst}
-use Rattle.cg_threads.proofs.scoped.ended.Goals as goal
+use Rattle.cg_threads.proofs.started.Started.ended.Goals as goal
 
 pub returns-in-Ok : goal.returns-in-Ok
 returns-in-Ok g c =

@@ -1,0 +1,2 @@
+pub use Rattle.cg_locked.specs.Shared
+pub use Rattle.cg_rounds.specs.Ends

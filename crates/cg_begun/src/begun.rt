@@ -1,0 +1,81 @@
+//! What is made for the workers before they start.
+
+ghost use Rattle.std.specs.Prelude.{◌≡◌, ◌+◌, ◌≤◌, [], vec_capacity, IfOk};
+ghost use Rattle.cg_rounds.specs.Ends.{AreEnds, put_by, taken_by};
+ghost use Rattle.cg_views.specs.Lists.{opened_with};
+
+use crate::seats::{Seats, given};
+use cg_history::History;
+use cg_left::{OPERATOR, RECEIVER, SENDER, TICKER, WORKERS};
+use cg_locked::{Name, Seat, Shared};
+use cg_rounds::{Putting, Taking, rounds};
+use cg_table::Table;
+use cg_views::{Opened, Pass, Publisher, views};
+use std::alloc::{AllocError, Global};
+use std::sync::Wait;
+use std::sync::ledger::Blank;
+
+/// What a node's workers begin with.
+pub struct Begun<N: Name> {
+    /// The node's history and views, behind a lock.
+    pub shared: Shared<N>,
+    /// The seats at these.
+    pub seats: Seats<N>,
+    /// An empty list with room for the four seats, which are put back into it.
+    pub list: Vec<Seat<N>>,
+    /// What the operator reads the views with.
+    pub pass: Pass<N>,
+    /// The ends of the channel of rounds, from the ticker to the sender.
+    pub ends: (Putting, Taking),
+}
+
+// The views of a node's table with the operator's pass, and the ends of the channel of rounds.
+fn ways<N: Name>(
+    alloc: Global,
+    opened: Opened,
+    table: Table,
+) -> Result<(Publisher<N>, Pass<N>, (Putting, Taking)), AllocError>
+    requires views { (opened ≡ N.book) × (table ≡ N.opening) }
+    ensures publisher { IfOk result (λ w. w.0 ≡ opened_with N.opening) }
+    ensures ends { IfOk result (λ w. AreEnds w.2.0 w.2.1) }
+    ensures none { IfOk result (λ w. (put_by w.2.0 ≡ []) × (taken_by w.2.1 ≡ [])) }
+{
+    let ends = rounds(alloc)?;
+    let (publisher, mut passes) = views::<N>(alloc, opened, table, 1)?;
+    Ok((publisher, passes.pop().unwrap(), ends))
+}
+
+/// Makes what the workers of a node begin with, whose name fixes its ledger, its views and where its history began. The
+/// history has no records yet. `AllocError` where there is no memory for it; then the history is gone.
+pub fn begin<N: Name, R: Wait>(
+    rt: &R,
+    alloc: Global,
+    opened: Opened,
+    table: Table,
+    history: History,
+    blank: Blank,
+) -> Result<Begun<N>, AllocError>
+    requires views { (opened ≡ N.book) × (table ≡ N.opening) }
+    requires history { (history.records ≡ []) × (history.base ≡ N.start) × (history.base.table ≡ table) }
+    requires blank { (blank.name ≡ N.name) × (blank.parts ≡ N.parts) × (N.parts ≡ 4) }
+    ensures callers { IfOk result (λ b. (b.seats.receiver.caller ≡ RECEIVER) × (b.seats.sender.caller ≡ SENDER)
+        × (b.seats.ticker.caller ≡ TICKER) × (b.seats.operator.caller ≡ OPERATOR)) }
+    ensures amounts { IfOk result (λ b. (b.seats.receiver.share.amount ≡ 0) × (b.seats.sender.share.amount ≡ 0)
+        × (b.seats.ticker.share.amount ≡ 0) × (b.seats.operator.share.amount ≡ 0)) }
+    ensures parts { IfOk result (λ b. b.seats.receiver.share.parts + b.seats.sender.share.parts
+        + b.seats.ticker.share.parts + b.seats.operator.share.parts ≡ N.parts) }
+    ensures list { IfOk result (λ b. (b.list.items ≡ []) × (4 ≤ vec_capacity b.list)) }
+    ensures ends { IfOk result (λ b. AreEnds b.ends.0 b.ends.1) }
+    ensures none { IfOk result (λ b. (put_by b.ends.0 ≡ []) × (taken_by b.ends.1 ≡ [])) }
+{
+    let (publisher, pass, ends) = ways::<N>(alloc, opened, table)?;
+    let (shared, seats) = Shared::begin(rt, alloc, history, publisher, blank, WORKERS)?;
+    let (seats, list) = given(seats);
+    Ok(Begun {
+        shared,
+        seats,
+        list,
+        pass,
+        ends,
+    })
+}

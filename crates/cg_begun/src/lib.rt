@@ -1,0 +1,8 @@
+//! What a node's workers begin with: the board and a seat at it for each, the views, and the channel of rounds.
+#![tactic(auto)]
+
+mod begun;
+mod seats;
+
+pub use begun::{Begun, begin};
+pub use seats::Seats;
