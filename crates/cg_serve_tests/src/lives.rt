@@ -33,23 +33,22 @@ fn a_node_alone(rt: HostRuntime) -> Result<(), Fail> {
     is_of_the_last_life(&rt, alloc, name, port)
 }
 
+// The generation that its file keeps.
+fn kept_generation<R: Files>(rt: &R, alloc: Global, name: &str) -> Result<u32, Fail> {
+    let kept = generation_of(rt, alloc, name)?;
+    Ok(kept.ok().flatten().ok_or("generation")?)
+}
+
 #[test]
 fn a_first_life_is_in_the_generation_of_its_second(rt: HostRuntime) -> Result<(), Fail> {
     let (alloc, name) = (rt.alloc(), "cg_serve_first");
     let settings = write_settings(&rt, alloc, name, free_port(&rt)?)?;
     remove_file(&rt, alloc, name, "generation")?;
     expect_eq!(serve(&rt, alloc, settings.as_str()), 0)?;
-    let first = generation_of(&rt, alloc, name)?
-        .ok()
-        .flatten()
-        .ok_or("generation")?;
+    let first = kept_generation(&rt, alloc, name)?;
     expect!(first > 1700000000)?;
     expect_eq!(serve(&rt, alloc, settings.as_str()), 0)?;
-    let next = generation_of(&rt, alloc, name)?
-        .ok()
-        .flatten()
-        .ok_or("generation")?;
-    expect!(next > first)
+    expect!(kept_generation(&rt, alloc, name)? > first)
 }
 
 #[test]
