@@ -15,7 +15,7 @@ use Rattle.cg_entry.proofs.PlaceLemmas.{at_place_some}
 use Rattle.cg_table.specs.Own.{own_entry}
 use Rattle.cg_table.specs.Table.{digests_of}
 use Rattle.cg_table.proofs.DigestLemmas.{equal_digests_equal_entries}
-use Rattle.cg_tokens.specs.Ring.{ring}
+use Rattle.cg_ring.specs.Ring.{ring}
 use Rattle.cg_messages.specs.declared.message.Message.{Message}
 use Rattle.cg_events.specs.declared.event.Event.{Event}
 use Rattle.cg_core.specs.Values.{NodeValue}
@@ -31,10 +31,9 @@ use Rattle.cg_steps.proofs.StepLaws.{own_held}
 use Rattle.cg_world.specs.Headline.{Mark, mark_of, HasGreatest}
 use Rattle.cg_world.proofs.MarkLemmas.{mark_at, mark_here}
 use Rattle.cg_world.proofs.HeadlineLaws.{Each, each_all, HasEntries, marks_by_targets, targets_have, greatest_held, same_held}
-use Rattle.cg_history.specs.declared.item.Item.{Item}
-use Rattle.cg_history.specs.declared.item.Receipt.{Receipt}
-use Rattle.cg_history.specs.Items.{record_of}
-use Rattle.cg_history.specs.History.{HistoryValue, Replays}
+use Rattle.cg_records.specs.declared.item.Item.{Item}
+use Rattle.cg_records.specs.declared.item.Receipt.{Receipt}
+use Rattle.cg_history.specs.History.{record_of, HistoryValue, Replays}
 use Rattle.cg_history.proofs.Replaying.{replays_more}
 use Rattle.cg_history_laws.specs.Laws.{HasOneMore}
 use Rattle.cg_history_laws.proofs.OneMore.{each_event_makes_one_record}

@@ -15,16 +15,16 @@ use Rattle.cg_table.specs.Values.{TableValue}
 use Rattle.cg_table.specs.Own.{own_entry, with_own}
 use Rattle.cg_table.specs.Table.{lone_table}
 use Rattle.cg_messages.specs.declared.message.Message.{Message}
-use Rattle.cg_exchange.specs.PlaceMessages.{PlaceMessage}
-use Rattle.cg_exchange.specs.Spelling.{outcome_about}
+use Rattle.cg_exchange_laws.specs.PlaceMessages.{PlaceMessage}
+use Rattle.cg_exchange_laws.specs.Spelling.{outcome_about}
 use Rattle.cg_events.specs.declared.event.Event.{Event}
 use Rattle.cg_events.specs.declared.event.Event.TheVariants as event
 use Rattle.cg_events.specs.declared.reply.Reply.{Reply}
-use Rattle.cg_core.specs.Arrivals.{outcomes_in}
+use Rattle.cg_events.specs.Replies.{outcomes_in}
 use Rattle.cg_core.specs.Values.{NodeValue}
 use Rattle.cg_core.specs.Step.{node_step}
-use Rattle.cg_core.specs.Laws.{TableAfter}
-use Rattle.cg_core.proofs.NodeLaws.{tables_go_by_their_rules, only_own_events_change_the_own_entry}
+use Rattle.cg_core_laws.specs.Laws.{TableAfter}
+use Rattle.cg_core_laws.proofs.NodeLaws.{tables_go_by_their_rules, only_own_events_change_the_own_entry}
 use Rattle.cg_places.specs.PlaceWorld.{PlaceWorld, Start, put_at, runs, may_start, last_entry, with_start, after_action}
 use Rattle.cg_places.specs.Laws.{IsWorld}
 use Rattle.cg_places.specs.Spelling.{SpellsNode, IsChangedAt}
@@ -44,9 +44,8 @@ use Rattle.cg_world.proofs.MarkLemmas.{AllSpans, marks_at}
 use Rattle.cg_world.proofs.TakenLaws.{start_forgets, start_leaves}
 use Rattle.cg_world.proofs.WholeEntries.{OldOrLast, action_old}
 use Rattle.cg_world.proofs.HeadlineLaws.{Marked}
-use Rattle.cg_history.specs.declared.item.Item.{Item}
-use Rattle.cg_history.specs.Items.{record_of}
-use Rattle.cg_history.specs.History.{HistoryValue, Replays}
+use Rattle.cg_records.specs.declared.item.Item.{Item}
+use Rattle.cg_history.specs.History.{record_of, HistoryValue, Replays}
 use Rattle.cg_one_run.specs.Items.{RunItem, generation_of, start_item, item_of, items_of_lives}
 use Rattle.cg_one_run.specs.OneRun.{WasSent, EachWasSent, items_by}
 use Rattle.cg_audit_laws.specs.RunHeadline.{IsLife, WasOwnFrom, WasOwnIn, delta_handed, took_from, GapsLiePast}

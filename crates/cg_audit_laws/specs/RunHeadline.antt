@@ -10,18 +10,18 @@ use Rattle.cg_table.specs.Own.{own_entry}
 use Rattle.cg_table.specs.Table.{digests_of}
 use Rattle.cg_messages.specs.declared.outcome.Outcome.{Outcome}
 use Rattle.cg_messages.specs.declared.owner_delta.OwnerDelta.{OwnerDelta}
-use Rattle.cg_exchange.specs.Spelling.{delta_about, outcome_about}
+use Rattle.cg_exchange_laws.specs.Spelling.{delta_about, outcome_about}
 use Rattle.cg_events.specs.declared.event.Event.{Event}
 use Rattle.cg_settings.specs.Values.{SettingsValue}
 use Rattle.cg_core.specs.Values.{NodeValue}
-use Rattle.cg_core.specs.Arrivals.{outcomes_in}
+use Rattle.cg_events.specs.Replies.{outcomes_in}
 use Rattle.cg_core.specs.Step.{starting_node}
 use Rattle.cg_places.specs.TableLaws.{AreEqual}
 use Rattle.cg_steps.specs.Step.{message_in}
 use Rattle.cg_world.specs.Taken.{deltas_in, is_gap}
 use Rattle.cg_world.specs.Headline.{Mark, mark_of, HasGreatest, LiesPast, with_delta}
-use Rattle.cg_history.specs.declared.item.Item.{Item}
-use Rattle.cg_history.specs.declared.item.Receipt.{Receipt}
+use Rattle.cg_records.specs.declared.item.Item.{Item}
+use Rattle.cg_records.specs.declared.item.Receipt.{Receipt}
 use Rattle.cg_history.specs.History.{HistoryValue, Replays, new_history, apply}
 use Rattle.cg_one_run.specs.Items.{RunItem, LivesValue}
 use Rattle.cg_one_run.specs.OneRun.{IsOneRun}

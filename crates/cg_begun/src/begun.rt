@@ -1,12 +1,13 @@
 //! What is made for the workers before they start.
 
-ghost use Rattle.std.specs.Prelude.{◌≡◌, ◌+◌, ◌≤◌, [], vec_capacity, IfOk};
+ghost use Rattle.std.specs.Prelude.{◌≡◌, ◌≤◌, [], vec_capacity, IfOk};
 ghost use Rattle.cg_rounds.specs.Ends.{AreEnds, put_by, taken_by};
 ghost use Rattle.cg_views.specs.Lists.{opened_with};
+ghost use Rattle.cg_begun.specs.Seats.{AreWorkers, AreUnused, parts_of};
 
 use crate::seats::{Seats, given};
 use cg_history::History;
-use cg_left::{OPERATOR, RECEIVER, SENDER, TICKER, WORKERS};
+use cg_left::WORKERS;
 use cg_locked::{Name, Seat, Shared};
 use cg_rounds::{Putting, Taking, rounds};
 use cg_table::Table;
@@ -58,12 +59,9 @@ pub fn begin<N: Name, R: Wait>(
     requires views { (opened ≡ N.book) × (table ≡ N.opening) }
     requires history { (history.records ≡ []) × (history.base ≡ N.start) × (history.base.table ≡ table) }
     requires blank { (blank.name ≡ N.name) × (blank.parts ≡ N.parts) × (N.parts ≡ 4) }
-    ensures callers { IfOk result (λ b. (b.seats.receiver.caller ≡ RECEIVER) × (b.seats.sender.caller ≡ SENDER)
-        × (b.seats.ticker.caller ≡ TICKER) × (b.seats.operator.caller ≡ OPERATOR)) }
-    ensures amounts { IfOk result (λ b. (b.seats.receiver.share.amount ≡ 0) × (b.seats.sender.share.amount ≡ 0)
-        × (b.seats.ticker.share.amount ≡ 0) × (b.seats.operator.share.amount ≡ 0)) }
-    ensures parts { IfOk result (λ b. b.seats.receiver.share.parts + b.seats.sender.share.parts
-        + b.seats.ticker.share.parts + b.seats.operator.share.parts ≡ N.parts) }
+    ensures callers { IfOk result (λ b. AreWorkers b.seats) }
+    ensures amounts { IfOk result (λ b. AreUnused b.seats) }
+    ensures parts { IfOk result (λ b. parts_of b.seats ≡ N.parts) }
     ensures list { IfOk result (λ b. (b.list.items ≡ []) × (4 ≤ vec_capacity b.list)) }
     ensures ends { IfOk result (λ b. AreEnds b.ends.0 b.ends.1) }
     ensures none { IfOk result (λ b. (put_by b.ends.0 ≡ []) × (taken_by b.ends.1 ≡ [])) }

@@ -1,10 +1,10 @@
 //! The seats of the workers.
 
-ghost use Rattle.std.specs.Prelude.{◌≡◌, ◌+◌, ◌≤◌, [], map, vec_len, vec_capacity};
+ghost use Rattle.std.specs.Prelude.{◌≡◌, ◌≤◌, [], map, vec_len, vec_capacity};
 ghost use Rattle.std.specs.List.{sum_by};
 ghost use Rattle.cg_locked.specs.Shared.{callers_up_to};
+ghost use Rattle.cg_begun.specs.Seats.{AreWorkers, AreUnused, parts_of};
 
-use cg_left::{OPERATOR, RECEIVER, SENDER, TICKER};
 use cg_locked::{Name, Seat};
 
 /// The seat of each worker.
@@ -20,12 +20,9 @@ pub struct Seats<N: Name> {
 pub(crate) fn given<N: Name>(seats: Vec<Seat<N>>) -> (Seats<N>, Vec<Seat<N>>)
     requires seats { (vec_len seats ≡ 4) × (map (λ s. s.caller) seats.items ≡ callers_up_to 4) }
     requires amounts { sum_by (λ s. s.share.amount) seats.items ≡ 0 }
-    ensures callers { (result.0.receiver.caller ≡ RECEIVER) × (result.0.sender.caller ≡ SENDER)
-        × (result.0.ticker.caller ≡ TICKER) × (result.0.operator.caller ≡ OPERATOR) }
-    ensures amounts { (result.0.receiver.share.amount ≡ 0) × (result.0.sender.share.amount ≡ 0)
-        × (result.0.ticker.share.amount ≡ 0) × (result.0.operator.share.amount ≡ 0) }
-    ensures parts { result.0.receiver.share.parts + result.0.sender.share.parts + result.0.ticker.share.parts
-        + result.0.operator.share.parts ≡ sum_by (λ s. s.share.parts) seats.items }
+    ensures callers { AreWorkers result.0 }
+    ensures amounts { AreUnused result.0 }
+    ensures parts { parts_of result.0 ≡ sum_by (λ s. s.share.parts) seats.items }
     ensures list { (result.1.items ≡ []) × (4 ≤ vec_capacity result.1) }
 {
     let mut seats = seats;

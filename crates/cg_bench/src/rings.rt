@@ -2,9 +2,10 @@
 
 use cg_entry::{Delta, State};
 use cg_measure::{Failure, table_of};
+use cg_ring::Ring;
 use cg_samples::{generation, key, version};
 use cg_table::Table;
-use cg_tokens::{Ring, Token, token_of};
+use cg_tokens::{Token, token_of};
 use cg_types::{Endpoint, Fault, StateText};
 use md5::{Digest, Md5};
 use std::alloc::{AllocError, Global};

@@ -39,10 +39,9 @@ use Rattle.cg_events.specs.declared.reply.Reply.{Reply}
 use Rattle.cg_events.specs.declared.reply.Reply.TheVariants as reply
 use Rattle.cg_core.specs.Values.{NodeValue}
 use Rattle.cg_windows.specs.Windows.{was_taken}
-use Rattle.cg_core.specs.Step.{next_of, beating, setting, opening, round_of, after_taking}
-use Rattle.cg_core.specs.Laws.{Leads}
+use Rattle.cg_core.specs.Step.{Leads, next_of, beating, setting, opening, round_of, after_taking}
 use Rattle.cg_events.specs.Handed.{deltas_in}
-use Rattle.cg_core.specs.Changes.{taken_owners, changed_owners, PutsAreTheChangedRows}
+use Rattle.cg_core.specs.Changes.{taken_owners, changed_owners}
 use Rattle.cg_core.proofs.OrderLemmas.{met_ahead, beaten_later, given_later}
 use Rattle.cg_core.proofs.PutLemmas.{only_put}
 use Rattle.cg_core.proofs.StepLemmas.{then_gave, AreLed, ack_led, ack2_led}
@@ -184,6 +183,3 @@ changed_owners_rise n (event.Ack now ack) after answer rise is =
 changed_owners_rise n (event.Ack2 now ack2) after answer rise is =
     let gave = then_gave (λ (x : TableValue × List Outcome). (after_taking n now x.0 x.1, reply.Took x.1)) (taking_ack2 n.table ack2) (after, answer) is in
     subst (OwnersRise n) gave.1.1 (led_rise n.table ack2.deltas gave.0.0 gave.0.1 (ack2_led n.table ack2 gave.0.0 gave.0.1 gave.1.0) rise)
-
-pub changed_rows_law : PutsAreTheChangedRows
-changed_rows_law n e after answer small rise is = puts_are_the_changed_rows n e after answer small.own_held rise is

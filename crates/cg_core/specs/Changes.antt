@@ -1,19 +1,15 @@
 -- Whose entries a step changes, and its puts.
-use Rattle.std.specs.Prelude.{ℕ, ◌≡◌, List, [], ◌∷◌, map, Result}
+use Rattle.std.specs.Prelude.{ℕ, List, [], ◌∷◌, map, Result}
 use Rattle.std.specs.List.{filter}
 use Rattle.cg_types.specs.declared.fault.Fault.{Fault}
-use Rattle.cg_types.specs.Rising.{Rises}
-use Rattle.cg_table.specs.Puts.{Put, puts, rows_at}
+use Rattle.cg_table.specs.Puts.{Put, puts}
 use Rattle.cg_messages.specs.declared.outcome.Outcome.{Outcome}
-use Rattle.cg_messages.specs.Members.{endpoints_of_deltas}
 use Rattle.cg_events.specs.declared.event.Event.{Event}
-use Rattle.cg_events.specs.Handed.{deltas_in}
 use Rattle.cg_events.specs.declared.reply.Reply.{Reply}
 use Rattle.cg_events.specs.declared.reply.Reply.TheVariants as reply
 use Rattle.cg_core.specs.Values.{NodeValue}
 use Rattle.cg_windows.specs.Windows.{was_taken}
 use Rattle.cg_core.specs.Step.{node_step, then}
-use Rattle.cg_core.specs.Laws.{IsSmall, Leads}
 
 -- a step, with the puts that lead to its table
 abbrev pub step_with_puts : NodeValue → Event → Result (NodeValue × Reply × List Put) Fault
@@ -31,10 +27,3 @@ changed_owners own (reply.Round peers syn) = own ∷ []
 changed_owners own (reply.Sent m) = []
 changed_owners own (reply.Both outcomes ack2) = taken_owners outcomes
 changed_owners own (reply.Took outcomes) = taken_owners outcomes
-
--- The puts of a step are the new rows of exactly these owners.
-abbrev pub PutsAreTheChangedRows : Type 0
-PutsAreTheChangedRows =
-    (n : NodeValue) (e : Event) (after : NodeValue) (answer : Reply) → IsSmall n
-    → Rises (endpoints_of_deltas (deltas_in e)) → Leads n e after answer
-    → puts n.table after.table ≡ rows_at after.table.entries (changed_owners n.table.own answer)

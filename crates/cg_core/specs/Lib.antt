@@ -1,9 +1,7 @@
 pub mod Values
 pub mod Claims
 pub mod Step
-pub mod Arrivals
 pub mod Parts
-pub mod Laws
 pub mod Changes
 pub use Rattle.cg_types.specs.Answer
 pub use Rattle.cg_types.specs.Equality
@@ -14,7 +12,7 @@ pub use Rattle.cg_entry.specs.Entry
 pub use Rattle.cg_table.specs.Own
 pub use Rattle.cg_silence.specs.Silence
 pub use Rattle.cg_silence.specs.Values as SilenceValues
-pub use Rattle.cg_tokens.specs.Ring
+pub use Rattle.cg_ring.specs.Ring
 pub use Rattle.cg_exchange.specs.Changes as ExchangeChanges
 pub use Rattle.cg_messages.specs.Lent
 pub use Rattle.cg_messages.specs.Members

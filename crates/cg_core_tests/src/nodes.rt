@@ -1,7 +1,7 @@
 //! A node that starts, a gap after a restart, what a step leaves of the node before it, and events that no script can hand a
 //! node.
 
-use crate::samples::{about, ack2_event, comes, held, node, set_event, syn_event};
+use crate::samples::{about, ack2_event, comes, held, node, refusal, set_event, syn_event};
 use cg_core::Node;
 use cg_entry::Took;
 use cg_events::{Event, Reply};
@@ -102,14 +102,6 @@ fn own_delta(rt: HostRuntime) -> Result<(), Fail> {
 }
 
 // ---- events that are refused
-
-// Why an event is refused, where it leaves the table as it was.
-fn refusal(alloc: Global, node: &mut Node, event: &Event) -> Result<Option<Fault>, Fail> {
-    let before = node.table().copy(alloc)?;
-    let fault = node.step(alloc, event).err();
-    let is_same = node.table().same_entries(&before);
-    Ok(if is_same { fault } else { None })
-}
 
 #[test]
 fn another_cluster_changes_nothing(rt: HostRuntime) -> Result<(), Fail> {

@@ -5,7 +5,7 @@ use cg_entry::Digest;
 use cg_events::Event;
 use cg_messages::{Ack, Ack2, OwnerDelta, Request, Syn};
 use cg_samples::{A, B, bare_delta, endpoint, generation, key, settings, version};
-use cg_types::{Cluster, Endpoint, StateText};
+use cg_types::{Cluster, Endpoint, Fault, StateText};
 use std::alloc::Global;
 use std::test::Fail;
 
@@ -75,4 +75,16 @@ pub(crate) fn held(node: &Node, owner: u16) -> Option<(u32, u32)> {
         Some(entry) => Some((entry.generation().get(), entry.newest().get())),
         None => None,
     }
+}
+
+/// Why an event is refused, where it leaves the table as it was.
+pub(crate) fn refusal(
+    alloc: Global,
+    node: &mut Node,
+    event: &Event,
+) -> Result<Option<Fault>, Fail> {
+    let before = node.table().copy(alloc)?;
+    let fault = node.step(alloc, event).err();
+    let is_same = node.table().same_entries(&before);
+    Ok(if is_same { fault } else { None })
 }

@@ -17,7 +17,8 @@ use Rattle.cg_events.specs.declared.reply.Reply.{Reply}
 use Rattle.cg_events.specs.declared.reply.Reply.TheVariants as reply
 use Rattle.cg_core.specs.Values.{NodeValue}
 use Rattle.cg_core.specs.Step.{node_step, next_of, beating, setting, opening, round_of, after_taking}
-use Rattle.cg_engine.specs.Events.{IsGateFault, IsReplyTo, IsDone, IsRound, IsSyn, IsAck, IsBoth, IsTook}
+use Rattle.cg_events.specs.Replies.{IsReplyTo, IsDone, IsRound, IsSyn, IsAck, IsBoth, IsTook}
+use Rattle.cg_engine.specs.Events.{IsGateFault}
 
 kind_kept : {A : Type 0} (P : Reply → Type 0) (due : Result A Fault) (node : A → NodeValue) (said : A → Reply) (m : NodeValue) (r : Reply) → ((a : A) → P (said a))
     → (then) {B = NodeValue × Reply} due (λ a. (node a, said a)) ≡ Ok (m, r) → P r

@@ -1,4 +1,4 @@
--- Messages as events, and what is written for their replies.
+-- Messages as events, what is written for their replies, and the faults that an event may be refused by.
 use Rattle.std.specs.Prelude.{ℕ, List, [], Result}
 use Rattle.cg_types.specs.ResultSteps.{then}
 use Rattle.cg_types.specs.declared.fault.Fault.{Fault}
@@ -36,38 +36,3 @@ IsGateFault fault.VersionsSpent = Unit {0}
 IsGateFault fault.TableFull = Unit {0}
 IsGateFault fault.OtherCluster = Unit {0}
 IsGateFault f = ⊥
-
--- ---- each kind of event has its kind of reply
-
-abbrev pub IsDone : Reply → Type 0
-IsDone (reply.Done version) = Unit {0}
-IsDone r = ⊥
-
-abbrev pub IsRound : Reply → Type 0
-IsRound (reply.Round peers syn) = Unit {0}
-IsRound r = ⊥
-
-abbrev pub IsSyn : Reply → Type 0
-IsSyn (reply.Sent (messages.Syn m)) = Unit {0}
-IsSyn r = ⊥
-
-abbrev pub IsAck : Reply → Type 0
-IsAck (reply.Sent (messages.Ack m)) = Unit {0}
-IsAck r = ⊥
-
-abbrev pub IsBoth : Reply → Type 0
-IsBoth (reply.Both outcomes ack2) = Unit {0}
-IsBoth r = ⊥
-
-abbrev pub IsTook : Reply → Type 0
-IsTook (reply.Took outcomes) = Unit {0}
-IsTook r = ⊥
-
-abbrev pub IsReplyTo : Event → Reply → Type 0
-IsReplyTo event.Beat r = IsDone r
-IsReplyTo (event.Set key text) r = IsDone r
-IsReplyTo (event.Tick now words) r = IsRound r
-IsReplyTo event.Opening r = IsSyn r
-IsReplyTo (event.Syn m) r = IsAck r
-IsReplyTo (event.Ack now m) r = IsBoth r
-IsReplyTo (event.Ack2 now m) r = IsTook r

@@ -10,7 +10,8 @@ use Rattle.cg_links.specs.declared.counted.Counted.{Counted}
 use Rattle.cg_links.specs.Counted.{KeepsCounts}
 use Rattle.cg_wire.specs.Received.{IsSpelledBy, ReceivesMessage, FailsToReceive}
 use Rattle.cg_wire.specs.Sent.{LeavesFlushed, FailsToSend}
-use Rattle.cg_engine.specs.Events.{event_due, written_for, IsGateFault, IsReplyTo}
+use Rattle.cg_events.specs.Replies.{IsReplyTo}
+use Rattle.cg_engine.specs.Events.{event_due, written_for, IsGateFault}
 use Rattle.cg_messages.specs.declared.kind.Kind.{Kind}
 use Rattle.cg_engine.specs.declared.exchange.Ended.{Ended}
 use Rattle.cg_engine.specs.declared.exchange.Ended.TheVariants as ended

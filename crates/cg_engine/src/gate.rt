@@ -4,7 +4,8 @@ ghost use Rattle.std.specs.Prelude.{◌≡◌, Option, Some, IfErr, OnErr, OnOk,
 ghost use Rattle.cg_types.specs.declared.fault.Fault.{Fault as FaultValue};
 ghost use Rattle.cg_events.specs.declared.event.Event.{Event as EventValue};
 ghost use Rattle.cg_events.specs.declared.reply.Reply.{Reply as ReplyValue};
-ghost use Rattle.cg_engine.specs.Events.{IsGateFault, IsReplyTo};
+ghost use Rattle.cg_events.specs.Replies.{IsReplyTo};
+ghost use Rattle.cg_engine.specs.Events.{IsGateFault};
 
 use cg_events::{Event, Reply};
 use cg_types::Fault;

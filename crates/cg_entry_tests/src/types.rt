@@ -1,11 +1,11 @@
-//! What no clause says: the texts of faults and keys, and each call once with ample memory.
+//! The texts of faults and keys as a user reads them, and each call once with ample memory.
 
 use cg_expect::{expect, expect_eq};
 use cg_samples::long_text;
 use cg_types::laws::limits_have_their_values;
 use cg_types::{
-    Cause, Cluster, Endpoint, Fault, Generation, StateKey, StateText, Version, cut, endpoints_rise,
-    is_plain, number, number_between,
+    Cause, Cluster, Endpoint, Fault, Generation, Owned, StateKey, StateText, Version, cut,
+    endpoints_rise, is_plain, number, number_between, owners_rise,
 };
 use std::alloc::{AllocError, Global};
 use std::test::Fail;
@@ -85,6 +85,15 @@ fn endpoints_rise_strictly() -> Result<(), Fail> {
     expect!(endpoints_rise(&[a, b, c]))?;
     expect!(!endpoints_rise(&[a, b, b]))?;
     expect!(!endpoints_rise(&[a, c, b]))
+}
+
+#[test]
+fn endpoints_are_owners() -> Result<(), Fail> {
+    let a = Endpoint::read("10.0.0.1:7000")?;
+    let b = Endpoint::read("10.0.0.1:7001")?;
+    expect_eq!(b.owner(), b)?;
+    expect!(owners_rise(&[a, b]))?;
+    expect!(!owners_rise(&[b, a]))
 }
 
 #[test]

@@ -2,10 +2,6 @@ pub mod Answering
 pub mod Walking
 pub mod Taking
 pub mod Changes
-pub mod Places
-pub mod PlaceMessages
-pub mod Spelling
-pub mod Laws
 pub use Rattle.cg_types.specs.Answer
 pub use Rattle.cg_types.specs.Rising
 pub use Rattle.cg_messages.specs.Members

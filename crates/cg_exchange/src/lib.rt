@@ -5,7 +5,6 @@
 #![tactic(auto)]
 
 mod answers;
-pub mod laws;
 mod taking;
 mod walking;
 

@@ -4,18 +4,18 @@ use Rattle.std.specs.Prelude.{◌==◌}
 use Rattle.cg_types.specs.declared.fault.Fault.{Fault}
 use Rattle.cg_types.specs.declared.fault.Fault.TheVariants as faults
 use Rattle.cg_types.specs.Answer.{IsRefusal}
+use Rattle.cg_entry.specs.Entry.{starting_entry}
 use Rattle.cg_table.specs.Puts.{Put, puts}
+use Rattle.cg_table.proofs.TableLemmas.{alone_valid}
 use Rattle.cg_events.specs.declared.event.Event.{Event}
 use Rattle.cg_events.specs.declared.reply.Reply.{Reply}
 use Rattle.cg_settings.specs.Values.{SettingsValue}
 use Rattle.cg_core.specs.Values.{NodeValue}
 use Rattle.cg_core.specs.Step.{Step, node_step, then}
 use Rattle.cg_core.specs.Changes.{step_with_puts}
-use Rattle.cg_core.proofs.NodeLaws.{nodes_stay_small}
-use Rattle.cg_history.specs.declared.item.Item.{Item}
-use Rattle.cg_history.specs.declared.item.Receipt.{Receipt}
-use Rattle.cg_history.specs.Items.{record_of}
-use Rattle.cg_history.specs.History.{HistoryValue, Replays, IsReplayed, new_history, with_record, receipt_of, LAST_NUMBER, with_step, apply}
+use Rattle.cg_records.specs.declared.item.Item.{Item}
+use Rattle.cg_records.specs.declared.item.Receipt.{Receipt}
+use Rattle.cg_history.specs.History.{record_of, HistoryValue, Replays, IsReplayed, new_history, with_record, receipt_of, LAST_NUMBER, with_step, apply}
 
 -- one record more
 pub replays_more : (b : NodeValue) (rs : List Item) (n : NodeValue) (caller : ℕ) (e : Event) (x : NodeValue × Reply) → Replays b rs n → node_step n e ≡ Ok x → Replays b (rs ++ record_of caller e n x ∷ []) x.0
@@ -24,7 +24,7 @@ replays_more b (r ∷ rs) n caller e x h step = (h.0, h.1, h.2, replays_more h.0
 
 -- a history of a node that starts
 pub replayed_new : (own generation : ℕ) (settings : SettingsValue) (h : HistoryValue) → h ≡ new_history own generation settings → IsReplayed h
-replayed_new own generation settings h is = subst IsReplayed (sym is) (record { small = nodes_stay_small.starts own generation settings; replays = refl })
+replayed_new own generation settings h is = subst IsReplayed (sym is) (record { small = alone_valid own (starting_entry generation); replays = refl })
 
 -- ---- what a step leads to
 

@@ -3,15 +3,19 @@ use Rattle.std.specs.Prelude.{ℕ, ◌+◌, ◌^◌, ◌-◌, ◌==◌, ◌≡�
 use Rattle.std.specs.Coded.{Coded, code_by, coded×, coded_list}
 use Rattle.cg_types.specs.declared.fault.Fault.{Fault}
 use Rattle.cg_types.specs.declared.fault.Fault.TheVariants.{VersionsSpent}
+use Rattle.cg_table.specs.Puts.{puts}
 use Rattle.cg_events.specs.declared.event.Event.{Event}
 use Rattle.cg_events.specs.declared.reply.Reply.{Reply}
 use Rattle.cg_settings.specs.Values.{SettingsValue}
-use Rattle.cg_core.specs.Values.{NodeValue, node_code}
+use Rattle.cg_core.specs.Values.{NodeValue, node_code, IsSmall}
 use Rattle.cg_core.specs.Step.{Step, node_step, starting_node}
-use Rattle.cg_core.specs.Laws.{IsSmall}
-use Rattle.cg_history.specs.declared.item.Item.{Item}
-use Rattle.cg_history.specs.declared.item.Receipt.{Receipt}
-use Rattle.cg_history.specs.Items.{item_code, record_of}
+use Rattle.cg_records.specs.declared.item.Item.{Item}
+use Rattle.cg_records.specs.declared.item.Receipt.{Receipt}
+use Rattle.cg_records.specs.Items.{item_code}
+
+-- the record of a step from a node, which led to another with a reply
+abbrev pub record_of : ℕ → Event → NodeValue → NodeValue × Reply → Item
+record_of caller e n x = record { caller = caller; event = e; reply = x.1; puts = puts n.table x.0.table }
 
 -- where it began, the records since, and where they lead
 pub record HistoryValue : Type 0 where

@@ -1,6 +1,4 @@
-pub mod Items
 pub mod History
-pub mod Marks
-pub mod Confirming
 pub use Rattle.cg_types.specs.Answer
+pub use Rattle.cg_records.specs.Confirming
 pub use Rattle.cg_core.specs.Step

@@ -1,13 +1,14 @@
 //! A node with the records of all that it did.
 
-ghost use Rattle.std.specs.Prelude.{◌≡◌, ◌<◌, IfOk, OnErr, length};
+ghost use Rattle.std.specs.Prelude.{◌≡◌, ◌<◌, IfOk, MatchResult, OnErr, length};
 ghost use Rattle.cg_types.specs.Answer.{Answers};
 ghost use Rattle.cg_core.specs.Step.{node_step};
+ghost use Rattle.cg_records.specs.Confirming.{AreConfirmed, IsFirstStray};
 ghost use Rattle.cg_history.specs.History.{IsReplayed, LAST_NUMBER, new_history, receipt_of, with_record, with_step, apply as apply_of};
 
-use crate::item::{Item, Receipt};
 use cg_core::Node;
 use cg_events::{Event, Reply};
+use cg_records::{Item, Receipt, Stray, confirms};
 use cg_settings::Settings;
 use cg_types::{Endpoint, Fault, Generation};
 use std::alloc::{AllocError, Global};
@@ -133,5 +134,16 @@ impl History {
         self.items.push(item)?;
         self.node = node;
         Ok(receipt)
+    }
+
+    /// Says whether each receipt stands in the history at its number, with its caller, event and reply, and numbers
+    /// rise for each caller. If not, it answers the first receipt that does not, as `Stranger`. It takes no memory;
+    /// `confirms` of `cg_records`, which it calls, says how long it takes.
+    pub fn confirms(&self, receipts: &[Receipt]) -> Result<(), Stray>
+        ensures { MatchResult result
+            (λ _. AreConfirmed self.now.records receipts.now)
+            (λ stray. IsFirstStray self.now.records receipts.now stray) }
+    {
+        confirms(&self.items, receipts)
     }
 }

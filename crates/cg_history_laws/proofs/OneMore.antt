@@ -10,9 +10,8 @@ use Rattle.cg_core.specs.Step.{Step, node_step}
 use Rattle.cg_places.specs.PlaceWorld.{after_action}
 use Rattle.cg_steps.specs.Step.{action_at, span_handed, IsStepAt}
 use Rattle.cg_steps.proofs.StepLaws.{steps_are_by_places}
-use Rattle.cg_history.specs.declared.item.Receipt.{Receipt}
-use Rattle.cg_history.specs.Items.{record_of}
-use Rattle.cg_history.specs.History.{HistoryValue, receipt_of, LAST_NUMBER, with_record, with_step, apply}
+use Rattle.cg_records.specs.declared.item.Receipt.{Receipt}
+use Rattle.cg_history.specs.History.{record_of, HistoryValue, receipt_of, LAST_NUMBER, with_record, with_step, apply}
 use Rattle.cg_history_laws.specs.Laws.{HasOneMore, EachEventMakesOneRecord, RecordsAreStepsByPlaces}
 
 same_ok : {A F : Type 0} (x y : A) → (let r : Result A F = Ok x in r) ≡ Ok y → x ≡ y

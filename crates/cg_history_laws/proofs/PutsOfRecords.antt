@@ -9,12 +9,12 @@ use Rattle.cg_table.specs.Puts.{Put, puts, with_puts, keep_order}
 use Rattle.cg_table.proofs.PutsLemmas.{with_puts-append, keep_order-append}
 use Rattle.cg_events.specs.declared.event.Event.{Event}
 use Rattle.cg_events.specs.declared.reply.Reply.{Reply}
-use Rattle.cg_core.specs.Values.{NodeValue}
+use Rattle.cg_core.specs.Values.{NodeValue, IsSmall}
 use Rattle.cg_core.specs.Step.{node_step, replay, on_step, with_reply}
-use Rattle.cg_core.specs.Laws.{IsSmall, ArePuts}
-use Rattle.cg_core.proofs.NodeLaws.{puts_keep_their_order, nodes_stay_small}
-use Rattle.cg_history.specs.declared.item.Item.{Item}
-use Rattle.cg_history.specs.Items.{puts_of, events_of, replies_of}
+use Rattle.cg_core_laws.specs.Laws.{ArePuts}
+use Rattle.cg_core_laws.proofs.NodeLaws.{puts_keep_their_order, nodes_stay_small}
+use Rattle.cg_records.specs.declared.item.Item.{Item}
+use Rattle.cg_records.specs.Items.{puts_of, events_of, replies_of}
 use Rattle.cg_history.specs.History.{HistoryValue, Replays, IsReplayed}
 use Rattle.cg_history_laws.specs.Laws.{RecordsReplay, PutsLead, PutsOfRecordsLead}
 

@@ -3,16 +3,15 @@ use Rattle.std.specs.Prelude.{ℕ, suc, ◌+◌, ◌≡◌, ◌≢◌, ◌<◌, 
 use Rattle.cg_table.specs.Puts.{puts, with_puts, keep_order}
 use Rattle.cg_events.specs.declared.event.Event.{Event}
 use Rattle.cg_events.specs.declared.reply.Reply.{Reply}
-use Rattle.cg_core.specs.Values.{NodeValue}
+use Rattle.cg_core.specs.Values.{NodeValue, IsSmall}
 use Rattle.cg_core.specs.Step.{node_step, replay}
-use Rattle.cg_core.specs.Laws.{IsSmall}
 use Rattle.cg_places.specs.PlaceWorld.{PlaceWorld, after_action}
 use Rattle.cg_places.specs.Laws.{IsWorld}
 use Rattle.cg_steps.specs.Step.{message_in, action_at, span_handed, IsPlaced, IsSentBefore, IsStepAt}
-use Rattle.cg_history.specs.declared.item.Item.{Item}
-use Rattle.cg_history.specs.declared.item.Receipt.{Receipt}
-use Rattle.cg_history.specs.Confirming.{AreConfirmed}
-use Rattle.cg_history.specs.Items.{puts_of, events_of, replies_of}
+use Rattle.cg_records.specs.declared.item.Item.{Item}
+use Rattle.cg_records.specs.declared.item.Receipt.{Receipt}
+use Rattle.cg_records.specs.Confirming.{AreConfirmed}
+use Rattle.cg_records.specs.Items.{puts_of, events_of, replies_of}
 use Rattle.cg_history.specs.History.{HistoryValue, Replays, apply}
 
 -- The events of the records, done one after the other, lead to the node with their replies.

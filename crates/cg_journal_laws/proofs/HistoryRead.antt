@@ -7,9 +7,8 @@ use Rattle.cg_events.specs.declared.reply.Reply.{Reply}
 use Rattle.cg_settings.specs.Values.{SettingsValue}
 use Rattle.cg_core.specs.Values.{NodeValue}
 use Rattle.cg_core.specs.Step.{Step, node_step, starting_node}
-use Rattle.cg_history.specs.declared.item.Item.{Item}
-use Rattle.cg_history.specs.Items.{record_of}
-use Rattle.cg_history.specs.History.{HistoryValue, Replays, LAST_NUMBER, new_history, with_record, with_step}
+use Rattle.cg_records.specs.declared.item.Item.{Item}
+use Rattle.cg_history.specs.History.{record_of, HistoryValue, Replays, LAST_NUMBER, new_history, with_record, with_step}
 use Rattle.cg_lines.specs.Lines.{lines_of}
 use Rattle.cg_script.specs.Gives.{readable}
 use Rattle.cg_journal.specs.Text.{life_line, event_line, event_lines, joined}

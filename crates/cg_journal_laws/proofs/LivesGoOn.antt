@@ -7,10 +7,9 @@ use Rattle.cg_types.specs.declared.fault.Fault.{Fault}
 use Rattle.cg_types.specs.declared.fault.Fault.TheVariants.{VersionsSpent}
 use Rattle.cg_events.specs.declared.event.Event.{Event}
 use Rattle.cg_core.specs.Step.{Step, node_step}
-use Rattle.cg_history.specs.declared.item.Item.{Item}
-use Rattle.cg_history.specs.declared.item.Receipt.{Receipt}
-use Rattle.cg_history.specs.Items.{record_of}
-use Rattle.cg_history.specs.History.{HistoryValue, LAST_NUMBER, new_history, with_record, with_step, receipt_of}
+use Rattle.cg_records.specs.declared.item.Item.{Item}
+use Rattle.cg_records.specs.declared.item.Receipt.{Receipt}
+use Rattle.cg_history.specs.History.{record_of, HistoryValue, LAST_NUMBER, new_history, with_record, with_step, receipt_of}
 use Rattle.cg_history.proofs.Replaying.{replays_more, replayed_new}
 use Rattle.cg_journal_laws.specs.Contents.{IsCount, IsEvent, IsLife}
 use Rattle.cg_journal_laws.specs.Laws.{LivesGoOn}

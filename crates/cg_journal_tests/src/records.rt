@@ -6,8 +6,9 @@
 use cg_events::{Event, Reply};
 use cg_exchange::syn;
 use cg_expect::expect_eq;
-use cg_history::{History, Item, Receipt};
+use cg_history::History;
 use cg_messages::{Ack2, OwnerDelta};
+use cg_records::{Item, Receipt, Stray, confirms};
 use cg_samples::{A, B, bare_delta, cluster, endpoint, generation, key, settings, version};
 use cg_types::{Cluster, Fault, StateText};
 use std::alloc::Global;
@@ -165,18 +166,18 @@ fn receipts(alloc: Global, rows: &[Row]) -> Result<Vec<Receipt>, Fail> {
 }
 
 // The place and the number of the fault of the first receipt that is not confirmed.
-fn stray(history: &History, receipts: &[Receipt]) -> Option<(usize, u8)> {
-    match history.confirms(receipts) {
+fn stray(confirmed: Result<(), Stray>) -> Option<(usize, u8)> {
+    match confirmed {
         Ok(()) => None,
         Err(stray) => Some((stray.place, stray.fault.number())),
     }
 }
 
-// The same of receipts that the history of the examples is asked about.
+// The same of receipts that the records of the examples' history are asked about.
 fn stray_of(alloc: Global, rows: &[Row]) -> Result<Option<(usize, u8)>, Fail> {
     let receipts = receipts(alloc, rows)?;
     let history = history_of(alloc, TWO)?;
-    Ok(stray(&history, &receipts))
+    Ok(stray(confirms(history.records(), &receipts)))
 }
 
 // The receipts of its records.
@@ -209,11 +210,11 @@ fn confirmed_of(
     for turn in 0..count {
         receipts.push(history.apply(alloc, turn % 2, Event::Beat)?)?;
     }
-    let all = stray(&history, &receipts);
+    let all = stray(history.confirms(&receipts));
     if let Some(last) = receipts.last_mut() {
         last.number = 1;
     }
-    let changed = stray(&history, &receipts);
+    let changed = stray(history.confirms(&receipts));
     Ok((history.records().len(), all, changed))
 }
 

@@ -5,12 +5,12 @@ use Rattle.std.specs.List.{All}
 use mathlib.Core.List.{IsPrefix}
 use Rattle.cg_events.specs.declared.event.Event.{Event}
 use Rattle.cg_events.specs.declared.event.Event.TheVariants as event
-use Rattle.cg_history.specs.declared.item.Receipt.{Receipt}
+use Rattle.cg_records.specs.declared.item.Receipt.{Receipt}
+use Rattle.cg_records.specs.Items.{receipt_code}
 use Rattle.cg_rounds.specs.declared.ends.Putting.{Putting}
 use Rattle.cg_rounds.specs.declared.ends.Taking.{Taking}
 use Rattle.cg_rounds.specs.declared.ends.Taken.{Taken}
 use Rattle.cg_rounds.specs.Ends.{put_by, taken_in, PutsWhere, IsLeftOf, WereTakenOf}
-use Rattle.cg_seats.specs.Seats.{receipt_code}
 use Rattle.cg_workers.specs.Workers.{numbers_of}
 use Rattle.cg_left.specs.declared.callers.TheConstants.{RECEIVER, SENDER, TICKER, OPERATOR}
 

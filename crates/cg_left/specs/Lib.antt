@@ -1,3 +1,2 @@
 pub mod Left
 pub use Rattle.cg_rounds.specs.Ends
-pub use Rattle.cg_seats.specs.Seats

@@ -1,15 +1,12 @@
 //! What the workers leave.
 
 ghost use Rattle.std.specs.Prelude.{◌≡◌, [], length};
-ghost use Rattle.cg_seats.specs.Seats.{AreOf};
 
-use cg_history::Receipt;
 use cg_locked::{Name, Seat};
+use cg_records::Receipt;
 use cg_rounds::{Putting, Taken};
-use cg_seats::SeatGate;
 use std::alloc::Global;
 use std::marker::Model;
-use std::sync::Wait;
 
 /// A worker's seat, and its receipts. A contract sees the seat's parts of the board's ledger, and the receipts, which the
 /// seat has counted.
@@ -33,25 +30,20 @@ impl<N: Name> Model for Left<N> {
 }
 
 impl<N: Name> Left<N> {
+    /// A seat, and the receipts that it has counted.
+    pub fn of(seat: Seat<N>, receipts: Vec<Receipt>) -> Left<N>
+        requires { seat.share.amount ≡ length receipts.items }
+        ensures { result ≡ record { parts = seat.share.parts; receipts = receipts.items } }
+    {
+        Left { seat, receipts }
+    }
+
     /// A seat from which no event was done: one that has counted nothing. It takes no memory.
     pub fn unused(alloc: Global, seat: Seat<N>) -> Left<N>
         requires { seat.share.amount ≡ 0 }
         ensures { result ≡ record { parts = seat.share.parts; receipts = [] } }
     {
-        Left {
-            seat,
-            receipts: Vec::new(alloc),
-        }
-    }
-
-    /// The seat of a gate, and its receipts.
-    pub fn of<R: Wait>(gate: SeatGate<'_, N, R>) -> Left<N>
-        ensures parts { result.parts ≡ gate.entry.parts }
-        ensures receipts { result.receipts ≡ gate.entry.receipts }
-        ensures own { AreOf gate.entry.caller gate.entry.receipts }
-    {
-        let (seat, receipts) = gate.into_parts();
-        Left { seat, receipts }
+        Left::of(seat, Vec::new(alloc))
     }
 
     /// The seat, and the receipts.

@@ -12,13 +12,13 @@ use Rattle.cg_table.proofs.PutsLemmas.{with_puts-append, keep_order-rest}
 use Rattle.cg_events.specs.declared.event.Event.{Event}
 use Rattle.cg_events.specs.declared.event.Event.TheVariants as event
 use Rattle.cg_events.specs.declared.reply.Reply.{Reply}
-use Rattle.cg_core.specs.Values.{NodeValue}
+use Rattle.cg_core.specs.Values.{NodeValue, IsSmall}
 use Rattle.cg_core.specs.Step.{node_step}
-use Rattle.cg_core.specs.Laws.{IsSmall, PutsIts}
-use Rattle.cg_core.proofs.NodeLaws.{sets_put_their_text}
-use Rattle.cg_history.specs.declared.item.Item.{Item}
-use Rattle.cg_history.specs.declared.item.Receipt.{Receipt}
-use Rattle.cg_history.specs.Items.{puts_of}
+use Rattle.cg_core_laws.specs.Laws.{PutsIts}
+use Rattle.cg_core_laws.proofs.NodeLaws.{sets_put_their_text}
+use Rattle.cg_records.specs.declared.item.Item.{Item}
+use Rattle.cg_records.specs.declared.item.Receipt.{Receipt}
+use Rattle.cg_records.specs.Items.{puts_of}
 use Rattle.cg_history.specs.History.{HistoryValue, IsReplayed, apply}
 use Rattle.cg_history_laws.proofs.OneMore.{each_event_makes_one_record}
 use Rattle.cg_history_laws.proofs.PutsOfRecords.{puts_of-append, front_fits, own_stays, node_small}

@@ -10,8 +10,8 @@ use Rattle.cg_events.specs.declared.reply.Reply.TheVariants as reply
 use Rattle.cg_settings.specs.Values.{settings_of}
 use Rattle.cg_core.specs.Values.{NodeValue}
 use Rattle.cg_core.specs.Step.{starting_node}
-use Rattle.cg_history.specs.declared.item.Receipt.{Receipt}
-use Rattle.cg_history.specs.Items.{puts_of}
+use Rattle.cg_records.specs.declared.item.Receipt.{Receipt}
+use Rattle.cg_records.specs.Items.{puts_of}
 use Rattle.cg_history.specs.History.{HistoryValue, IsReplayed, apply}
 use Rattle.cg_views.specs.Reading.{HasText}
 

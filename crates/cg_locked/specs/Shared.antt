@@ -1,6 +1,6 @@
 -- The seats of a board, and what is left of it in the end.
 use Rattle.std.specs.Prelude.{ℕ, zero, suc, List, [], ◌++◌, ◌∷◌, Result, Ok, Err}
-use Rattle.cg_history.specs.declared.item.Stray.{Stray}
+use Rattle.cg_records.specs.declared.item.Stray.{Stray}
 use Rattle.cg_history.specs.History.{HistoryValue}
 use Rattle.cg_locked.specs.declared.shared.Unconfirmed.{Unconfirmed}
 

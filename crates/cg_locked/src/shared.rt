@@ -3,7 +3,7 @@
 ghost use Rattle.std.specs.Prelude.{◌≡◌, ◌+◌, ◌<◌, ◌≤◌, [], length, map, vec_len, vec_capacity, IfOk, IfSome};
 ghost use Rattle.std.specs.Prelude.{OnOk, OnErr, MatchResult};
 ghost use Rattle.std.specs.List.{sum_by};
-ghost use Rattle.cg_history.specs.Confirming.{AreConfirmed, IsFirstStray};
+ghost use Rattle.cg_records.specs.Confirming.{AreConfirmed, IsFirstStray};
 ghost use Rattle.cg_views.specs.Lists.{opened_with};
 ghost use Rattle.cg_locked.specs.Entry.{IsEntry, ShowsSet};
 ghost use Rattle.cg_locked.specs.Shared.{callers_up_to, history_of, stray_of};
@@ -12,7 +12,8 @@ use crate::board::Board;
 use crate::name::Name;
 use crate::seat::Seat;
 use cg_events::Event;
-use cg_history::{History, Receipt};
+use cg_history::History;
+use cg_records::Receipt;
 use cg_types::Fault;
 use cg_views::{Publisher, Told};
 use std::alloc::{AllocError, Global};

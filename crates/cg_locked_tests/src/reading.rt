@@ -4,8 +4,8 @@ ghost use Rattle.std.specs.Prelude.{◌≡◌, IfOk, IfSome};
 ghost use Rattle.cg_views.specs.Reading.{OwnHasFrom};
 
 use cg_events::{Event, Reply};
-use cg_history::Receipt;
 use cg_locked::{Name, Seat, Shared};
+use cg_records::Receipt;
 use cg_types::{Fault, StateKey, StateText, Version};
 use cg_views::{Pass, Snapshot};
 use std::alloc::Global;

@@ -100,8 +100,7 @@ impl<T: Drop> SharedMap<T> {
     }
 
     /// A map with each of the rows put, in one walk. It shares all values. The rows have to rise by endpoint, as
-    /// `rows_rise` tells.
-    /// `AllocError` where the list of rows finds no memory.
+    /// `owners_rise` of `cg_types` tells. `AllocError` where the list of rows finds no memory.
     pub fn put_rows(&self, alloc: Global, changes: Vec<Row<T>>) -> Result<SharedMap<T>, AllocError>
         requires { Rises (keys_of changes.items) }
         ensures { IfOk result (λ m. m ≡ put_each changes.items self.now) }

@@ -1,6 +1,6 @@
 //! The rows of a map, which share their values.
 
-ghost use Rattle.std.specs.Prelude.{◌≡◌, ◌↔◌, ◌++◌, IsTrue, IfOk, IfErr, OnOk};
+ghost use Rattle.std.specs.Prelude.{◌≡◌, ◌++◌, IfOk, IfErr, OnOk};
 ghost use Rattle.cg_types.specs.Rising.{Rises};
 ghost use Rattle.cg_map.specs.Rows.{keys_of, before, after, walk, IsRowAt, IsGapAt};
 
@@ -75,13 +75,6 @@ impl<T> Owned for Row<T> {
     fn owner(&self) -> Endpoint {
         self.endpoint
     }
-}
-
-/// Whether the rows rise strictly by endpoint, as those of a map do.
-pub fn rows_rise<T>(rows: &[Row<T>]) -> bool
-    ensures { IsTrue result ↔ Rises (keys_of rows.now) }
-{
-    rows.is_sorted_by(|row, next| row.endpoint() < next.endpoint())
 }
 
 // Where the endpoint's row is, or where it would go, by halving.

@@ -7,4 +7,3 @@ pub mod Messages
 pub mod Lent
 pub use Rattle.cg_types.specs.Equality
 pub use Rattle.cg_types.specs.Numbers
-pub use Rattle.cg_types.specs.Rising

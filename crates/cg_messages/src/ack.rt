@@ -69,7 +69,8 @@ impl Ack {
         Some(Ack::of_parts(requests, deltas))
     }
 
-    /// An ACK of lists that can stand in a message.
+    /// An ACK of lists that can stand in a message. It takes the lists as they are, no memory, and refuses nothing: `new` is for
+    /// lists that may not be such.
     pub fn of_parts(requests: Vec<Request>, deltas: Vec<OwnerDelta>) -> Ack
         requires requests { AreListed (endpoints_of_requests requests.items) }
         requires deltas { AreListed (endpoints_of_deltas deltas.items) }

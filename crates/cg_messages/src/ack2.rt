@@ -65,7 +65,8 @@ impl Ack2 {
         Some(Ack2::of_parts(deltas))
     }
 
-    /// An ACK2 of deltas that can stand in a message.
+    /// An ACK2 of deltas that can stand in a message. It takes the list as it is, no memory, and refuses nothing: `new` is for
+    /// a list that may not be such.
     pub fn of_parts(deltas: Vec<OwnerDelta>) -> Ack2
         requires { AreListed (endpoints_of_deltas deltas.items) }
         ensures { result ≡ record { deltas = deltas.items } }

@@ -65,7 +65,8 @@ impl Syn {
         Some(Syn::of_parts(cluster, digests))
     }
 
-    /// A SYN of digests that can stand in a message.
+    /// A SYN of digests that can stand in a message. It takes the list as it is, no memory, and refuses nothing: `new` is for
+    /// a list that may not be such.
     pub fn of_parts(cluster: Cluster, digests: Vec<Digest>) -> Syn
         requires { AreListed (endpoints_of_digests digests.items) }
         ensures { result ≡ record { cluster = cluster; digests = digests.items } }

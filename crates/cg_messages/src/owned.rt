@@ -1,12 +1,11 @@
 //! What the members of a message's lists have in common.
 
-ghost use Rattle.std.specs.Prelude.{◌≡◌, None, map};
-ghost use Rattle.cg_types.specs.Rising.{rise_past};
+ghost use Rattle.std.specs.Prelude.{◌≡◌, map};
 ghost use Rattle.cg_messages.specs.Members.{is_member_list};
 
 use crate::owner_delta::OwnerDelta;
 use crate::request::Request;
-use cg_types::{Endpoint, MEMBER_LIMIT, Owned};
+use cg_types::{Endpoint, MEMBER_LIMIT, Owned, owners_rise};
 
 impl Owned for Request {
     ghost owner_of = { λ r. r.endpoint };
@@ -22,13 +21,6 @@ impl Owned for OwnerDelta {
     fn owner(&self) -> Endpoint {
         self.endpoint
     }
-}
-
-// Whether the owners rise strictly.
-fn owners_rise<M: Owned>(members: &[M]) -> bool
-    ensures { result ≡ rise_past None (map M.owner_of members.now) }
-{
-    members.is_sorted_by(|member, next| member.owner() < next.owner())
 }
 
 /// Whether the members can stand in one list of a message.

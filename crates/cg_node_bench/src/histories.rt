@@ -3,8 +3,9 @@
 use crate::nodes::{after, begun, heartbeat, others, started};
 use cg_core::Node;
 use cg_events::{Event, Reply};
-use cg_history::{History, Receipt};
+use cg_history::History;
 use cg_measure::{Failure, Shape};
+use cg_records::Receipt;
 use cg_samples::version;
 use cg_types::Fault;
 use std::alloc::{AllocError, Global};

@@ -4,7 +4,7 @@ use Rattle.cg_types.specs.declared.fault.Fault.{Fault}
 use Rattle.cg_table.specs.Values.{TableValue}
 use Rattle.cg_table.specs.Puts.{Put}
 use Rattle.cg_core.specs.Values.{NodeValue}
-use Rattle.cg_history.specs.declared.item.Receipt.{Receipt}
+use Rattle.cg_records.specs.declared.item.Receipt.{Receipt}
 use Rattle.cg_views.specs.Lists.{StartsWith}
 use Rattle.cg_seats.specs.Seats.{SeatValue, GoesOn, IsOperatorFault}
 use Rattle.cg_lines.specs.Taken.{Takes, Refuses, Lacks, Stops, IsUnread, Fails}

@@ -1,9 +1,9 @@
 -- What holds of confirmed receipts.
 use Rattle.std.specs.Prelude.{ℕ, ◌≡◌, Bool, List, length}
 use Rattle.cg_events.specs.declared.event.Event.{Event}
-use Rattle.cg_history.specs.declared.item.Item.{Item}
-use Rattle.cg_history.specs.declared.item.Receipt.{Receipt}
-use Rattle.cg_history.specs.Confirming.{AreConfirmed}
+use Rattle.cg_records.specs.declared.item.Item.{Item}
+use Rattle.cg_records.specs.declared.item.Receipt.{Receipt}
+use Rattle.cg_records.specs.Confirming.{AreConfirmed}
 use Rattle.cg_ran.specs.Numbers.{numbers_in, numbers_on}
 
 -- Where confirmed receipts are as many as the records, the receipts of a caller's events of a kind have, in their

@@ -2,15 +2,16 @@
 
 ghost use Rattle.std.specs.Prelude.{◌≡◌, ◌+◌, ◌≤◌, ◌<◌, ◌++◌, [], true, length, vec_len, vec_capacity, IfOk, IfErr, MatchResult};
 ghost use Rattle.std.specs.List.{sum_by};
-ghost use Rattle.cg_history.specs.Confirming.{AreConfirmed, IsFirstStray};
+ghost use Rattle.cg_records.specs.Confirming.{AreConfirmed, IsFirstStray};
 ghost use Rattle.cg_locked.specs.Shared.{history_of, stray_of};
 ghost use Rattle.cg_left.specs.Left.{AreOfWorkers, AreTaken};
 ghost use Rattle.cg_ran.specs.Ran.{IsStrayBehind, IsRun, IsNotRun, TellsStart};
 
 use crate::ran::{NotRun, Ran};
-use cg_history::{History, Receipt};
+use cg_history::History;
 use cg_left::{Sent, Ticks, Work};
 use cg_locked::{Name, Seat, Shared, Unconfirmed};
+use cg_records::Receipt;
 use cg_types::Fault;
 use std::sync::Wait;
 

@@ -9,11 +9,12 @@ use Rattle.cg_events.specs.declared.event.Event.{Event}
 use Rattle.cg_events.specs.declared.reply.Reply.{Reply}
 use Rattle.cg_core.specs.Values.{NodeValue}
 use Rattle.cg_core.specs.Step.{Step, node_step}
-use Rattle.cg_history.specs.declared.item.Receipt.{Receipt}
+use Rattle.cg_records.specs.declared.item.Receipt.{Receipt}
 use Rattle.cg_history.specs.History.{HistoryValue, LAST_NUMBER, with_step, apply}
 use Rattle.cg_history_laws.proofs.OneMore.{each_event_makes_one_record}
 use Rattle.cg_locked.specs.Entry.{IsEntry, ShowsSet}
-use Rattle.cg_engine.specs.Events.{IsGateFault, IsReplyTo}
+use Rattle.cg_events.specs.Replies.{IsReplyTo}
+use Rattle.cg_engine.specs.Events.{IsGateFault}
 use Rattle.cg_engine.proofs.ReplyLemmas.{reply_kind, step_fault}
 use Rattle.cg_seats.specs.Seats.{SeatValue, AreOf, last_reply, IsReceiptOf, Enters}
 

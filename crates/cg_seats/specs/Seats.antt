@@ -7,9 +7,9 @@ use Rattle.cg_types.specs.declared.fault.Fault.TheVariants as fault
 use Rattle.cg_table.specs.Puts.{Put, puts_code}
 use Rattle.cg_events.specs.declared.event.Event.{Event}
 use Rattle.cg_events.specs.declared.reply.Reply.{Reply}
-use Rattle.cg_events.specs.EventCodes.{event_code, reply_code}
 use Rattle.cg_core.specs.Values.{NodeValue}
-use Rattle.cg_history.specs.declared.item.Receipt.{Receipt}
+use Rattle.cg_records.specs.declared.item.Receipt.{Receipt}
+use Rattle.cg_records.specs.Items.{receipt_code}
 use Rattle.cg_locked.specs.Entry.{IsEntry, ShowsSet}
 
 -- the seat's caller and parts, the receipts, and what the last event was told
@@ -19,14 +19,7 @@ pub record SeatValue : Type 0 where
   pub receipts : List Receipt
   pub told : Option (List Put)
 
--- the codes that a model of such a value asks for
-abbrev pub receipt_code : Coded Receipt
-receipt_code =
-    code_by (ℕ × (ℕ × (Event × Reply))) (coded× coded_ℕ (coded× coded_ℕ (coded× event_code reply_code)))
-    (λ q. (q.caller, (q.number, (q.event, q.reply))))
-    (λ p. record { caller = p.0; number = p.1.0; event = p.1.1.0; reply = p.1.1.1 })
-    (λ _. refl)
-
+-- the code that a model of such a value asks for
 abbrev pub seat_code : Coded SeatValue
 seat_code =
     code_by (ℕ × (ℕ × (List Receipt × Option (List Put))))

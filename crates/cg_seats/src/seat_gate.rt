@@ -5,8 +5,8 @@ ghost use Rattle.cg_seats.specs.Seats.{AreOf, new_gate, with_told};
 
 use cg_engine::Gate;
 use cg_events::{Event, Reply};
-use cg_history::Receipt;
 use cg_locked::{Name, Seat, Shared};
+use cg_records::{Enter, Receipt};
 use cg_types::Fault;
 use cg_views::Told;
 use std::alloc::Global;
@@ -114,5 +114,19 @@ impl<'a, N: Name, R: Wait> Gate for SeatGate<'a, N, R> {
             Some(receipt) => Some(&receipt.reply),
             None => None,
         }
+    }
+}
+
+impl<'a, N: Name, R: Wait> Enter for SeatGate<'a, N, R> {
+    ghost receipts = { λ g. g.receipts };
+
+    ghost seat = { λ g. (g.caller, g.parts) };
+
+    fn enter(&mut self, alloc: Global, event: Event) -> Result<(), Fault> {
+        self.event(alloc, event)
+    }
+
+    fn last(&self) -> Option<&Receipt> {
+        self.receipts.last()
     }
 }

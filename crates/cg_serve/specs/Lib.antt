@@ -1,3 +1,2 @@
 pub mod Lives
-pub use Rattle.cg_settings_file.specs.Seen
-pub use Rattle.cg_version.specs.Version
+pub use Rattle.cg_node_files.specs.Kept

@@ -1,53 +1,19 @@
--- The lives of a node: what each begins with, what is left of it, and the faults that keep a node from it.
-use Rattle.std.specs.Prelude.{◌≡◌, ◌⊎◌, ◌≤◌, ℕ, List, length, Option, Some, None, Result, Ok, Err, IfOk, IfErr, MatchResult, string_bytes}
+-- The lives of a node: what each begins with, and what is left of it.
+use Rattle.std.specs.Prelude.{◌≡◌, ℕ, Option, Some, None, Result, Ok, Err, IfOk, IfErr, MatchResult, string_bytes}
 use Rattle.cg_types.specs.declared.fault.Fault.{Fault}
-use Rattle.cg_types.specs.declared.fault.Fault.TheVariants as fault
 use Rattle.cg_core.specs.Values.{NodeValue}
 use Rattle.cg_core.specs.Step.{starting_node}
-use Rattle.cg_settings_file.specs.Settings.{ServeValue, settings_in_bytes}
+use Rattle.cg_settings_file.specs.Settings.{ServeValue}
 use Rattle.cg_ran.specs.declared.ran.Ran.{Ran}
 use Rattle.cg_ran.specs.declared.ran.NotRun.{NotRun}
 use Rattle.cg_ran.specs.declared.ran.NotRun.TheVariants as not_run
 use Rattle.cg_ran.specs.Ran.{IsRun, IsNotRun}
-use Rattle.cg_version.specs.Version.{generation_at_start}
-use Rattle.cg_serve.specs.declared.life.TheConstants.{SETTINGS_MOST}
+use Rattle.cg_node_files.specs.Kept.{IsUnborn, AreTold, IsOfAStart}
 use Rattle.cg_serve.specs.declared.node.Birth.{Birth}
 use Rattle.cg_serve.specs.declared.node.Left.{Left}
 use Rattle.cg_serve.specs.declared.serving.Lived.{Lived}
 
--- ---- what keeps a node from its life
-
--- faults of its settings
-abbrev pub IsUnsettled : Fault → Type 0
-IsUnsettled fault.OutOfMemory = Unit {0}
-IsUnsettled fault.BadText = Unit {0}
-IsUnsettled fault.ReadFault = Unit {0}
-IsUnsettled f = ⊥
-
--- faults of its settings, its generation, its place or its workers
-abbrev pub IsUnborn : Fault → Type 0
-IsUnborn fault.OutOfMemory = Unit {0}
-IsUnborn fault.BadText = Unit {0}
-IsUnborn fault.VersionsSpent = Unit {0}
-IsUnborn fault.ReadFault = Unit {0}
-IsUnborn fault.WriteFault = Unit {0}
-IsUnborn f = ⊥
-
 -- ---- what a life begins with
-
--- The bytes of some file within the limit tell these settings.
-abbrev pub AreTold : ServeValue → Type 0
-AreTold s = (bytes : List ℕ) × (length bytes ≤ SETTINGS_MOST) × (settings_in_bytes bytes ≡ Some s)
-
--- The generation is that of a start, by what was stored and the seconds since 1970.
-abbrev pub IsOfAStart : ℕ → Type 0
-IsOfAStart generation = (stored : Option ℕ) × (seconds : ℕ) × (generation_at_start stored seconds ≡ Ok generation)
-
--- The generation that is due is kept; or there is none, or it can't be kept.
-abbrev pub KeepsOf : Result ℕ Fault → Result ℕ Fault → Type 0
-KeepsOf due kept =
-    MatchResult kept (λ g. due ≡ Ok g)
-    (λ f. (due ≡ Err f) × (f ≡ fault.VersionsSpent) ⊎ ((f ≡ fault.OutOfMemory) ⊎ (f ≡ fault.WriteFault)))
 
 -- the node that begins so
 abbrev pub node_of : Birth → NodeValue

@@ -1,8 +1,6 @@
-//! A node that serves: its files, its sockets and its operator at the standard streams.
+//! A node that serves: its life, from its settings to its journal.
 #![tactic(auto)]
 
-mod console;
-mod life;
 mod node;
 mod serving;
 

@@ -4,9 +4,9 @@ ghost use Rattle.std.specs.Prelude.{◌≡◌, IfOk, IfErr};
 ghost use Rattle.cg_types.specs.declared.fault.Fault.TheVariants as faults;
 ghost use Rattle.cg_serve.specs.Lives.{node_of, left_after, IsLeft};
 
-use crate::console::Console;
 use cg_clock::HostClock;
 use cg_history::History;
+use cg_operator::Console;
 use cg_rounds::generator;
 use cg_settings::Settings;
 use cg_settings_file::Turns;

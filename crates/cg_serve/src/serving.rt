@@ -1,10 +1,11 @@
 //! The life of a node that serves.
 
 ghost use Rattle.std.specs.Prelude.{◌≡◌, ◌≤◌, IfOk, IfErr};
-ghost use Rattle.cg_serve.specs.Lives.{IsUnborn, IsLived, status_after, EndsWith, EndsALife};
+ghost use Rattle.cg_node_files.specs.Kept.{IsUnborn};
+ghost use Rattle.cg_serve.specs.Lives.{IsLived, status_after, EndsWith, EndsALife};
 
-use crate::life::{next_life, settings_in, write_journal_to};
 use crate::node::{Birth, Left, run};
+use cg_node_files::{next_life, settings_in, write_journal_to};
 use cg_settings_file::ServeSettings;
 use cg_sockets::Listener;
 use cg_types::Fault;

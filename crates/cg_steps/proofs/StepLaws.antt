@@ -20,17 +20,17 @@ use Rattle.cg_messages.specs.declared.outcome.Outcome.{Outcome}
 use Rattle.cg_messages.specs.Values.{SynValue, AckValue, Ack2Value}
 use Rattle.cg_exchange.specs.Answering.{same_cluster, answer_to_syn}
 use Rattle.cg_exchange.specs.Taking.{taking_ack, taking_ack2}
-use Rattle.cg_exchange.specs.Places.{Ask, took_for}
-use Rattle.cg_exchange.specs.PlaceMessages.{PlaceMessage, Syn, Ack, Ack2, answer_at, places_after, grants_at}
-use Rattle.cg_exchange.specs.Spelling.{outcome_about}
-use Rattle.cg_exchange.specs.Laws.{Says, IsMoved, AckMoves, IsAnswered}
-use Rattle.cg_exchange.proofs.MessageLaws.{syn_says_places, syn_is_answered, ack_is_taken, ack2_is_taken}
+use Rattle.cg_exchange_laws.specs.Places.{Ask, took_for}
+use Rattle.cg_exchange_laws.specs.PlaceMessages.{PlaceMessage, Syn, Ack, Ack2, answer_at, places_after, grants_at}
+use Rattle.cg_exchange_laws.specs.Spelling.{outcome_about}
+use Rattle.cg_exchange_laws.specs.Laws.{Says, IsMoved, AckMoves, IsAnswered}
+use Rattle.cg_exchange_laws.proofs.MessageLaws.{syn_says_places, syn_is_answered, ack_is_taken, ack2_is_taken}
 use Rattle.cg_events.specs.declared.event.Event.{Event}
 use Rattle.cg_events.specs.declared.event.Event.TheVariants as event
 use Rattle.cg_events.specs.declared.reply.Reply.{Reply}
 use Rattle.cg_events.specs.declared.reply.Reply.TheVariants as reply
 use Rattle.cg_core.specs.Values.{NodeValue}
-use Rattle.cg_core.specs.Arrivals.{outcomes_in}
+use Rattle.cg_events.specs.Replies.{outcomes_in}
 use Rattle.cg_core.specs.Step.{Step, then, with_table, next_of, beating, setting, opening, round_of, after_taking, arrival_of, node_step}
 use Rattle.cg_places.specs.PlaceWorld.{PlaceWorld, Deliver, runs, with_entry, with_message, with_spans, last_entry, after_change, after_opening, after_receipt, after_delivery, after_action}
 use Rattle.cg_places.specs.Laws.{IsWorld}

@@ -7,16 +7,16 @@ use Rattle.cg_entry.specs.History.{at_place}
 use Rattle.cg_entry.specs.Place.{Span}
 use Rattle.cg_messages.specs.declared.message.Message.{Message}
 use Rattle.cg_messages.specs.declared.message.Message.TheVariants as message
-use Rattle.cg_exchange.specs.Places.{took_for}
-use Rattle.cg_exchange.specs.PlaceMessages.{PlaceMessage, Syn, Ack, Ack2}
-use Rattle.cg_exchange.specs.Spelling.{outcome_about}
-use Rattle.cg_exchange.specs.Laws.{Says}
+use Rattle.cg_exchange_laws.specs.Places.{took_for}
+use Rattle.cg_exchange_laws.specs.PlaceMessages.{PlaceMessage, Syn, Ack, Ack2}
+use Rattle.cg_exchange_laws.specs.Spelling.{outcome_about}
+use Rattle.cg_exchange_laws.specs.Laws.{Says}
 use Rattle.cg_events.specs.declared.event.Event.{Event}
 use Rattle.cg_events.specs.declared.event.Event.TheVariants as event
 use Rattle.cg_events.specs.declared.reply.Reply.{Reply}
 use Rattle.cg_events.specs.declared.reply.Reply.TheVariants as reply
 use Rattle.cg_core.specs.Values.{NodeValue}
-use Rattle.cg_core.specs.Arrivals.{outcomes_in}
+use Rattle.cg_events.specs.Replies.{outcomes_in}
 use Rattle.cg_core.specs.Step.{node_step}
 use Rattle.cg_places.specs.PlaceWorld.{PlaceWorld, PlaceAction, Start, Beat, Set, Opening, Tick, Deliver, runs, after_action}
 use Rattle.cg_places.specs.Laws.{IsWorld}

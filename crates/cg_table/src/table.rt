@@ -326,8 +326,8 @@ impl Table {
     }
 
     /// A table with each of the rows put, in one walk over both lists. All entries are shared, the new ones too. The
-    /// rows have to rise by endpoint, and with them at most `MEMBER_LIMIT` endpoints to be held: `rows_rise` and
-    /// `has_room_for` tell. `AllocError` where the list of rows finds no memory.
+    /// rows have to rise by endpoint, and with them at most `MEMBER_LIMIT` endpoints to be held: `owners_rise` of
+    /// `cg_types` and `has_room_for` tell. `AllocError` where the list of rows finds no memory.
     pub fn put_rows(&self, alloc: Global, changes: Vec<Row<Entry>>) -> Result<Table, AllocError>
         requires rise { Rises (keys_of changes.items) }
         requires room { table.len (put_each changes.items self.now.entries) ≤ MEMBER_LIMIT }

@@ -2,8 +2,9 @@
 
 use cg_expect::expect_eq;
 use cg_lists::push_some;
-use cg_map::{Row, SharedMap, rows_rise};
+use cg_map::{Row, SharedMap};
 use cg_samples::endpoint;
+use cg_types::owners_rise;
 use std::alloc::Global;
 use std::test::Fail;
 
@@ -56,7 +57,7 @@ fn has_rows(map: &SharedMap<u32>, wanted: [(u16, u32); 4]) -> bool {
 fn changed(alloc: Global) -> Result<(SharedMap<u32>, SharedMap<u32>), Fail> {
     let map = three_values(alloc)?;
     let changes = two_changes(alloc)?;
-    if !rows_rise(&changes) {
+    if !owners_rise(&changes) {
         return Err(Fail::from("the changes don't rise"));
     }
     let lent = map.with_rows(alloc, &changes)?;
@@ -85,7 +86,7 @@ fn an_item_is_put_at_the_end(rt: HostRuntime) -> Result<(), Fail> {
 fn rise(alloc: Global, first: u16, second: u16) -> Result<bool, Fail> {
     let first = Row::new(alloc, endpoint(first), 1)?;
     let second = Row::new(alloc, endpoint(second), 1)?;
-    Ok(rows_rise(&vec![in alloc; first, second]?))
+    Ok(owners_rise(&vec![in alloc; first, second]?))
 }
 
 #[test]

@@ -3,10 +3,10 @@
 use cg_entry::{Delta, Digest, Entry, Took};
 use cg_expect::{expect, expect_eq};
 use cg_lists::push_some;
-use cg_map::{Row, rows_rise};
+use cg_map::Row;
 use cg_samples::{bare_delta, bare_entry, endpoint, entry_at_start, generation};
 use cg_table::Table;
-use cg_types::{Endpoint, Fault, Version};
+use cg_types::{Endpoint, Fault, Version, owners_rise};
 use std::alloc::Global;
 use std::test::Fail;
 
@@ -296,7 +296,7 @@ fn change(alloc: Global, delta_of: (u32, u32, u32)) -> Result<(Option<u32>, Took
     let (row, took) = table.delta_change(alloc, endpoint(1), &delta)?;
     let mut rows = Vec::new(alloc);
     push_some(&mut rows, row)?;
-    let fits = rows_rise(&rows) && table.has_room_for(&rows);
+    let fits = owners_rise(&rows) && table.has_room_for(&rows);
     Ok((newest_of_first(&rows), took, fits))
 }
 
@@ -383,7 +383,7 @@ fn changed_rows(alloc: Global, table: &Table) -> Result<Vec<Row<Entry>>, Fail> {
 
 // A table with rows put: as they are handed over, and as they are lent.
 fn with_rows(alloc: Global, table: &Table, rows: Vec<Row<Entry>>) -> Result<(Table, Table), Fail> {
-    if !rows_rise(&rows) || !table.has_room_for(&rows) {
+    if !owners_rise(&rows) || !table.has_room_for(&rows) {
         return Err(Fail::from("the rows can't be put"));
     }
     let lent = table.with_rows(alloc, &rows)?;

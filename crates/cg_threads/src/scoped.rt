@@ -2,6 +2,7 @@
 
 ghost use Rattle.std.specs.Prelude.{◌≡◌, []};
 ghost use Rattle.cg_rounds.specs.Ends.{AreEnds, put_by, taken_by};
+ghost use Rattle.cg_begun.specs.Seats.{AreWorkers, AreUnused};
 ghost use Rattle.cg_left.specs.Left.{IsLeft, HasTaken, HasPut, AreOfWorkers, AreTaken};
 ghost use Rattle.cg_left.specs.Left.{is_received, is_ack, is_tick, is_any};
 
@@ -10,7 +11,7 @@ use crate::started::start;
 use crate::tools::Tools;
 use cg_begun::Seats;
 use cg_clock::Milliseconds;
-use cg_left::{Left, OPERATOR, RECEIVER, SENDER, Sent, TICKER, Ticks, Work};
+use cg_left::{Left, Sent, Ticks, Work};
 use cg_locked::Name;
 use cg_rounds::{Putting, Taking};
 use cg_seats::Operate;
@@ -49,10 +50,8 @@ pub(crate) fn work<
 where
     D::Reader: Send,
     D::Writer: Send,
-    requires callers { (seats.receiver.caller ≡ RECEIVER) × (seats.sender.caller ≡ SENDER)
-        × (seats.ticker.caller ≡ TICKER) × (seats.operator.caller ≡ OPERATOR) }
-    requires amounts { (seats.receiver.share.amount ≡ 0) × (seats.sender.share.amount ≡ 0)
-        × (seats.ticker.share.amount ≡ 0) × (seats.operator.share.amount ≡ 0) }
+    requires callers { AreWorkers seats }
+    requires amounts { AreUnused seats }
     requires ends { AreEnds ends.0 ends.1 }
     requires none { (put_by ends.0 ≡ []) × (taken_by ends.1 ≡ []) }
     ensures parts { (result.receiver.parts ≡ seats.receiver.share.parts)

@@ -4,8 +4,7 @@ use Rattle.std.proofs.lemmas.List.{append-nil}
 use Rattle.std.specs.List.{All}
 use Rattle.std.proofs.lemmas.List.Elements.{All-nil, All-push}
 use Rattle.rand_core.specs.Stream.{Stream}
-use Rattle.cg_history.specs.declared.item.Receipt.{Receipt}
-use Rattle.cg_seats.specs.Seats.{SeatValue}
+use Rattle.cg_records.specs.declared.item.Receipt.{Receipt}
 use Rattle.cg_rounds.specs.declared.round.Round.{Round}
 use Rattle.cg_rounds.specs.Words.{four_of, words_of_ticks}
 use Rattle.cg_ticker.specs.Ticks.{IsTick, round_in, rounds_in, words_in, words_of, HasTicked, Ticks}
@@ -47,24 +46,22 @@ rounds-push (p ∷ ps) q = ap (λ ns. round_in p ++ ns) (rounds-push ps q) ∙ s
 
 -- ---- all turns so far
 
-module _ (shows : ℕ → Type 0) (s : Stream) (g : SeatValue) (before : List Round) where
+module _ (shows : ℕ → Type 0) (s : Stream) (had : List Receipt) (before : List Round) where
   -- after so many turns, each of which was refused or put its round in
-  pub record SoFar (n refused : ℕ) (left : Stream) (h : SeatValue) (after : List Round) : Type 0 where
+  pub record SoFar (n refused : ℕ) (left : Stream) (has : List Receipt) (after : List Round) : Type 0 where
     pub passed : List Receipt
-    pub receipts : h.receipts ≡ g.receipts ++ passed
-    pub seat : (h.caller ≡ g.caller) × (h.parts ≡ g.parts)
+    pub receipts : has ≡ had ++ passed
     pub ticks : All (IsTick shows) passed
     pub put : after ≡ before ++ rounds_in passed
     pub count : refused + length passed ≡ n
     pub words : refused ≡ 0 → words_of passed ≡ words_of_ticks (length passed) s
     pub left_is : left ≡ left_after n s
 
-  pub none_so_far : SoFar 0 0 s g before
+  pub none_so_far : SoFar 0 0 s had before
   none_so_far =
       record {
         passed = [];
-        receipts = sym (append-nil g.receipts);
-        seat = (refl, refl);
+        receipts = sym (append-nil had);
         ticks = All-nil (IsTick shows);
         put = sym (append-nil before);
         count = refl;
@@ -72,11 +69,10 @@ module _ (shows : ℕ → Type 0) (s : Stream) (g : SeatValue) (before : List Ro
         left_is = refl;
       }
 
-  pub refused_next : (n refused : ℕ) (left next : Stream) (h k : SeatValue) (after then : List Round) → SoFar n refused left h after → (k ≡ h) × (then ≡ after) → next ≡ (four_of left).1 → (more : ℕ) → more ≡ refused + 1 → SoFar (n + 1) more next k then
+  pub refused_next : (n refused : ℕ) (left next : Stream) (h k : List Receipt) (after then : List Round) → SoFar n refused left h after → (k ≡ h) × (then ≡ after) → next ≡ (four_of left).1 → (more : ℕ) → more ≡ refused + 1 → SoFar (n + 1) more next k then
   refused_next n refused left next h k after then so same is more counts = record {
     passed = so.passed;
-    receipts = ap (λ (v : SeatValue). v.receipts) same.0 ∙ so.receipts;
-    seat = (ap (λ (v : SeatValue). v.caller) same.0 ∙ so.seat.0, ap (λ (v : SeatValue). v.parts) same.0 ∙ so.seat.1);
+    receipts = same.0 ∙ so.receipts;
     ticks = so.ticks;
     put = same.1 ∙ so.put;
     count = omega (arith, so.count, counts);
@@ -84,12 +80,9 @@ module _ (shows : ℕ → Type 0) (s : Stream) (g : SeatValue) (before : List Ro
     left_is = left_more n s left next so.left_is is;
   }
 
-  module _ (n refused : ℕ) (left : Stream) (h k : SeatValue) (after : List Round) (q : Receipt) (so : SoFar n refused left h after) (more : HasTicked shows (four_of left).0 h k q) where
-    receipts_next : k.receipts ≡ g.receipts ++ (so.passed ++ q ∷ [])
-    receipts_next = more.receipts ∙ ap (λ qs. qs ++ q ∷ []) so.receipts ∙ append_assoc g.receipts so.passed (q ∷ [])
-
-    seat_next : (k.caller ≡ g.caller) × (k.parts ≡ g.parts)
-    seat_next = (more.seat.0 ∙ so.seat.0, more.seat.1 ∙ so.seat.1)
+  module _ (n refused : ℕ) (left : Stream) (h k : List Receipt) (after : List Round) (q : Receipt) (so : SoFar n refused left h after) (more : HasTicked shows (four_of left).0 h k q) where
+    receipts_next : k ≡ had ++ (so.passed ++ q ∷ [])
+    receipts_next = more.receipts ∙ ap (λ qs. qs ++ q ∷ []) so.receipts ∙ append_assoc had so.passed (q ∷ [])
 
     count_next : refused + length (so.passed ++ q ∷ []) ≡ n + 1
     count_next = omega (arith, so.count, length-append so.passed (q ∷ []))
@@ -106,7 +99,6 @@ module _ (shows : ℕ → Type 0) (s : Stream) (g : SeatValue) (before : List Ro
     put_next next then went is same counts = record {
       passed = so.passed ++ q ∷ [];
       receipts = receipts_next;
-      seat = seat_next;
       ticks = All-push (IsTick shows) so.passed q so.ticks more.tick;
       put = went ∙ ap (λ ns. ns ++ round_in q) so.put ∙ append_assoc before (rounds_in so.passed) (round_in q) ∙ ap (λ ns. before ++ ns) (sym (rounds-push so.passed q));
       count = omega (arith, counts, count_next);
@@ -114,12 +106,11 @@ module _ (shows : ℕ → Type 0) (s : Stream) (g : SeatValue) (before : List Ro
       left_is = left_more n s left next so.left_is is;
     }
 
-    pub stopped_here : (rounds : ℕ) (then : List Round) → n < rounds → then ≡ after → Ticks shows rounds s g before (record { refused = refused; stopped = true }) k then
+    pub stopped_here : (rounds : ℕ) (then : List Round) → n < rounds → then ≡ after → Ticks shows rounds s had before (record { refused = refused; stopped = true }) k then
     stopped_here rounds then fewer same = record {
       passed = so.passed;
       rest = q ∷ [];
       receipts = receipts_next;
-      seat = seat_next;
       ticks = All-push (IsTick shows) so.passed q so.ticks more.tick;
       put = same ∙ so.put;
       stopped = refl;
@@ -128,15 +119,14 @@ module _ (shows : ℕ → Type 0) (s : Stream) (g : SeatValue) (before : List Ro
       words = words_more;
     }
 
-  pub all_done : (n refused : ℕ) (left : Stream) (h : SeatValue) (after : List Round) → SoFar n refused left h after → (rounds : ℕ) → n ≡ rounds → Ticks shows rounds s g before (record { refused = refused; stopped = false }) h after
+  pub all_done : (n refused : ℕ) (left : Stream) (h : List Receipt) (after : List Round) → SoFar n refused left h after → (rounds : ℕ) → n ≡ rounds → Ticks shows rounds s had before (record { refused = refused; stopped = false }) h after
   all_done n refused left h after so rounds all =
       let same : so.passed ++ [] ≡ so.passed = append-nil so.passed in
       let long : length (so.passed ++ []) ≡ length so.passed = ap length same in
       record {
         passed = so.passed;
         rest = [];
-        receipts = so.receipts ∙ ap (λ qs. g.receipts ++ qs) (sym same);
-        seat = so.seat;
+        receipts = so.receipts ∙ ap (λ qs. had ++ qs) (sym same);
         ticks = subst (All (IsTick shows)) (sym same) so.ticks;
         put = so.put;
         stopped = refl;

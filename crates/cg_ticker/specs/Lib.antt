@@ -1,4 +1,4 @@
 pub mod Ticks
-pub use Rattle.cg_engine.specs.Events
+pub use Rattle.cg_events.specs.Replies
 pub use Rattle.cg_rounds.specs.Ends
 pub use Rattle.cg_rounds.specs.Words

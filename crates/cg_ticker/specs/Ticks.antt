@@ -6,8 +6,7 @@ use Rattle.cg_events.specs.declared.event.Event.{Event}
 use Rattle.cg_events.specs.declared.event.Event.TheVariants as event
 use Rattle.cg_events.specs.declared.reply.Reply.{Reply}
 use Rattle.cg_events.specs.declared.reply.Reply.TheVariants as reply
-use Rattle.cg_history.specs.declared.item.Receipt.{Receipt}
-use Rattle.cg_seats.specs.Seats.{SeatValue}
+use Rattle.cg_records.specs.declared.item.Receipt.{Receipt}
 use Rattle.cg_rounds.specs.declared.round.Round.{Round}
 use Rattle.cg_rounds.specs.Words.{four_of, words_of_ticks}
 use Rattle.cg_ticker.specs.declared.ticked.Ticked.{Ticked}
@@ -49,21 +48,20 @@ words_of (q ∷ qs) = words_in q.event ++ words_of qs
 
 -- ---- one turn
 
--- The gate has one receipt more, of a tick with these words, at a moment that the clock showed.
-pub record HasTicked (shows : ℕ → Type 0) (drawn : List ℕ) (g h : SeatValue) (q : Receipt) : Type 0 where
+-- There is one receipt more, of a tick with these words, at a moment that the clock showed.
+pub record HasTicked (shows : ℕ → Type 0) (drawn : List ℕ) (had has : List Receipt) (q : Receipt) : Type 0 where
   pub tick : IsTick shows q
   pub words : words_in q.event ≡ drawn
-  pub receipts : h.receipts ≡ g.receipts ++ q ∷ []
-  pub seat : (h.caller ≡ g.caller) × (h.parts ≡ g.parts)
+  pub receipts : has ≡ had ++ q ∷ []
 
--- One turn from a gate and the rounds put in so far to another gate and its rounds: a tick with the next words was
--- refused; or it was done, and its round is put in or not.
-abbrev pub IsTurn : (ℕ → Type 0) → Stream → SeatValue → List Round → Turn → SeatValue → List Round → Type 0
-IsTurn shows s g before turn.Refused h after = (h ≡ g) × (after ≡ before)
-IsTurn shows s g before turn.Put h after =
-    (q : Receipt) × HasTicked shows (four_of s).0 g h q × (after ≡ before ++ round_in q)
-IsTurn shows s g before turn.Stopped h after =
-    (q : Receipt) × HasTicked shows (four_of s).0 g h q × (after ≡ before)
+-- One turn from the receipts and the rounds put in so far to those after it: a tick with the next words was refused;
+-- or it was done, and its round is put in or not.
+abbrev pub IsTurn : (ℕ → Type 0) → Stream → List Receipt → List Round → Turn → List Receipt → List Round → Type 0
+IsTurn shows s had before turn.Refused has after = (has ≡ had) × (after ≡ before)
+IsTurn shows s had before turn.Put has after =
+    (q : Receipt) × HasTicked shows (four_of s).0 had has q × (after ≡ before ++ round_in q)
+IsTurn shows s had before turn.Stopped has after =
+    (q : Receipt) × HasTicked shows (four_of s).0 had has q × (after ≡ before)
 
 -- ---- all turns
 
@@ -72,15 +70,14 @@ abbrev pub missing : Bool → ℕ
 missing true = 1
 missing false = 0
 
--- The gate has more receipts, all of ticks at moments that the clock showed: first those whose rounds were put in,
+-- There are more receipts, all of ticks at moments that the clock showed: first those whose rounds were put in,
 -- then, where the ticker stopped, one whose round was not. Where it did not stop, ticks and refused ticks are as many
 -- as rounds were wanted; where no tick was refused, the words of the ticks are the generator's.
-pub record Ticks (shows : ℕ → Type 0) (rounds : ℕ) (s : Stream) (g : SeatValue) (before : List Round) (left : Ticked)
-    (h : SeatValue) (after : List Round) : Type 0 where
+pub record Ticks (shows : ℕ → Type 0) (rounds : ℕ) (s : Stream) (had : List Receipt) (before : List Round)
+    (left : Ticked) (has : List Receipt) (after : List Round) : Type 0 where
   pub passed : List Receipt
   pub rest : List Receipt
-  pub receipts : h.receipts ≡ g.receipts ++ (passed ++ rest)
-  pub seat : (h.caller ≡ g.caller) × (h.parts ≡ g.parts)
+  pub receipts : has ≡ had ++ (passed ++ rest)
   pub ticks : All (IsTick shows) (passed ++ rest)
   pub put : after ≡ before ++ rounds_in passed
   pub stopped : length rest ≡ missing left.stopped

@@ -1,6 +1,7 @@
 //! The worker that begins rounds.
 //!
-//! A ticker has its node tick from a seat, and puts the round of each tick into the channel that the sender takes from.
+//! A ticker has a node tick through what enters events and keeps their receipts (`Enter`), and puts the round of each
+//! tick into the channel that the sender takes from.
 #![tactic(auto)]
 
 mod passing;

@@ -1,12 +1,12 @@
 //! The round of a tick, on its way into the channel.
 
 ghost use Rattle.std.specs.Prelude.{◌≡◌, ◌++◌, ◌∷◌, [], IfOk, MatchBool};
-ghost use Rattle.cg_engine.specs.Events.{IsRound};
+ghost use Rattle.cg_events.specs.Replies.{IsRound};
 ghost use Rattle.cg_rounds.specs.Ends.{put_by, PutsWhere};
 ghost use Rattle.cg_ticker.specs.Ticks.{round_in};
 
 use cg_events::Reply;
-use cg_history::Receipt;
+use cg_records::Receipt;
 use cg_rounds::{Putting, Round};
 use std::alloc::{AllocError, Global};
 use std::sync::Wait;

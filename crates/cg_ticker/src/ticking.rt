@@ -9,11 +9,9 @@ ghost use Rattle.cg_ticker.specs.Ticks.{IsTurn, Ticks};
 use crate::passing::pass_on;
 use crate::ticked::Ticked;
 use cg_clock::Milliseconds;
-use cg_engine::Gate;
 use cg_events::Event;
-use cg_locked::Name;
+use cg_records::Enter;
 use cg_rounds::{Putting, next_words};
-use cg_seats::SeatGate;
 use rand_core::Rng;
 use std::alloc::Global;
 use std::rt::Clock;
@@ -43,24 +41,25 @@ pub(crate) fn tick<C: Milliseconds, G: Rng>(clock: &C, generator: &mut G) -> Eve
 }
 
 /// Has the node tick, and puts its round in.
-pub(crate) fn tick_once<N: Name, R: Wait, C: Milliseconds, G: Rng>(
+pub(crate) fn tick_once<R: Wait, C: Milliseconds, E: Enter, G: Rng>(
     rt: &R,
     alloc: Global,
     clock: &C,
-    gate: &mut SeatGate<'_, N, R>,
+    gate: &mut E,
     generator: &mut G,
     to: &mut Putting,
 ) -> Turn
+    ensures seat { E.seat gate.new ≡ E.seat gate.old }
     ensures channel { PutsWhere to.new to.old }
-    ensures turn { IsTurn (C.shows clock.now) (G.stream generator.old) gate.old (put_by to.old) result gate.new
-        (put_by to.new) }
+    ensures turn { IsTurn (C.shows clock.now) (G.stream generator.old) (E.receipts gate.old) (put_by to.old) result
+        (E.receipts gate.new) (put_by to.new) }
     ensures left { G.stream generator.new ≡ (four_of (G.stream generator.old)).1 }
 {
     let event = tick(clock, generator);
-    if gate.event(alloc, event).is_err() {
+    if gate.enter(alloc, event).is_err() {
         return Turn::Refused;
     }
-    let Some(receipt) = gate.receipts().last() else {
+    let Some(receipt) = gate.last() else {
         unreachable!()
     };
     if pass_on(rt, alloc, receipt, to) {
@@ -71,19 +70,20 @@ pub(crate) fn tick_once<N: Name, R: Wait, C: Milliseconds, G: Rng>(
 }
 
 /// So many turns, with a pause of so many milliseconds between two; fewer where a round could not be put in.
-fn turns<N: Name, R: Wait + Clock, C: Milliseconds, G: Rng>(
+fn turns<R: Wait + Clock, C: Milliseconds, E: Enter, G: Rng>(
     rt: &R,
     alloc: Global,
     clock: &C,
-    gate: &mut SeatGate<'_, N, R>,
+    gate: &mut E,
     generator: &mut G,
     to: &mut Putting,
     rounds: u32,
     interval: u32,
 ) -> Ticked
+    ensures seat { E.seat gate.new ≡ E.seat gate.old }
     ensures channel { PutsWhere to.new to.old }
-    ensures ticks { Ticks (C.shows clock.now) rounds (G.stream generator.old) gate.old (put_by to.old) result gate.new
-        (put_by to.new) }
+    ensures ticks { Ticks (C.shows clock.now) rounds (G.stream generator.old) (E.receipts gate.old) (put_by to.old) result
+        (E.receipts gate.new) (put_by to.new) }
 {
     let mut refused = 0;
     for place in 0..rounds {
@@ -105,24 +105,25 @@ fn turns<N: Name, R: Wait + Clock, C: Milliseconds, G: Rng>(
     }
 }
 
-/// Has the node tick `rounds` times from its seat, with a pause of `interval` milliseconds between two ticks, and puts
-/// the round of each tick into the channel; in the end it says that no more come.
+/// Has a node tick `rounds` times by its gate, with a pause of `interval` milliseconds between two ticks, and puts the
+/// round of each tick into the channel; in the end it says that no more come.
 ///
 /// A refused tick makes no round, and counts as one. The ticker stops where it finds no memory to pass a round on, and
 /// where the channel hands it back. The contract does not say that the moments of the ticks rise, nor that it pauses.
-pub fn ticker<N: Name, R: Wait + Clock, C: Milliseconds, G: Rng>(
+pub fn ticker<R: Wait + Clock, C: Milliseconds, E: Enter, G: Rng>(
     rt: &R,
     alloc: Global,
     clock: &C,
-    gate: &mut SeatGate<'_, N, R>,
+    gate: &mut E,
     generator: &mut G,
     to: &mut Putting,
     rounds: u32,
     interval: u32,
 ) -> Ticked
+    ensures seat { E.seat gate.new ≡ E.seat gate.old }
     ensures channel { PutsWhere to.new to.old }
-    ensures ticks { Ticks (C.shows clock.now) rounds (G.stream generator.old) gate.old (put_by to.old) result gate.new
-        (put_by to.new) }
+    ensures ticks { Ticks (C.shows clock.now) rounds (G.stream generator.old) (E.receipts gate.old) (put_by to.old) result
+        (E.receipts gate.new) (put_by to.new) }
 {
     let ticked = turns(rt, alloc, clock, gate, generator, to, rounds, interval);
     to.end(rt);

@@ -1,6 +1,3 @@
 pub mod HexLemmas
 pub mod TextLemmas
 pub mod TokenTextLemmas
-pub mod RingLemmas
-pub mod ClaimLemmas
-pub mod RingLaws

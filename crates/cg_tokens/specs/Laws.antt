@@ -1,30 +1,9 @@
--- What holds of tokens, and of the rings of tables.
-use Rattle.std.specs.Prelude.{◌≡◌, ◌^◌, ℕ, true, [], Option, Some, None}
-use Rattle.std.specs.FinMap as table
-use Rattle.cg_entry.specs.Values.{EntryValue}
-use Rattle.cg_table.specs.Values.{Entries}
+-- The limits of tokens, as numbers.
+use Rattle.std.specs.Prelude.{◌≡◌, ◌^◌}
 use Rattle.cg_tokens.specs.declared.limits.TheConstants.{TOKEN_LIMIT, TOKEN_DIGITS, TOKEN_COUNT_LIMIT}
-use Rattle.cg_tokens.specs.Claims.{claimed_tokens, keeps_claims}
-use Rattle.cg_tokens.specs.Ring.{ring}
 
 -- The greatest token, the digits of a token, and the tokens of an endpoint.
 pub record LimitsAreThese : Type 0 where
   pub token : TOKEN_LIMIT ≡ 2 ^ 127
   pub digits : TOKEN_DIGITS ≡ 32
   pub count : TOKEN_COUNT_LIMIT ≡ 16
-
--- An entry claims what was claimed by what was held: the same tokens in the same generation, or nothing where nothing
--- was held.
-abbrev pub ClaimsAlike : Option EntryValue → EntryValue → Type 0
-ClaimsAlike None e = claimed_tokens e.states ≡ []
-ClaimsAlike (Some held) e = (e.generation ≡ held.generation) × (claimed_tokens e.states ≡ claimed_tokens held.states)
-
--- An entry that shows it claims what was claimed.
-abbrev pub KeptClaimsAreAlike : Type 0
-KeptClaimsAreAlike = (held : Option EntryValue) (e : EntryValue) → keeps_claims held e ≡ true → ClaimsAlike held e
-
--- The ring stays where an owner's new entry claims what its old one did.
-abbrev pub RingStays : Type 0
-RingStays =
-    (entries : Entries) (owner : ℕ) (e : EntryValue) → ClaimsAlike (table.get entries owner) e
-    → ring (table.insert entries owner e) ≡ ring entries

@@ -1,9 +1,4 @@
 pub mod Tokens
 pub mod Text
-pub mod Claims
-pub mod Ring
 pub mod Laws
 pub use Rattle.cg_types.specs.Answer
-pub use Rattle.cg_types.specs.Numbers
-pub use Rattle.cg_types.specs.Rising
-pub use Rattle.cg_map.specs.Rows

@@ -5,7 +5,7 @@ use Rattle.std.specs.Int.{w128, from_be_bytes, cast_signed}
 use Rattle.md5.specs.Md5.{md5}
 use Rattle.cg_tokens.specs.declared.limits.TheConstants.{TOKEN_LIMIT, TOKEN_DIGITS}
 
--- within the ring
+-- in the range of tokens
 abbrev pub IsToken : ℕ → Type 0
 IsToken n = n ≤ TOKEN_LIMIT
 

@@ -1,19 +1,8 @@
-//! Laws of tokens and rings, each the contract of an empty function.
+//! A law of the limits of tokens, the contract of an empty function.
 
-ghost use Rattle.cg_tokens.specs.Laws.{KeptClaimsAreAlike, LimitsAreThese, RingStays};
+ghost use Rattle.cg_tokens.specs.Laws.{LimitsAreThese};
 
 /// The greatest token, the digits that a token is written with, and how many tokens an endpoint may have, as numbers.
 pub fn limits_are_these()
     ensures { LimitsAreThese }
-{}
-
-/// An entry that keeps the claims of its owner (`keeps_claims`) claims what was claimed.
-pub fn kept_claims_are_alike()
-    ensures { KeptClaimsAreAlike }
-{}
-
-/// An owner's new entry that claims what its old one did leaves the ring as it is: the same tokens in the same
-/// generation, or none where nothing was held.
-pub fn ring_stays()
-    ensures { RingStays }
 {}

@@ -64,8 +64,8 @@ fn token_in(digits: &[u8]) -> Option<Token>
     Token::new(number_of(digits))
 }
 
-// What stands before the first comma, and what stands behind it, if there is one.
-pub(crate) fn first_piece(text: &[u8]) -> (&[u8], Option<&[u8]>)
+/// What stands before the first comma, and what stands behind it, if there is one.
+pub fn first_piece(text: &[u8]) -> (&[u8], Option<&[u8]>)
     ensures pieces { pieces text.now ≡ result.0.now ∷ pieces_of (option_copied result.1) }
     ensures shorter { IfSome result.1 (λ rest. length rest.now < length text.now) }
 {
@@ -101,8 +101,9 @@ fn gather(text: &[u8]) -> Option<ArrayVec<Token, TOKEN_COUNT_LIMIT>>
     Some(tokens)
 }
 
-// The tokens of a text, if it is one of tokens. Only then it takes memory.
-pub(crate) fn tokens_in(alloc: Global, text: &[u8]) -> Result<Option<Vec<Token>>, AllocError>
+/// The tokens of a text, if it is one of tokens, as `read_tokens` reads it. Only then it takes memory; `AllocError` where
+/// there is none.
+pub fn tokens_in(alloc: Global, text: &[u8]) -> Result<Option<Vec<Token>>, AllocError>
     ensures ok { IfOk result (λ tokens. option_map (λ v. v.items) tokens ≡ tokens_of text.now) }
     ensures err { OnErr result (IsSome (tokens_of text.now)) }
 {

@@ -1,4 +1,4 @@
-//! Places on the ring.
+//! Tokens, which are places on a ring, and the token of a key.
 
 ghost use Rattle.std.specs.Prelude.{◌≡◌, ◌↔◌, ◌≤◌, IsSome, IfSome, Some, nat_eq};
 ghost use Rattle.std.specs.Ordering.{nat_cmp};

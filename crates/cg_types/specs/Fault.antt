@@ -1,4 +1,4 @@
--- The numbers, names and lines of faults.
+-- The numbers and names of faults, the names of causes, and how faults are written.
 use Rattle.std.specs.Prelude.{ℕ, List, ◌++◌, codes, decimal}
 use Rattle.cg_types.specs.declared.fault.Cause.{Cause}
 use Rattle.cg_types.specs.declared.fault.Cause.TheVariants as cause
@@ -63,15 +63,11 @@ fault_name fault.Stuck = codes "Stuck"
 fault_name fault.Folded = codes "Folded"
 fault_name fault.NoSuchNode = codes "NoSuchNode"
 
--- the line of a fault with no details
-abbrev pub plain_text : ℕ → List ℕ → List ℕ
-plain_text number name = codes "fault " ++ (decimal number ++ (codes " " ++ (name ++ codes "\n")))
-
--- the line of a bad frame, with its place and cause
-abbrev pub place_text : ℕ → List ℕ → List ℕ
-place_text place why = codes "fault 12 BadFrame " ++ (decimal place ++ (codes " " ++ (why ++ codes "\n")))
+-- how a fault is written: its number and name, and of a bad frame its place and cause
+abbrev pub fault_shown : Fault → List ℕ
+fault_shown (fault.BadFrame place why) = codes "12 BadFrame " ++ (decimal place ++ (codes " " ++ cause_name why))
+fault_shown f = decimal (fault_number f) ++ (codes " " ++ fault_name f)
 
 -- the line that says the fault
 abbrev pub fault_text : Fault → List ℕ
-fault_text (fault.BadFrame place why) = place_text place (cause_name why)
-fault_text f = plain_text (fault_number f) (fault_name f)
+fault_text f = codes "fault " ++ (fault_shown f ++ codes "\n")

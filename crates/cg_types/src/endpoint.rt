@@ -8,7 +8,6 @@ ghost use Rattle.std.proofs.Common.{rules};
 ghost use Rattle.std.specs.Int.{w32, to_be_bytes, from_be_bytes};
 ghost use Rattle.cg_types.specs.Numbers.{IsEndpoint, endpoint_of, address_of, port_of};
 ghost use Rattle.cg_types.specs.EndpointText.{endpoint_text, endpoint_in, octet_before as text_octet_before, port_in as text_port_in};
-ghost use Rattle.cg_types.specs.Rising.{rise_past};
 ghost use Rattle.cg_types.specs.declared.fault.Fault.TheVariants.{BadText};
 
 use crate::fault::Fault;
@@ -249,11 +248,4 @@ fn port_in(text: &[u8]) -> Option<u16>
 {
     let port = number(text, 65535)?;
     if port > 0 { Some(port as u16) } else { None }
-}
-
-/// Whether endpoints rise strictly, as the calls want it that take a list of owners or seeds.
-pub fn endpoints_rise(endpoints: &[Endpoint]) -> bool
-    ensures { result ≡ rise_past None endpoints.now }
-{
-    endpoints.is_sorted_by(|endpoint, next| *endpoint < *next)
 }

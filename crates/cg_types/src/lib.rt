@@ -12,14 +12,14 @@ mod text;
 mod version;
 mod words;
 
-pub use endpoint::{Endpoint, endpoints_rise};
+pub use endpoint::Endpoint;
 pub use fault::{Cause, Fault};
 pub use generation::Generation;
 pub use limits::{
     MEMBER_LIMIT, NAME_LIMIT, NUMBER_LIMIT, PARTITIONER, STATE_LIMIT, STATUS_KEY, TEXT_LIMIT,
     TOKENS_KEY,
 };
-pub use owned::Owned;
+pub use owned::{Owned, endpoints_rise, owners_rise};
 pub use state_key::StateKey;
 pub use text::{Cluster, StateText, is_plain};
 pub use version::Version;

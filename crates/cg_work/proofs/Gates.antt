@@ -11,7 +11,7 @@ use Rattle.cg_events.specs.declared.event.Event.TheVariants as event
 use Rattle.cg_events.specs.declared.reply.Reply.{Reply}
 use Rattle.cg_events.specs.declared.reply.Reply.TheVariants as reply
 use Rattle.cg_core.specs.Values.{NodeValue}
-use Rattle.cg_history.specs.declared.item.Receipt.{Receipt}
+use Rattle.cg_records.specs.declared.item.Receipt.{Receipt}
 use Rattle.cg_rounds.specs.declared.round.Round.{Round}
 use Rattle.cg_rounds.specs.declared.ends.Taking.{Taking}
 use Rattle.cg_seats.specs.Seats.{SeatValue, Enters, Refuses, new_gate, GoesOn}
@@ -153,10 +153,10 @@ module _ (shows : ℕ → Type 0) where
       ∙ ap (λ (ns : List ℕ). ns ++ numbers_of (rounds_in qs)) (one_round q.event q.reply q.number q.caller (All-head (IsTick shows) q qs ticks))
       ∙ ap (λ (ns : List ℕ). q.number ∷ ns) (numbers_passed qs (All-tail (IsTick shows) q qs ticks))
 
-  module _ (rounds : ℕ) (s : Stream) (put : List Round) (left : Ticked) (after : List Round) (g h : SeatValue) (x : Ticks shows rounds s g put left h after) where
-    pub ticked_more : More is_tick g h
-    ticked_more = record {
-      seat = x.seat;
+  module _ (rounds : ℕ) (s : Stream) (put : List Round) (left : Ticked) (after : List Round) (g h : SeatValue) (x : Ticks shows rounds s g.receipts put left h.receipts after) where
+    pub ticked_more : ◌≡◌ {A = ℕ × ℕ} (h.caller, h.parts) (g.caller, g.parts) → More is_tick g h
+    ticked_more same = record {
+      seat = (ap (λ (p : ℕ × ℕ). p.0) same, ap (λ (p : ℕ × ℕ). p.1) same);
       more = x.passed ++ x.rest;
       receipts = x.receipts;
       kinds = All-weaker (IsTick shows) (λ (q : Receipt). is_tick q.event ≡ true) (λ q is. tick_is q.event q.reply is) (x.passed ++ x.rest) x.ticks;

@@ -1,2 +1,3 @@
 pub use Rattle.cg_left.specs.Left
 pub use Rattle.cg_rounds.specs.Ends
+pub use Rattle.cg_seats.specs.Seats

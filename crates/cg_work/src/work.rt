@@ -2,6 +2,7 @@
 
 ghost use Rattle.std.specs.Prelude.{◌≡◌, []};
 ghost use Rattle.cg_rounds.specs.Ends.{put_by, taken_by};
+ghost use Rattle.cg_seats.specs.Seats.{AreOf};
 ghost use Rattle.cg_left.specs.Left.{IsLeft, HasTaken, HasPut, is_received, is_ack, is_tick, is_any};
 
 use crate::site::Site;
@@ -18,6 +19,16 @@ use rand_core::Rng;
 use std::alloc::Global;
 use std::rt::Clock;
 use std::sync::Wait;
+
+// What is left of a gate: its seat and its receipts, which are all of the seat's caller.
+fn left_of<N: Name, R: Wait>(gate: SeatGate<'_, N, R>) -> Left<N>
+    ensures parts { result.parts ≡ gate.entry.parts }
+    ensures receipts { result.receipts ≡ gate.entry.receipts }
+    ensures own { AreOf gate.entry.caller gate.entry.receipts }
+{
+    let (seat, receipts) = gate.into_parts();
+    Left::of(seat, receipts)
+}
 
 /// The receiver's: it answers up to `exchanges` connections. A fault of the listener ends it.
 pub fn receive<N: Name, R: Wait, L: Listen + Drop, C: Milliseconds>(
@@ -37,7 +48,7 @@ pub fn receive<N: Name, R: Wait, L: Listen + Drop, C: Milliseconds>(
     let mut listener = listener;
     let mut gate = SeatGate::new(rt, alloc, &site.shared, seat);
     let _came = receiver(alloc, &mut gate, &mut listener, &site.clock, exchanges);
-    Left::of(gate)
+    left_of(gate)
 }
 
 /// The sender's: it sends the rounds that come through the channel, until that ends.
@@ -66,7 +77,7 @@ pub fn send<N: Name, R: Wait, D: Dial + Drop, C: Milliseconds>(
     let mut gate = SeatGate::new(rt, alloc, &site.shared, seat);
     let numbers = sender(rt, alloc, &mut gate, &mut dialer, &site.clock, &mut taking);
     Sent {
-        left: Left::of(gate),
+        left: left_of(gate),
         taken: taking.leave(),
         numbers,
     }
@@ -107,7 +118,7 @@ pub fn tick<N: Name, R: Wait + Clock, C: Milliseconds, G: Rng + Drop>(
         turns.interval,
     );
     Ticks {
-        left: Left::of(gate),
+        left: left_of(gate),
         putting,
     }
 }
@@ -131,5 +142,5 @@ pub fn operate<N: Name, R: Wait, C: Milliseconds, O: Operate + Drop>(
     let mut pass = pass;
     let mut gate = SeatGate::new(rt, alloc, &site.shared, seat);
     let _ended = operator(alloc, &mut gate, &mut pass, &mut operates);
-    Left::of(gate)
+    left_of(gate)
 }

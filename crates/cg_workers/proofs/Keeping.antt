@@ -13,7 +13,8 @@ use Rattle.cg_links.specs.declared.counted.Counted.{Counted}
 use Rattle.cg_engine.specs.declared.exchange.Ended.{Ended}
 use Rattle.cg_engine.specs.declared.exchange.Ended.TheVariants as ended
 use Rattle.cg_engine.specs.declared.exchange.Broken.{Broken}
-use Rattle.cg_engine.specs.Events.{event_due, IsReplyTo}
+use Rattle.cg_events.specs.Replies.{IsReplyTo}
+use Rattle.cg_engine.specs.Events.{event_due}
 use Rattle.cg_engine.specs.Exchanged.{Turn, AreTurns, Runs, Turned, Exchanges}
 use Rattle.cg_rounds.specs.declared.ends.Taking.{Taking}
 use Rattle.cg_workers.specs.Workers.{Exchanged, BegunWith, Came, Received, Reached, SentRound, Sent}

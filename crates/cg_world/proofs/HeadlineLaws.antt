@@ -17,14 +17,14 @@ use Rattle.cg_entry.proofs.HistoryLaws.{versions_name_entries}
 use Rattle.cg_entry.specs.declared.took.Took.{Took}
 use Rattle.cg_entry.specs.declared.took.Took.TheVariants as took
 use Rattle.cg_table.specs.Own.{own_entry}
-use Rattle.cg_tokens.specs.Ring.{ring}
+use Rattle.cg_ring.specs.Ring.{ring}
 use Rattle.cg_messages.specs.declared.message.Message.{Message}
 use Rattle.cg_messages.specs.declared.outcome.Outcome.{Outcome}
 use Rattle.cg_messages.specs.declared.owner_delta.OwnerDelta.{OwnerDelta}
 use Rattle.cg_messages.specs.Members.{about}
-use Rattle.cg_exchange.specs.PlaceMessages.{AreSpans}
-use Rattle.cg_exchange.specs.Places.{took_for}
-use Rattle.cg_exchange.specs.Spelling.{delta_about, outcome_about}
+use Rattle.cg_exchange_laws.specs.PlaceMessages.{AreSpans}
+use Rattle.cg_exchange_laws.specs.Places.{took_for}
+use Rattle.cg_exchange_laws.specs.Spelling.{delta_about, outcome_about}
 use Rattle.cg_events.specs.declared.reply.Reply.{Reply}
 use Rattle.cg_settings.specs.Values.{SettingsValue}
 use Rattle.cg_core.specs.Values.{NodeValue}

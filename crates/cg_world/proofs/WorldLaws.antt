@@ -12,7 +12,7 @@ use Rattle.cg_entry.specs.History.{at_place}
 use Rattle.cg_entry.proofs.PlaceLemmas.{at_place_last}
 use Rattle.cg_messages.specs.declared.message.Message.{Message}
 use Rattle.cg_messages.specs.declared.message.Message.TheVariants as message
-use Rattle.cg_exchange.specs.PlaceMessages.{PlaceMessage}
+use Rattle.cg_exchange_laws.specs.PlaceMessages.{PlaceMessage}
 use Rattle.cg_events.specs.declared.event.Event.TheVariants as event
 use Rattle.cg_events.specs.declared.reply.Reply.TheVariants as reply
 use Rattle.cg_core.specs.Step.{Step, then, next_of, starting_node, beating, opening, round_of}

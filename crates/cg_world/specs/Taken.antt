@@ -12,9 +12,9 @@ use Rattle.cg_messages.specs.declared.message.Message.TheVariants as kinds
 use Rattle.cg_messages.specs.declared.outcome.Outcome.{Outcome}
 use Rattle.cg_messages.specs.declared.owner_delta.OwnerDelta.{OwnerDelta}
 use Rattle.cg_messages.specs.Members.{endpoints_of_deltas, endpoints_of_outcomes}
-use Rattle.cg_exchange.specs.Places.{took_for}
-use Rattle.cg_exchange.specs.PlaceMessages.{PlaceMessage}
-use Rattle.cg_exchange.specs.Spelling.{SpellsSpans, delta_about, outcome_about}
+use Rattle.cg_exchange_laws.specs.Places.{took_for}
+use Rattle.cg_exchange_laws.specs.PlaceMessages.{PlaceMessage}
+use Rattle.cg_exchange_laws.specs.Spelling.{SpellsSpans, delta_about, outcome_about}
 use Rattle.cg_events.specs.declared.reply.Reply.{Reply}
 use Rattle.cg_settings.specs.Values.{SettingsValue}
 pub use Rattle.cg_steps.specs.Step.{spans_in}

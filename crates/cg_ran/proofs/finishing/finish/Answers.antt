@@ -1,5 +1,5 @@
 use Rattle.std.proofs.Common.{List, sym, ◌∙◌, subst}
-use Rattle.cg_history.specs.declared.item.Receipt.{Receipt}
+use Rattle.cg_records.specs.declared.item.Receipt.{Receipt}
 use Rattle.cg_left.specs.Left.{AreTaken}
 use Rattle.cg_ran.proofs.Running.{same_workers, is_run, is_unconfirmed}
 use Rattle.cg_ran.proofs.finishing.finish.Goals as goal

@@ -4,7 +4,7 @@ use Rattle.cg_ticker.proofs.ticking.turns.Goals as goal
 use Rattle.cg_ticker.proofs.ticking.turns.Goals.{in-Refused, in-Put}
 
 pub loop-place-init : goal.loop-place-init
-loop-place-init g c = (refl, none_so_far _ _ _ _)
+loop-place-init g c = (refl, none_so_far _ _ _ _, refl)
 
 pub returns-in-Stopped-clause-ticks : goal.returns-in-Stopped-clause-ticks
 returns-in-Stopped-clause-ticks g c =
@@ -19,6 +19,7 @@ loop-place-preserved g c =
         | in-Refused w ↦ refused_next _ _ _ _ _ _ _ _ _ _ _ _ so w.in-Refused.ensures.turn w.in-Refused.ensures.left _ w.refused-is
         | in-Put w ↦ put_next _ _ _ _ _ _ _ _ _ _ w.in-Put.ensures.turn.0 so w.in-Put.ensures.turn.1 _ _ w.in-Put.ensures.turn.2 w.in-Put.ensures.left _ w.refused-is
       ],
+      c.tick_once.ensures.seat ∙ c.loop-place.invariant.2,
     )
 
 pub returns-clause-ticks : goal.returns-clause-ticks

@@ -1,5 +1,5 @@
 use Rattle.std.proofs.Common.{◌+◌, arith, sym, ap, ◌∙◌}
-use Rattle.cg_history.specs.Items.{puts_of}
+use Rattle.cg_records.specs.Items.{puts_of}
 use Rattle.cg_locked.proofs.Showing.{kept}
 use Rattle.cg_locked.proofs.board.Board.enter.Goals as goal
 

@@ -1,6 +1,6 @@
 use Rattle.std.proofs.Common.{◌≤◌, ℕ, ap, subst, ◌∙◌}
 use Rattle.std.proofs.lemmas.Result.{err_from_is_err_and}
-use Rattle.cg_history.specs.Items.{puts_of}
+use Rattle.cg_records.specs.Items.{puts_of}
 use Rattle.cg_history.specs.History.{HistoryValue}
 use Rattle.cg_locked.proofs.Showing.{entry_done, entry_refused, entry_shows}
 use Rattle.cg_locked.proofs.board.Board.enter_and_tell.Goals as goal

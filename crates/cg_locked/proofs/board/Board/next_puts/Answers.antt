@@ -1,6 +1,6 @@
 use Rattle.std.proofs.Common.{◌≡◌, List, ap, ◌∙◌}
 use Rattle.std.specs.Prelude.{slice_index_or}
-use Rattle.cg_history.specs.declared.item.Item.{Item}
+use Rattle.cg_records.specs.declared.item.Item.{Item}
 use Rattle.cg_history_laws.proofs.PutsOfRecords.{puts_next}
 use Rattle.cg_locked.proofs.board.Board.next_puts.Goals as goal
 

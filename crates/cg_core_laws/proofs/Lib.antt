@@ -1,0 +1,3 @@
+pub mod GoingOn
+pub mod NodeLaws
+pub mod ArrivalLemmas

@@ -1,0 +1,51 @@
+-- What replies tell of deltas, and which kind of reply each kind of event has.
+use Rattle.std.specs.Prelude.{List, []}
+use Rattle.cg_messages.specs.declared.message.Message.TheVariants as messages
+use Rattle.cg_messages.specs.declared.outcome.Outcome.{Outcome}
+use Rattle.cg_events.specs.declared.event.Event.{Event}
+use Rattle.cg_events.specs.declared.event.Event.TheVariants as event
+use Rattle.cg_events.specs.declared.reply.Reply.{Reply}
+use Rattle.cg_events.specs.declared.reply.Reply.TheVariants as reply
+
+-- what a reply tells of deltas
+abbrev pub outcomes_in : Reply → List Outcome
+outcomes_in (reply.Done version) = []
+outcomes_in (reply.Round peers syn) = []
+outcomes_in (reply.Sent message) = []
+outcomes_in (reply.Both outcomes ack2) = outcomes
+outcomes_in (reply.Took outcomes) = outcomes
+
+-- ---- each kind of event has its kind of reply
+
+abbrev pub IsDone : Reply → Type 0
+IsDone (reply.Done version) = Unit {0}
+IsDone r = ⊥
+
+abbrev pub IsRound : Reply → Type 0
+IsRound (reply.Round peers syn) = Unit {0}
+IsRound r = ⊥
+
+abbrev pub IsSyn : Reply → Type 0
+IsSyn (reply.Sent (messages.Syn m)) = Unit {0}
+IsSyn r = ⊥
+
+abbrev pub IsAck : Reply → Type 0
+IsAck (reply.Sent (messages.Ack m)) = Unit {0}
+IsAck r = ⊥
+
+abbrev pub IsBoth : Reply → Type 0
+IsBoth (reply.Both outcomes ack2) = Unit {0}
+IsBoth r = ⊥
+
+abbrev pub IsTook : Reply → Type 0
+IsTook (reply.Took outcomes) = Unit {0}
+IsTook r = ⊥
+
+abbrev pub IsReplyTo : Event → Reply → Type 0
+IsReplyTo event.Beat r = IsDone r
+IsReplyTo (event.Set key text) r = IsDone r
+IsReplyTo (event.Tick now words) r = IsRound r
+IsReplyTo event.Opening r = IsSyn r
+IsReplyTo (event.Syn m) r = IsAck r
+IsReplyTo (event.Ack now m) r = IsBoth r
+IsReplyTo (event.Ack2 now m) r = IsTook r

@@ -1,0 +1,5 @@
+pub mod MemberLemmas
+pub mod AnswerLaws
+pub mod TakingLaws
+pub mod PlaceRules
+pub mod MessageLaws

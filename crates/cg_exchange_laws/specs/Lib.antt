@@ -1,0 +1,4 @@
+pub mod Places
+pub mod PlaceMessages
+pub mod Spelling
+pub mod Laws

@@ -1,0 +1,3 @@
+pub mod Kept
+pub use Rattle.cg_settings_file.specs.Seen
+pub use Rattle.cg_version.specs.Version

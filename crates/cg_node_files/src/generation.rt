@@ -1,0 +1,48 @@
+//! The generation that a file keeps from one life to the next.
+
+ghost use Rattle.std.specs.Prelude.{IfOk, IfErr};
+ghost use Rattle.cg_version.specs.Version.{generation_at_start};
+ghost use Rattle.cg_node_files.specs.Kept.{IsUnborn, IsOfAStart, KeepsOf};
+
+use cg_clock::seconds_since_1970;
+use cg_files::{store_generation, stored_generation};
+use cg_types::{Fault, Generation};
+use cg_version::next_generation;
+use std::alloc::Global;
+use std::rt::{Clock, Files};
+
+// Has a file keep the generation of a start, by what is stored, at so many seconds since 1970.
+fn keep_next<R: Files>(
+    rt: &R,
+    alloc: Global,
+    file: &str,
+    stored: Option<Generation>,
+    seconds: u64,
+) -> Result<Generation, Fault>
+    ensures { KeepsOf (generation_at_start stored seconds) result }
+{
+    let generation = match next_generation(stored, seconds) {
+        Ok(generation) => generation,
+        Err(fault) => return Err(fault),
+    };
+    match store_generation(rt, alloc, file, generation) {
+        Ok(()) => Ok(generation),
+        Err(fault) => Err(fault),
+    }
+}
+
+/// The generation of the life that begins, which the file keeps from then on: one more than it kept, or the seconds
+/// since 1970 where these are more.
+///
+/// `ReadFault` where the file can't be read, `BadText` where it holds no generation, `VersionsSpent` where there is no
+/// greater one, `WriteFault` where it can't be kept; `OutOfMemory` where memory is refused.
+pub fn next_life<R: Files + Clock>(rt: &R, alloc: Global, file: &str) -> Result<Generation, Fault>
+    ensures next { IfOk result IsOfAStart }
+    ensures err { IfErr result IsUnborn }
+{
+    let stored = match stored_generation(rt, alloc, file) {
+        Ok(stored) => stored,
+        Err(fault) => return Err(fault),
+    };
+    keep_next(rt, alloc, file, stored, seconds_since_1970(rt))
+}

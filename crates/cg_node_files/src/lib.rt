@@ -1,0 +1,10 @@
+//! What a node keeps in files: its settings, its generation and its journal.
+#![tactic(auto)]
+
+mod generation;
+mod journal;
+mod settings;
+
+pub use generation::next_life;
+pub use journal::write_journal_to;
+pub use settings::{SETTINGS_MOST, settings_in};

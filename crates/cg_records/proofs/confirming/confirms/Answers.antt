@@ -1,0 +1,25 @@
+use Rattle.std.proofs.Common.{rules, take_all, take, length, ◌+◌, ◌<◌, ◌≡◌, ◌∙◌, ap, subst, sym, arith, List, ◌++◌, ◌∷◌, []}
+use Rattle.std.proofs.lemmas.List.{take_more}
+use Rattle.cg_records.specs.declared.item.Receipt.{Receipt}
+use Rattle.cg_records.specs.Confirming.{AreConfirmed, IsConfirmed}
+use Rattle.cg_records.proofs.Confirmed.{confirmed_more}
+use Rattle.cg_records.proofs.Marked.{marked_more}
+use Rattle.cg_records.proofs.confirming.confirms.Goals as goal
+
+pub loop-place-preserved : goal.loop-place-preserved
+loop-place-preserved c =
+    let receipts = c.args.receipts.now in
+    let records = c.args.records.now in
+    let i = c.loop-place.place in
+    let r = c.index-receipts-place.result in
+    let before = take i receipts in
+    let less : i < length receipts = omega arith in
+    let one : IsConfirmed records before r = search rules in
+    let more : take (i + 1) receipts ≡ before ++ r ∷ [] = take_more receipts i r less ∙ ap (λ (q : Receipt). before ++ q ∷ []) (sym c.index-receipts-place.is) in
+    record {
+      confirmed = subst (λ (rs : List Receipt). AreConfirmed records rs) (sym more) (confirmed_more records before r c.loop-place.invariant.confirmed one);
+      marked = marked_more c.loop-place.marks c.raise.new.self receipts i r less c.index-receipts-place.is c.loop-place.invariant.marked c.raise.ensures.kept c.raise.ensures.own;
+    }
+
+pub returns : goal.returns
+returns c = subst (λ (rs : List Receipt). AreConfirmed c.args.records.now rs) (take_all c.loop-place.place c.args.receipts.now c.loop-place-test.false) c.loop-place.invariant.confirmed

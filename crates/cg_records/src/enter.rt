@@ -1,0 +1,30 @@
+//! What has events done, and keeps their receipts.
+
+ghost use Rattle.std.specs.Prelude.{◌≡◌, ◌-◌, ◌++◌, ◌∷◌, [], ℕ, List, OnErr, OnOk, length, option_map, slice_get};
+ghost use Rattle.cg_events.specs.Replies.{IsReplyTo};
+ghost use Rattle.cg_records.specs.declared.item.Receipt.{Receipt as ReceiptValue};
+
+use crate::item::Receipt;
+use cg_events::Event;
+use cg_types::Fault;
+use std::alloc::Global;
+
+/// What has events done at a node as one caller, one after the other, and keeps the receipt of each.
+pub trait Enter {
+    // the receipts of the events done, the first one first
+    ghost receipts: { Self → List ReceiptValue };
+
+    // what no event changes: whose the events are, and among how many they are counted
+    ghost seat: { Self → ℕ × ℕ };
+
+    /// Has an event done, and keeps its receipt behind those before. A refused event changes nothing.
+    fn enter(&mut self, alloc: Global, event: Event) -> Result<(), Fault>
+        ensures done { OnOk result ((q : ReceiptValue) × (receipts self.new ≡ receipts self.old ++ q ∷ [])
+            × (q.event ≡ event) × IsReplyTo event q.reply) }
+        ensures refused { OnErr result (self.new ≡ self.old) }
+        ensures seat { seat self.new ≡ seat self.old };
+
+    /// The receipt of the last event done; `None` where none was.
+    fn last(&self) -> Option<&Receipt>
+        ensures { option_map (λ q. q.now) result ≡ slice_get (receipts self.now) (length (receipts self.now) - 1) };
+}

@@ -1,0 +1,38 @@
+//! The greatest number so far, for each group of callers.
+
+ghost use Rattle.std.specs.Prelude.{◌≡◌, ℕ, ◌≤◌};
+ghost use Rattle.cg_records.specs.Marks.{mark};
+
+/// How many groups of callers are told apart. Callers are of one group where they leave the same rest by it.
+const GROUPS: usize = 1024;
+
+/// The greatest number so far of each group of callers.
+#[derive(Drop)]
+pub(crate) struct Marks {
+    numbers: [u64; GROUPS],
+}
+
+impl Marks {
+    /// No number came yet.
+    pub(crate) fn new() -> Marks {
+        Marks {
+            numbers: [0; GROUPS],
+        }
+    }
+
+    /// The greatest number so far of a caller's group.
+    pub(crate) fn of(&self, caller: u32) -> u64
+        ensures { result ≡ mark self.now caller }
+    {
+        self.numbers[caller as usize % GROUPS]
+    }
+
+    /// A number of a caller came.
+    pub(crate) fn raise(&mut self, caller: u32, number: u64)
+        ensures own { number ≤ mark self.new caller }
+        ensures kept { (other : ℕ) → mark self.old other ≤ mark self.new other }
+    {
+        let group = caller as usize % GROUPS;
+        self.numbers[group] = self.numbers[group].max(number);
+    }
+}

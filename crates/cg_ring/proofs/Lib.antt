@@ -1,0 +1,3 @@
+pub mod RingLemmas
+pub mod ClaimLemmas
+pub mod RingLaws

@@ -1,0 +1,7 @@
+use Rattle.std.proofs.Common.{◌≡◌, ◌++◌, drop}
+use Rattle.std.specs.List.{flat_map}
+use Rattle.cg_ring.specs.Claims.{claims_of}
+use Rattle.cg_ring.proofs.claims.all_claims.Given as goal
+
+abbrev pub invariant-loop-owner : goal.invariant-loop-owner
+invariant-loop-owner l = l.all.items ++ flat_map claims_of (drop l.owner-index l.owner-items) ≡ flat_map claims_of l.owner-items

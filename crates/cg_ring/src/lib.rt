@@ -1,0 +1,11 @@
+//! The ring of what a table holds, and replicas on it.
+//!
+//! Tokens are those of `cg_tokens`; the replicas of one are those of Apache Cassandra's `SimpleStrategy`.
+#![tactic(auto)]
+
+mod claims;
+pub mod laws;
+mod ring;
+
+pub use claims::keeps_claims;
+pub use ring::Ring;
