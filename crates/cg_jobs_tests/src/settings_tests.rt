@@ -6,7 +6,7 @@ use cg_types::Fault;
 use std::alloc::Global;
 use std::test::Fail;
 
-const FEW: &str = "cluster = \"c1\"
+pub(crate) const FEW: &str = "cluster = \"c1\"
 listen = \"127.0.0.1:7000\"
 generation_file = \"g\"
 journal = \"j\"

@@ -2,11 +2,12 @@
 
 ghost use Rattle.std.specs.Prelude.{◌≡◌, []};
 
-use crate::board_operators::{IsRefused, LearnsTwice};
+use crate::board_operators::{Enters, IsRefused, LearnsTwice};
 use crate::history::new_history;
 use cg_expect::expect_eq;
 use cg_history::History;
 use cg_locked::{Name, Seat, Shared};
+use cg_operator::Console;
 use cg_records::Receipt;
 use cg_samples::version;
 use cg_seats::{Operate, SeatGate, operator};
@@ -124,4 +125,22 @@ fn a_refused_event_leaves_receipts_reply_and_what_is_told(rt: HostRuntime) -> Re
         (work.fault, work.left, work.told),
         (9, (1, Some(version(2))), true)
     )
+}
+
+#[test]
+fn the_last_receipt_is_of_the_last_event_done(rt: HostRuntime) -> Result<(), Fail> {
+    let mut work = Enters {
+        last: [0, 0, 0],
+        faults: (0, 0),
+    };
+    let left = left_after(&rt, rt.alloc(), &mut work)?;
+    expect_eq!(left, (None, 1, 1))?;
+    expect_eq!((work.last, work.faults), ([0, 1, 1], (0, 9)))
+}
+
+// (tests run with no standard input)
+#[test]
+fn a_console_with_no_line_does_nothing(rt: HostRuntime) -> Result<(), Fail> {
+    let left = left_after(&rt, rt.alloc(), &mut Console::new(&rt))?;
+    expect_eq!(left, (None, 0, 0))
 }

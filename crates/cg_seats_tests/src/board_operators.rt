@@ -8,9 +8,11 @@ use cg_links::Counted;
 use cg_locked::Name;
 use cg_messages::Syn;
 use cg_operator::operate;
+use cg_records::Enter;
+use cg_samples::key;
 use cg_seat_samples::{last_version, learn, read_three, set_three};
 use cg_seats::{Operate, SeatGate};
-use cg_types::{Cluster, Fault, Version};
+use cg_types::{Cluster, Fault, StateText, Version};
 use cg_views::Pass;
 use std::alloc::Global;
 use std::io::{Read, Write};
@@ -84,6 +86,57 @@ impl Operate for IsRefused {
         self.left = (gate.receipts().len(), last_version(gate));
         self.told = learn(gate, pass);
         Err(Fault::WriteFault)
+    }
+}
+
+// Enters an event through the trait of all that events are entered through; the number of the fault by which it is
+// refused, 0 where it is not.
+fn enter<N: Name, R: Wait>(alloc: Global, gate: &mut SeatGate<'_, N, R>, event: Event) -> u8
+    ensures { GoesOn gate.old gate.new }
+{
+    match gate.enter(alloc, event) {
+        Ok(()) => 0,
+        Err(fault) => fault.number(),
+    }
+}
+
+// The number of the last receipt, 0 where there is none.
+fn last_number<E: Enter>(entering: &E) -> u64 {
+    match entering.last() {
+        Some(receipt) => receipt.number,
+        None => 0,
+    }
+}
+
+/// Enters a Set of key 3, and is refused.
+#[derive(Drop)]
+pub(crate) struct Enters {
+    /// The number of the last receipt at first, after the Set, and after the refusal.
+    pub(crate) last: [u64; 3],
+    /// Why each was refused.
+    pub(crate) faults: (u8, u8),
+}
+
+impl Operate for Enters {
+    fn run<N: Name, R: Wait>(
+        &mut self,
+        alloc: Global,
+        gate: &mut SeatGate<'_, N, R>,
+        _pass: &mut Pass<N>,
+    ) -> Result<(), Fault> {
+        let Ok(text) = StateText::new(alloc, "x") else {
+            return Err(Fault::OutOfMemory);
+        };
+        let Some(refused) = syn_of_another_cluster(alloc) else {
+            return Err(Fault::OutOfMemory);
+        };
+        let first = last_number(gate);
+        let set = enter(alloc, gate, Event::Set { key: key(3), text });
+        let second = last_number(gate);
+        let syn = enter(alloc, gate, refused);
+        self.last = [first, second, last_number(gate)];
+        self.faults = (set, syn);
+        Ok(())
     }
 }
 

@@ -8,6 +8,7 @@ use cg_clock::Milliseconds;
 use cg_events::Event;
 use cg_expect::expect_eq;
 use cg_history::History;
+use cg_left::Left;
 use cg_locked::{Name, Seat, Shared};
 use cg_records::Receipt;
 use cg_rounds::{Putting, Taking, generator, rounds};
@@ -35,8 +36,7 @@ impl Milliseconds for Standing {
 // What a ticker left, with the seat and its receipts.
 #[derive(Drop)]
 struct Done<N: Name> {
-    seat: Seat<N>,
-    receipts: Vec<Receipt>,
+    left: Left<N>,
     ticked: Ticked,
 }
 
@@ -51,7 +51,7 @@ fn tick_at<N: Name, R: Wait + Clock>(
 ) -> Done<N>
     requires { seat.share.amount ≡ 0 }
     ensures channel { PutsWhere to.new to.old }
-    ensures seat { result.seat.share.parts ≡ seat.share.parts }
+    ensures seat { result.left.parts ≡ seat.share.parts }
 {
     let mut gate = SeatGate::new(rt, alloc, shared, seat);
     let mut words = generator(0);
@@ -66,11 +66,8 @@ fn tick_at<N: Name, R: Wait + Clock>(
         0,
     );
     let (seat, receipts) = gate.into_parts();
-    Done {
-        seat,
-        receipts,
-        ticked,
-    }
+    let left = Left::of(seat, receipts);
+    Done { left, ticked }
 }
 
 // The moment and the first word of a tick, 0 where it is none.
@@ -97,7 +94,7 @@ fn next_round<R: Wait>(rt: &R, from: &mut Taking) -> (u64, usize)
 // What is left by a ticker of so many ticks: what it answered, how many records there are and receipts are confirmed,
 // the last receipt's moment and first word, and the first two rounds.
 #[derive(Clone, Copy, Debug, PartialEq, Eq)]
-struct Left {
+struct Seen {
     ticked: Ticked,
     records: usize,
     confirmed: usize,
@@ -113,7 +110,7 @@ fn left_by<N: Name, R: Wait + Clock>(
     blank: Blank,
     to: &mut Putting,
     count: u32,
-) -> Result<Left, Fail>
+) -> Result<Seen, Fail>
     requires views { (opened ≡ N.book) × (table ≡ N.opening) }
     requires history { (history.records ≡ []) × (history.base ≡ N.start) × (history.base.table ≡ table) }
     requires blank { (blank.name ≡ N.name) × (blank.parts ≡ N.parts) × (N.parts ≡ 1) }
@@ -122,18 +119,15 @@ fn left_by<N: Name, R: Wait + Clock>(
     let (publisher, _passes) = views::<N>(alloc, opened, table, 1)?;
     let (shared, mut seats) = Shared::begin(rt, alloc, history, publisher, blank, 1)?;
     let seat = seats.pop().unwrap();
-    let Done {
-        seat,
-        receipts,
-        ticked,
-    } = tick_at(rt, alloc, &shared, seat, to, count);
+    let Done { left, ticked } = tick_at(rt, alloc, &shared, seat, to, count);
+    let (seat, receipts) = left.into_parts();
     let last = moment_and_word(receipts.last());
     seats.push_reserved(seat);
     let (records, confirmed) = match shared.finish(rt, seats, &receipts) {
         Ok(history) => (history.records().len(), receipts.len()),
         Err(left) => (left.history.records().len(), left.place),
     };
-    Ok(Left {
+    Ok(Seen {
         ticked,
         records,
         confirmed,
@@ -146,7 +140,7 @@ fn left_after<R: Wait + Clock>(
     alloc: Global,
     to: &mut Putting,
     count: u32,
-) -> Result<Left, Fail>
+) -> Result<Seen, Fail>
     ensures channel { PutsWhere to.new to.old }
 {
     let history = new_history(alloc)?;
@@ -164,7 +158,7 @@ fn left_after<R: Wait + Clock>(
 }
 
 // What a ticker of two ticks leaves, and what is taken then: two rounds, and none.
-fn two_rounds<R: Wait + Clock>(rt: &R, alloc: Global) -> Result<(Left, [(u64, usize); 3]), Fail> {
+fn two_rounds<R: Wait + Clock>(rt: &R, alloc: Global) -> Result<(Seen, [(u64, usize); 3]), Fail> {
     let (mut putting, mut taking) = rounds(alloc)?;
     let left = left_after(rt, alloc, &mut putting, 2)?;
     let one = next_round(rt, &mut taking);
@@ -177,7 +171,7 @@ fn two_rounds<R: Wait + Clock>(rt: &R, alloc: Global) -> Result<(Left, [(u64, us
 #[test]
 fn two_ticks_make_two_rounds(rt: HostRuntime) -> Result<(), Fail> {
     let (left, taken) = two_rounds(&rt, rt.alloc())?;
-    let due = Left {
+    let due = Seen {
         ticked: Ticked {
             refused: 0,
             stopped: false,
@@ -191,7 +185,7 @@ fn two_ticks_make_two_rounds(rt: HostRuntime) -> Result<(), Fail> {
 }
 
 // What a ticker of five ticks leaves where nobody takes any round.
-fn stopped<R: Wait + Clock>(rt: &R, alloc: Global) -> Result<Left, Fail> {
+fn stopped<R: Wait + Clock>(rt: &R, alloc: Global) -> Result<Seen, Fail> {
     let (mut putting, taking) = rounds(alloc)?;
     let taken = taking.leave();
     let left = left_after(rt, alloc, &mut putting, 5)?;
@@ -202,7 +196,7 @@ fn stopped<R: Wait + Clock>(rt: &R, alloc: Global) -> Result<Left, Fail> {
 #[test]
 fn a_round_that_is_handed_back_stops_the_ticker(rt: HostRuntime) -> Result<(), Fail> {
     let left = stopped(&rt, rt.alloc())?;
-    let due = Left {
+    let due = Seen {
         ticked: Ticked {
             refused: 0,
             stopped: true,
@@ -215,7 +209,7 @@ fn a_round_that_is_handed_back_stops_the_ticker(rt: HostRuntime) -> Result<(), F
 }
 
 // What a ticker of no ticks leaves, and what is taken then: nothing.
-fn no_rounds<R: Wait + Clock>(rt: &R, alloc: Global) -> Result<(Left, (u64, usize)), Fail> {
+fn no_rounds<R: Wait + Clock>(rt: &R, alloc: Global) -> Result<(Seen, (u64, usize)), Fail> {
     let (mut putting, mut taking) = rounds(alloc)?;
     let left = left_after(rt, alloc, &mut putting, 0)?;
     let none = next_round(rt, &mut taking);
@@ -226,7 +220,7 @@ fn no_rounds<R: Wait + Clock>(rt: &R, alloc: Global) -> Result<(Left, (u64, usiz
 #[test]
 fn no_ticks_make_no_round(rt: HostRuntime) -> Result<(), Fail> {
     let (left, taken) = no_rounds(&rt, rt.alloc())?;
-    let due = Left {
+    let due = Seen {
         ticked: Ticked {
             refused: 0,
             stopped: false,

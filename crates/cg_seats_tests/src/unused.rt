@@ -1,17 +1,17 @@
-//! Seats of four workers from which nothing was done, put back together.
+//! What a node's workers begin with, put back together where none of them did anything.
 
 ghost use Rattle.std.specs.Prelude.{◌≡◌, []};
 
 use crate::history::new_history;
+use cg_begun::{Begun, begin};
 use cg_expect::expect_eq;
 use cg_history::History;
 use cg_left::{Left, Sent, Ticks, WORKERS, Work};
-use cg_locked::{Name, Shared};
+use cg_locked::Name;
 use cg_ran::{NotRun, Ran, finish};
-use cg_rounds::rounds;
 use cg_table::Table;
 use cg_types::Fault;
-use cg_views::{Opened, views};
+use cg_views::Opened;
 use std::alloc::Global;
 use std::marker::Brand;
 use std::sync::Wait;
@@ -42,28 +42,30 @@ fn left_by<N: Name, R: Wait>(
     requires history { (history.records ≡ []) × (history.base ≡ N.start) × (history.base.table ≡ table) }
     requires blank { (blank.name ≡ N.name) × (blank.parts ≡ N.parts) × (N.parts ≡ 4) }
 {
-    let (putting, taking) = rounds(alloc)?;
-    let (publisher, _passes) = views::<N>(alloc, opened, table, 1)?;
-    let (shared, mut seats) = Shared::begin(rt, alloc, history, publisher, blank, WORKERS)?;
-    let operator = seats.pop().unwrap();
-    let ticker = seats.pop().unwrap();
-    let sender = seats.pop().unwrap();
-    let receiver = seats.pop().unwrap();
+    let begun = begin::<N, R>(rt, alloc, opened, table, history, blank)?;
+    let Begun {
+        shared,
+        seats,
+        list,
+        pass: _pass,
+        ends,
+    } = begun;
+    let (putting, taking) = ends;
     let work = Work {
         started,
-        receiver: Left::unused(alloc, receiver),
+        receiver: Left::unused(alloc, seats.receiver),
         sender: Sent {
-            left: Left::unused(alloc, sender),
+            left: Left::unused(alloc, seats.sender),
             taken: taking.leave(),
             numbers: Vec::new(alloc),
         },
         ticker: Ticks {
-            left: Left::unused(alloc, ticker),
+            left: Left::unused(alloc, seats.ticker),
             putting,
         },
-        operator: Left::unused(alloc, operator),
+        operator: Left::unused(alloc, seats.operator),
     };
-    Ok(told(finish(rt, shared, seats, work)))
+    Ok(told(finish(rt, shared, list, work)))
 }
 
 fn left_after<R: Wait>(rt: &R, alloc: Global, started: bool) -> Result<Told, Fail> {

@@ -1,7 +1,7 @@
 //! Tokens of RFC 1321's test suite, and texts of tokens.
 
 use cg_expect::{expect, expect_eq};
-use cg_tokens::{TOKEN_LIMIT, Token, read_tokens, token_of};
+use cg_tokens::{TOKEN_LIMIT, Token, first_piece, read_tokens, token_of, tokens_in};
 use cg_types::Fault;
 use std::alloc::{AllocError, Global};
 use std::test::Fail;
@@ -74,6 +74,32 @@ fn texts_of_tokens_are_read(rt: HostRuntime) -> Result<(), Fail> {
         first_two(rt.alloc(), "80000000000000000000000000000000")?,
         greatest
     )
+}
+
+#[test]
+fn tokens_in_a_text(rt: HostRuntime) -> Result<(), Fail> {
+    let tokens = tokens_in(rt.alloc(), AT_16_AND_64.as_bytes())?.ok_or("tokens")?;
+    expect!(tokens.as_slice() == [token(16)?, token(64)?].as_slice())?;
+    expect!(tokens_in(rt.alloc(), b"16,64")?.is_none())
+}
+
+#[test]
+fn the_first_piece_of_a_text() -> Result<(), Fail> {
+    for (text, piece, behind) in [
+        ("normal,16,64", "normal", Some("16,64")),
+        ("normal", "normal", None),
+        (",16", "", Some("16")),
+        ("16,", "16", Some("")),
+        ("", "", None),
+    ] {
+        let (first, rest) = first_piece(text.as_bytes());
+        expect!(first == piece.as_bytes(), "of {text}")?;
+        expect!(
+            rest == behind.map(|it| it.as_bytes()),
+            "behind it in {text}"
+        )?;
+    }
+    Ok(())
 }
 
 #[test]

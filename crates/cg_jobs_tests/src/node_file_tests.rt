@@ -1,0 +1,98 @@
+//! The files of a node: its settings, its generation and its journal, in the folder where the tests run.
+
+use crate::settings_tests::FEW;
+use cg_expect::{expect, expect_eq};
+use cg_history::History;
+use cg_life_samples::{generation_of, journal_of, remove_file, write_file};
+use cg_node_files::{SETTINGS_MOST, next_life, settings_in, write_journal_to};
+use cg_samples::{A, endpoint, generation, settings};
+use cg_types::Fault;
+use std::alloc::Global;
+use std::rt::Files;
+use std::test::Fail;
+
+// Where the settings of a file have the node listen, or why they are none.
+fn port_in<R: Files>(rt: &R, alloc: Global, file: &str) -> Result<u16, Fault> {
+    let settings = settings_in(rt, alloc, file)?;
+    Ok(settings.listen.port())
+}
+
+#[test]
+fn settings_of_a_file(rt: HostRuntime) -> Result<(), Fail> {
+    let (alloc, name) = (rt.alloc(), "cg_jobs_settings");
+    write_file(&rt, alloc, name, "toml", FEW.as_bytes())?;
+    expect_eq!(port_in(&rt, alloc, "cg_jobs_settings.toml"), Ok(7000))
+}
+
+#[test]
+fn files_that_hold_no_settings(rt: HostRuntime) -> Result<(), Fail> {
+    let (alloc, name) = (rt.alloc(), "cg_jobs_unset");
+    remove_file(&rt, alloc, name, "toml")?;
+    expect_eq!(
+        port_in(&rt, alloc, "cg_jobs_unset.toml"),
+        Err(Fault::ReadFault)
+    )?;
+    write_file(&rt, alloc, name, "toml", b"cluster = \"c1\"\n")?;
+    expect_eq!(
+        port_in(&rt, alloc, "cg_jobs_unset.toml"),
+        Err(Fault::BadText)
+    )
+}
+
+// Settings, and empty lines until they have so many bytes.
+fn settings_of_length(alloc: Global, length: usize) -> Result<Vec<u8>, Fail> {
+    let mut bytes = FEW.as_bytes().to_vec(alloc)?;
+    for _ in bytes.len()..length {
+        bytes.push(b'\n')?;
+    }
+    Ok(bytes)
+}
+
+#[test]
+fn the_longest_settings(rt: HostRuntime) -> Result<(), Fail> {
+    let (alloc, name) = (rt.alloc(), "cg_jobs_longest");
+    let longest = SETTINGS_MOST as usize;
+    write_file(
+        &rt,
+        alloc,
+        name,
+        "toml",
+        &settings_of_length(alloc, longest)?,
+    )?;
+    expect_eq!(port_in(&rt, alloc, "cg_jobs_longest.toml"), Ok(7000))?;
+    write_file(
+        &rt,
+        alloc,
+        name,
+        "toml",
+        &settings_of_length(alloc, longest + 1)?,
+    )?;
+    expect_eq!(
+        port_in(&rt, alloc, "cg_jobs_longest.toml"),
+        Err(Fault::BadText)
+    )
+}
+
+#[test]
+fn the_last_generation_has_no_next_life(rt: HostRuntime) -> Result<(), Fail> {
+    let (alloc, name) = (rt.alloc(), "cg_jobs_lives");
+    write_file(&rt, alloc, name, "generation", b"2147483646\n")?;
+    for due in [Ok(generation(2147483647)), Err(Fault::VersionsSpent)] {
+        expect_eq!(next_life(&rt, alloc, "cg_jobs_lives.generation"), due)?;
+        expect!(generation_of(&rt, alloc, name)? == Ok(Some(2147483647)))?;
+    }
+    Ok(())
+}
+
+#[test]
+fn a_journal_in_a_file(rt: HostRuntime) -> Result<(), Fail> {
+    let (alloc, name) = (rt.alloc(), "cg_jobs_journal");
+    remove_file(&rt, alloc, name, "journal")?;
+    let history = History::begin(alloc, endpoint(A), generation(9), settings(alloc)?)?;
+    write_journal_to(&rt, alloc, "cg_jobs_journal.journal", &history)?;
+    expect!(journal_of(&rt, alloc, name)? == Some((endpoint(A), generation(9), 0)))?;
+    expect_eq!(
+        write_journal_to(&rt, alloc, "cg_jobs_no_folder/journal", &history),
+        Err(Fault::WriteFault)
+    )
+}
