@@ -4,6 +4,7 @@ use crate::made::{begun, said};
 use cg_audit::{LifeItem, Lives, audit, endpoints_differ};
 use cg_events::{Event, Reply};
 use cg_expect::expect_eq;
+use cg_history::History;
 use cg_messages::{Message, Syn};
 use cg_records::Receipt;
 use cg_samples::{endpoint, generation};
@@ -17,18 +18,28 @@ fn syn_in(reply: Reply) -> Option<Syn> {
     }
 }
 
-// An endpoint that opens, and then is handed a SYN, if there is one; and the event that hands its own one over.
-fn linked(alloc: Global, own: u16, handed: Option<Event>) -> Result<(Lives, Event), Fail> {
+// The lives of an endpoint that had this one alone.
+fn lives_of(alloc: Global, own: u16, history: History) -> Result<Lives, Fail> {
+    let mut histories = Vec::new(alloc);
+    histories.push(history)?;
+    Ok(Lives::new(endpoint(own), histories).ok_or("lives")?)
+}
+
+// An endpoint that has opened, and its SYN.
+fn opened(alloc: Global, own: u16) -> Result<(History, Syn), Fail> {
     let mut history = begun(alloc, own, 9)?;
     let Receipt { reply, .. } = history.apply(alloc, 0, Event::Opening)?;
     let m = syn_in(reply).ok_or("a SYN")?;
+    Ok((history, m))
+}
+
+// An endpoint that opens, and then is handed a SYN, if there is one; and the event that hands its own one over.
+fn linked(alloc: Global, own: u16, handed: Option<Event>) -> Result<(Lives, Event), Fail> {
+    let (mut history, m) = opened(alloc, own)?;
     if let Some(syn) = handed {
         history.apply(alloc, 0, syn)?;
     }
-    let mut histories = Vec::new(alloc);
-    histories.push(history)?;
-    let lives = Lives::new(endpoint(own), histories).ok_or("lives")?;
-    Ok((lives, Event::Syn { m }))
+    Ok((lives_of(alloc, own, history)?, Event::Syn { m }))
 }
 
 // The last endpoint comes first.
