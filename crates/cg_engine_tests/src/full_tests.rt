@@ -125,19 +125,29 @@ type Meeting = (
     (bool, usize),
 );
 
-// The first side holds so many endpoints, and the other side the rest. Each is run over what the other wrote, and two
-// bytes behind it: B first over the SYN alone, for its ACK.
-fn meeting(alloc: Global, split: u16) -> Result<Meeting, Fail> {
-    let a = holding(alloc, 1, split.saturating_add(1))?;
-    let b = holding(alloc, split.saturating_add(1), 257)?;
+// The ACK that the second of two nodes answers the SYN of the first with; they stay as they are.
+fn acked(alloc: Global, a: &Node, b: &Node, first: &Syn) -> Result<Vec<u8>, Fail> {
+    let asking = opening(alloc, a.copy()?, first, b"");
+    Ok(answering(alloc, b.copy()?, asking.written.as_slice()).written)
+}
+
+// Each of two nodes is run over what the other wrote, and two bytes behind it; and how long the ACK is.
+fn sides(alloc: Global, a: Node, b: Node) -> Result<(Part, Part, usize), Fail> {
     let first = syn(alloc, a.table(), a.settings().cluster())?;
-    let asking = opening(alloc, a.copy()?, &first, b"");
-    let mut ack = answering(alloc, b.copy()?, asking.written.as_slice()).written;
+    let mut ack = acked(alloc, &a, &b, &first)?;
     let length = ack.len();
     ack.extend_from_slice(b"\xff\xff")?;
     let mut one = opening(alloc, a, &first, ack.as_slice());
     one.written.extend_from_slice(b"\xff\xff")?;
     let other = answering(alloc, b, one.written.as_slice());
+    Ok((one, other, length))
+}
+
+// The first side holds so many endpoints, and the other side the rest.
+fn meeting(alloc: Global, split: u16) -> Result<Meeting, Fail> {
+    let a = holding(alloc, 1, split.saturating_add(1))?;
+    let b = holding(alloc, split.saturating_add(1), 257)?;
+    let (one, other, length) = sides(alloc, a, b)?;
     let same = one.node.table().same_entries(other.node.table());
     let held = other.node.table().owners().len();
     Ok((

@@ -1,15 +1,15 @@
 //! Plain texts: of states, and of clusters' names.
 
-ghost use Rattle.std.specs.Prelude.{◌≡◌, IfOk};
+ghost use Rattle.std.specs.Prelude.{◌≡◌, ◌↔◌, IsTrue, IfOk};
 ghost use Rattle.cg_types.specs.Answer.{Answers};
 ghost use Rattle.cg_types.specs.Text.{printable, plain, IsStateText, IsCluster, state_text_of, cluster_of};
 ghost use Rattle.cg_types.specs.declared.limits.TheConstants.{PARTITIONER};
 
 use crate::fault::Fault;
 use crate::limits::{NAME_LIMIT, PARTITIONER, TEXT_LIMIT};
-use bytes::ByteStr;
 use std::alloc::{AllocError, Global};
 use std::marker::Model;
+use std::sync::ArcStr;
 
 // Whether the bytes have no control character: none below 32, and no 127. It looks at each byte, also after a bad one,
 // so that many are compared at once.
@@ -31,22 +31,44 @@ pub fn is_plain(text: &str) -> bool
 }
 
 /// The text of a state, plain and of 0 to 1,024 bytes. Copies share its bytes.
-#[derive(Debug, Drop, PartialEq, Eq)]
+#[derive(Debug, Drop)]
 pub struct StateText {
-    text: ByteStr,
+    text: ArcStr<Global>,
 }
 
 impl Model for StateText {
     ghost use Rattle.std.specs.Prelude.{ℕ, List};
+    ghost use Rattle.std.specs.Arc.{arc_str_bytes};
     ghost use Rattle.cg_types.specs.Text.{IsStateText};
 
     ghost Value = { List ℕ };
 
-    ghost view = { λ t. t.text };
+    ghost view = { λ t. arc_str_bytes t.text };
 
-    ghost invariant = { λ t. IsStateText t.text };
+    ghost invariant = { λ t. IsStateText (arc_str_bytes t.text) };
+}
 
-    ghost inverse = { λ bytes. record { text = bytes } };
+impl PartialEq for StateText {
+    ghost use Rattle.std.specs.Prelude.{nat_eq};
+    ghost use Rattle.std.specs.Cmp.{partial_equiv_from_equiv};
+    ghost use Rattle.std.specs.Cmp.Lexicographic.{pointwise, nat_list_eq_equiv};
+
+    ghost eq = { pointwise nat_eq };
+
+    ghost laws = { partial_equiv_from_equiv nat_list_eq_equiv };
+
+    /// Whether both have the same bytes.
+    fn eq(&self, other: &StateText) -> bool
+        ensures { IsTrue result ↔ (self.now ≡ other.now) }
+    {
+        self.as_str() == other.as_str()
+    }
+}
+
+impl Eq for StateText {
+    ghost use Rattle.std.specs.Cmp.Lexicographic.{nat_list_eq_equiv};
+
+    ghost laws = { nat_list_eq_equiv };
 }
 
 impl StateText {
@@ -71,7 +93,7 @@ impl StateText {
         ensures { IfOk result (λ t. t ≡ text.now) }
     {
         Ok(StateText {
-            text: ByteStr::copy_from_str(alloc, text)?,
+            text: ArcStr::from_str(alloc, text)?,
         })
     }
 
@@ -95,22 +117,47 @@ impl StateText {
 }
 
 /// A cluster: its name, plain and of 1 to 48 bytes, and the number of its partitioner. Copies share the name.
-#[derive(Debug, Drop, PartialEq, Eq)]
+#[derive(Debug, Drop)]
 pub struct Cluster {
-    name: ByteStr,
+    name: ArcStr<Global>,
     partitioner: u8,
 }
 
 impl Model for Cluster {
+    ghost use Rattle.std.specs.Arc.{arc_str_bytes};
     ghost use Rattle.cg_types.specs.Text.{ClusterValue, IsCluster};
 
     ghost Value = { ClusterValue };
 
-    ghost view = { λ c. record { name = c.name; partitioner = c.partitioner } };
+    ghost view = { λ c. record { name = arc_str_bytes c.name; partitioner = c.partitioner } };
 
-    ghost invariant = { λ c. IsCluster (record { name = c.name; partitioner = c.partitioner }) };
+    ghost invariant = { λ c. IsCluster (record { name = arc_str_bytes c.name; partitioner = c.partitioner }) };
+}
 
-    ghost inverse = { λ c. record { name = c.name; partitioner = c.partitioner } };
+impl PartialEq for Cluster {
+    ghost use Rattle.std.specs.Prelude.{nat_eq};
+    ghost use Rattle.std.specs.Ordering.{eq_of_both, on};
+    ghost use Rattle.std.specs.Cmp.Lexicographic.{pointwise};
+    ghost use Rattle.std.specs.Cmp.Rules.{comparing};
+    ghost use Rattle.std.proofs.Common.{rules};
+
+    ghost eq = { eq_of_both (on (λ c. c.name) (pointwise nat_eq)) (on (λ c. c.partitioner) nat_eq) };
+
+    ghost laws = { Prim.search (comparing, rules) };
+
+    /// Whether both have the same name and partitioner.
+    fn eq(&self, other: &Cluster) -> bool
+        ensures { IsTrue result ↔ (self.now ≡ other.now) }
+    {
+        self.name() == other.name() && self.partitioner == other.partitioner
+    }
+}
+
+impl Eq for Cluster {
+    ghost use Rattle.std.specs.Cmp.Rules.{comparing};
+    ghost use Rattle.std.proofs.Common.{rules};
+
+    ghost laws = { Prim.search (comparing, rules) };
 }
 
 impl Cluster {
@@ -133,7 +180,7 @@ impl Cluster {
             return Err(Fault::BadText);
         }
         Ok(Cluster {
-            name: ByteStr::copy_from_str(alloc, name)?,
+            name: ArcStr::from_str(alloc, name)?,
             partitioner,
         })
     }

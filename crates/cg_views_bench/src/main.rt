@@ -197,6 +197,57 @@ fn beside<N: Naming + Send + Sync, R: Threads + Wait + Sync + Clock + Print>(
     Ok((owner, entry))
 }
 
+// Reads through the first pass while nobody publishes.
+fn read_alone<N: Naming>(
+    rt: &(impl Clock + Print),
+    passes: &mut [Pass<N>],
+    counts: Counts,
+) -> Result<()> {
+    let start = Instant::now(rt)?;
+    let last = match passes.first_mut() {
+        Some(pass) => read_on(pass, counts.reads)?,
+        None => (0, 0),
+    };
+    print_line(rt, "read", counts, last, (start, counts.reads))
+}
+
+// Publishes while nobody reads.
+fn publish_alone<N: Naming, R: Wait + Clock + Print>(
+    rt: &R,
+    alloc: Global,
+    publisher: &mut Publisher<N>,
+    own: (Endpoint, Entry),
+    counts: Counts,
+) -> Result<(Endpoint, Entry)> {
+    let start = Instant::now(rt)?;
+    let (owner, entry) = beat_on(rt, alloc, publisher, own, counts.beats)?;
+    let spent = (start, counts.beats);
+    let last = (entry.heartbeat().get(), 0);
+    print_line(rt, "append_and_publish_a_beat", counts, last, spent)?;
+    Ok((owner, entry))
+}
+
+// Reads in one, two and four threads, each with a pass of its own, while one publishes.
+fn all_beside<N: Naming + Send + Sync, R: Threads + Wait + Sync + Clock + Print>(
+    rt: &R,
+    alloc: Global,
+    publisher: &mut Publisher<N>,
+    passes: &mut Vec<Pass<N>>,
+    own: (Endpoint, Entry),
+    counts: Counts,
+) -> Result<()> {
+    let name = "read_by_1_beside_a_publisher";
+    let one = some_of(alloc, passes, 1)?;
+    let own = beside(rt, alloc, publisher, one, own, counts, name)?;
+    let name = "read_by_2_beside_a_publisher";
+    let two = some_of(alloc, passes, 2)?;
+    let own = beside(rt, alloc, publisher, two, own, counts, name)?;
+    let name = "read_by_4_beside_a_publisher";
+    let four = some_of(alloc, passes, 4)?;
+    beside(rt, alloc, publisher, four, own, counts, name)?;
+    Ok(())
+}
+
 fn all<N: Naming + Send + Sync, R: Threads + Wait + Sync + Clock + Print>(
     rt: &R,
     alloc: Global,
@@ -208,53 +259,9 @@ fn all<N: Naming + Send + Sync, R: Threads + Wait + Sync + Clock + Print>(
     let mut passes = passes;
     fill(alloc, publisher, counts.owners)?;
     publisher.publish(rt)?;
-    let start = Instant::now(rt)?;
-    let last = match passes.first_mut() {
-        Some(pass) => read_on(pass, counts.reads)?,
-        None => (0, 0),
-    };
-    print_line(rt, "read", counts, last, (start, counts.reads))?;
-    let start = Instant::now(rt)?;
-    let own = beat_on(rt, alloc, publisher, own, counts.beats)?;
-    let last = (own.1.heartbeat().get(), 0);
-    print_line(
-        rt,
-        "append_and_publish_a_beat",
-        counts,
-        last,
-        (start, counts.beats),
-    )?;
-    let one = some_of(alloc, &mut passes, 1)?;
-    let own = beside(
-        rt,
-        alloc,
-        publisher,
-        one,
-        own,
-        counts,
-        "read_by_1_beside_a_publisher",
-    )?;
-    let two = some_of(alloc, &mut passes, 2)?;
-    let own = beside(
-        rt,
-        alloc,
-        publisher,
-        two,
-        own,
-        counts,
-        "read_by_2_beside_a_publisher",
-    )?;
-    let four = some_of(alloc, &mut passes, 4)?;
-    beside(
-        rt,
-        alloc,
-        publisher,
-        four,
-        own,
-        counts,
-        "read_by_4_beside_a_publisher",
-    )?;
-    Ok(())
+    read_alone(rt, &mut passes, counts)?;
+    let own = publish_alone(rt, alloc, publisher, own, counts)?;
+    all_beside(rt, alloc, publisher, &mut passes, own, counts)
 }
 
 fn all_by<N: Naming + Send + Sync, R: Threads + Wait + Sync + Clock + Print>(
