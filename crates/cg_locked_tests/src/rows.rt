@@ -8,7 +8,7 @@ use crate::reading::{Read, set_and_read};
 use cg_events::Event;
 use cg_expect::expect_eq;
 use cg_history::History;
-use cg_locked::{Board, Name, Seat, Shared};
+use cg_locked::{Board, Name, Seat, Shared, Unconfirmed};
 use cg_records::Receipt;
 use cg_samples::key;
 use cg_table::Table;
@@ -46,6 +46,17 @@ struct Notes {
 }
 
 impl Notes {
+    // With room for all that is noted, so that no note is refused.
+    fn with_room(alloc: Global) -> Result<Notes, Fail> {
+        let numbers = Vec::with_capacity(alloc, 32)?;
+        let receipts = Vec::with_capacity(alloc, 32)?;
+        Ok(Notes {
+            numbers,
+            receipts,
+            fault: None,
+        })
+    }
+
     fn note(&mut self, number: u64) {
         if self.numbers.push(number).is_err() {
             self.fault = Some(Fault::OutOfMemory);
@@ -313,6 +324,17 @@ fn done_on_all<N: Name, R: Wait>(
 // its fault.
 type Left = (Vec<u64>, usize, Option<(usize, u8)>);
 
+// How many records are left, and the first receipt that is not confirmed.
+fn ended(finished: Result<History, Unconfirmed>) -> (usize, Option<(usize, u8)>) {
+    match finished {
+        Ok(history) => (history.records().len(), None),
+        Err(left) => (
+            left.history.records().len(),
+            Some((left.place, left.fault.number())),
+        ),
+    }
+}
+
 fn left_by<N: Name, R: Wait>(
     rt: &R,
     alloc: Global,
@@ -329,14 +351,7 @@ fn left_by<N: Name, R: Wait>(
     requires seats { (0 < seats) × (seats ≤ 16) }
 {
     let back = Vec::with_capacity(alloc, seats)?;
-    // room for all that is noted, so that no note is refused
-    let numbers = Vec::with_capacity(alloc, 32)?;
-    let receipts = Vec::with_capacity(alloc, 32)?;
-    let mut notes = Notes {
-        numbers,
-        receipts,
-        fault: None,
-    };
+    let mut notes = Notes::with_room(alloc)?;
     let (publisher, mut passes) = views::<N>(alloc, opened, table, 1)?;
     let (shared, seats) = Shared::begin(rt, alloc, history, publisher, blank, seats)?;
     let mut pass = passes.pop().unwrap();
@@ -346,13 +361,7 @@ fn left_by<N: Name, R: Wait>(
         receipts,
         fault,
     } = notes;
-    let (records, stray) = match shared.finish(rt, seats, &receipts) {
-        Ok(history) => (history.records().len(), None),
-        Err(left) => (
-            left.history.records().len(),
-            Some((left.place, left.fault.number())),
-        ),
-    };
+    let (records, stray) = ended(shared.finish(rt, seats, &receipts));
     match fault {
         Some(fault) => Err(Fail::from(fault)),
         None => Ok((numbers, records, stray)),

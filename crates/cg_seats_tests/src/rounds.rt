@@ -92,7 +92,7 @@ fn next_round<R: Wait>(rt: &R, from: &mut Taking) -> (u64, usize)
 }
 
 // What is left by a ticker of so many ticks: what it answered, how many records there are and receipts are confirmed,
-// the last receipt's moment and first word, and the first two rounds.
+// and the last receipt's moment and first word.
 #[derive(Clone, Copy, Debug, PartialEq, Eq)]
 struct Seen {
     ticked: Ticked,

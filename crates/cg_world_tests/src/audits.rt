@@ -1,12 +1,7 @@
 //! Audits of lives that were not read from journals: of starts alone, and of more endpoints than a table holds; and the
 //! messages that were sent. What is said of journals stands among the vectors (docs/VECTORS.md).
-#![tactic(auto)]
 
-#[cfg(test)]
 mod chains;
-#[cfg(test)]
 mod made;
-#[cfg(test)]
 mod sent;
-#[cfg(test)]
 mod starts;

@@ -1,6 +1,6 @@
 //! Audits of lives that did nothing, by the endpoints of A, 10.0.0.1:7000, and B, 10.0.0.2:7000, and their generations.
 
-use crate::made::{begun, said};
+use crate::audits::made::{begun, said};
 use cg_audit::Lives;
 use cg_expect::expect_eq;
 use cg_samples::{A, B, endpoint};

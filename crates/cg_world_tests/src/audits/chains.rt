@@ -1,6 +1,6 @@
 //! Chains of endpoints: each opens at generation 9, and all but the last are handed the SYN of the next one.
 
-use crate::made::{begun, said};
+use crate::audits::made::{begun, said};
 use cg_audit::{LifeItem, Lives, audit, endpoints_differ};
 use cg_events::{Event, Reply};
 use cg_expect::expect_eq;
