@@ -4,7 +4,6 @@ use crate::cases::{LOCAL, LocalTask};
 use crate::rings::{claimed, digests, key_tokens, places, replicas, replicas_of_keys, ring};
 use crate::texts::{copies, headed, joined, room_for, text_of, texts_of};
 use crate::windows::{heard, last_verdict, silence, verdicts};
-use bytes::ByteStr;
 use cg_measure::{Failure, Name, Work};
 use cg_ring::Ring;
 use cg_silence::{Silence, Verdict, Window};
@@ -13,6 +12,7 @@ use cg_tokens::Token;
 use cg_types::Endpoint;
 use md5::{Digest, Md5};
 use std::alloc::{AllocError, Global};
+use std::sync::ArcStr;
 
 /// One piece of work, with what it works on.
 #[derive(Drop)]
@@ -26,8 +26,8 @@ pub(crate) enum LocalWork {
     /// Makes so many texts.
     MakeTexts(String, usize),
     /// Puts texts in room for so many bytes.
-    Put(Vec<ByteStr>, usize),
-    Head(Vec<ByteStr>, usize),
+    Put(Vec<ArcStr<Global>>, usize),
+    Head(Vec<ArcStr<Global>>, usize),
     Arrivals(Silence),
     Verdicts(Window),
 }
@@ -41,7 +41,7 @@ pub(crate) enum Made {
     Digest([u8; 16]),
     Verdict(Verdict),
     Text(Vec<u8>),
-    Texts(Vec<ByteStr>),
+    Texts(Vec<ArcStr<Global>>),
 }
 
 fn add_endpoint(alloc: Global, digest: &mut Md5, endpoint: Endpoint) -> Result<(), AllocError> {
@@ -68,7 +68,7 @@ fn add_endpoints(
     Ok(())
 }
 
-fn add_texts(digest: &mut Md5, texts: &[ByteStr]) {
+fn add_texts(digest: &mut Md5, texts: &[ArcStr<Global>]) {
     for text in texts {
         digest.update(text.as_str().as_bytes());
     }

@@ -1,14 +1,18 @@
-//! Texts of states, as the library keeps what is shared: made, and put one behind the other.
+//! Texts of states, as the core keeps what is shared: made, and put one behind the other.
 
 use crate::cases::Texts;
-use bytes::ByteStr;
 use std::alloc::{AllocError, Global};
+use std::sync::ArcStr;
 
 /// So many copies of a text.
-pub(crate) fn copies(alloc: Global, text: &str, count: usize) -> Result<Vec<ByteStr>, AllocError> {
+pub(crate) fn copies(
+    alloc: Global,
+    text: &str,
+    count: usize,
+) -> Result<Vec<ArcStr<Global>>, AllocError> {
     let mut texts = Vec::with_capacity(alloc, count)?;
     for _ in 0..count {
-        texts.push(ByteStr::copy_from_str(alloc, text)?)?;
+        texts.push(ArcStr::from_str(alloc, text)?)?;
     }
     Ok(texts)
 }
@@ -19,7 +23,7 @@ pub(crate) fn text_of(alloc: Global, texts: Texts) -> Result<String, AllocError>
 }
 
 /// All of the texts.
-pub(crate) fn texts_of(alloc: Global, texts: Texts) -> Result<Vec<ByteStr>, AllocError> {
+pub(crate) fn texts_of(alloc: Global, texts: Texts) -> Result<Vec<ArcStr<Global>>, AllocError> {
     copies(alloc, &text_of(alloc, texts)?, texts.count)
 }
 
@@ -34,7 +38,11 @@ pub(crate) fn room_for(texts: Texts, before: usize) -> usize {
 }
 
 /// The texts one behind the other, in room for so many bytes.
-pub(crate) fn joined(alloc: Global, texts: &[ByteStr], room: usize) -> Result<Vec<u8>, AllocError> {
+pub(crate) fn joined(
+    alloc: Global,
+    texts: &[ArcStr<Global>],
+    room: usize,
+) -> Result<Vec<u8>, AllocError> {
     let mut all = Vec::with_capacity(alloc, room)?;
     for text in texts {
         all.extend_from_slice(text.as_str().as_bytes())?;
@@ -51,7 +59,7 @@ fn head_of(version: u32, size: u16) -> [u8; 7] {
 }
 
 // How many bytes each of the texts has.
-fn size_of_each(texts: &[ByteStr]) -> u16 {
+fn size_of_each(texts: &[ArcStr<Global>]) -> u16 {
     match texts.first() {
         Some(text) => u16::try_from(text.as_str().len()).unwrap_or(0),
         None => 0,
@@ -59,7 +67,11 @@ fn size_of_each(texts: &[ByteStr]) -> u16 {
 }
 
 /// The texts one behind the other, each behind seven bytes, as a state has it.
-pub(crate) fn headed(alloc: Global, texts: &[ByteStr], room: usize) -> Result<Vec<u8>, AllocError> {
+pub(crate) fn headed(
+    alloc: Global,
+    texts: &[ArcStr<Global>],
+    room: usize,
+) -> Result<Vec<u8>, AllocError> {
     let mut all = Vec::with_capacity(alloc, room)?;
     let size = size_of_each(texts);
     let mut version: u32 = 0;

@@ -1,5 +1,5 @@
-//! Tests of worlds, and of audits that tell whether lives were one: exchanges, what a world shows, lives that were not read
-//! from journals, and each call once with ample memory.
+//! Tests of worlds, and of audits: exchanges, what a world shows, whether lives that were not read from journals were one
+//! run, and each call once with ample memory.
 #![tactic(auto)]
 
 #[cfg(test)]
