@@ -202,7 +202,7 @@ fn differs_from(alloc: Global, text: &StateText, other: &str) -> Result<bool, Fa
 fn texts_are_copied(rt: HostRuntime) -> Result<(), Fail> {
     let text = StateText::new(rt.alloc(), "NORMAL")?;
     let same = text_equals_its_copy(&text)?;
-    let differs = differs_from(rt.alloc(), &text, "LEAVING")?;
+    let differs = differs_from(rt.alloc(), &text, "MOVING")?;
     expect_eq!((text.as_str(), same, differs), ("NORMAL", true, true))
 }
 
@@ -227,13 +227,14 @@ fn cluster_equals_its_copy(cluster: &Cluster) -> Result<bool, AllocError> {
     Ok(cluster.copy()? == *cluster)
 }
 
-// Of the cluster c1 with this partitioner: its partitioner, and whether it differs from another cluster.
-fn other_by_its_partitioner(
+// Of the cluster of this name and partitioner: its partitioner, and whether it differs from another cluster.
+fn other_than(
     alloc: Global,
     cluster: &Cluster,
+    name: &str,
     partitioner: u8,
 ) -> Result<(u8, bool), Fail> {
-    let other = Cluster::with(alloc, "c1", partitioner)?;
+    let other = Cluster::with(alloc, name, partitioner)?;
     Ok((other.partitioner(), other != *cluster))
 }
 
@@ -241,9 +242,11 @@ fn other_by_its_partitioner(
 fn clusters_are_copied(rt: HostRuntime) -> Result<(), Fail> {
     let cluster = Cluster::new(rt.alloc(), "c1")?;
     let same = cluster_equals_its_copy(&cluster)?;
-    let other = other_by_its_partitioner(rt.alloc(), &cluster, 2)?;
+    let by_name = other_than(rt.alloc(), &cluster, "c2", 1)?;
+    let by_partitioner = other_than(rt.alloc(), &cluster, "c1", 2)?;
     let parts = (cluster.name(), cluster.partitioner());
-    expect_eq!((parts, same, other), (("c1", 1), true, (2, true)))
+    expect_eq!((parts, same), (("c1", 1), true))?;
+    expect_eq!((by_name, by_partitioner), ((1, true), (2, true)))
 }
 
 // The line that a fault's number, name and details make, as people are shown them.

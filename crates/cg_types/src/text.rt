@@ -87,7 +87,7 @@ impl StateText {
     }
 
     /// As `new`, of a text that is known to be one: it is not tested again. `AllocError` where there is no memory for
-    /// its bytes.
+    /// it.
     pub fn of_plain(alloc: Global, text: &str) -> Result<StateText, AllocError>
         requires { IsStateText text.now }
         ensures { IfOk result (λ t. t ≡ text.now) }
