@@ -1,4 +1,4 @@
-//! Worked examples of views, of a node behind a lock, and of threads that share them.
+//! Worked examples of a node behind a lock, and two threads that share one.
 //!
 //! A is 10.0.0.1:7000, at generation 9; the cluster is c1.
 #![tactic(auto)]
@@ -11,5 +11,3 @@ mod reading;
 mod rows;
 #[cfg(test)]
 mod threads;
-#[cfg(test)]
-mod views;

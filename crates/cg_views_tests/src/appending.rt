@@ -2,7 +2,7 @@
 
 ghost use Rattle.std.specs.Prelude.{◌≡◌};
 
-use crate::views::entries::heartbeat;
+use crate::entries::heartbeat;
 use cg_entry::Entry;
 use cg_expect::expect_eq;
 use cg_samples::{A, B, C, bare_entry, delta, endpoint, state};

@@ -2,8 +2,8 @@
 
 ghost use Rattle.std.specs.Prelude.{◌≡◌};
 
-use crate::views::appending::append;
-use crate::views::entries::{heartbeat, opening, put};
+use crate::appending::append;
+use crate::entries::{heartbeat, opening, put};
 use cg_expect::expect_eq;
 use cg_table::{Puts, Table};
 use cg_types::Fault;

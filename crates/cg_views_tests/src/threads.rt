@@ -2,8 +2,8 @@
 
 ghost use Rattle.std.specs.Prelude.{◌≡◌};
 
-use crate::views::appending::append;
-use crate::views::entries::opening;
+use crate::appending::append;
+use crate::entries::opening;
 use cg_entry::Entry;
 use cg_expect::expect_eq;
 use cg_samples::{A, endpoint, generation, key};
