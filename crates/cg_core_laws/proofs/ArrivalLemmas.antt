@@ -1,4 +1,4 @@
--- Windows show all moments at which deltas of their endpoint were taken.
+-- Windows show the times of all deltas of their endpoint that were taken.
 use Rattle.std.proofs.Common.{◌≡◌, ℕ, ◌==◌, Bool, true, false, cond, List, [], ◌∷◌, ◌++◌, map, Option, Some, refl, sym, ap, ◌∙◌, append_assoc, eqb-true, Result, Ok, Err}
 use Rattle.std.specs.Prelude.{◌&&◌, filter}
 use Rattle.std.specs.Ordering.{nat_cmp}

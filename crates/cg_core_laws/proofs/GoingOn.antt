@@ -32,7 +32,7 @@ stays_put t = record {
   own_goes = λ e is. rw is (same_goes_on e);
 }
 
--- ---- they lead to it
+-- ---- puts lead to it
 
 later_by : (b : Bool) (x : Option EntryValue) (e : EntryValue) → x ≡ Some e → cond b (Some e) x ≡ Some e
 later_by true x e is = refl
@@ -47,10 +47,10 @@ put_leads : (before after : TableValue) → GoesOn before after → merge_of bef
 put_leads before after g = same_map nat_cmp_total nat_cmp-IsAntisymmetric (merge_of before.entries after.entries) after.entries (λ q.
     get-merged before.entries after.entries q ∙ later_moves (get before.entries q) (get after.entries q) (g.moves q))
 
--- ---- they keep the order
+-- ---- puts keep the order
 
 module _ (before after : TableValue) (g : GoesOn before after) where
-  -- past an owner, entries are those of the old table, and what is left of the new one's
+  -- past an owner, entries are those of the old table, and the others are left of the new one
   record Past (last : Option ℕ) (t : TableValue) (es : List (ℕ × EntryValue)) : Type 0 where
     own_is : t.own ≡ before.own
     old : AgreePast before.entries last t.entries

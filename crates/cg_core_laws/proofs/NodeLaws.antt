@@ -123,7 +123,7 @@ table_goes_on t (event.Ack2 now ack2) after small is = subst (GoesOn t) (sym is.
 pub puts_keep_their_order : PutsKeepTheirOrder
 puts_keep_their_order n e after answer small is = are_puts n.table after.table (table_goes_on n.table e after.table small (tables_go_by_their_rules n e after answer is))
 
--- ---- what a Set puts
+-- ---- the puts of a Set
 
 pub sets_put_their_text : SetsPutTheirText
 sets_put_their_text n key text after answer small is =
@@ -140,7 +140,7 @@ sets_put_their_text n key text after answer small is =
       is_newest = newest_given key text own;
     }
 
--- ---- who changes the own entry
+-- ---- the events that change the own entry
 
 deltas_keep : (t : TableValue) (ds : List OwnerDelta) (after : TableValue) → after ≡ table_after t ds → get after.entries after.own ≡ get t.entries t.own
 deltas_keep t ds after is =
@@ -158,7 +158,7 @@ table_keeps t (event.Ack2 now ack2) after is other = deltas_keep t ack2.deltas a
 pub only_own_events_change_the_own_entry : OnlyOwnEventsChangeTheOwnEntry
 only_own_events_change_the_own_entry n e after answer is other = table_keeps n.table e after.table (tables_go_by_their_rules n e after answer is) other
 
--- ---- how many are held
+-- ---- the number of owners held
 
 abbrev Small : TableValue → Type 0
 Small t = IsTable t.own t.entries
@@ -186,12 +186,12 @@ steps_small n e after answer small is = table_small n.table e after.table small 
 
 -- ---- many events
 
--- what a step keeps is kept by what it leaves
+-- if each event keeps a property, the node that a step leaves keeps it
 kept_by : (P : NodeValue → Type 0) (n : NodeValue) (s : Step) → P n → ((after : NodeValue) (answer : Reply) → s ≡ Ok (after, answer) → P after) → P (node_left n s)
 kept_by P n (Ok x) holds go = go x.0 x.1 refl
 kept_by P n (Err fault) holds go = holds
 
--- what each step keeps is kept by all
+-- if each event keeps a property, all events keep it
 kept : (P : NodeValue → Type 0) → ((n : NodeValue) (e : Event) (after : NodeValue) (answer : Reply) → P n → Leads n e after answer → P after) → (n : NodeValue) (es : List Event) → P n → P (after_events n es)
 kept P step n [] holds = holds
 kept P step n (e ∷ es) holds = kept P step (after_event n e) es (kept_by P n (node_step n e) holds (λ after answer is. step n e after answer holds is))

@@ -1,4 +1,4 @@
--- At which moments deltas of an endpoint were taken, and what a window shows of them.
+-- Times at which deltas of an endpoint were taken, and a window's view of them.
 use Rattle.std.specs.Prelude.{ℕ, List, [], ◌∷◌, ◌++◌, map, filter, Option, Some, None, Ok, Err}
 use Rattle.cg_messages.specs.declared.outcome.Outcome.{Outcome}
 use Rattle.cg_silence.specs.Values.{SilenceValue, Shown}
@@ -10,12 +10,12 @@ use Rattle.cg_core.specs.Values.{NodeValue}
 use Rattle.cg_windows.specs.Windows.{tells_taken}
 use Rattle.cg_core.specs.Step.{Step, node_step, after_event}
 
--- what a step tells of deltas: nothing where it is refused
+-- the outcomes of a step's deltas: none if the step is refused
 abbrev pub outcomes_told : Step → List Outcome
 outcomes_told (Ok x) = outcomes_in x.1
 outcomes_told (Err fault) = []
 
--- the moment of an event, 0 for those that have none
+-- the time of an event, 0 for events that have none
 abbrev pub moment_of : Event → ℕ
 moment_of event.Beat = 0
 moment_of (event.Set key text) = 0
@@ -25,17 +25,17 @@ moment_of (event.Syn syn) = 0
 moment_of (event.Ack now ack) = now
 moment_of (event.Ack2 now ack2) = now
 
--- the moment of outcomes, once for each delta of the endpoint that was taken
+-- the time of outcomes, once for each delta of the endpoint that was taken
 abbrev pub moments_told : ℕ → ℕ → List Outcome → List ℕ
 moments_told endpoint now outcomes = map (λ _. now) (filter (tells_taken endpoint) outcomes)
 
--- the moments at which a node took deltas of an endpoint, over a list of events
+-- the times at which a node took deltas of an endpoint, over a list of events
 abbrev pub moments_taken : ℕ → NodeValue → List Event → List ℕ
 moments_taken endpoint n [] = []
 moments_taken endpoint n (e ∷ es) =
     moments_told endpoint (moment_of e) (outcomes_told (node_step n e)) ++ moments_taken endpoint (after_event n e) es
 
--- what a window shows of all its arrivals; there is none before the first
+-- a window's view of all its arrivals; there is no window before the first arrival
 abbrev pub window_of : SilenceValue → List ℕ → Option Shown
 window_of s [] = None
 window_of s (a ∷ arrivals) = Some (window_of_all s (a ∷ arrivals))

@@ -1,4 +1,4 @@
--- What holds of the steps of a node.
+-- Properties of a node's steps: tables, puts, own entries, limits and windows.
 use Rattle.std.specs.Prelude.{◌≡◌, ◌≤◌, ℕ, Bool, true, false, List, [], ◌∷◌, Some, Ok}
 use Rattle.std.specs.FinMap as map
 use Rattle.cg_types.specs.Rising.{Rises}
@@ -22,12 +22,12 @@ use Rattle.cg_core.specs.Step.{Leads, starting_node, after_events, replay}
 use Rattle.cg_core.specs.Changes.{changed_owners}
 use Rattle.cg_core_laws.specs.Arrivals.{moments_taken, window_of}
 
--- The table after deltas for which there was room.
+-- the table after deltas, if it had room for them
 pub record IsAfter (before : TableValue) (deltas : List OwnerDelta) (after : TableValue) : Type 0 where
   pub is : after ≡ table_after before deltas
   pub room : held_after before deltas ≤ MEMBER_LIMIT
 
--- what an event leaves of a table
+-- the rule for the table after an event
 abbrev pub TableAfter : TableValue → Event → TableValue → Type 0
 TableAfter t event.Beat after = after ≡ with_own (entry_after_beat (own_entry t)) t
 TableAfter t (event.Set key text) after = after ≡ with_own (with_state key text (own_entry t)) t
@@ -50,13 +50,13 @@ PutsAreTheChangedRows =
     → Rises (endpoints_of_deltas (deltas_in e)) → Leads n e after answer
     → puts n.table after.table ≡ rows_at after.table.entries (changed_owners n.table.own answer)
 
--- What the puts between two tables do.
+-- properties of the puts between two tables
 pub record ArePuts (before after : TableValue) : Type 0 where
-  -- they lead from the one to the other
+  -- the puts lead from the first table to the second
   pub lead : with_puts before (puts before after) ≡ after
-  -- their owners rise
+  -- the puts' owners rise
   pub rise : Rises (keys_of (puts before after))
-  -- each is later than what stands, and the own one goes on from it
+  -- each put is later than what is held, and the own one goes on from the own entry
   pub order : keep_order before (puts before after) ≡ true
 
 -- The puts of a step keep their order, and lead from its old table to its new one.
@@ -65,12 +65,12 @@ PutsKeepTheirOrder =
     (n : NodeValue) (e : Event) (after : NodeValue) (answer : Reply) → IsSmall n → Leads n e after answer
     → ArePuts n.table after.table
 
--- What a Set puts.
+-- properties of the puts of a Set
 pub record PutsIts (key : ℕ) (text : List ℕ) (n after : NodeValue) (answer : Reply) : Type 0 where
   pub version : ℕ
   -- the reply has the version
   pub told : answer ≡ reply.Done version
-  -- the own entry, and nothing else
+  -- the own entry is the only put
   pub only : puts n.table after.table ≡ (n.table.own, with_state key text (own_entry n.table)) ∷ []
   -- it has the key's text at that version, which is its newest
   pub given :
@@ -93,14 +93,14 @@ is_own_change (event.Syn syn) = false
 is_own_change (event.Ack now ack) = false
 is_own_change (event.Ack2 now ack2) = false
 
--- No other event changes the own entry.
+-- Events other than these leave the own entry as it is.
 abbrev pub OnlyOwnEventsChangeTheOwnEntry : Type 0
 OnlyOwnEventsChangeTheOwnEntry =
     (n : NodeValue) (e : Event) (after : NodeValue) (answer : Reply) → Leads n e after answer
     → is_own_change e ≡ false
     → map.get after.table.entries after.table.own ≡ map.get n.table.entries n.table.own
 
--- A node that starts is small, and stays so, whatever comes; events that are refused are among them.
+-- A node that starts is small, and stays small after any events, refused ones among them.
 pub record NodesStaySmall : Type 0 where
   pub starts : (own generation : ℕ) (settings : SettingsValue) → IsSmall (starting_node own generation settings)
   pub steps :
@@ -108,7 +108,7 @@ pub record NodesStaySmall : Type 0 where
       → IsSmall after
   pub stays : (n : NodeValue) (events : List Event) → IsSmall n → IsSmall (after_events n events)
 
--- A node that starts hears others alone, and goes on so, whatever comes.
+-- A node that starts hears only others, and still does after any events.
 pub record NodesHearOthersAlone : Type 0 where
   pub starts : (own generation : ℕ) (settings : SettingsValue)
       → HearsOthersAlone (starting_node own generation settings)
@@ -117,8 +117,8 @@ pub record NodesHearOthersAlone : Type 0 where
       → HearsOthersAlone after
   pub stays : (n : NodeValue) (events : List Event) → HearsOthersAlone n → HearsOthersAlone (after_events n events)
 
--- The windows of a node that started show all moments at which it took deltas of their endpoints, and it has a window
--- of no endpoint but these.
+-- The windows of a node that started show the times of all deltas that it took of their endpoints. It has no other
+-- windows.
 abbrev pub WindowsShowAllTaken : Type 0
 WindowsShowAllTaken =
     (own generation : ℕ) (settings : SettingsValue) (events : List Event) (endpoint : ℕ)
@@ -126,7 +126,7 @@ WindowsShowAllTaken =
     map.get (after_events n events).windows endpoint
     ≡ window_of settings.silence (moments_taken endpoint n events)
 
--- A run leads to where its events lead, one after the other.
+-- A run leads to the node to which its events lead, one after the other.
 abbrev pub RunsGoEventByEvent : Type 0
 RunsGoEventByEvent =
     (n : NodeValue) (events : List Event) (after : NodeValue) (answers : List Reply)

@@ -13,20 +13,20 @@ ghost use Rattle.cg_core_laws.specs.Laws.{
   WindowsShowAllTaken,
 };
 
-/// The table part of a step is the rule of tables and messages: the own entry beaten or set, the table as it is, or
-/// the deltas of a message taken one after the other.
+/// The table part of a step follows the rule of tables and messages: the own entry is beaten or set, the table stays
+/// the same, or the deltas of a message are taken one after the other.
 pub fn tables_go_by_their_rules()
     ensures { TablesGoByTheirRules }
 {}
 
-/// The puts of a step are the rows, in its new table, of the owners whose entry it changed: of the own one for Beat,
-/// Set and Tick, of nobody for Opening and Syn, and of the owners of the deltas that were taken for Ack and Ack2.
+/// The puts of a step are the rows, in its new table, of the owners whose entry it changed. These are the own one for
+/// Beat, Set and Tick, nobody for Opening and Syn, and the owners of the deltas taken for Ack and Ack2.
 pub fn puts_are_the_changed_rows()
     ensures { PutsAreTheChangedRows }
 {}
 
-/// The puts of a step lead from its old table to its new one, their owners rise, each is later than what stood, and
-/// the own entry keeps its generation and its keys.
+/// The puts of a step lead from its old table to its new one. Their owners rise, each put is later than what was held,
+/// and the own entry keeps its generation and its keys.
 pub fn puts_keep_their_order()
     ensures { PutsKeepTheirOrder }
 {}
@@ -36,28 +36,28 @@ pub fn sets_put_their_text()
     ensures { SetsPutTheirText }
 {}
 
-/// The own entry changes by Beat, Set and Tick alone.
+/// Only Beat, Set and Tick change the own entry.
 pub fn only_own_events_change_the_own_entry()
     ensures { OnlyOwnEventsChangeTheOwnEntry }
 {}
 
-/// A node never holds more than the limit of owners, and always its own, whatever events come, refused ones among them.
+/// A node never holds more owners than the limit, and always its own, after any events, refused ones among them.
 pub fn nodes_stay_small()
     ensures { NodesStaySmall }
 {}
 
-/// A node has no window of its own endpoint, whatever events come, so that its verdict of itself is `Unheard`.
+/// A node never has a window of its own endpoint, after any events, so its verdict of itself is `Unheard`.
 pub fn nodes_hear_others_alone()
     ensures { NodesHearOthersAlone }
 {}
 
-/// After any events, refused ones among them, a node's window of an endpoint shows the moments of all deltas of that
-/// endpoint that were taken since the node started, and there is none where none was taken.
+/// A node's window of an endpoint shows the times of all deltas of it that were taken since the node started, after any
+/// events, refused ones among them. If none was taken, there is no window.
 pub fn windows_show_all_taken()
     ensures { WindowsShowAllTaken }
 {}
 
-/// A run without a refusal leads to where its events lead one after the other.
+/// A run without a refusal leads to the node to which its events lead one after the other.
 pub fn runs_go_event_by_event()
     ensures { RunsGoEventByEvent }
 {}

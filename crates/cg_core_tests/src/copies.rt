@@ -1,4 +1,4 @@
-//! Copies of events, replies, outcomes and peers, and `==`.
+//! Copies of events, replies, outcomes and peers, and their comparison by `==`.
 
 use crate::samples::{ack_event, comes, node, set_event, syn_event};
 use cg_entry::Took;
@@ -31,13 +31,13 @@ fn are_equal(alloc: Global, one: u8, other: u8) -> Result<bool, Fail> {
     Ok(one == event(alloc, other)?)
 }
 
-// Whether an event equals its copy, and how many deltas it hands on.
+// Tests whether an event equals its copy, and counts the deltas that it hands on.
 fn shown(alloc: Global, number: u8) -> Result<(bool, usize), Fail> {
     let event = event(alloc, number)?;
     Ok((event.copy(alloc)? == event, event.deltas().len()))
 }
 
-// Of each event, how many deltas it hands on.
+// Each number of an event, with the number of deltas that the event hands on.
 #[test]
 fn events_equal_their_copies_alone(rt: HostRuntime) -> Result<(), Fail> {
     for (one, deltas) in [(0, 0), (1, 0), (2, 0), (3, 0), (4, 0), (5, 1), (6, 1)] {
@@ -50,21 +50,22 @@ fn events_equal_their_copies_alone(rt: HostRuntime) -> Result<(), Fail> {
     Ok(())
 }
 
-// Whether a reply equals its copy, whether it equals the reply of another version, and whether it sends a message.
+// Tests whether a reply equals its copy, whether it equals the reply of another version, and whether it sends a
+// message.
 fn replied(alloc: Global, reply: &Reply) -> Result<[bool; 3], AllocError> {
     let is_copied = reply.copy(alloc)? == *reply;
     let is_other = *reply == Reply::Done(version(9));
     Ok([is_copied, is_other, reply.message().is_some()])
 }
 
-// The same of the reply to an event, at A in generation 9.
+// Tests the same of the reply to an event, at A in generation 9.
 fn replied_to(alloc: Global, number: u8) -> Result<[bool; 3], Fail> {
     let event = event(alloc, number)?;
     let (_after, reply) = node(alloc, A, 9)?.stepped(alloc, &event)?;
     Ok(replied(alloc, &reply)?)
 }
 
-// Of the reply to each event, whether it sends a message.
+// Each number of an event, and whether the reply to it sends a message.
 #[test]
 fn replies_equal_their_copies(rt: HostRuntime) -> Result<(), Fail> {
     for (number, sends) in [

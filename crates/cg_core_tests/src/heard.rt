@@ -1,4 +1,4 @@
-//! Who is heard of by messages that a node is handed.
+//! Arrivals and verdicts of endpoints by the messages that a node is handed.
 
 use crate::samples::{ack_event, comes, node};
 use cg_core::Node;
@@ -8,7 +8,7 @@ use cg_silence::Verdict;
 use std::alloc::Global;
 use std::test::Fail;
 
-// One gap of 2,000 is kept of B, so it is silent 36,843 after the last arrival.
+// One gap of 2,000 is kept of B, so B is silent 36,843 after the last arrival.
 #[test]
 fn an_ack_is_an_arrival(rt: HostRuntime) -> Result<(), Fail> {
     let mut node = node(rt.alloc(), A, 9)?;
@@ -18,7 +18,7 @@ fn an_ack_is_an_arrival(rt: HostRuntime) -> Result<(), Fail> {
     expect_eq!(verdicts, [Verdict::Alive, Verdict::Alive, Verdict::Silent])
 }
 
-// A node is handed a delta with no states, by an ACK2, at a moment.
+// Hands a node a delta with no states, in an ACK2, at a time.
 fn hear(
     alloc: Global,
     node: &mut Node,

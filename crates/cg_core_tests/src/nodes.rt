@@ -1,5 +1,4 @@
-//! A node that starts, a gap after a restart, what a step leaves of the node before it, and events that no script can hand a
-//! node.
+//! A node's start, a gap after a restart, the node before a step, own deltas, other clusters, full tables.
 
 use crate::samples::{about, ack2_event, comes, held, node, refusal, set_event, syn_event};
 use cg_core::Node;
@@ -34,7 +33,7 @@ fn a_node_that_starts(rt: HostRuntime) -> Result<(), Fail> {
     )
 }
 
-// The version that a node's own entry has at a key.
+// The version of a key in a node's own entry.
 fn own_version(node: &Node, number: u8) -> Option<u32> {
     let Some((_text, version)) = node.table().own_entry().get(key(number)) else {
         return None;
@@ -53,7 +52,7 @@ fn a_set_leaves_the_node_before_it(rt: HostRuntime) -> Result<(), Fail> {
     )
 }
 
-// What becomes of the only delta of an ACK2.
+// The outcome of the only delta of an ACK2.
 fn took(reply: &Reply) -> Option<Took> {
     let Reply::Took(outcomes) = reply else {
         return None;
@@ -64,8 +63,8 @@ fn took(reply: &Reply) -> Option<Took> {
     }
 }
 
-// The same, and of its owner: the generation and the newest version that the node then holds, the verdict at 10,000,
-// and the number of owners.
+// That outcome; of its owner, the generation and newest version that the node then holds and the verdict at 10,000; and
+// the number of owners.
 type Seen = (Option<Took>, Option<(u32, u32)>, Verdict, usize);
 
 fn seen(alloc: Global, node: &Node, event: &Event, owner: u16) -> Result<Seen, Fault> {
@@ -101,7 +100,7 @@ fn own_delta(rt: HostRuntime) -> Result<(), Fail> {
     expect_eq!(seen, (Some(Took::Own), Some((5, 1)), Verdict::Unheard, 1))
 }
 
-// ---- events that are refused
+// ---- refused events
 
 #[test]
 fn another_cluster_changes_nothing(rt: HostRuntime) -> Result<(), Fail> {
@@ -111,7 +110,7 @@ fn another_cluster_changes_nothing(rt: HostRuntime) -> Result<(), Fail> {
     expect_eq!(fault, Some(Fault::OtherCluster))
 }
 
-// The event that whole deltas come about 255 endpoints, from the third on.
+// The event that hands a node whole deltas about 255 endpoints, from the third on.
 fn crowd(alloc: Global) -> Result<Event, Fail> {
     let mut deltas = Vec::new(alloc);
     for number in C..258 {

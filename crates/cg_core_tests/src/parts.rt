@@ -1,4 +1,4 @@
-//! What a node is put together of, each by itself: windows, and the choice of a round's peers.
+//! Parts of a node by themselves: windows, and the choice of a round's peers.
 
 use cg_entry::Took;
 use cg_expect::{expect, expect_eq};
@@ -31,7 +31,7 @@ fn taken_deltas_alone_are_taken(_rt: HostRuntime) -> Result<(), Fail> {
     expect_eq!((any_taken(&some), any_taken(&none)), (true, false))
 }
 
-// The verdicts of B's window, and of C's, which has none, after one outcome of B at moment 0.
+// The verdicts of B's window, and of C, which has none, after one outcome of B at time 0.
 fn verdicts(alloc: Global, took: Took, now: u64) -> Result<(Verdict, Verdict), Fail> {
     let none = Windows::none(alloc, Silence::default());
     let windows = none.after(alloc, &[outcome(took)], 0)?;
@@ -54,7 +54,7 @@ fn a_taken_delta_is_an_arrival(rt: HostRuntime) -> Result<(), Fail> {
     Ok(())
 }
 
-// Whether these words choose B and C, where B is live, C is silent, and C is the only seed; or B alone without seeds.
+// Tests whether these words choose B and C, if B is live, C is silent and C is the only seed; or B alone without seeds.
 fn are_chosen(alloc: Global, words: [u64; 4]) -> Result<bool, Fail> {
     let (live, silent) = ([endpoint(B)], [endpoint(C)]);
     let both = choose_peers(alloc, &live, &silent, &silent, &words)?;

@@ -14,7 +14,7 @@ pub(crate) fn node(alloc: Global, own: u16, at: u32) -> Result<Node, Fail> {
     Ok(Node::start(alloc, endpoint(own), generation(at), settings(alloc)?)?)
 }
 
-/// The event that a key is to get a text.
+/// The event that sets a key to a text.
 pub(crate) fn set_event(alloc: Global, number: u8, text: &str) -> Result<Event, Fail> {
     let text = StateText::new(alloc, text)?;
     Ok(Event::Set {
@@ -23,7 +23,7 @@ pub(crate) fn set_event(alloc: Global, number: u8, text: &str) -> Result<Event, 
     })
 }
 
-/// The event that A's SYN at generation 9 comes, of a cluster.
+/// The event of A's SYN at generation 9, of a cluster.
 pub(crate) fn syn_event(alloc: Global, name: &str) -> Result<Event, Fail> {
     let digest = Digest {
         endpoint: endpoint(A),
@@ -35,7 +35,7 @@ pub(crate) fn syn_event(alloc: Global, name: &str) -> Result<Event, Fail> {
     Ok(Event::Syn { m })
 }
 
-/// A delta about an endpoint, with no states: the generation, the version that it stands above, and the heartbeat.
+/// A delta about an endpoint, with no states, of a generation, above a version, with a heartbeat version.
 pub(crate) fn about(alloc: Global, owner: u16, of: (u32, u32, u32)) -> Result<OwnerDelta, Fail> {
     let delta = bare_delta(alloc, of)?;
     Ok(OwnerDelta {
@@ -44,7 +44,7 @@ pub(crate) fn about(alloc: Global, owner: u16, of: (u32, u32, u32)) -> Result<Ow
     })
 }
 
-/// The event that an ACK comes which asks A for its entry of generation 9, above 0, and sends B's of generation 5.
+/// The event of an ACK that requests A's entry of generation 9, above 0, and sends B's of generation 5.
 pub(crate) fn ack_event(alloc: Global, now: u64) -> Result<Event, Fail> {
     let request = Request::new(endpoint(A), generation(9), 0).ok_or("a request")?;
     let deltas = vec![in alloc; about(alloc, B, (5, 0, 1))?]?;
@@ -52,14 +52,14 @@ pub(crate) fn ack_event(alloc: Global, now: u64) -> Result<Event, Fail> {
     Ok(Event::Ack { now, m })
 }
 
-/// The event that an ACK2 of one delta comes at a moment.
+/// The event of an ACK2 with one delta, at a time.
 pub(crate) fn ack2_event(alloc: Global, now: u64, delta: OwnerDelta) -> Result<Event, Fail> {
     let deltas = vec![in alloc; delta]?;
     let m = Ack2::new(deltas).ok_or("an ACK2")?;
     Ok(Event::Ack2 { now, m })
 }
 
-/// The same, of a delta with no states.
+/// The event of an ACK2 with one delta that has no states.
 pub(crate) fn comes(
     alloc: Global,
     now: u64,
@@ -77,7 +77,7 @@ pub(crate) fn held(node: &Node, owner: u16) -> Option<(u32, u32)> {
     }
 }
 
-/// Why an event is refused, where it leaves the table as it was.
+/// The fault with which an event is refused, if that leaves the table unchanged.
 pub(crate) fn refusal(
     alloc: Global,
     node: &mut Node,

@@ -1,4 +1,4 @@
-//! Settings of a node.
+//! Settings of a node: their faults, the words for these, and copies.
 
 use cg_expect::{expect, expect_eq};
 use cg_samples::{A, B, cluster, endpoint};
@@ -17,7 +17,7 @@ fn endpoints(alloc: Global, numbers: &[u16]) -> Result<Vec<Endpoint>, Fail> {
     Ok(endpoints)
 }
 
-// What is wrong with settings of this partitioner and these seeds, or nothing; and whether `new` makes them.
+// The fault of settings of this partitioner and these seeds, if any, and whether `new` makes them.
 type Made = (Option<SettingsFault>, bool);
 
 fn made(alloc: Global, partitioner: u8, seeds: &[u16]) -> Result<Made, Fail> {
@@ -55,7 +55,7 @@ fn settings_are_refused(rt: HostRuntime) -> Result<(), Fail> {
     expect_eq!(SEED_LIMIT, 16)
 }
 
-// Whether a fault is told in these words.
+// Tests whether these words describe a fault.
 fn is_told(alloc: Global, fault: SettingsFault, words: &str) -> Result<bool, Fail> {
     let told = format!(in alloc; "{fault}")?;
     Ok(told.as_str() == words)
@@ -79,7 +79,7 @@ fn faults_are_told(rt: HostRuntime) -> Result<(), Fail> {
     Ok(())
 }
 
-// The cluster's name, the only seed, and how silence is judged.
+// The cluster's name, the only seed, and the settings of silence.
 fn shown(settings: &Settings) -> (&str, Option<Endpoint>, Silence) {
     let seed = match settings.seeds() {
         [seed] => Some(*seed),

@@ -1,4 +1,4 @@
-//! The verdicts at worked moments, and each call once with ample memory.
+//! Verdicts at worked times, settings of silence and their faults, and each call once with ample memory.
 
 use cg_expect::expect_eq;
 use cg_silence::{
@@ -20,7 +20,7 @@ fn window(alloc: Global, silence: Silence, arrivals: &[u64]) -> Result<Window, F
     Ok(window)
 }
 
-// What is wrong with settings, or nothing.
+// The fault of settings, if any.
 type Wrong = Option<SilenceFault>;
 
 #[test]
@@ -140,7 +140,7 @@ fn gaps_are_left_out_and_leave(rt: HostRuntime) -> Result<(), Fail> {
     expect_eq!(window.verdict(10251), Verdict::Silent)
 }
 
-// A copy and its source go on by themselves.
+// A copy and its source go on independently.
 #[test]
 fn a_copy_stands_alone(rt: HostRuntime) -> Result<(), Fail> {
     let source = window(rt.alloc(), silence(2, 1000, 5000, 1000)?, &[1000])?;

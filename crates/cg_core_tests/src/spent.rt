@@ -1,4 +1,4 @@
-//! A node whose own entry has the last version.
+//! A node whose own entry has the last version: it refuses changes, and still opens exchanges.
 
 use crate::samples::{node, refusal, set_event};
 use cg_core::Node;
@@ -15,7 +15,7 @@ fn spent(alloc: Global) -> Result<Node, Fail> {
     Ok(node(alloc, A, 9)?.with_own(alloc, last)?)
 }
 
-// Why a spent node refuses an event, where that leaves the table as it was.
+// The fault with which a spent node refuses an event, if that leaves the table unchanged.
 fn refusal_of_spent(alloc: Global, event: &Event) -> Result<Option<Fault>, Fail> {
     refusal(alloc, &mut spent(alloc)?, event)
 }

@@ -1,4 +1,4 @@
--- Where records lead, and what one event more does.
+-- Records that lead from one node to another, with one event more.
 use Rattle.std.proofs.Common.{◌≡◌, ◌≢◌, ℕ, Bool, true, false, cond, List, [], ◌∷◌, ◌++◌, length, refl, sym, ap, subst, Result, Ok, Err, eqb-true}
 use Rattle.std.specs.Prelude.{◌==◌}
 use Rattle.cg_types.specs.declared.fault.Fault.{Fault}
@@ -26,7 +26,7 @@ replays_more b (r ∷ rs) n caller e x h step = (h.0, h.1, h.2, replays_more h.0
 pub replayed_new : (own generation : ℕ) (settings : SettingsValue) (h : HistoryValue) → h ≡ new_history own generation settings → IsReplayed h
 replayed_new own generation settings h is = subst IsReplayed (sym is) (record { small = alone_valid own (starting_entry generation); replays = refl })
 
--- ---- what a step leads to
+-- ---- the history after a step
 
 same_ok : {A F : Type 0} (x y : A) → (let r : Result A F = Ok x in r) ≡ Ok y → x ≡ y
 same_ok x y e = cc
@@ -54,7 +54,7 @@ module _ (h : HistoryValue) (caller : ℕ) (e : Event) where
   refused_by fault (Ok x) is = absurd cc
   refused_by fault (Err other) is = cc
 
-  -- a step that is refused has none
+  -- a step that is refused has no record
   pub with_step_err : (fault : Fault) → IsRefusal fault (step_with_puts h.node e) → IsRefusal fault (with_step h caller e (node_step h.node e))
   with_step_err fault is = refused_by fault (node_step h.node e) is
 
@@ -68,7 +68,7 @@ module _ (h : HistoryValue) (caller : ℕ) (e : Event) where
   pub replayed_step : (n : NodeValue) (r : Item) (q : Receipt) → IsReplayed h → with_step h caller e (node_step h.node e) ≡ Ok (with_record h n r, q) → IsReplayed (with_record h n r)
   replayed_step n r q i is = record { small = i.small; replays = replays_by (node_step h.node e) n r q refl i.replays is }
 
-  -- the step with its record is due, unless numbers are spent
+  -- the step with its record is expected, unless numbers are spent
   pub apply_unspent : length h.records ≢ LAST_NUMBER → apply h caller e ≡ with_step h caller e (node_step h.node e)
   apply_unspent room = unspent (length h.records == LAST_NUMBER) refl
     where

@@ -17,13 +17,13 @@ use Rattle.cg_records.specs.Items.{item_code}
 abbrev pub record_of : ℕ → Event → NodeValue → NodeValue × Reply → Item
 record_of caller e n x = record { caller = caller; event = e; reply = x.1; puts = puts n.table x.0.table }
 
--- where it began, the records since, and where they lead
+-- its first node, the records since, and the node to which they lead
 pub record HistoryValue : Type 0 where
   pub base : NodeValue
   pub records : List Item
   pub node : NodeValue
 
--- the code that a model of such a value asks for
+-- the code that a model of such a value requires
 abbrev pub history_code : Coded HistoryValue
 history_code =
     code_by (NodeValue × (List Item × NodeValue)) (coded× node_code (coded× (coded_list item_code) node_code))
@@ -37,7 +37,7 @@ Replays b [] n = b ≡ n
 Replays b (r ∷ rs) n =
     (x : NodeValue × Reply) × (node_step b r.event ≡ Ok x) × (r ≡ record_of r.caller r.event b x) × Replays x.0 rs n
 
--- It began with a node as a member may be, and its records lead from there to its node.
+-- It began with a node that a member may be, and its records lead from there to its node.
 pub record IsReplayed (h : HistoryValue) : Type 0 where
   pub small : IsSmall h.base
   pub replays : Replays h.base h.records h.node
@@ -60,12 +60,12 @@ receipt_of h caller e answer =
 abbrev pub LAST_NUMBER : ℕ
 LAST_NUMBER = 2 ^ 64 - 1
 
--- what a step leads to: the history with its record, and the receipt; or why the event is refused
+-- the outcome of a step: the history with its record, and the receipt; or the fault with which the event is refused
 abbrev pub with_step : HistoryValue → ℕ → Event → Step → Result (HistoryValue × Receipt) Fault
 with_step h caller e (Ok x) = Ok (with_record h x.0 (record_of caller e h.node x), receipt_of h caller e x.1)
 with_step h caller e (Err fault) = Err fault
 
--- what an event is due: one step of the node with its record; or VersionsSpent, where numbers are spent
+-- the expected outcome of an event: one step of the node with its record; or VersionsSpent, if numbers are spent
 abbrev pub apply : HistoryValue → ℕ → Event → Result (HistoryValue × Receipt) Fault
 apply h caller e =
     if length h.records == LAST_NUMBER then Err VersionsSpent

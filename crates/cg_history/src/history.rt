@@ -22,7 +22,7 @@ pub struct History {
     node: Node,
 }
 
-/// A contract sees the node that it began with, the records, and the node that they lead to. That they do is kept.
+/// A contract sees the node that it began with, the records, and the node to which they lead. They always lead there.
 impl Model for History {
     ghost use Rattle.cg_history.specs.History.{HistoryValue, IsReplayed, history_code};
 
@@ -36,7 +36,7 @@ impl Model for History {
 }
 
 impl History {
-    /// The history of a node that starts. It has no records.
+    /// Begins the history of a node that starts. It has no records.
     pub fn begin(
         alloc: Global,
         own: Endpoint,
@@ -61,7 +61,7 @@ impl History {
         &self.base
     }
 
-    /// The node, which is where the records lead from the one that the history began with.
+    /// The node after all records, to which they lead from the first one.
     pub fn node(&self) -> &Node
         ensures value { result.now ≡ self.now.node }
         ensures replayed { IsReplayed self.now }
@@ -96,7 +96,7 @@ impl History {
         })
     }
 
-    // The node after an event, the record of that, and the receipt.
+    // The node after an event, its record, and the receipt.
     fn record(
         &self,
         alloc: Global,
@@ -118,11 +118,11 @@ impl History {
         Ok((node, item, receipt))
     }
 
-    /// Has the node do an event for a caller, keeps the record, and answers its receipt. Refused, it changes nothing,
-    /// and no record is made.
+    /// Has the node do an event for a caller, keeps the record, and returns its receipt. If the event is refused,
+    /// nothing changes and no record is made.
     ///
-    /// `VersionsSpent` for every event, before all else, where the record of the last number, 2^64 - 1, stands; else
-    /// the refusals of `Node::stepped`, and `OutOfMemory` for every event.
+    /// `VersionsSpent` for every event, before all else, if the history has the record of the last number, 2^64 - 1;
+    /// else the refusals of `Node::stepped`, and `OutOfMemory` for every event.
     pub fn apply(&mut self, alloc: Global, caller: u32, event: Event) -> Result<Receipt, Fault>
         ensures due { Answers (λ receipt. (self.new, receipt)) (apply_of self.old caller event) result }
         ensures err { OnErr result (self.new ≡ self.old) }
@@ -136,8 +136,8 @@ impl History {
         Ok(receipt)
     }
 
-    /// Says whether each receipt stands in the history at its number, with its caller, event and reply, and numbers
-    /// rise for each caller. If not, it answers the first receipt that does not, as `Stranger`. It takes no memory;
+    /// Tests whether each receipt is in the history at its number, with its caller, event and reply, and numbers rise
+    /// for each caller. If not, it returns the first receipt that does not pass, as `Stranger`. It takes no memory;
     /// `confirms` of `cg_records`, which it calls, says how long it takes.
     pub fn confirms(&self, receipts: &[Receipt]) -> Result<(), Stray>
         ensures { MatchResult result

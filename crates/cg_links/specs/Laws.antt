@@ -1,4 +1,4 @@
--- The bound on reads, as a number.
+-- The value of the bound on reads.
 use Rattle.std.specs.Prelude.{◌≡◌}
 use Rattle.cg_links.specs.declared.transfer.TheConstants.{MOST_READS}
 

@@ -1,4 +1,4 @@
--- What a clause reads of the links that are made for trials.
+-- Links for trials as contracts see them.
 use Rattle.std.specs.Prelude.{ℕ}
 use Rattle.cg_links.specs.declared.trials.FailingLink.{FailingLink}
 use Rattle.cg_links.specs.declared.trials.SlowLink.{SlowLink}
@@ -9,7 +9,7 @@ use Rattle.cg_links.specs.declared.trials.CountingLink.{CountingLink}
 abbrev pub link_of_failing : {L : Type 0} → FailingLink L → L
 link_of_failing f = f.link
 
--- how many calls it had
+-- the number of its calls
 abbrev pub calls_of_failing : {L : Type 0} → FailingLink L → ℕ
 calls_of_failing f = f.calls
 

@@ -8,9 +8,9 @@ ghost use Rattle.std.specs.Io.KnownBytes.{Keeps, ReadConsumes, WriteAppends};
 use std::io;
 use std::io::{Read, Write};
 
-/// A reader or a writer with three counts: of its calls, of those that failed, and of its writes that took
-/// none of the bytes that they were given. Each count stays at its greatest value, 2^64 - 1. Beside them stands whether
-/// what its writes took was flushed.
+/// A reader or a writer with three counts: its calls, those that failed, and its writes that took none of the bytes
+/// that they were given. Each count stays at its greatest value, 2^64 - 1. It also knows whether all bytes that its
+/// writes took were flushed.
 #[derive(Drop)]
 pub struct Counted<L> {
     link: L,
@@ -20,7 +20,7 @@ pub struct Counted<L> {
     flushed: bool,
 }
 
-/// One more, up to the greatest value.
+/// Adds one, up to the greatest value.
 pub(crate) fn count(counter: &mut u64)
     ensures { counter.new ≡ one_more counter.old }
 {
@@ -30,7 +30,7 @@ pub(crate) fn count(counter: &mut u64)
 impl<L> Counted<L> {
     ghost use Rattle.cg_links.specs.Counted.{link_of, IsNew, calls_of, failed_of, idle_of, flushed_of};
 
-    /// The link, with no call counted.
+    /// Wraps a link, with no call counted.
     pub fn new(link: L) -> Counted<L>
         ensures link { link_of result ≡ link }
         ensures counts { IsNew result }
@@ -44,35 +44,35 @@ impl<L> Counted<L> {
         }
     }
 
-    /// How many calls were made.
+    /// The number of calls made.
     pub fn calls(&self) -> u64
         ensures { result ≡ calls_of self.now }
     {
         self.calls
     }
 
-    /// How many calls failed.
+    /// The number of calls that failed.
     pub fn failed(&self) -> u64
         ensures { result ≡ failed_of self.now }
     {
         self.failed
     }
 
-    /// How many writes took none of their bytes.
+    /// The number of writes that took none of their bytes.
     pub fn idle(&self) -> u64
         ensures { result ≡ idle_of self.now }
     {
         self.idle
     }
 
-    /// Whether no write took a byte since the last flush that did not fail, or since the link was lent.
+    /// Returns `true` if no write took a byte since the last flush that did not fail, or since the link was wrapped.
     pub fn is_flushed(&self) -> bool
         ensures { result ≡ flushed_of self.now }
     {
         self.flushed
     }
 
-    /// The link.
+    /// Returns the link.
     pub fn into_link(self) -> L
         ensures { result ≡ link_of self }
     {

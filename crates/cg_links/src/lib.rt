@@ -1,4 +1,4 @@
-//! Links whose calls are counted, what is read from them and written to them, and links for trials.
+//! Links whose calls are counted, reads and writes over them, and links for trials.
 #![tactic(auto)]
 
 mod counted;

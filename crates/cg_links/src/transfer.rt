@@ -10,8 +10,8 @@ use cg_types::Fault;
 use std::alloc::Global;
 use std::io::{Read, Write};
 
-/// Writes all of the bytes. WriteFault where the writer failed or took none of what was left, and then
-/// a front of the bytes was written.
+/// Writes all of the bytes. It returns `WriteFault` if the writer failed or took none of the bytes left; then a prefix
+/// of the bytes was written.
 pub fn write_bytes<W: Write>(writer: &mut Counted<W>, bytes: &[u8]) -> Result<(), Fault>
     ensures ok { OnOk result (Appends (W.contents (link_of writer.old)) (W.contents (link_of writer.new)) bytes.now) }
     ensures kept { OnOk result (KeepsCounts writer.old writer.new) }
@@ -31,8 +31,8 @@ pub fn write_bytes<W: Write>(writer: &mut Counted<W>, bytes: &[u8]) -> Result<()
     Ok(())
 }
 
-/// Writes all of the bytes, and flushes the writer. WriteFault where that failed, or the writer took none of what was
-/// left, and then a front of the bytes was written.
+/// Writes all of the bytes, and flushes the writer. It returns `WriteFault` if that failed, or if the writer took none
+/// of the bytes left; then a prefix of the bytes was written.
 pub fn write_and_flush<W: Write>(writer: &mut Counted<W>, bytes: &[u8]) -> Result<(), Fault>
     ensures ok { OnOk result (Appends (W.contents (link_of writer.old)) (W.contents (link_of writer.new)) bytes.now) }
     ensures kept { OnOk result (KeepsCounts writer.old writer.new) }
@@ -52,18 +52,18 @@ pub fn write_and_flush<W: Write>(writer: &mut Counted<W>, bytes: &[u8]) -> Resul
     }
 }
 
-/// How many reads are made at most to reach a link's end.
+/// The most reads that are made to reach a link's end.
 pub const MOST_READS: u32 = u32::MAX;
 
-/// Reads all that the link has left. OutOfMemory where the bytes find no room; ReadFault where a read
-/// failed, or where the end was not met by `MOST_READS` reads.
+/// Reads all that the link has left. It returns `OutOfMemory` if the bytes find no room; `ReadFault` if a read failed,
+/// or if `MOST_READS` reads did not meet the end.
 pub fn read_all<R: Read>(alloc: Global, reader: &mut Counted<R>) -> Result<Vec<u8>, Fault>
     ensures ok { IfOk result (λ v.
         Consumes (R.remaining (link_of reader.old)) (R.remaining (link_of reader.new)) v.items) }
     ensures end { OnOk result (IsAtEnd (R.remaining (link_of reader.new))) }
     ensures kept { OnOk result (KeepsCounts reader.old reader.new) }
     ensures fault { IfErr result (λ f. (f ≡ fault.OutOfMemory) ⊎ (f ≡ fault.ReadFault)) }
-    // A failed read is no want of memory.
+    // a failed read is never reported as want of memory
     ensures memory { (result ≡ Err fault.OutOfMemory) → KeepsCounts reader.old reader.new }
     ensures caused { (result ≡ Err fault.ReadFault)
         → CountsFailed reader.old reader.new ⊎ CountsCalls reader.old reader.new MOST_READS }

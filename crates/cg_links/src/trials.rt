@@ -20,7 +20,8 @@ pub struct FailingLink<L> {
 impl<L> FailingLink<L> {
     ghost use Rattle.cg_links.specs.Trials.{link_of_failing, turn_of, calls_of_failing};
 
-    /// The link, whose call of this number fails, counted from 1 over reads, writes and flushes; of number 0 none does.
+    /// Wraps a link whose call of this number fails, counted from 1 over reads, writes and flushes; number 0 means
+    /// none.
     pub fn new(link: L, turn: u64) -> FailingLink<L>
         ensures link { link_of_failing result ≡ link }
         ensures turn { turn_of result ≡ turn }
@@ -33,21 +34,21 @@ impl<L> FailingLink<L> {
         }
     }
 
-    /// How many calls were made, up to 2^64 - 1.
+    /// The number of calls made, up to 2^64 - 1.
     pub fn calls(&self) -> u64
         ensures { result ≡ calls_of_failing self.now }
     {
         self.calls
     }
 
-    /// The link.
+    /// Returns the link.
     pub fn into_link(self) -> L
         ensures { result ≡ link_of_failing self }
     {
         self.link
     }
 
-    // Counts a call, and tells whether it is the one that fails.
+    // Counts a call, and returns `true` if it is the one that fails.
     fn fails_now(&mut self) -> bool
         ensures link { link_of_failing self.new ≡ link_of_failing self.old }
         ensures turn { turn_of self.new ≡ turn_of self.old }
@@ -124,14 +125,14 @@ pub struct SlowLink<L> {
 impl<L> SlowLink<L> {
     ghost use Rattle.cg_links.specs.Trials.{link_of_slow};
 
-    /// The link, a byte a call.
+    /// Wraps a link, to move a byte a call.
     pub fn new(link: L) -> SlowLink<L>
         ensures { link_of_slow result ≡ link }
     {
         SlowLink { link }
     }
 
-    /// The link.
+    /// Returns the link.
     pub fn into_link(self) -> L
         ensures { result ≡ link_of_slow self }
     {
@@ -191,7 +192,7 @@ pub struct CountingLink<L> {
 impl<L> CountingLink<L> {
     ghost use Rattle.cg_links.specs.Trials.{link_of_counting, reads_of, writes_of, flushes_of, most_asked_of};
 
-    /// The link, with no call counted.
+    /// Wraps a link, with no call counted.
     pub fn new(link: L) -> CountingLink<L>
         ensures link { link_of_counting result ≡ link }
         ensures reads { reads_of result ≡ 0 }
@@ -208,21 +209,21 @@ impl<L> CountingLink<L> {
         }
     }
 
-    /// How many reads were made.
+    /// The number of reads made.
     pub fn reads(&self) -> u64
         ensures { result ≡ reads_of self.now }
     {
         self.reads
     }
 
-    /// How many writes were made.
+    /// The number of writes made.
     pub fn writes(&self) -> u64
         ensures { result ≡ writes_of self.now }
     {
         self.writes
     }
 
-    /// How many flushes were made.
+    /// The number of flushes made.
     pub fn flushes(&self) -> u64
         ensures { result ≡ flushes_of self.now }
     {
@@ -236,7 +237,7 @@ impl<L> CountingLink<L> {
         self.most_asked
     }
 
-    /// The link.
+    /// Returns the link.
     pub fn into_link(self) -> L
         ensures { result ≡ link_of_counting self }
     {

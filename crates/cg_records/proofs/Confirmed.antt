@@ -6,7 +6,7 @@ use Rattle.cg_records.specs.declared.item.Item.{Item}
 use Rattle.cg_records.specs.declared.item.Receipt.{Receipt}
 use Rattle.cg_records.specs.Confirming.{ComesAfter, Follows, AreInOrder, IsConfirmed, AreConfirmed}
 
--- what stands before a place stands among what is before it
+-- an element before a place is among the elements before it
 pub at_take : (xs : List Receipt) (i j : ℕ) (q : Receipt) → i < j → slice_get xs i ≡ Some q → slice_get (take j xs) i ≡ Some q
 at_take xs i zero q less is = absurd (omega arith)
 at_take [] i (suc j) q less is = absurd cc
@@ -18,13 +18,13 @@ pub within_follows : (before : List Receipt) (i : ℕ) (q r : Receipt) → Follo
 within_follows before i q r follows is =
     subst (λ (p : Receipt). ComesAfter p r) (get_or_from_slice_get before i q q is) (follows i q (slice_get_within before i q is))
 
--- what stands at a place
+-- the element at a place
 pub at_place_within : (xs : List Receipt) (i : ℕ) (d : Receipt) → i < length xs → slice_get xs i ≡ Some (get_or xs i d)
 at_place_within [] i d less = absurd (omega arith)
 at_place_within (x ∷ xs) zero d less = refl
 at_place_within (x ∷ xs) (suc i) d less = at_place_within xs i d (omega arith)
 
--- where all are of other callers
+-- a receipt follows receipts that are all of other callers
 pub follows_others : (before : List Receipt) (r : Receipt) → ((i : ℕ) (q : Receipt) → slice_get before i ≡ Some q → q.caller ≢ r.caller) → Follows before r
 follows_others before r others i d less = λ same. absurd (others i (get_or before i d) (at_place_within before i d less) same)
 
@@ -41,7 +41,7 @@ others_more before r near p at other rest i q le is = by (three i p)
     by (inr (inl here)) = let one : near ≡ q = same_Some near q (sym at ∙ ap (slice_get before) (sym here) ∙ is) in subst (λ (x : Receipt). x.caller ≢ r.caller) one other
     by (inr (inr past)) = rest i q past is
 
--- the nearest earlier receipt of the caller tells
+-- the nearest earlier receipt of the caller decides
 module _ (before : List Receipt) (r near : Receipt) (p : ℕ) (order : AreInOrder before) (at : slice_get before p ≡ Some near) (own : near.caller ≡ r.caller)
     (others : (i : ℕ) (q : Receipt) → p + 1 ≤ i → slice_get before i ≡ Some q → q.caller ≢ r.caller) where
   after_one : near.number < r.number → (i : ℕ) (q : Receipt) → slice_get before i ≡ Some q → (i < p) ⊎ ((i ≡ p) ⊎ (p + 1 ≤ i)) → ComesAfter q r
@@ -61,7 +61,7 @@ module _ (before : List Receipt) (r near : Receipt) (p : ℕ) (order : AreInOrde
 
 -- ---- one receipt more
 
--- what stands in a list with one more stands in the list, or is the one more
+-- each element of a list with one more is in the list, or is the one more
 at_more : (xs : List Receipt) (x y : Receipt) (k : ℕ) → slice_get (xs ++ x ∷ []) k ≡ Some y → ((k < length xs) × (slice_get xs k ≡ Some y)) ⊎ ((k ≡ length xs) × (x ≡ y))
 at_more [] x y zero is = inr (refl, same_Some x y is)
 at_more [] x y (suc k) is = absurd cc

@@ -1,4 +1,4 @@
--- What the greatest number of a group of callers tells.
+-- The greatest number of a group of callers, and the receipts that come after it.
 use Rattle.std.proofs.Common.{◌≡◌, ℕ, ◌+◌, ◌<◌, ◌≤◌, List, length, take, subst, arith, get_or}
 use Rattle.std.proofs.lemmas.List.Elements.{All-more}
 use Rattle.cg_records.specs.declared.item.Receipt.{Receipt}
@@ -6,7 +6,7 @@ use Rattle.cg_records.specs.declared.marks.Marks.{Marks}
 use Rattle.cg_records.specs.Marks.{mark, AreMarked}
 use Rattle.cg_records.specs.Confirming.{Follows}
 
--- a receipt comes after all of its caller where its number is above the group's
+-- a receipt comes after all of its caller if its number is above the group's
 pub follows_marked : (m : Marks) (before : List Receipt) (r : Receipt) → AreMarked m before → mark m r.caller < r.number → Follows before r
 follows_marked m before r marked less i d within = λ same.
     let q : Receipt = get_or before i d in

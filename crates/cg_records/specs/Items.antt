@@ -8,7 +8,7 @@ use Rattle.cg_events.specs.EventCodes.{event_code, reply_code}
 use Rattle.cg_records.specs.declared.item.Item.{Item}
 use Rattle.cg_records.specs.declared.item.Receipt.{Receipt}
 
--- the code that a model of a list of records asks for
+-- the code that a model of a list of records requires
 abbrev pub item_code : Coded Item
 item_code =
     code_by (ℕ × (Event × (Reply × List Put))) (coded× coded_ℕ (coded× event_code (coded× reply_code puts_code)))
@@ -16,7 +16,7 @@ item_code =
     (λ p. record { caller = p.0; event = p.1.0; reply = p.1.1.0; puts = p.1.1.1 })
     (λ _. refl)
 
--- the code that a model of a list of receipts asks for
+-- the code that a model of a list of receipts requires
 abbrev pub receipt_code : Coded Receipt
 receipt_code =
     code_by (ℕ × (ℕ × (Event × Reply))) (coded× coded_ℕ (coded× coded_ℕ (coded× event_code reply_code)))

@@ -1,4 +1,4 @@
-//! Whether receipts stand in records.
+//! The test of receipts against records.
 
 ghost use Rattle.std.specs.Prelude.{◌↔◌, IsTrue, MatchResult};
 ghost use Rattle.cg_records.specs.Marks.{AreMarked};
@@ -8,8 +8,8 @@ use crate::item::{Item, Receipt, Stray};
 use crate::marks::Marks;
 use cg_types::Fault;
 
-// Whether a receipt comes after the earlier ones of its caller, where each of those does: it does where it has a greater
-// number than all of the caller's group; else the nearest one tells.
+// Returns `true` if a receipt comes after the earlier ones of its caller, if each of those does. A number greater than
+// all of the caller's group shows it; else the nearest earlier receipt of the caller decides.
 fn follows(before: &[Receipt], marks: &Marks, receipt: &Receipt) -> bool
     requires order { AreInOrder before.now }
     requires marked { AreMarked marks.now before.now }
@@ -29,14 +29,14 @@ fn follows(before: &[Receipt], marks: &Marks, receipt: &Receipt) -> bool
     true
 }
 
-// Whether a record is the one of a receipt.
+// Returns `true` if a record is the one of a receipt.
 fn is_of(item: &Item, receipt: &Receipt) -> bool
     ensures { IsTrue result ↔ IsOf item.now receipt.now }
 {
     item.caller == receipt.caller && item.event == receipt.event && item.reply == receipt.reply
 }
 
-// Whether the record of a receipt stands among the records.
+// Returns `true` if the record of a receipt is among the records.
 fn has(records: &[Item], receipt: &Receipt) -> bool
     ensures { IsTrue result ↔ Stands records.now receipt.now }
 {
@@ -49,13 +49,13 @@ fn has(records: &[Item], receipt: &Receipt) -> bool
     }
 }
 
-/// Says whether each receipt stands in the records at its number, with its caller, event and reply, and numbers rise for
-/// each caller. If not, it answers the first receipt that does not, as `Stranger`. It takes no memory.
+/// Tests whether each receipt is in the records at its number, with its caller, event and reply, and numbers rise for
+/// each caller. If not, it returns the first receipt that does not pass, as `Stranger`. It takes no memory.
 ///
 /// Each receipt is compared with its record, and its number with the greatest so far among callers that leave the same
-/// rest by 1,024. Only where that is no smaller is it compared with the nearest earlier receipt of its caller, in as many
-/// steps as there are receipts of others between the two. So the time is linear in the receipts where numbers rise, and
-/// where no two callers leave the same rest; it is quadratic at worst.
+/// remainder by 1,024. Only if the number is not greater is the receipt compared with the nearest earlier one of its
+/// caller. That takes as many steps as there are receipts of others between the two. So the time is linear in the
+/// receipts if numbers rise, and if no two callers leave the same remainder; it is quadratic at worst.
 pub fn confirms(records: &[Item], receipts: &[Receipt]) -> Result<(), Stray>
     ensures { MatchResult result
         (λ _. AreConfirmed records.now receipts.now)

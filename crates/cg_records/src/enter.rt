@@ -1,4 +1,4 @@
-//! What has events done, and keeps their receipts.
+//! Callers that have events done, and keep their receipts.
 
 ghost use Rattle.std.specs.Prelude.{◌≡◌, ◌-◌, ◌++◌, ◌∷◌, [], ℕ, List, OnErr, OnOk, length, option_map, slice_get};
 ghost use Rattle.cg_events.specs.Replies.{IsReplyTo};
@@ -9,22 +9,22 @@ use cg_events::Event;
 use cg_types::Fault;
 use std::alloc::Global;
 
-/// What has events done at a node as one caller, one after the other, and keeps the receipt of each.
+/// A caller that has events done at a node, one after the other, and keeps the receipt of each.
 pub trait Enter {
     // the receipts of the events done, the first one first
     ghost receipts: { Self → List ReceiptValue };
 
-    // what no event changes: whose the events are, and among how many they are counted
+    // the part that no event changes: the caller of the events, and the count of callers among which they are counted
     ghost seat: { Self → ℕ × ℕ };
 
-    /// Has an event done, and keeps its receipt behind those before. A refused event changes nothing.
+    /// Has an event done, and keeps its receipt after the earlier ones. A refused event changes nothing.
     fn enter(&mut self, alloc: Global, event: Event) -> Result<(), Fault>
         ensures done { OnOk result ((q : ReceiptValue) × (receipts self.new ≡ receipts self.old ++ q ∷ [])
             × (q.event ≡ event) × IsReplyTo event q.reply) }
         ensures refused { OnErr result (self.new ≡ self.old) }
         ensures seat { seat self.new ≡ seat self.old };
 
-    /// The receipt of the last event done; `None` where none was.
+    /// The receipt of the last event done; `None` if no event was done.
     fn last(&self) -> Option<&Receipt>
         ensures { option_map (λ q. q.now) result ≡ slice_get (receipts self.now) (length (receipts self.now) - 1) };
 }

@@ -4,8 +4,8 @@ use cg_events::{Event, Reply};
 use cg_table::Puts;
 use cg_types::Fault;
 
-/// A record: for whom which event was done, what the node answered, and the owners whose entry that changed, rising,
-/// each with its whole new entry, which is shared with the node's table.
+/// A record of an event done: its caller, the event, the node's reply, and the owners whose entry it changed. These
+/// rise, each with its whole new entry, which is shared with the node's table.
 #[derive(Drop)]
 pub struct Item {
     pub caller: u32,
@@ -14,7 +14,7 @@ pub struct Item {
     pub puts: Puts,
 }
 
-/// What a caller keeps of its record. Records are numbered from 1.
+/// A caller's receipt of its record. Records are numbered from 1.
 #[derive(Debug, Drop)]
 pub struct Receipt {
     pub caller: u32,
@@ -23,7 +23,7 @@ pub struct Receipt {
     pub reply: Reply,
 }
 
-/// The first of some receipts that is not confirmed: its place among them, counted from 0, and why.
+/// The first of some receipts that is not confirmed: its place among them, counted from 0, and the reason.
 #[derive(Clone, Copy, Debug, PartialEq, Eq)]
 pub struct Stray {
     pub place: usize,

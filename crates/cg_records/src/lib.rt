@@ -1,7 +1,7 @@
-//! Records of what was done, with a receipt for each, and whether receipts stand in records.
+//! Records of events done, a receipt for each, and the test of receipts against records.
 //!
-//! A record is what was done for whom, and what came of it. A receipt is what the caller keeps of its record; `confirms`
-//! says whether receipts stand in records. An `Enter` has events done, and keeps their receipts.
+//! A record says which event was done for whom, with its reply and changes. A receipt is what the caller keeps of its
+//! record; `confirms` tests receipts against records. An `Enter` has events done, and keeps their receipts.
 #![tactic(auto)]
 
 mod confirming;

@@ -3,7 +3,7 @@
 ghost use Rattle.std.specs.Prelude.{◌≡◌, ℕ, ◌≤◌};
 ghost use Rattle.cg_records.specs.Marks.{mark};
 
-/// How many groups of callers are told apart. Callers are of one group where they leave the same rest by it.
+/// The number of groups of callers. Callers are of one group if they leave the same remainder by it.
 const GROUPS: usize = 1024;
 
 /// The greatest number so far of each group of callers.
@@ -13,7 +13,7 @@ pub(crate) struct Marks {
 }
 
 impl Marks {
-    /// No number came yet.
+    /// Marks before any number came.
     pub(crate) fn new() -> Marks {
         Marks {
             numbers: [0; GROUPS],
@@ -27,7 +27,7 @@ impl Marks {
         self.numbers[caller as usize % GROUPS]
     }
 
-    /// A number of a caller came.
+    /// Takes in a number of a caller.
     pub(crate) fn raise(&mut self, caller: u32, number: u64)
         ensures own { number ≤ mark self.new caller }
         ensures kept { (other : ℕ) → mark self.old other ≤ mark self.new other }

@@ -1,4 +1,4 @@
--- What was read is in `bytes`, no read failed, and each was counted.
+-- The bytes read so far are in `bytes`, no read failed, and each was counted.
 use Rattle.std.specs.Io.KnownBytes.{Consumes}
 use Rattle.cg_links.specs.Counted.{KeepsCounts, CountsCalls}
 use Rattle.cg_links.proofs.transfer.read_all.Given as goal

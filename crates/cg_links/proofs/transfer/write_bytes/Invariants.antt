@@ -1,4 +1,4 @@
--- What is gone from `rest` was appended, and no call failed so far.
+-- The bytes gone from `rest` were appended, and no call failed so far.
 use Rattle.std.proofs.Common.{◌≡◌, List, ℕ, ◌++◌, length}
 use Rattle.std.specs.Io.KnownBytes.{Appends}
 use Rattle.cg_links.specs.Counted.{KeepsCounts}
