@@ -1,4 +1,4 @@
--- The texts by which a program shows what nodes hold and what they did. Each line ends with one line feed.
+-- Texts by which a program shows what nodes hold and what they did. Each line ends with one line feed.
 use Rattle.std.specs.Prelude.{ℕ, List, ◌++◌, codes, decimal}
 use Rattle.std.specs.List.{flat_map}
 use Rattle.std.specs.FinMap as map
@@ -15,7 +15,7 @@ use Rattle.cg_messages.specs.declared.kind.Kind.{Kind}
 use Rattle.cg_messages.specs.Kind.{kind_name}
 use Rattle.cg_messages.specs.declared.outcome.Outcome.{Outcome}
 
--- ---- what was done
+-- ---- acts of nodes
 
 -- a node started
 unfoldable pub started_line : ℕ → ℕ → List ℕ
@@ -34,18 +34,18 @@ message_line number kind = codes "message " ++ (decimal number ++ (codes " " ++ 
 unfoldable pub peer_word : ℕ → List ℕ
 peer_word peer = codes " " ++ endpoint_text peer
 
--- whom a round is for
+-- the peers of a round
 unfoldable pub round_line : List ℕ → List ℕ
 round_line peers = codes "round" ++ (flat_map peer_word peers ++ codes "\n")
 
--- what became of the delta about an endpoint
+-- the outcome of the delta about an endpoint
 unfoldable pub outcome_line : Outcome → List ℕ
 outcome_line o = took_name o.took ++ (codes " " ++ (endpoint_text o.endpoint ++ codes "\n"))
 
 abbrev pub outcome_lines : List Outcome → List ℕ
 outcome_lines outcomes = flat_map outcome_line outcomes
 
--- an item of a run: whose it is, in which generation, and its number there
+-- an item of a run: its node, the node's generation, and its number there
 unfoldable pub item_line : ℕ → ℕ → ℕ → List ℕ
 item_line node generation number =
     endpoint_text node ++ (codes " " ++ (decimal generation ++ (codes " " ++ (decimal number ++ codes "\n"))))
@@ -54,7 +54,7 @@ item_line node generation number =
 unfoldable pub stuck_line : ℕ → ℕ → ℕ → List ℕ
 stuck_line node generation number = codes "stuck " ++ item_line node generation number
 
--- ---- what is held
+-- ---- tables and rings
 
 -- a key's name, its version and its text
 unfoldable pub state_line : ℕ × Versioned → List ℕ
@@ -70,13 +70,13 @@ generation_line generation = codes "  generation:" ++ (decimal generation ++ cod
 unfoldable pub heartbeat_line : ℕ → List ℕ
 heartbeat_line heartbeat = codes "  heartbeat:" ++ (decimal heartbeat ++ codes "\n")
 
--- what is held of an endpoint, its states rising by key
+-- the entry of an endpoint, its states rising by key
 unfoldable pub entry_lines : ℕ × EntryValue → List ℕ
 entry_lines e =
     owner_line e.0 ++ (generation_line e.1.generation ++ (heartbeat_line e.1.heartbeat
     ++ flat_map state_line (map.entries e.1.states)))
 
--- what is held of each endpoint, rising by endpoint
+-- the entry of each endpoint, rising by endpoint
 abbrev pub gossipinfo : Entries → List ℕ
 gossipinfo entries = flat_map entry_lines (map.entries entries)
 

@@ -1,4 +1,4 @@
--- What a writer took of a text that is due.
+-- The part of an expected text that a writer took.
 use Rattle.std.specs.Prelude.{◌≡◌, ℕ, ◌⊎◌, List, take, Option}
 use Rattle.std.specs.Io.KnownBytes.{Appends}
 use Rattle.cg_links.specs.declared.counted.Counted.{Counted}
@@ -11,7 +11,7 @@ pub record WroteAll {L : Type 0} (before after : Option (List ℕ)) (old new : C
   pub kept : KeepsCounts old new
   pub result_is : result ≡ status
 
--- a front of the text was written, and then the writer failed or took nothing
+-- a prefix of the text was written, and then the writer failed or took nothing
 pub record WroteFront {L : Type 0} (before after : Option (List ℕ)) (old new : Counted L) (text : List ℕ)
     (result : ℕ) : Type 0 where
   pub count : ℕ
@@ -19,7 +19,7 @@ pub record WroteFront {L : Type 0} (before after : Option (List ℕ)) (old new :
   pub caused : CountsFailed old new ⊎ CountsIdle old new
   pub result_is : result ≡ 1
 
--- the text was written, and the status is the one that is due; or a front of it, and the status is 1
+-- the text was written, and the status is the expected one; or a prefix of it was written, and the status is 1
 abbrev pub Wrote : {L : Type 0}
     → Option (List ℕ) → Option (List ℕ) → Counted L → Counted L → List ℕ → ℕ → ℕ → Type 0
 Wrote before after old new text status result =

@@ -1,4 +1,4 @@
-//! What nodes did.
+//! Texts of what nodes did.
 
 ghost use Rattle.std.specs.Prelude.{◌≡◌, ◌++◌, OnOk, string_bytes};
 ghost use Rattle.cg_printed.specs.Printed.{started_line, version_line, message_line, round_line, outcome_line, outcome_lines, peer_word};
@@ -64,7 +64,7 @@ pub fn add_round(text: &mut String, peers: &[Endpoint]) -> Result<(), AllocError
     text.push('\n')
 }
 
-// Adds what became of the delta about an endpoint.
+// Adds the outcome of the delta about an endpoint.
 #[tactic(auto, unfolding(crate::specs::Printed::outcome_line, crate::specs::Printed::peer_word))]
 fn add_outcome(text: &mut String, outcome: Outcome) -> Result<(), AllocError>
     ensures { OnOk result (string_bytes text.new ≡ string_bytes text.old ++ outcome_line outcome) }
@@ -74,8 +74,8 @@ fn add_outcome(text: &mut String, outcome: Outcome) -> Result<(), AllocError>
     text.push_str("\n")
 }
 
-/// Adds a line for each delta of a message, as `took 10.0.0.1:7000`: `took`, `old`, `gap` or `own`, and the endpoint that
-/// the delta was about.
+/// Adds a line for each delta of a message, as `took 10.0.0.1:7000`: `took`, `old`, `gap` or `own`, and the endpoint of
+/// the delta.
 pub fn add_outcomes(text: &mut String, outcomes: &[Outcome]) -> Result<(), AllocError>
     ensures { OnOk result (string_bytes text.new ≡ string_bytes text.old ++ outcome_lines outcomes.now) }
 {

@@ -1,4 +1,4 @@
-//! What a node holds, and its ring.
+//! Texts of a node's table and of its ring.
 
 ghost use Rattle.std.specs.Prelude.{◌≡◌, ◌++◌, OnOk, string_bytes};
 ghost use Rattle.std.specs.List.{flat_map};
@@ -61,7 +61,7 @@ fn add_states(text: &mut String, entry: &Entry) -> Result<(), AllocError>
     Ok(())
 }
 
-// Adds what is held of an endpoint.
+// Adds the lines of an endpoint's entry.
 #[tactic(auto, unfolding(crate::specs::Printed::entry_lines))]
 fn add_entry(text: &mut String, row: &Row<Entry>) -> Result<(), AllocError>
     ensures { OnOk result (string_bytes text.new ≡ string_bytes text.old ++ entry_lines row.now) }
@@ -73,9 +73,9 @@ fn add_entry(text: &mut String, row: &Row<Entry>) -> Result<(), AllocError>
     add_states(text, entry)
 }
 
-/// Adds what a table holds, as Cassandra's `nodetool gossipinfo` does: for each owner, rising by endpoint, a line with `/`
-/// and the endpoint, `  generation:` with its number, `  heartbeat:` with its version, and for each state, rising by key,
-/// the key's name, the version and the text, as `  STATUS:2:NORMAL`.
+/// Adds the lines of a table, as Cassandra's `nodetool gossipinfo` does. For each owner, rising by endpoint, these are
+/// a line with `/` and the endpoint, `  generation:` with its number, and `  heartbeat:` with its version. Then comes a
+/// line for each state, rising by key: the key's name, the version and the text, as `  STATUS:2:NORMAL`.
 pub fn add_gossipinfo(text: &mut String, table: &Table) -> Result<(), AllocError>
     ensures { OnOk result (string_bytes text.new ≡ string_bytes text.old ++ gossipinfo table.now.entries) }
 {
@@ -134,8 +134,8 @@ fn add_endpoint(text: &mut String, endpoint: Endpoint) -> Result<(), AllocError>
     writeln!(text, "{endpoint}")
 }
 
-/// Adds a line for each of the endpoints that keep what has this token, at most `rf` of them, in the order of the walk
-/// round the ring.
+/// Adds a line for each of the endpoints that keep this token, at most `rf` of them, in the order of the walk round the
+/// ring.
 pub fn add_replicas(
     alloc: Global,
     text: &mut String,

@@ -9,7 +9,7 @@ use std::str::from_utf8_unchecked;
 // The bytes of the longest two: ten digits and a byte each.
 const LONGEST: usize = 22;
 
-// Puts a number and the byte behind it before what begins at `end`, and tells where it begins.
+// Puts a number and the byte after it before the bytes that begin at `end`, and returns the place where it begins.
 fn put_number(number: u32, mark: u8, text: &mut [u8; LONGEST], end: usize) -> usize
     requires room { 11 ≤ end }
     requires within { end ≤ 22 }
@@ -21,8 +21,8 @@ fn put_number(number: u32, mark: u8, text: &mut [u8; LONGEST], end: usize) -> us
     write_digits(u64::from(number), text, end - 1)
 }
 
-// Puts both at the end of some bytes, and tells where they begin. What is put last comes first, so that they are written
-// at once.
+// Puts both at the end of some bytes, and returns the place where they begin. The last part is put first, so that all
+// are written at once.
 fn put_numbers(first: u32, second: u32, text: &mut [u8; LONGEST]) -> usize
     ensures start { result ≤ 22 }
     ensures text { drop result text.new ≡ decimal first ++ (32 ∷ (decimal second ++ (10 ∷ []))) }
@@ -31,7 +31,7 @@ fn put_numbers(first: u32, second: u32, text: &mut [u8; LONGEST]) -> usize
     put_number(first, b' ', text, at)
 }
 
-// That they are UTF-8 is proved: they are digits, a space and a line feed.
+// The two numbers as UTF-8, which they are by proof: digits, a space and a line feed.
 fn text_of(first: u32, second: u32, room: &mut [u8; LONGEST]) -> &str
     ensures { result.now ≡ decimal first ++ (32 ∷ (decimal second ++ (10 ∷ []))) }
 {

@@ -1,4 +1,4 @@
-//! Parts of lines, put into the text with no format between.
+//! Parts of lines, put into the text with no format string.
 
 ghost use Rattle.std.specs.Prelude.{◌≡◌, ◌++◌, OnOk, string_bytes, decimal};
 ghost use Rattle.cg_printed.specs.Printed.{peer_word};

@@ -1,4 +1,4 @@
--- What was read, and a key that was told, is read from then on.
+-- Reads begin with the earlier ones, and a key that was told is in each read from then on.
 use Rattle.std.proofs.Common.{◌≡◌, ℕ, Bool, true, false, cond, List, [], ◌∷◌, ◌++◌, Option, Some, None, refl, sym, ap, ◌∙◌, subst, append_assoc, arith, eq-eqb}
 use Rattle.std.specs.Prelude.{◌||◌, ◌==◌, not, nat_le}
 use Rattle.std.specs.List.{list_all}
@@ -67,7 +67,7 @@ puts_from t [] key v order from = from
 puts_from t (p ∷ ps) key v order from =
     puts_from (with_put t p) ps key v (second_of (is_in_order t p) (keep_order (with_put t p) ps) order) (put_from t p key v (first_of (is_in_order t p) (keep_order (with_put t p) ps) order) from)
 
--- ---- what is told is read
+-- ---- told puts are read
 
 put_here : (t : TableValue) (e : EntryValue) (key v : ℕ) → is_held_from v (get e.states key) ≡ true → OwnHasFrom (with_put t (t.own, e)) key v
 put_here t e key v from = ap (λ o. is_held_from v (state_in key o)) (get-insert nat_cmp_total t.entries t.own e t.own) ∙ by (eq_by_cmp nat_cmp t.own t.own) (itself t.own)

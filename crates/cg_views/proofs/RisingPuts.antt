@@ -1,4 +1,4 @@
--- Puts whose owners rise keep the order where each is in order by itself.
+-- Puts whose owners rise keep the order if each is in order by itself.
 use Rattle.std.proofs.Common.{◌≡◌, ℕ, true, List, [], ◌∷◌, Option, Some, None, refl, ◌∙◌, ltb-true}
 use Rattle.std.specs.Prelude.{◌&&◌, ◌||◌, ◌==◌, not}
 use Rattle.std.specs.List.{list_all}

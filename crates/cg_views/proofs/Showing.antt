@@ -1,4 +1,4 @@
--- What is shown keeps the rule of the views, and what a publisher has beside it.
+-- Shown tables and publishers keep the rules of the views.
 use Rattle.std.proofs.Common.{◌≡◌, ◌≢◌, ℕ, ⊎_elim, true, List, [], ◌∷◌, ◌++◌, length, drop, fold, refl, ap, sym, ◌∙◌, subst, append_assoc}
 use Rattle.std.proofs.lemmas.List.{append-nil}
 use mathlib.Core.Option.{some}
@@ -15,7 +15,7 @@ use Rattle.cg_views.specs.Shows.{ShownValue, latest, IsSound, publisher_of, IsPu
 use Rattle.cg_views.specs.Rules.{Keeps, Finds}
 use Rattle.cg_views.proofs.Beginnings.{joined-append}
 
--- ---- beginnings
+-- ---- prefixes
 
 abbrev Ops : Type 0
 Ops = List (List Put)
@@ -33,7 +33,7 @@ drop_front : (xs ys : Ops) → drop (length xs) (xs ++ ys) ≡ ys
 drop_front [] ys = refl
 drop_front (x ∷ xs) ys = drop_front xs ys
 
--- what is behind a beginning
+-- the rest of a list after a prefix
 pub behind : (xs ys : Ops) → (p : IsPrefix xs ys) → drop (length xs) ys ≡ p.0
 behind xs ys p = ap (drop (length xs)) (sym p.1) ∙ drop_front xs p.0
 
@@ -41,13 +41,13 @@ behind_more : (xs ys zs : Ops) → IsPrefix xs ys → drop (length xs) (ys ++ zs
 unfolding begins_more begins_on
 behind_more xs ys zs p = behind xs (ys ++ zs) (begins_more xs ys zs p) ∙ ap (λ l. l ++ zs) (sym (behind xs ys p))
 
--- all puts are those of a beginning and those behind it
+-- all puts are those of a prefix and those after it
 pub all_joined : (xs ys : Ops) → IsPrefix xs ys → joined xs ++ joined (drop (length xs) ys) ≡ joined ys
 all_joined xs ys p = ap (λ l. joined xs ++ joined l) (behind xs ys p) ∙ sym (joined-append xs p.0) ∙ ap joined p.1
 
 -- ---- the rule
 
--- a step to what goes on from what was shown
+-- a step to a list that goes on from the shown one
 pub turns : (book : Book) (opening : TableValue) (pass : ℕ) (seen : Ops) (x y : ShownValue) → IsPrefix x.front.all y.front.all → IsSound book opening y → TurnsAt (Keeps book opening) pass seen x y (Finds book opening)
 turns book opening pass seen x y more sound views h at =
     let now = y.front.all in (
@@ -78,15 +78,15 @@ last_in : (s : ShownValue) (os : List ShownValue) (o : ShownValue) → fold late
 last_in s [] o = refl
 last_in s (x ∷ os) o = last_in x os o
 
--- the puts of a front with one operation more
+-- the puts of a prefix with one operation more
 pub more_puts : (front : FrontValue) (ps : List Put) → joined (front.all ++ ps ∷ []) ≡ joined front.all ++ ps
 more_puts front ps = joined-append front.all (ps ∷ []) ∙ ap (λ l. joined front.all ++ l) (append-nil ps)
 
--- the front with one operation more
+-- the prefix with one operation more
 abbrev pub with_operation : List Put → FrontValue → FrontValue
 with_operation ps front = record { of = front.of; all = front.all ++ ps ∷ [] }
 
--- the newest table is the one that all that was appended leads to
+-- the newest table is the one to which all appended puts lead
 pub stands : (book : Book) (opening : TableValue) (shown : ShownValue) (pending : List ShownValue) (last : ShownValue) (head : Book) → IsPublisher book opening shown pending last head
     → last.table ≡ with_puts opening (are_all (publisher_of opening shown.front last.front))
 stands book opening shown pending last head i = i.last_sound.table_is ∙ ap (with_puts opening) (sym (all_joined shown.front.all last.front.all i.begins))
@@ -109,14 +109,14 @@ appends book opening shown shown' pending pending' last next op head ps i same m
       head_is = i.head_is;
     }
 
--- and that is what it shows
+-- the publisher shows that operation as pending
 pub shows_appended : (opening : TableValue) (shown last : FrontValue) (ps : List Put) → IsPrefix shown.all last.all → publisher_of opening shown (with_operation ps last) ≡ appended ps (publisher_of opening shown last)
 shows_appended opening shown last ps p =
     let pending : joined (drop (length shown.all) (last.all ++ ps ∷ [])) ≡ joined (drop (length shown.all) last.all) ++ ps =
     ap joined (behind_more shown.all last.all (ps ∷ []) p) ∙ joined-append (drop (length shown.all) last.all) (ps ∷ []) ∙ ap (λ l. joined (drop (length shown.all) last.all) ++ l) (append-nil ps) in
     ap (λ l. record { opening = opening; published = joined shown.all; pending = l }) pending
 
--- what is pending is shown
+-- the pending operations are shown
 pub publishes : (book : Book) (opening : TableValue) (shown shown' : ShownValue) (pending pending' : List ShownValue) (last : ShownValue) (head : Book) → IsPublisher book opening shown pending last head
     → shown' ≡ fold latest shown pending → pending' ≡ [] → IsPublisher book opening shown' pending' last head
 publishes book opening shown shown' pending pending' last head i is none =
@@ -128,7 +128,7 @@ publishes book opening shown shown' pending pending' last head i is none =
       head_is = i.head_is;
     }
 
--- and all is published
+-- all operations are published then
 pub shows_published : (opening : TableValue) (shown shown' last : FrontValue) → IsPrefix shown.all last.all → shown' ≡ last → publisher_of opening shown' last ≡ all_published (publisher_of opening shown last)
 unfolding begins_itself
 shows_published opening shown shown' last p same =

@@ -1,4 +1,4 @@
--- Lists of operations and their puts, and what a publisher has.
+-- Lists of operations and their puts, and the lists of a publisher.
 use Rattle.std.specs.Prelude.{◌≡◌, ◌≤◌, true, List, [], ◌∷◌, ◌++◌, refl}
 use Rattle.std.specs.Coded.{Coded, code_by, coded×, coded_list}
 use Rattle.std.specs.FinMap as map
@@ -16,7 +16,7 @@ joined (ps ∷ pss) = ps ++ joined pss
 abbrev pub StartsWith : List Put → List Put → Type 0
 StartsWith xs ys = (rest : List Put) × (xs ≡ ys ++ rest)
 
--- the table that views open with, what is published, and what was appended since
+-- the table that views open with, the published operations, and those appended since
 pub record PublisherValue : Type 0 where
   pub opening : TableValue
   pub published : List Put
@@ -30,13 +30,13 @@ opened_with t = record { opening = t; published = []; pending = [] }
 abbrev pub are_all : PublisherValue → List Put
 are_all p = p.published ++ p.pending
 
--- Puts may follow in a table: one after the other each is later than what is held, the own one goes on from it, and
--- with them the table is within its limit.
+-- Puts may follow in a table if, one after the other, each is later than what is held and the own one goes on from it,
+-- and the table with them is within its limit.
 pub record MayFollow (t : TableValue) (puts : List Put) : Type 0 where
   pub order : keep_order t puts ≡ true
   pub room : map.len (with_puts t puts).entries ≤ MEMBER_LIMIT
 
--- puts may be appended where they may follow all that were
+-- puts may be appended if they may follow all that were appended
 abbrev pub MayAppend : PublisherValue → List Put → Type 0
 MayAppend p puts = MayFollow (with_puts p.opening (are_all p)) puts
 
@@ -44,16 +44,16 @@ MayAppend p puts = MayFollow (with_puts p.opening (are_all p)) puts
 abbrev pub appended : List Put → PublisherValue → PublisherValue
 appended puts p = record { opening = p.opening; published = p.published; pending = p.pending ++ puts }
 
--- all pending puts are published, behind those that were
+-- all pending puts are published, after those that were published
 abbrev pub all_published : PublisherValue → PublisherValue
 all_published p = record { opening = p.opening; published = p.published ++ p.pending; pending = [] }
 
--- a beginning of the operations of a book
+-- a prefix of the operations of a book
 pub record FrontValue : Type 0 where
   pub of : Book
   pub all : List (List Put)
 
--- the codes that models of such values ask for
+-- the codes that models of such values require
 abbrev pub front_code : Coded FrontValue
 front_code =
     code_by (Book × List (List Put)) (coded× book_coded (coded_list puts_code)) (λ f. (f.of, f.all))

@@ -1,4 +1,4 @@
--- What is read, after what was read or told.
+-- Reads of a pass after earlier reads and after what was told.
 use Rattle.std.specs.Prelude.{ℕ, ◌≡◌, Bool, true, false, not, List, ◌++◌, ◌∷◌, Option, Some, None}
 use Rattle.std.specs.FinMap as map
 use Rattle.cg_entry.specs.Versioned.{Versioned}
@@ -8,20 +8,19 @@ use Rattle.cg_table.specs.Values.{TableValue}
 use Rattle.cg_table.specs.Puts.{Put, with_puts, is_held_from, keep_order}
 use Rattle.cg_views.specs.Lists.{StartsWith}
 
--- whether an entry is held, or a later one
+-- `true` if an entry or a later one is held
 abbrev pub is_reached : Option EntryValue → EntryValue → Bool
 is_reached None e = false
 is_reached (Some x) e = not (is_later e x)
 
--- Of two reads, where what was read first begins what was read next, the next has of each owner what the first had, or
--- a later entry.
+-- If one read begins the next, the next has of each owner the entry that the first had, or a later one.
 abbrev pub ReadsNeverFall : Type 0
 ReadsNeverFall =
     (opening : TableValue) (first next : List Put) (owner : ℕ) (e : EntryValue) → keep_order opening next ≡ true
     → StartsWith next first → map.get (with_puts opening first).entries owner ≡ Some e
     → is_reached (map.get (with_puts opening next).entries owner) e ≡ true
 
--- what an entry has at a key
+-- the text and version of an entry at a key
 abbrev pub state_in : ℕ → Option EntryValue → Option Versioned
 state_in key None = None
 state_in key (Some e) = map.get e.states key
@@ -30,7 +29,7 @@ state_in key (Some e) = map.get e.states key
 abbrev pub OwnHasFrom : TableValue → ℕ → ℕ → Type 0
 OwnHasFrom t key version = is_held_from version (state_in key (map.get t.entries t.own)) ≡ true
 
--- The put stands in the list.
+-- The put is in the list.
 abbrev pub Has : List Put → Put → Type 0
 Has ps p = (before : List Put) × (after : List Put) × (ps ≡ before ++ p ∷ after)
 
@@ -40,8 +39,8 @@ pub record HasText (puts : List Put) (own key : ℕ) (text : List ℕ) (version 
   pub stands : Has puts (own, entry)
   pub given : map.get entry.states key ≡ Some (record { text = text; version = version })
 
--- What was read begins with what was told, so it has a key of the own entry that was told, at its version or a later
--- one.
+-- If what was told begins what was read, the read has each key of the own entry that was told, at its version or a
+-- later one.
 abbrev pub ToldSetsAreRead : Type 0
 ToldSetsAreRead =
     (opening : TableValue) (told read : List Put) (key : ℕ) (text : List ℕ) (version : ℕ)

@@ -1,4 +1,4 @@
--- The rule of the views, and what a step tells.
+-- The rule of the views, and the outcome of a step under it.
 use Rattle.std.specs.Prelude.{◌≡◌, ℕ, List}
 use mathlib.Core.Option.{some}
 use mathlib.Core.List.{IsPrefix}
@@ -8,7 +8,7 @@ use Rattle.cg_table.specs.Values.{TableValue}
 use Rattle.cg_table.specs.Puts.{Put}
 use Rattle.cg_views.specs.Shows.{ShownValue, IsSound}
 
--- what each pass has seen begins what is published
+-- the operations that each pass has seen begin the published ones
 abbrev pub AreFronts : List (List Put) → List (List (List Put)) → Type 0
 AreFronts all views = (pass : ℕ) (seen : List (List Put)) → get_elem? views pass ≡ some seen → IsPrefix seen all
 
@@ -16,7 +16,7 @@ pub record Keeps (book : Book) (opening : TableValue) (x : ShownValue) (views : 
   pub sound : IsSound book opening x
   pub fronts : AreFronts x.front.all views
 
--- What is shown is sound, what was seen begins it, and it is what is seen now.
+-- The shown table is sound, the operations seen before begin its operations, and these are the ones seen now.
 pub record Finds (book : Book) (opening : TableValue) (seen : List (List Put)) (x y : ShownValue)
     (now : List (List Put)) : Type 0 where
   pub sound : IsSound book opening y

@@ -1,4 +1,4 @@
--- What is shown, and what a publisher has beside it.
+-- Shown tables with their operations, and what a publisher has beside them.
 use Rattle.std.specs.Prelude.{◌≡◌, true, List, drop, length, refl, fold}
 use mathlib.Core.List.{IsPrefix}
 use Rattle.std.specs.Coded.{Coded, code_by, coded×}
@@ -12,17 +12,17 @@ pub record ShownValue : Type 0 where
   pub table : TableValue
   pub front : FrontValue
 
--- what is taken in last is what is shown
+-- the last one that is taken in is the shown one
 abbrev pub latest : ShownValue → ShownValue → ShownValue
 latest s o = o
 
--- The table is the opening one after the puts of the operations, each later than what stood.
+-- The table is the opening one after the puts of the operations, each later than what was held.
 pub record IsSound (book : Book) (opening : TableValue) (s : ShownValue) : Type 0 where
   pub of_book : s.front.of ≡ book
   pub table_is : s.table ≡ with_puts opening (joined s.front.all)
   pub order : keep_order opening (joined s.front.all) ≡ true
 
--- what a publisher shows, by the operations that are published and by all that were appended
+-- a publisher, by the operations that are published and by all that were appended
 abbrev pub publisher_of : TableValue → FrontValue → FrontValue → PublisherValue
 publisher_of opening shown last = record {
   opening = opening;
@@ -30,7 +30,7 @@ publisher_of opening shown last = record {
   pending = joined (drop (length shown.all) last.all);
 }
 
--- The operations that are pending lead from what is shown to what was appended last.
+-- The pending operations lead from the shown table to the last appended one.
 pub record IsPublisher (book : Book) (opening : TableValue) (shown : ShownValue) (pending : List ShownValue)
     (last : ShownValue) (head : Book) : Type 0 where
   pub shown_sound : IsSound book opening shown
@@ -39,7 +39,7 @@ pub record IsPublisher (book : Book) (opening : TableValue) (shown : ShownValue)
   pub begins : IsPrefix shown.front.all last.front.all
   pub head_is : head ≡ book
 
--- the code that the model of what is shown asks for
+-- the code that the model of a shown table requires
 abbrev pub shown_code : Coded ShownValue
 shown_code =
     code_by (TableValue × FrontValue) (coded× table_code front_code) (λ s. (s.table, s.front))

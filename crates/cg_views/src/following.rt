@@ -1,4 +1,4 @@
-//! Whether puts may follow in a table.
+//! The test whether puts may follow in a table.
 
 ghost use Rattle.std.specs.Prelude.{◌≡◌, ◌↔◌, IsTrue};
 ghost use Rattle.std.specs.FinMap as map;
@@ -13,7 +13,7 @@ use cg_entry::{Entry, State};
 use cg_map::Row;
 use cg_table::{Puts, Table};
 
-// Whether an entry has the state's key, and not at a smaller version.
+// Returns `true` if an entry has the state's key, at no smaller version.
 fn keeps_key(entry: &Entry, state: &State) -> bool
     ensures { result ≡ is_held_from state.now.version (map.get entry.now.states state.now.key) }
 {
@@ -35,7 +35,7 @@ fn keeps_keys(before: &Entry, after: &Entry) -> bool
     keeps_each(after, before.states())
 }
 
-// Whether a row is later than what is held, and goes on from it where it is the table's own.
+// Returns `true` if a row is later than what is held and, if it is the table's own, goes on from it.
 fn is_in_order(table: &Table, row: &Row<Entry>) -> bool
     ensures { result ≡ is_in_order_of table.now row.now }
 {
@@ -54,7 +54,7 @@ fn each_is_in_order(table: &Table, rows: &[Row<Entry>]) -> bool
     rows.iter().all(|row| is_in_order(table, row))
 }
 
-// Since the rows rise, what is held before each is what the table holds.
+// Since the rows rise, the entry held before each is the one that the table holds.
 fn keep_order(table: &Table, rows: &[Row<Entry>]) -> bool
     requires { Rises (keys_of rows.now) }
     ensures { result ≡ keep_order_of table.now rows.now }
@@ -62,7 +62,7 @@ fn keep_order(table: &Table, rows: &[Row<Entry>]) -> bool
     each_is_in_order(table, rows)
 }
 
-/// Whether puts may follow in a table.
+/// Returns `true` if puts may follow in a table.
 pub(crate) fn may_follow(table: &Table, puts: &Puts) -> bool
     ensures { IsTrue result ↔ MayFollow table.now puts.now }
 {

@@ -1,4 +1,4 @@
-//! Beginnings of the operations that were appended, which exist in proofs alone.
+//! Prefixes of the operations that were appended, which exist in proofs alone.
 
 ghost use Rattle.std.specs.Prelude.{◌≡◌, ◌<◌, ◌≤◌, ◌^◌, ◌++◌, ◌∷◌, [], length, MatchBool};
 ghost use mathlib.Core.List.{IsPrefix};
@@ -29,7 +29,7 @@ impl Rule<Puts, u64> for Law {
     ghost moves = { λ ask before after answer. Unit {0} };
 }
 
-/// Callers trade nothing.
+/// A trade of nothing between callers.
 pub struct Nothing;
 
 impl Gain<Puts, u64> for Nothing {
@@ -94,6 +94,7 @@ impl Model for Opened {
 }
 
 impl Opened {
+    /// Opens an empty book.
     pub fn new() -> Opened {
         let (seen, mut first, _second) = Seen::open(Start::alone(), 0, 0);
         Opened {
@@ -102,7 +103,7 @@ impl Opened {
         }
     }
 
-    /// The book's word, and the front that has seen nothing.
+    /// Returns the book's word, and the prefix that has seen nothing.
     pub fn begin(self) -> (Head, Front)
         ensures head { result.0.head.book ≡ self }
         ensures front { result.1 ≡ record { of = self; all = [] } }
@@ -112,14 +113,14 @@ impl Opened {
     }
 }
 
-/// The word of the book: how many operations it has. The publisher alone holds it.
+/// The word of the book: the number of its operations. The publisher alone holds it.
 #[derive(Drop)]
 pub struct Head {
     head: Word<Puts, u64, Law>,
     ghost head_is: { head ≡ head_of head.book },
 }
 
-/// A beginning of a book's operations. It has no bytes but their number. Contracts see the book and the operations.
+/// A prefix of a book's operations. Its only bytes are their number. Contracts see the book and the operations.
 #[derive(Drop)]
 pub struct Front {
     len: u64,
@@ -140,14 +141,14 @@ impl Model for Front {
 }
 
 impl Front {
-    /// How many operations it has.
+    /// The number of its operations.
     pub fn len(&self) -> u64
         ensures { result ≡ length self.now.all }
     {
         self.len
     }
 
-    /// A copy.
+    /// Returns a copy.
     pub fn again(&self) -> Front
         ensures { result ≡ self.now }
     {
@@ -157,7 +158,7 @@ impl Front {
         }
     }
 
-    /// Whether the other has no more operations. Of two beginnings of one book the shorter begins the longer.
+    /// Returns `true` if the other has no more operations. Of two prefixes of one book the shorter begins the longer.
     pub fn reaches(&self, other: &Front) -> bool
         requires { other.now.of ≡ self.now.of }
         ensures { MatchBool result (IsPrefix other.now.all self.now.all) (IsPrefix self.now.all other.now.all) }
@@ -167,7 +168,7 @@ impl Front {
         other.len <= self.len
     }
 
-    /// Adds an operation to all that was seen, and says whether it did. It did not where the book has more.
+    /// Adds an operation if all were seen, and returns whether it did. It did not if the book has more.
     pub fn add(&mut self, book: &Head, puts: &Puts) -> bool
         requires book { book.now.head.book ≡ self.old.of }
         requires room { length self.old.all < 2 ^ 62 }

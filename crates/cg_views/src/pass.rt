@@ -1,4 +1,4 @@
-//! Those who read.
+//! Passes, by which threads read the published table.
 
 ghost use Rattle.std.specs.Prelude.{◌≡◌, ◌⊎◌, [], true, Err, IfOk, IfErr, IfSome, OnOk};
 ghost use Rattle.cg_types.specs.declared.fault.Fault.TheVariants as faults;
@@ -17,7 +17,7 @@ use std::marker::{Model, PhantomData};
 use std::ops::Deref;
 use std::sync::Arc;
 
-/// What was published when it was told. A contract sees the puts.
+/// The puts that were published when the publisher told them. A contract sees the puts.
 #[derive(Drop)]
 pub struct Told<N: Naming> {
     front: Front,
@@ -50,7 +50,7 @@ impl<N: Naming> Told<N> {
     }
 }
 
-/// A table as it was read. It shares the published one.
+/// A table that a pass read. It shares the published one.
 #[derive(Drop)]
 pub struct Snapshot {
     table: Arc<Table, Global>,
@@ -79,7 +79,7 @@ impl Snapshot {
 /// A right to read what is published, with no lock. A contract sees the puts that it has read or learnt.
 #[derive(Drop)]
 pub struct Pass<N: Naming> {
-    // None where no place was left for it, which is never so
+    // `None` if no place was left for it, which never happens
     reader: Option<Reader<Shown, Known, Published<N>>>,
     known: Front,
 }
@@ -109,11 +109,11 @@ impl<N: Naming> Pass<N> {
         Pass { reader, known }
     }
 
-    /// The opening table after puts that begin with all that this pass has read or learnt; these it has then read. It
-    /// waits for nobody.
+    /// Reads the opening table after puts that begin with all that this pass has read or learnt. These puts it has then
+    /// read. It waits for nobody.
     ///
-    /// `NoSuchNode` where the publisher is gone, and the pass is as it was. `OutOfMemory` where the count of those who
-    /// share the table is full.
+    /// `NoSuchNode` if the publisher is gone; then the pass is unchanged. `OutOfMemory` if the count of those who share
+    /// the table is full.
     pub fn read(&mut self) -> Result<Snapshot, Fault>
         ensures later { StartsWith self.new self.old }
         ensures table { IfOk result (λ s. s ≡ with_puts N.opening self.new) }
@@ -124,7 +124,7 @@ impl<N: Naming> Pass<N> {
         replace_with(self, (), read_out)
     }
 
-    /// From now on it reads no less than what was told.
+    /// Learns what was told: from now on the pass reads no less.
     pub fn learn(&mut self, told: Told<N>)
         ensures old { StartsWith self.new self.old }
         ensures told { StartsWith self.new told }
@@ -164,7 +164,7 @@ fn read_out<N: Naming>(pass: Pass<N>, _with: ()) -> (Pass<N>, Result<Snapshot, F
     };
     let shown = reading.get();
     if !shown.front.reaches(&known) {
-        // What was learnt is published before it is told, so this is never so, though no proof rules it out.
+        // A learnt list is published before it is told, so this never happens, though no proof rules it out.
         let reader = Some(reading.leave());
         return (Pass { reader, known }, Err(Fault::NoSuchNode));
     }

@@ -1,4 +1,4 @@
-//! The one who publishes.
+//! The publisher of a table.
 
 ghost use Rattle.std.specs.Prelude.{◌≡◌, ◌∷◌, ◌<◌, ◌≤◌, ◌↔◌, [], vec_len, IfOk, IfSome, IsTrue, OnOk, OnErr};
 ghost use Rattle.std.specs.List.{All};
@@ -18,8 +18,8 @@ use std::alloc::{AllocError, Global};
 use std::marker::Model;
 use std::sync::Wait;
 
-/// The one who publishes. A contract sees the table that the views open with, the puts that are published, and those
-/// that are pending. It is ended by `close`.
+/// The publisher of a table. A contract sees the table that the views open with, the published puts, and the pending
+/// ones. `close` ends it.
 pub struct Publisher<N: Naming> {
     writer: Writer<Shown, Shown, Known, Published<N>>,
     last: Shown,
@@ -43,9 +43,9 @@ impl<N: Naming> Model for Publisher<N> {
 }
 
 impl<N: Naming> Publisher<N> {
-    /// Whether puts may be appended: each is later than what stands for its owner in the opening table or was appended
-    /// since, the own one keeps the generation and all keys, none at a smaller version, and with them at most
-    /// `MEMBER_LIMIT` owners stand. It takes no memory.
+    /// Returns `true` if puts may be appended. Each has to be later than its owner's entry, in the opening table or
+    /// appended since. The own one keeps the generation and all keys, none at a smaller version, and at most
+    /// `MEMBER_LIMIT` owners are held with them. It takes no memory.
     pub fn may_append(&self, puts: &Puts) -> bool
         ensures { IsTrue result ↔ MayAppend self.now puts.now }
     {
@@ -61,7 +61,7 @@ impl<N: Naming> Publisher<N> {
         let table = self.last.table_with(alloc, puts)?;
         let mut after = self.last.front();
         if after.len() >= 1 << 62 || !after.add(&self.book, puts) {
-            // The publisher alone adds to its book, so this is never so, though no proof rules it out.
+            // The publisher alone adds to its book, so this never happens, though no proof rules it out.
             return Err(AllocError);
         }
         let next = Shown::of(alloc, table, after)?;
@@ -75,8 +75,8 @@ impl<N: Naming> Publisher<N> {
         }
     }
 
-    /// Makes one operation of a put, which is then pending. `may_append` tells whether it may. Refused, for want of
-    /// memory, it changes nothing, and the entry is gone.
+    /// Makes one operation of a put, which is then pending. `may_append` says whether it may. If it is refused, for
+    /// want of memory, nothing changes, and the entry is gone.
     pub fn append(&mut self, alloc: Global, owner: Endpoint, entry: Entry) -> Result<(), AllocError>
         requires { MayAppend self.old ((owner, entry) ∷ []) }
         ensures ok { OnOk result (self.new ≡ appended ((owner, entry) ∷ []) self.old) }
@@ -86,8 +86,9 @@ impl<N: Naming> Publisher<N> {
         self.add(alloc, &put)
     }
 
-    /// Makes one operation of all these puts, which are then pending. `may_append` tells whether they may; no puts
-    /// always may, and make an operation too. Refused, for want of memory, it changes nothing, and the list is gone.
+    /// Makes one operation of all these puts, which are then pending. `may_append` says whether they may; no puts
+    /// always may, and make an operation too. If it is refused, for want of memory, nothing changes, and the list is
+    /// gone.
     pub fn append_all(&mut self, alloc: Global, puts: Puts) -> Result<(), AllocError>
         requires { MayAppend self.old puts }
         ensures ok { OnOk result (self.new ≡ appended puts self.old) }
@@ -97,7 +98,7 @@ impl<N: Naming> Publisher<N> {
     }
 
     /// Moves all pending puts, in order, to the end of the published ones. It waits for passes that still read the
-    /// table before the last one. Refused, for want of memory, it changes neither.
+    /// table before the last one. If it is refused, for want of memory, neither list changes.
     pub fn publish<R: Wait>(&mut self, rt: &R) -> Result<(), AllocError>
         ensures ok { OnOk result (self.new ≡ all_published self.old) }
         ensures err { OnErr result (self.new ≡ self.old) }
@@ -105,22 +106,22 @@ impl<N: Naming> Publisher<N> {
         replace_with(self, rt, publish_out)
     }
 
-    /// What is published. It takes no memory.
+    /// Returns what is published, for passes to learn. It takes no memory.
     pub fn tell(&self) -> Told<N>
         ensures { result ≡ self.now.published }
     {
         Told::over(self.writer.published().front())
     }
 
-    // A reader that has seen nothing. There are as many places as passes, so there is always one, though no proof
-    // says so.
+    // Returns a reader that has seen nothing. There are as many places as passes, so there is always one, though no
+    // proof says so.
     fn reader(&self) -> Option<Reader<Shown, Known, Published<N>>>
         ensures { IfSome result (λ r. view r.place ≡ []) }
     {
         self.writer.factory().reader().ok()
     }
 
-    /// Waits for those who read, and ends the views: from then on passes read nothing.
+    /// Waits for passes that still read, and ends the views: from then on passes read nothing.
     pub fn close<R: Wait>(self, rt: &R) {
         let Publisher {
             writer,
@@ -146,7 +147,7 @@ fn publish_out<N: Naming, R: Wait>(
     }
 }
 
-/// A publisher of a table, and so many passes, 1 to 16. `AllocError` where one of its parts finds no memory.
+/// Makes a publisher of a table, and 1 to 16 passes. It returns `AllocError` if one of its parts finds no memory.
 pub fn views<N: Naming>(
     alloc: Global,
     opened: Opened,

@@ -1,4 +1,4 @@
-//! What is published, and the rule that it is under.
+//! Published tables, and the rule that they keep.
 
 ghost use Rattle.std.specs.Prelude.{◌≡◌, ◌≤◌, ◌↔◌, IfOk, IsTrue};
 ghost use Rattle.std.specs.FinMap as map;
@@ -16,7 +16,7 @@ use std::marker::{Model, PhantomData};
 use std::ops::Deref;
 use std::sync::Arc;
 
-/// A table, and the operations that made it. An operation hands on the table that it leads to, so a shown one takes it
+/// A table, and the operations that made it. An operation hands on the table to which it leads, so a shown one takes it
 /// in by sharing it.
 #[derive(Drop)]
 pub(crate) struct Shown {
@@ -36,7 +36,7 @@ impl Model for Shown {
 }
 
 impl Shown {
-    /// A table, as these operations made it.
+    /// Makes a shown table of a table and the operations that made it.
     pub(crate) fn of(alloc: Global, table: Table, front: Front) -> Result<Shown, AllocError>
         ensures { IfOk result (λ s. s ≡ record { table = table; front = front }) }
     {
@@ -46,14 +46,14 @@ impl Shown {
         })
     }
 
-    /// Whether puts may follow in its table.
+    /// Returns `true` if puts may follow in its table.
     pub(crate) fn may_follow(&self, puts: &Puts) -> bool
         ensures { IsTrue result ↔ MayFollow self.now.table puts.now }
     {
         may_follow(self.table.deref(), puts)
     }
 
-    /// The table after more puts.
+    /// Returns the table after more puts.
     pub(crate) fn table_with(&self, alloc: Global, puts: &Puts) -> Result<Table, AllocError>
         requires { map.len (with_puts self.now.table puts.now).entries ≤ MEMBER_LIMIT }
         ensures { IfOk result (λ t. t ≡ with_puts self.now.table puts.now) }
@@ -61,14 +61,14 @@ impl Shown {
         self.table.deref().with_rows(alloc, puts.rows())
     }
 
-    /// The operations.
+    /// Returns the operations.
     pub(crate) fn front(&self) -> Front
         ensures { result ≡ self.now.front }
     {
         self.front.again()
     }
 
-    /// The same table and operations. It takes no memory.
+    /// Returns the same table and operations. It takes no memory.
     pub(crate) fn again(&self) -> Result<Shown, AllocError>
         ensures { IfOk result (λ s. s ≡ self.now) }
     {
@@ -95,12 +95,12 @@ impl Absorb<Shown> for Shown {
     }
 }
 
-/// What a pass or the publisher has seen: operations. No value of it is made; a contract reads an array as a list of
+/// The operations that a pass or the publisher has seen. No value of it is made; a contract reads an array as a list of
 /// any length.
 pub(crate) type Known = [Puts; 0];
 
-/// The rule of the views under a name: what is published is the opening table after its operations, and what each
-/// pass has seen is a beginning of these.
+/// The rule of the views under a name: the published table is the opening table after its operations, and the
+/// operations that each pass has seen are a prefix of these.
 pub struct Published<N: Naming> {
     of: PhantomData<N>,
 }
@@ -114,7 +114,7 @@ impl<N: Naming> Protocol<Shown, Known> for Published<N> {
     ghost first = { [] };
 }
 
-/// What a read and a publication tell: what was seen begins what is seen now.
+/// The outcome of a read and of a publication: the operations seen before begin the ones seen now.
 pub(crate) struct Sees<N: Naming> {
     of: PhantomData<N>,
 }

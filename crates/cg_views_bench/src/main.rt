@@ -1,5 +1,5 @@
-//! Measures published views of a full table. With no words it does each piece of work a hundred times and prints what was
-//! read last; with the word `time` it measures each, and with the word `few` it does each twice, with a table of three.
+//! Measures published views of a full table. With no words it does each task a hundred times and prints what was read
+//! last; with the word `time` it measures each, and with the word `few` it does each twice, with a table of three.
 #![tactic(auto)]
 
 ghost use Rattle.std.specs.Prelude.{◌≡◌};
@@ -18,7 +18,7 @@ use std::sync::Wait;
 use std::thread::{Threads, join, map_vec};
 use std::time::Instant;
 
-// How many owners the table has, how often each piece of work is done, and whether times are printed.
+// The number of owners in the table, the number of times that each task is done, and whether times are printed.
 #[derive(Clone, Copy)]
 struct Counts {
     owners: u16,
@@ -48,7 +48,7 @@ const SOME: Counts = Counts {
     is_timed: false,
 };
 
-// The counts that the first word behind the program's name asks for.
+// The counts of the first word after the program's name.
 fn counts_by_word(rt: &impl Env) -> Counts {
     let mut word = [0u8; 4];
     match rt.arg(1, &mut word) {
@@ -67,7 +67,7 @@ fn started(alloc: Global) -> Option<Entry> {
     Some(Entry::start(alloc, Generation::new(9)?))
 }
 
-// Appends one put, where it may be.
+// Appends one put, if it may be appended.
 fn append<N: Naming>(
     alloc: Global,
     publisher: &mut Publisher<N>,
@@ -81,7 +81,7 @@ fn append<N: Naming>(
     Ok(())
 }
 
-// Fills the table up to so many owners.
+// Fills the table up to this number of owners.
 fn fill<N: Naming>(alloc: Global, publisher: &mut Publisher<N>, owners: u16) -> Result<(), Fault> {
     for number in 2..=owners {
         if let (Some(owner), Some(entry)) = (endpoint(number), started(alloc)) {
@@ -91,7 +91,7 @@ fn fill<N: Naming>(alloc: Global, publisher: &mut Publisher<N>, owners: u16) -> 
     Ok(())
 }
 
-// Appends and publishes so many beats of the own entry.
+// Appends and publishes this number of beats of the own entry.
 fn beat_on<N: Naming, R: Wait>(
     rt: &R,
     alloc: Global,
@@ -109,7 +109,7 @@ fn beat_on<N: Naming, R: Wait>(
     Ok((owner, entry))
 }
 
-// Reads so many times; it answers the last heartbeat and how many owners there are.
+// Reads this number of times, and returns the last heartbeat and the number of owners.
 fn read_on<N: Naming>(pass: &mut Pass<N>, count: u32) -> Result<(u32, usize), Fault> {
     let mut last = (0, 0);
     for _ in 0..count {
@@ -120,7 +120,7 @@ fn read_on<N: Naming>(pass: &mut Pass<N>, count: u32) -> Result<(u32, usize), Fa
     Ok(last)
 }
 
-// Prints what was read last, or how many nanoseconds each turn took.
+// Prints what was read last, or the nanoseconds of each turn.
 fn print_line(
     rt: &(impl Clock + Print),
     name: &str,
@@ -142,7 +142,7 @@ fn print_line(
     Ok(())
 }
 
-// So many passes, taken off a list.
+// Takes this number of passes off a list.
 fn some_of<N: Naming>(
     alloc: Global,
     passes: &mut Vec<Pass<N>>,
@@ -157,7 +157,7 @@ fn some_of<N: Naming>(
     Ok(some)
 }
 
-// Reads in as many threads as there are passes. It answers how many could.
+// Reads in as many threads as there are passes, and returns the number of threads that could.
 fn read_in_threads<N: Naming + Send + Sync, R: Threads + Sync>(
     rt: &R,
     passes: Vec<Pass<N>>,
@@ -172,7 +172,7 @@ fn read_whole<N: Naming>(pass: Pass<N>, count: u32) -> bool {
     read_on(&mut pass, count).is_ok()
 }
 
-// Reads in so many threads while one publishes.
+// Reads in this number of threads while one publishes.
 fn beside<N: Naming + Send + Sync, R: Threads + Wait + Sync + Clock + Print>(
     rt: &R,
     alloc: Global,

@@ -1,4 +1,4 @@
-//! What may be appended, puts of several owners, a full table, and many operations of one publisher.
+//! Puts that may and may not be appended, puts of several owners, full tables, many operations of one publisher.
 
 ghost use Rattle.std.specs.Prelude.{◌≡◌};
 
@@ -14,7 +14,7 @@ use std::marker::Brand;
 use std::sync::Wait;
 use std::test::Fail;
 
-// Appends one put by `append`, where it may be.
+// Appends one put by `append`, if it may be appended.
 fn append_one<N: Naming>(
     alloc: Global,
     publisher: &mut Publisher<N>,
@@ -29,7 +29,7 @@ fn append_one<N: Naming>(
     Ok(publisher.append(alloc, owner, entry)?)
 }
 
-// Appends puts by `append_all`, where they may be.
+// Appends puts by `append_all`, if they may be appended.
 pub(crate) fn append<N: Naming>(
     alloc: Global,
     publisher: &mut Publisher<N>,
@@ -41,7 +41,7 @@ pub(crate) fn append<N: Naming>(
     Ok(publisher.append_all(alloc, puts)?)
 }
 
-// ---- what may be appended
+// ---- puts that may be appended
 
 // An entry of a generation, with a heartbeat version and, above version 0, key 3 at a version.
 fn entry(alloc: Global, of: (u32, u32, u32)) -> Result<Entry, Fail> {
@@ -55,7 +55,7 @@ fn entry(alloc: Global, of: (u32, u32, u32)) -> Result<Entry, Fail> {
     Ok(Entry::of_delta(alloc, &whole)?.ok_or("an entry")?)
 }
 
-// For each put, an owner with an entry, whether it may be appended.
+// Tests of each put, an owner with an entry, whether it may be appended.
 fn may_each<N: Naming>(
     alloc: Global,
     publisher: &Publisher<N>,
@@ -83,14 +83,14 @@ fn two_puts(alloc: Global) -> Result<Puts, Fail> {
     Ok(Puts::of_owners(alloc, &both, &[a, b])?)
 }
 
-// How many owners a pass reads, and A's heartbeat.
+// The number of owners that a pass reads, and A's heartbeat.
 fn read<N: Naming>(pass: &mut Pass<N>) -> Result<(u32, u32), Fault> {
     let snapshot = pass.read()?;
     let table = snapshot.table();
     Ok((table.owners().len() as u32, heartbeat(table)))
 }
 
-// What is read before and after the two are published.
+// Reads before and after the two are published.
 fn read_two<N: Naming, R: Wait>(
     rt: &R,
     alloc: Global,
@@ -116,8 +116,8 @@ fn fill<N: Naming>(alloc: Global, publisher: &mut Publisher<N>) -> Result<(), Fa
     Ok(())
 }
 
-// Appends so many heartbeats of A, of which each tenth publishes and each hundredth is read. It answers how many reads
-// had the newest heartbeat, and what was read last.
+// Appends this number of heartbeats of A, publishes at each tenth and reads at each hundredth. It returns the number of
+// reads that had the newest heartbeat, and the last read.
 fn beat_on<N: Naming, R: Wait>(
     rt: &R,
     alloc: Global,
@@ -149,7 +149,7 @@ fn beat_on<N: Naming, R: Wait>(
 
 // ---- the examples
 
-// What is done with a publisher and a pass.
+// Work that is done with a publisher and a pass.
 #[derive(Clone, Copy)]
 enum Work<'a> {
     May(&'a [(u16, (u32, u32, u32))]),
@@ -200,7 +200,7 @@ fn answers_by<N: Naming, R: Wait>(
     answers
 }
 
-// What this work answers where A is held at heartbeat 5, with key 3 at version 4.
+// The answers of this work if A is held at heartbeat 5, with key 3 at version 4.
 fn answers<R: Wait>(rt: &R, alloc: Global, work: Work) -> Result<Vec<u32>, Fail> {
     let table = Table::new(alloc, endpoint(A), entry(alloc, (9, 5, 4))?)?;
     answers_by::<Brand, R>(rt, alloc, Opened::new(), table, work)

@@ -1,4 +1,4 @@
-//! Lists of calls of one publisher and two passes, and what the passes read.
+//! Reads of two passes after lists of calls of one publisher: published, learnt, none pending, several at once.
 
 ghost use Rattle.std.specs.Prelude.{◌≡◌};
 
@@ -21,7 +21,7 @@ enum Call {
     // no puts
     AppendNone,
     Publish,
-    // What is told is kept behind what was told before.
+    // Tells what is published, and keeps that after what was told before.
     Tell,
     // A pass, by its number, learns what was told at this place, which is then gone from there.
     Learn(usize, usize),
@@ -49,7 +49,7 @@ fn learn<N: Naming>(
     Ok(())
 }
 
-// Does one call, and answers what it read.
+// Does one call, and returns what it read.
 fn do_one<N: Naming, R: Wait>(
     rt: &R,
     alloc: Global,
@@ -86,7 +86,7 @@ fn do_all<N: Naming, R: Wait>(
     Ok(shown)
 }
 
-// What is read in these calls, and what the first pass answers once the publisher is gone.
+// The reads of these calls, and the first pass's answer once the publisher is gone.
 fn read_by<N: Naming, R: Wait>(
     rt: &R,
     alloc: Global,

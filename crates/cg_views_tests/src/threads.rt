@@ -1,4 +1,4 @@
-//! One thread publishes while four read.
+//! Reads of four threads while one publishes: versions never fall, and told Sets are read.
 
 ghost use Rattle.std.specs.Prelude.{◌≡◌};
 
@@ -18,7 +18,7 @@ use std::sync::Wait;
 use std::test::Fail;
 use std::thread::{Threads, join};
 
-// What was told, and the version of the Set that it ends with.
+// The told puts, and the version of the Set that they end with.
 #[derive(Drop)]
 struct News<N: Naming> {
     told: Told<N>,
@@ -27,7 +27,7 @@ struct News<N: Naming> {
 
 // ---- the readers
 
-// How often the newest version fell, how many Sets that were told were read, and the newest version at the end.
+// The number of falls of the newest version, the number of told Sets that were read, and the newest version at the end.
 #[derive(Clone, Copy, Debug, PartialEq, Eq)]
 struct Seen {
     falls: u32,
@@ -88,7 +88,7 @@ fn read_on<N: Naming, R: Wait>(rt: &R, pass: Pass<N>, news: Receiver<News<N>>) -
 
 // ---- the publisher
 
-// Tells each reader.
+// Hands each reader what is published.
 fn tell_all<N: Naming, R: Wait>(
     rt: &R,
     publisher: &Publisher<N>,
@@ -131,7 +131,7 @@ fn publish_next<N: Naming, R: Wait>(
     Ok(())
 }
 
-// Publishes so many times.
+// Publishes this number of times.
 fn publish_all<N: Naming, R: Wait>(
     rt: &R,
     alloc: Global,
@@ -149,7 +149,7 @@ fn publish_all<N: Naming, R: Wait>(
 
 // ---- all of them
 
-// A reader, where its pass and its news were made.
+// A reader, if its pass and its news were made.
 type Reader<N> = (Option<Pass<N>>, Option<Receiver<News<N>>>);
 
 fn read_one<N: Naming, R: Wait>(rt: &R, reader: Reader<N>) -> Option<Seen> {
@@ -187,7 +187,7 @@ fn read_by_four<N: Naming + Send + Sync, R: Threads + Wait + Sync>(
     [a, b, c, d]
 }
 
-// What the four saw.
+// The reads of the four.
 fn seen_by<N: Naming + Send + Sync, R: Threads + Wait + Sync>(
     rt: &R,
     alloc: Global,
