@@ -1,4 +1,4 @@
--- What one event more does to a history.
+-- One event more in a history: its step, its record and its receipt.
 use Rattle.std.proofs.Common.{◌≡◌, ℕ, Bool, true, false, cond, refl, sym, ap, subst, length}
 use Rattle.std.specs.Prelude.{◌==◌, Result, Ok, Err}
 use Rattle.cg_types.specs.declared.fault.Fault.{Fault}

@@ -1,4 +1,4 @@
--- Where records lead, and what their puts do.
+-- Puts of records, and the nodes that the records lead to.
 use Rattle.std.proofs.Common.{◌≡◌, ℕ, zero, suc, ◌+◌, ◌<◌, ◌≤◌, Bool, true, List, [], ◌∷◌, ◌++◌, length, take, refl, sym, ap, ◌∙◌, subst, append_assoc, arith, Ok}
 use Rattle.std.specs.Prelude.{slice_index_or}
 use Rattle.std.specs.FinMap as map
@@ -35,7 +35,7 @@ pub puts_of-append : (rs qs : List Item) → puts_of (rs ++ qs) ≡ puts_of rs +
 puts_of-append [] qs = refl
 puts_of-append (r ∷ rs) qs = ap (λ ps. r.puts ++ ps) (puts_of-append rs qs) ∙ sym (append_assoc r.puts (puts_of rs) (puts_of qs))
 
--- the puts of one record, and of those that follow it from where it leads
+-- the puts of one record, and of the records that follow it from the node to which it leads
 lead_on : (b m n : NodeValue) (ps : List Put) (rs : List Item) → ps ≡ puts b.table m.table → ArePuts b.table m.table → PutsLead m rs n → (with_puts b.table (ps ++ puts_of rs) ≡ n.table) × (keep_order b.table (ps ++ puts_of rs) ≡ true)
 lead_on b m n ps rs is are rest =
     let at : with_puts b.table ps ≡ m.table = ap (with_puts b.table) is ∙ are.lead in (
@@ -52,9 +52,9 @@ puts_of_records_lead b (r ∷ rs) n small h =
     let on = lead_on b x.0 n r.puts rs (ap (λ i. i.puts) h.2) (puts_keep_their_order b r.event x.0 x.1 small h.1) rest in
     record { lead = on.0; order = on.1; small = rest.small }
 
--- ---- fronts of the records
+-- ---- prefixes of the records
 
--- a front of the records leads somewhere
+-- a prefix of the records leads to a node
 pub replays_front : (k : ℕ) (b : NodeValue) (rs : List Item) (n : NodeValue) → Replays b rs n → (m : NodeValue) × Replays b (take k rs) m
 replays_front zero b rs n h = (b, refl)
 replays_front (suc k) b [] n h = (b, refl)
@@ -69,7 +69,7 @@ puts_front (suc k) (x ∷ xs) r less is = ap (λ ps. x.puts ++ ps) (puts_front k
 pub puts_next : (k : ℕ) (rs : List Item) (r : Item) → k < length rs → r ≡ slice_index_or rs k r → puts_of (take (k + 1) rs) ≡ puts_of (take k rs) ++ r.puts
 puts_next k rs r less is = let one : k + 1 ≡ suc k = omega arith in ap (λ (n : ℕ). puts_of (take n rs)) one ∙ puts_front k rs r less is
 
--- a front's puts keep their order, and there is room for what they lead to
+-- the puts of a prefix keep their order, and the table to which they lead has room
 pub record Fits (t : TableValue) (ps : List Put) : Type 0 where
   pub order : keep_order t ps ≡ true
   pub room : map.len (with_puts t ps).entries ≤ MEMBER_LIMIT
@@ -84,6 +84,6 @@ front_fits k h i =
 pub own_stays : (h : HistoryValue) → IsReplayed h → h.node.table.own ≡ h.base.table.own
 own_stays h i = sym (ap (λ (t : TableValue). t.own) (puts_of_records_lead h.base h.records h.node i.small i.replays).lead)
 
--- the node is as a member may be
+-- the node is one that a member may be
 pub node_small : (h : HistoryValue) → IsReplayed h → IsSmall h.node
 node_small h i = (puts_of_records_lead h.base h.records h.node i.small i.replays).small

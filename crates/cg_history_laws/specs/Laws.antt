@@ -1,4 +1,4 @@
--- What holds of every history.
+-- Properties of every history.
 use Rattle.std.specs.Prelude.{ℕ, suc, ◌+◌, ◌≡◌, ◌≢◌, ◌<◌, true, List, [], ◌∷◌, ◌++◌, length, Ok, Some, slice_get}
 use Rattle.cg_table.specs.Puts.{puts, with_puts, keep_order}
 use Rattle.cg_events.specs.declared.event.Event.{Event}
@@ -20,7 +20,7 @@ RecordsReplay =
     (base : NodeValue) (records : List Item) (node : NodeValue) → Replays base records node
     → replay base (events_of records) ≡ Ok (node, replies_of records)
 
--- The puts of the records lead from the one table to the other, each later than what stood.
+-- The puts of the records lead from the first table to the second, each later than what was held.
 pub record PutsLead (base : NodeValue) (records : List Item) (node : NodeValue) : Type 0 where
   pub lead : with_puts base.table (puts_of records) ≡ node.table
   pub order : keep_order base.table (puts_of records) ≡ true
@@ -31,7 +31,7 @@ PutsOfRecordsLead =
     (base : NodeValue) (records : List Item) (node : NodeValue) → IsSmall base → Replays base records node
     → PutsLead base records node
 
--- A step of the node was done, its record stands at the end, and the receipt is the record's.
+-- A step of the node was done, its record is the last, and the receipt is the record's.
 pub record HasOneMore (h : HistoryValue) (caller : ℕ) (e : Event) (after : HistoryValue) (q : Receipt) : Type 0 where
   pub node : NodeValue
   pub answer : Reply
@@ -47,9 +47,8 @@ EachEventMakesOneRecord =
     (h : HistoryValue) (caller : ℕ) (e : Event) (after : HistoryValue) (q : Receipt) → apply h caller e ≡ Ok (after, q)
     → HasOneMore h caller e after q
 
--- Where the node's table spells its places in a world, and the message that an event hands over, if it hands one over,
--- says one that was sent there, the event is one step of that world for that node; its receipt's reply has the message
--- and the outcomes.
+-- An event is one step of a world for a node, if the node's table spells its places there and a message that the event
+-- hands over says one that was sent there. The receipt's reply has the message and the outcomes.
 abbrev pub RecordsAreStepsByPlaces : Type 0
 RecordsAreStepsByPlaces =
     (w : PlaceWorld) (node number : ℕ) (h : HistoryValue) (caller : ℕ) (e : Event) (after : HistoryValue) (q : Receipt)
@@ -63,7 +62,7 @@ ConfirmedStandOnce =
     (records : List Item) (receipts : List Receipt) (i j : ℕ) (q r : Receipt) → AreConfirmed records receipts
     → slice_get receipts i ≡ Some q → slice_get receipts j ≡ Some r → i < j → q.number ≢ r.number
 
--- Where confirmed receipts are as many as the records, each record has one.
+-- Each record has a confirmed receipt if these are as many as the records.
 abbrev pub EachRecordHasItsReceipt : Type 0
 EachRecordHasItsReceipt =
     (records : List Item) (receipts : List Receipt) (n : ℕ) → AreConfirmed records receipts

@@ -15,20 +15,20 @@ pub fn records_replay()
     ensures { RecordsReplay }
 {}
 
-/// The puts of the records lead from the table that the history began with to the node's, each later than what stood,
-/// and the own entry goes on from it; the node is as a member may be.
+/// The puts of the records lead from the table that the history began with to the node's, each later than what was
+/// held. The own entry goes on from the first one, and the node is one that a member may be.
 pub fn puts_of_records_lead()
     ensures { PutsOfRecordsLead }
 {}
 
-/// An event that is done is one step of the node, one record of it at the end, and the receipt of that record.
+/// An event that is done makes one step of the node, one record of it at the end, and the receipt of that record.
 pub fn each_event_makes_one_record()
     ensures { EachEventMakesOneRecord }
 {}
 
-/// Where the node's table spells its places in a world, and the message that an event hands over, if it hands one over,
-/// says one that was sent there, the event is one step of that world for that node, and its receipt's reply says the
-/// message sent there and what becomes of the spans.
+/// An event is one step of a world for a node, if the node's table spells its places there and a message that the event
+/// hands over says one that was sent there. Its receipt's reply says the message sent there and the outcomes of the
+/// spans.
 pub fn records_are_steps_by_places()
     ensures { RecordsAreStepsByPlaces }
 {}
@@ -38,7 +38,7 @@ pub fn confirmed_stand_once()
     ensures { ConfirmedStandOnce }
 {}
 
-/// Where confirmed receipts are as many as the records, each record has one.
+/// Each record has a confirmed receipt if these are as many as the records.
 pub fn each_record_has_its_receipt()
     ensures { EachRecordHasItsReceipt }
 {}

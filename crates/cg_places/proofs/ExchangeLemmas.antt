@@ -17,7 +17,7 @@ use Rattle.cg_places.proofs.WorldLemmas.{IsSound, action_sound, actions_from_sou
 use Rattle.cg_places.proofs.PlaceCases.{opener_reaches, answerer_reaches}
 use Rattle.cg_places.proofs.OnwardLemmas.{Keeps, keeps_on, action_keeps, actions_from_keeps, still_runs, HoldsOn, holds_further, action_holds, actions_from_holds}
 
--- ---- what the messages of an exchange carry
+-- ---- the contents of the messages of an exchange
 
 pub sent_last : {A : Type 0} (xs : List A) (y : A) → at_place (xs ++ y ∷ []) (length (xs ++ y ∷ [])) ≡ Some y
 sent_last xs y = rw (length_push xs y, add-one) (at_place_last xs y)
@@ -26,7 +26,7 @@ opening_sends : (w : PlaceWorld) (opener : ℕ) → runs w opener ≡ true → a
 unfolding after_action with_message
 opening_sends w opener e = rw e (sent_last w.sent (Syn (w.places opener)))
 
--- a message that stands is received
+-- a message that was sent is received
 pub receives : (w : PlaceWorld) (number node : ℕ) (message : PlaceMessage) → runs w node ≡ true → at_place w.sent number ≡ Some message → after_action w (Deliver number node) ≡ after_receipt w node message
 unfolding after_action
 receives w number node message e there = rw there (rw e refl)
@@ -42,7 +42,7 @@ reply_sends : (w : PlaceWorld) (number node : ℕ) (theirs : ℕ → ℕ) → ru
 unfolding with_message
 reply_sends w number node theirs e there = rw (receives w number node (Syn theirs) e there) (sent_last w.sent (Ack (asks_of w node theirs) (spans_of w node theirs)))
 
--- what a node that took the spans of a message holds
+-- the places of a node that took the spans of a message
 pub held_after : (w : PlaceWorld) (node : ℕ) (spans : ℕ → Option Span) (owner : ℕ) → (with_spans w node spans).places node owner ≡ places_after node (w.places node) spans owner
 unfolding with_spans
 held_after w node spans owner = ap (λ (row : ℕ → ℕ). row owner) (put_at_here w.places node (λ owner. places_after node (w.places node) spans owner))
@@ -132,7 +132,7 @@ module _ (w : PlaceWorld) (x : PlaceExchange) (s : IsSound w) (both : BothRun w 
   pub answerer_runs_on : runs (at_ack2 by_places w x) x.answerer ≡ true
   answerer_runs_on = still_runs (keeps_on to_at_ack to_at_ack2) x.answerer answerer_runs
 
-  -- where a node stands that is the owner
+  -- the place of a node that is the owner
   full : (v : PlaceWorld) → IsSound v → (node owner : ℕ) → (owner == node) ≡ true → v.places node owner ≡ length (v.histories owner)
   full v sound node owner e = subst (λ n. v.places n owner ≡ length (v.histories owner)) (same_number owner node e) (sound.own owner)
 
@@ -148,7 +148,7 @@ module _ (w : PlaceWorld) (x : PlaceExchange) (s : IsSound w) (both : BothRun w 
       opener_reaches ((at_syn by_places w x).histories owner) (owner == x.opener) ((at_syn by_places w x).places x.answerer owner) (w.places x.opener owner) ((at_ack by_places w x).places x.opener owner) before at_end in
       omega (arith, reached, close_places (at_ack by_places w x) (length (after_syn by_places w x).sent) x.opener asks spans opener_runs ack_stands owner, after)
 
-  -- what the opener holds when it answers the asks
+  -- the places that the opener holds when it answers the asks
   reached_stands : (owner : ℕ) → (with_spans (at_ack by_places w x) x.opener spans).places x.opener owner ≤ length ((at_ack by_places w x).histories owner)
   reached_stands owner =
       let are : AreSpans (at_ack by_places w x).histories spans = (at_ack_sound.messages (length (after_syn by_places w x).sent) (Ack asks spans) ack_stands).1 in

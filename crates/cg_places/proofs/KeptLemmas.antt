@@ -1,5 +1,5 @@
--- What stays true as a message is sent and as spans are taken stays true as any action is done, where its own part does:
--- the start of a node, or the change of its own entry.
+-- A property that sent messages and taken spans keep is kept by each action whose own part keeps it: the start of a
+-- node, or the change of its own entry.
 use Rattle.std.proofs.Common.{◌≡◌, ℕ, Bool, true, false, Option, Some, None, refl}
 use Rattle.std.specs.Prelude.{⊤, cond}
 use Rattle.cg_entry.specs.Values.{EntryValue}
@@ -18,7 +18,7 @@ pub record IsKept (P : PlaceWorld → Type 0) : Type 0 where
 abbrev pub AfterChange : (PlaceWorld → Type 0) → PlaceWorld → ℕ → (EntryValue → EntryValue) → Type 0
 AfterChange P w node change = (x : EntryValue) → last_entry (w.histories node) ≡ Some x → P (with_entry w node (change x))
 
--- what is to be shown of an action: of a start that is done, and of a change of an own entry
+-- the part of an action that is left to show: of a start that is done, and of a change of an own entry
 abbrev pub OwnPart : (PlaceWorld → Type 0) → PlaceWorld → PlaceAction → Type 0
 OwnPart P w (Start node generation) = may_start w node generation ≡ true → P (with_start w node generation)
 OwnPart P w (Beat node) = AfterChange P w node entry_after_beat

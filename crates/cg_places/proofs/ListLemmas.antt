@@ -22,7 +22,7 @@ module _ {World Action Moment : Type 0} (k : WorldKind World Action Moment) (s :
   after_both w (x ∷ xs) ys = s.next w x (xs ++ ys) ∙ after_both (k.after w x) xs ys ∙ ap (λ (v : World). k.after_all v ys) (sym (s.next w x xs))
 
   module _ (w : World) (x : ExchangeOf Action Moment) where
-    -- what is left to do from each message on
+    -- the actions that are left to do from each message on
     abbrev last : List Action
     last = ack2_delivery k w x ∷ []
 
@@ -72,7 +72,7 @@ done_neither w x s =
       answerer = (done_never x.answerer (after_opening by_places w x) x.before_syn s.answerer.0, done_never x.answerer (after_syn by_places w y) x.before_ack s.answerer.1, done_never x.answerer (after_ack by_places w z) x.before_ack2 s.answerer.2);
     }
 
--- ---- what is done is not refused
+-- ---- done actions are not refused
 
 pub all_done : (w : PlaceWorld) (actions : List PlaceAction) → AreDone w (done_from w actions)
 all_done w [] = tt

@@ -1,4 +1,4 @@
--- Nothing that a running node holds falls back, and nothing that was sent goes.
+-- Places held by a running node never fall back, and sent messages stay sent.
 use Rattle.std.proofs.Common.{◌≡◌, ◌≢◌, ℕ, ◌+◌, ◌≤◌, List, [], ◌∷◌, length, sym, ap, arith, true, Option, Some}
 use Rattle.std.specs.Prelude.{◌==◌}
 use Rattle.std.proofs.lemmas.Bool.Decides.{nat_tests}
@@ -15,9 +15,9 @@ use Rattle.cg_places.proofs.GrowthLemmas.{AllContinue, continues_itself, continu
 use Rattle.cg_places.proofs.StepLemmas.{place_with_rises}
 use Rattle.cg_places.proofs.WorldLemmas.{IsSound, action_sound}
 
--- ---- whatever is done
+-- ---- any action
 
--- what was written and sent stays
+-- written entries and sent messages stay
 pub record Keeps (w v : PlaceWorld) : Type 0 where
   pub histories : AllContinue w.histories v.histories
   pub sent : (number : ℕ) (message : PlaceMessage) → at_place w.sent number ≡ Some message → at_place v.sent number ≡ Some message
@@ -61,7 +61,7 @@ actions_from_keeps w (action ∷ actions) = keeps_on (action_keeps w action) (ac
 pub still_runs : {w v : PlaceWorld} → Keeps w v → (node : ℕ) → runs w node ≡ true → runs v node ≡ true
 still_runs k node e = let longer = (k.histories node).longer in grind (arith, nat_tests)
 
--- ---- what a node holds that is not started
+-- ---- a node that is not started keeps what it holds
 
 abbrev pub HoldsOn : ℕ → PlaceWorld → PlaceWorld → Type 0
 HoldsOn n w v = (owner : ℕ) → w.places n owner ≤ v.places n owner

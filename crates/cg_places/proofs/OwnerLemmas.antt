@@ -42,7 +42,7 @@ rising_distinct (Some last) (x ∷ xs) h =
 pub same_test : (q k : ℕ) → eq_by_cmp nat_cmp q k ≡ nat_eq q k
 same_test q k = grind (arith, nat_tests)
 
--- whether a map holds a key is whether it is among its keys
+-- a map holds a key exactly if the key is among its keys
 pub keys_known : (m : Entries) (q : ℕ) → is_some (table.get m q) ≡ list_any (nat_eq q) (keys_of (table.entries m))
 keys_known m q = table.contains_key-keys m q ∙ (λ i. list_any (λ k. same_test q k i) (keys_of (table.entries m)))
 
@@ -78,7 +78,7 @@ grown_runs w node entry = put_at-each (λ n h. nat_lt 0 (length h) ≡ cond (n =
     (let size = length_push (w.histories node) entry in let t = test_same node in rw t (grind (arith, nat_tests, size)))
     (λ n apart. rw (test_other n node apart) refl)
 
--- a node that runs goes on so
+-- a node that runs goes on running
 pub runs_on : (w : PlaceWorld) (node n : ℕ) → runs w node ≡ true → cond (n == node) true (runs w n) ≡ runs w n
 runs_on w node n running = go (n == node) refl
   where
@@ -145,7 +145,7 @@ actions_from_knows w (action ∷ actions) k = actions_from_knows (after_action w
 pub actions_knows : (actions : List PlaceAction) → KnowsOwners (world_after actions)
 actions_knows actions = actions_from_knows nobody actions nobody_knows
 
--- whom a table holds that spells places
+-- the owners in a table that spells places
 pub held_runs : (w : PlaceWorld) (entries : Entries) (places : ℕ → ℕ) → SpellsPlaces w.histories entries places → (q : ℕ) → is_some (table.get entries q) ≡ true → runs w q ≡ true
 held_runs w entries places s q some = go (table.get entries q) refl some
   where

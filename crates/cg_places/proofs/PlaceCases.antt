@@ -1,4 +1,4 @@
--- Which answer comes when, by places, and how far it leads.
+-- Answers by places: the case of each, and how far it leads.
 use Rattle.std.proofs.Common.{◌≡◌, ◌<◌, ◌≤◌, ◌⊎◌, inl, inr, ℕ, Bool, true, false, List, length, Option, Some, None, refl, ap, arith, nat_lt, max}
 use Rattle.std.specs.Option.{option_and_then}
 use Rattle.std.proofs.lemmas.Bool.Decides.{nat_tests}
@@ -14,7 +14,7 @@ use Rattle.cg_places.proofs.StepLemmas.{place_with_rises, place_with_reaches}
 within_low : (h : List EntryValue) (g p : ℕ) → within_generation h g p ≤ p
 within_low h g p = grind (arith, nat_tests)
 
--- ---- what is sent for a SYN
+-- ---- the answer to a SYN
 
 abbrev pub due_span : List EntryValue → ℕ → ℕ → Span
 due_span h mine theirs = record { from = within_generation h (generation_at h mine) theirs; to = mine }
@@ -36,7 +36,7 @@ span_for_to h mine theirs span e = go (span_cases h mine theirs)
     go (inl a) = absurd (let e0 = a.0 in cc)
     go (inr a) = let same : span ≡ due_span h mine theirs = let e0 = a.0 in cc in ap (λ (s : Span). s.to) same
 
--- ---- what is asked for
+-- ---- the asks of an answer
 
 abbrev pub due_ask : List EntryValue → ℕ → ℕ → Ask
 due_ask h mine theirs = record { generation = generation_at h theirs; from = within_generation h (generation_at h theirs) mine }
@@ -51,7 +51,7 @@ ask_cases h mine theirs = go (nat_lt mine theirs) refl
     go true e = inr (rw e refl, grind (arith, nat_tests))
     go false e = inl (rw e refl, grind (arith, nat_tests))
 
--- ---- what is sent for an ask
+-- ---- the answer to an ask
 
 abbrev GrantCases : List EntryValue → ℕ → Ask → Type 0
 GrantCases h mine ask =
@@ -76,7 +76,8 @@ grants_to h mine (Some ask) span e = grant_to h mine ask span e
 
 -- ---- how far answers lead
 
--- theirs is what the opener held when it opened, mine what the answerer held, now what the opener holds when the reply comes
+-- theirs is what the opener held when it opened, mine what the answerer held, now what the opener holds when the reply
+-- comes
 pub opener_reaches : (h : List EntryValue) (own : Bool) (mine theirs now : ℕ) → theirs ≤ now → (own ≡ true → mine ≤ now) → max mine theirs ≤ place_with own now (span_for h mine theirs)
 opener_reaches h own mine theirs now l at_end = go (span_cases h mine theirs)
   where
@@ -84,7 +85,7 @@ opener_reaches h own mine theirs now l at_end = go (span_cases h mine theirs)
     go (inl a) = omega (arith, a.1, l, place_with_rises own now (span_for h mine theirs))
     go (inr a) = rw a.0 (omega (arith, a.1, place_with_reaches own now (due_span h mine theirs) at_end (λ e. omega (arith, l, within_low h (generation_at h mine) theirs))))
 
--- reached is what the opener holds when it answers the asks, now what the answerer holds when that comes
+-- reached is what the opener holds when it answers the asks, now what the answerer holds when the answer comes
 module _ (h k : List EntryValue) (own : Bool) (mine theirs reached now : ℕ) (is : IsHistory k) (c : Continues h k) (within : theirs ≤ length h) (stands : reached ≤ length k) (l : theirs ≤ reached) (on : mine ≤ now) (at_end : own ≡ true → reached ≤ now) where
   high : (due_ask h mine theirs).generation ≤ generation_at k reached
   high = omega (arith, same_generation c theirs within, generation_rises k theirs reached is l stands)

@@ -28,7 +28,7 @@ module _ {A : Type 0} where
   split_at P f n x here other m true e = subst (λ k. P k x) (sym (same_number m n e)) here
   split_at P f n x here other m false e = other m (other_number m n e)
 
-  -- what holds at the changed number and at the others holds everywhere
+  -- a property at the changed number and at the others is one of all numbers
   pub put_at-each : (P : ℕ → A → Type 0) (f : ℕ → A) (n : ℕ) (x : A) → P n x → ((m : ℕ) → m ≢ n → P m (f m)) → (m : ℕ) → P m (put_at f n x m)
   put_at-each P f n x here other m = split_at P f n x here other m (m == n) refl
 
@@ -48,7 +48,7 @@ module _ {A : Type 0} where
   at_place_push xs y zero z e = inl e
   at_place_push xs y (suc k) z e = slice_get_push xs y k z e
 
-  -- what stands at a place stands there in each longer list
+  -- the item at a place is at that place in each longer list
   pub at_place_longer : (xs ys : List A) (p : ℕ) (z : A) → at_place xs p ≡ Some z → at_place (xs ++ ys) p ≡ Some z
   at_place_longer xs ys zero z e = cc
   at_place_longer [] ys (suc p) z e = cc

@@ -1,4 +1,4 @@
--- What a table would hold with newcomers is no more than owners have started.
+-- A table with newcomers holds no more than owners have started.
 use Rattle.std.proofs.Common.{◌≡◌, ℕ, ◌+◌, ◌≤◌, List, [], ◌∷◌, length, refl, sym, ◌∙◌, ap, arith, Bool, true, false, Option, Some, None, nat_lt}
 use Rattle.std.specs.Prelude.{◌==◌, ◌&&◌, ◌||◌, not, cond, is_some, nat_eq, find, map, count_by}
 use Rattle.std.specs.List.{list_any}
@@ -64,7 +64,7 @@ new_by false held e = absurd cc
 
 -- members about owners, of which some count
 module _ {X : Type 0} (key : X → ℕ) (counts : X → Bool) where
-  -- how many of those that count are about an owner that a table does not hold
+  -- the number of those that count and are about an owner that a table does not hold
   abbrev newcomers : Entries → List X → ℕ
   newcomers m xs = count_by (λ x. counts x && not (table.contains_key m (key x))) xs
 

@@ -1,4 +1,4 @@
--- What spans do to a place, and to what was taken.
+-- Spans change a place and the list of taken spans.
 use Rattle.std.proofs.Common.{◌≡◌, ℕ, ◌<◌, ◌≤◌, ◌⊎◌, inl, inr, List, [], ◌∷◌, ◌++◌, refl, arith, Bool, true, false, Option, Some, None, max}
 use Rattle.std.proofs.lemmas.Bool.Decides.{nat_tests}
 use Rattle.cg_entry.specs.Place.{Span, Taken, Old, Gap, span_outcome}
@@ -6,7 +6,7 @@ use Rattle.cg_exchange_laws.specs.Places.{place_with}
 use Rattle.cg_places.specs.PlaceWorld.{taken_with}
 use Rattle.cg_places.specs.Join.{furthest, targets}
 
--- which outcome comes when
+-- the case of each outcome
 abbrev Outcomes : ℕ → Span → Type 0
 Outcomes place span =
     ((span_outcome place span ≡ Old) × (span.to ≤ place)) ⊎ ((span_outcome place span ≡ Taken) × (span.from ≤ place) × (place < span.to)) ⊎ ((span_outcome place span ≡ Gap) × (place < span.from) × (place < span.to))
@@ -49,7 +49,7 @@ pub place_with_reaches : (own : Bool) (held : ℕ) (span : Span) → (own ≡ tr
 place_with_reaches true held span a b = a refl
 place_with_reaches false held span a b = let l = b refl in grind (arith, place_with_other held span)
 
--- a place that is the join of one's own and of what was taken is so after one more span
+-- a place that is the join of the own one and of the taken ones is their join after one more span
 pub place_with_joins : (own : Bool) (mine held : ℕ) (spans : List Span) (o : Option Span) → ((span : Span) → own ≡ true → o ≡ Some span → span.to ≤ held)
     → held ≡ max mine (furthest (targets spans)) → place_with own held o ≡ max mine (furthest (targets (taken_with own held spans o)))
 place_with_joins own mine held spans None fits e = e

@@ -1,4 +1,4 @@
--- With nothing between its messages, an exchange takes its nodes no further than the join.
+-- An exchange with nothing between its messages takes its nodes no further than the join.
 use Rattle.std.proofs.Common.{◌≡◌, ℕ, ◌≤◌, length, refl, ◌∙◌, ap, arith, true, Option, Some, max}
 use Rattle.std.specs.Prelude.{◌==◌}
 use Rattle.cg_entry.specs.History.{at_place}
@@ -14,7 +14,7 @@ use Rattle.cg_places.proofs.WorldLemmas.{IsSound}
 use Rattle.cg_places.proofs.PlaceCases.{span_for_to, grants_to}
 use Rattle.cg_places.proofs.ExchangeLemmas.{receives, asks_of, spans_of, spans_back, syn_stands, ack_stands, ack2_stands, answerer_runs, opener_runs, answerer_runs_on, exchange_reaches}
 
--- ---- what an action leaves below a bound
+-- ---- actions that keep places below a bound
 
 spans_below : (w : PlaceWorld) (node : ℕ) (spans : ℕ → Option Span) (owner bound : ℕ) → ((span : Span) → spans owner ≡ Some span → span.to ≤ bound)
     → (m : ℕ) → w.places m owner ≤ bound → w.places node owner ≤ bound → (with_spans w node spans).places m owner ≤ bound

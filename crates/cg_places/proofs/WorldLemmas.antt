@@ -1,4 +1,4 @@
--- What holds of each world that actions lead to.
+-- Properties of each world that actions lead to.
 use Rattle.std.proofs.Common.{◌≡◌, ◌≢◌, ℕ, zero, suc, ◌+◌, ◌≤◌, inl, inr, List, [], ◌∷◌, ◌++◌, length, refl, sym, ◌∙◌, ap, subst, arith, Bool, true, false, Option, Some, None, max}
 use Rattle.std.specs.Prelude.{◌==◌, cond, if◌then◌else◌}
 use Rattle.std.proofs.lemmas.Bool.Decides.{nat_tests}
@@ -20,7 +20,7 @@ use Rattle.cg_places.proofs.StepLemmas.{place_with_own, place_with_below, place_
 abbrev own_place : PlaceWorld → ℕ → ℕ → ℕ
 own_place w node owner = if owner == node then length (w.histories node) else 0
 
--- what holds of each world that actions lead to
+-- properties of each world that actions lead to
 pub record IsSound (w : PlaceWorld) : Type 0 where
   pub histories : (owner : ℕ) → IsHistory (w.histories owner)
   pub stands : (node owner : ℕ) → w.places node owner ≤ length (w.histories owner)
@@ -213,7 +213,7 @@ opened_sound w node s = go (runs w node)
     go true = message_sound w (Syn (w.places node)) s (λ owner. s.stands node owner)
     go false = s
 
--- what is sent for asks are spans
+-- the spans sent for asks are spans of the histories
 granted_are : (w : PlaceWorld) (node : ℕ) (asks : ℕ → Option Ask) → IsSound w → AreAsks w.histories asks → AreSpans w.histories (λ owner. grants_at w.histories (w.places node) asks owner)
 granted_are w node asks s are owner = go (asks owner) refl
   where

@@ -2,8 +2,8 @@
 use Rattle.std.specs.Prelude.{ℕ, ◌≢◌, ⊤, List, [], ◌∷◌, ◌++◌, length}
 use Rattle.cg_places.specs.PlaceWorld.{PlaceAction, Start, Beat, Set, Opening, Tick, Deliver, PlaceWorld, after_action, after_actions}
 
--- who opens, who answers, what is done before each of the three messages is handed to its addressee, and at which
--- moment that is
+-- the opener, the answerer, the actions before each of the three messages is handed to its addressee, and the time of
+-- each delivery
 pub record ExchangeOf (Action Moment : Type 0) : Type 0 where
   pub opener : ℕ
   pub answerer : ℕ
@@ -28,16 +28,16 @@ prompt_exchange opener answerer syn_at ack_at ack2_at =
       ack2_at = ack2_at;
     }
 
--- Something holds of both nodes and each list of what is done between the messages.
+-- A property of both nodes and of each list of actions between the messages.
 pub record OfBothNodes {Action Moment : Type 0} (P : ℕ → List Action → Type 0) (x : ExchangeOf Action Moment)
     : Type 0 where
   pub opener : P x.opener x.before_syn × P x.opener x.before_ack × P x.opener x.before_ack2
   pub answerer : P x.answerer x.before_syn × P x.answerer x.before_ack × P x.answerer x.before_ack2
 
--- ---- where its messages take a world
+-- ---- worlds that its messages lead to
 
--- What an exchange has to know of a kind of worlds: what actions leave, how many messages were sent, and which of the
--- actions send a SYN and hand over the message of a number.
+-- A kind of worlds, as an exchange needs it: the world after actions, the number of messages sent, and the actions that
+-- send a SYN and that hand over the message of a number.
 pub record WorldKind (World Action Moment : Type 0) : Type 0 where
   pub after : World → Action → World
   pub after_all : World → List Action → World
@@ -83,7 +83,7 @@ module _ {World Action Moment : Type 0} (k : WorldKind World Action Moment) wher
 
 -- ---- by places
 
--- Deliveries by places have no moment.
+-- Deliveries by places have no time.
 abbrev pub by_places : WorldKind PlaceWorld PlaceAction ⊤
 by_places = record {
   after = after_action;

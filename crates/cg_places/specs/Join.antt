@@ -1,4 +1,4 @@
--- Joins of places, and what a node's places are the join of.
+-- Joins of places, and the sources whose join a node's places are.
 use Rattle.std.specs.Prelude.{ℕ, ◌≤◌, ◌↔◌, max, List, [], ◌∷◌, length, map, ◌==◌, if◌then◌else◌}
 use Rattle.std.specs.List.{Contains}
 use Rattle.cg_entry.specs.Place.{Span}
@@ -17,12 +17,12 @@ abbrev pub furthest : List ℕ → ℕ
 furthest [] = 0
 furthest (place ∷ places) = max place (furthest places)
 
--- where spans lead
+-- the places that spans lead to
 abbrev pub targets : List Span → List ℕ
 targets spans = map (λ span. span.to) spans
 
--- What a node has of an owner: the newest place of its own entry, if it is the owner, and the targets of what it took
--- about it since its start.
+-- The sources of a node's place of an owner: the newest place of its own entry, if it is the owner, and the targets of
+-- what it took about the owner since its start.
 abbrev pub sources : PlaceWorld → ℕ → ℕ → List ℕ
 sources w node owner =
     if owner == node then length (w.histories node) ∷ targets (w.taken node owner)

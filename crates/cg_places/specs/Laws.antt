@@ -1,4 +1,4 @@
--- What holds of the places of all nodes, after every list of actions.
+-- Properties of the places of all nodes, after every list of actions.
 use Rattle.std.specs.Prelude.{◌<◌, ℕ, ◌≡◌, ◌≤◌, ◌↔◌, true, nat_eq, List, ◌++◌, length, Some}
 use Rattle.std.specs.List.{Contains, IsDistinct}
 use Rattle.cg_types.specs.declared.limits.TheConstants.{MEMBER_LIMIT, NUMBER_LIMIT}
@@ -11,11 +11,11 @@ use Rattle.cg_places.specs.Join.{join, Within, furthest, sources, SamePlaces}
 use Rattle.cg_places.specs.Exchange.{PlaceExchange, prompt_place_exchange, by_places, at_syn, after_exchange, actions_of, NoStartsOfEither}
 use Rattle.cg_places.specs.Refusals.{AreDone, done_exchange}
 
--- Histories, places and messages are as they should be.
+-- Histories, places and messages fit together.
 pub record IsWorld (w : PlaceWorld) : Type 0 where
   -- each owner's entries are a history
   pub histories : (owner : ℕ) → IsHistory (w.histories owner)
-  -- each place stands in its owner's history
+  -- each place is in its owner's history
   pub places : (node : ℕ) → Stand w.histories (w.places node)
   -- a node's place of its own entry is the newest
   pub own : (node : ℕ) → w.places node node ≡ length (w.histories node)
@@ -47,7 +47,7 @@ pub record Continues (earlier later : List EntryValue) : Type 0 where
   pub longer : length earlier ≤ length later
   pub same : (place : ℕ) → place ≤ length earlier → at_place later place ≡ at_place earlier place
 
--- Whatever is done, each entry of a history stays at its place.
+-- Each entry of a history stays at its place, after any action.
 abbrev pub HistoriesContinue : Type 0
 HistoriesContinue =
     (actions more : List PlaceAction) (owner : ℕ)
@@ -55,7 +55,7 @@ HistoriesContinue =
 
 -- ---- the join
 
--- The join of three is the least of what is at or past all three, whatever the grouping and the order.
+-- The join of three is the least that is at or past all three, in any grouping and order.
 pub record IsLeastJoin (a b c : ℕ → ℕ) : Type 0 where
   pub first : Within a (join (join a b) c)
   pub second : Within b (join (join a b) c)
@@ -70,7 +70,7 @@ JoinsAreLeast = (a b c : ℕ → ℕ) → IsLeastJoin a b c
 
 -- ---- exchanges
 
--- the join of what the opener held when it opened and the answerer when it answered
+-- the join of the places of the opener when it opened and of the answerer when it answered
 abbrev pub exchange_join : PlaceWorld → PlaceExchange → ℕ → ℕ
 exchange_join w x = join ((at_syn by_places w x).places x.answerer) (w.places x.opener)
 
@@ -84,7 +84,7 @@ pub record ReachesTheJoin (w : PlaceWorld) (x : PlaceExchange) : Type 0 where
   pub opener : Within (exchange_join w x) ((after_exchange by_places w x).places x.opener)
   pub answerer : Within (exchange_join w x) ((after_exchange by_places w x).places x.answerer)
 
--- An exchange takes both of its nodes to the join, whatever is done between its messages but a start of the two.
+-- An exchange takes both of its nodes to the join, after any actions between its messages except a start of the two.
 abbrev pub ExchangesReachTheJoin : Type 0
 ExchangesReachTheJoin =
     (actions : List PlaceAction) (x : PlaceExchange) → BothRun (world_after actions) x → NoStartsOfEither x
@@ -99,7 +99,7 @@ pub record EndsAtTheJoin (w : PlaceWorld) (opener answerer : ℕ) : Type 0 where
       → (after_exchange by_places w (prompt_place_exchange opener answerer)).places answerer owner
       ≡ join (w.places answerer) (w.places opener) owner
 
--- With nothing between its messages, an exchange leaves both nodes with the same places.
+-- An exchange with nothing between its messages leaves both nodes with the same places.
 abbrev pub UndisturbedExchangesEqual : Type 0
 UndisturbedExchangesEqual =
     (actions : List PlaceAction) (opener answerer : ℕ)
@@ -113,12 +113,12 @@ PlaceExchangesAreLists =
     → world_after (actions ++ actions_of by_places (world_after actions) x)
     ≡ after_exchange by_places (world_after actions) x
 
--- What is done of an exchange: it starts neither node, and none of its actions is refused.
+-- The done part of an exchange starts neither node, and none of its actions is refused.
 pub record IsDone (w : PlaceWorld) (x : PlaceExchange) : Type 0 where
   pub neither : NoStartsOfEither (done_exchange w x)
   pub done : AreDone w (actions_of by_places w (done_exchange w x))
 
--- An exchange is done, where the refused actions are left out.
+-- An exchange is done if the refused actions are left out.
 abbrev pub ExchangesAreDone : Type 0
 ExchangesAreDone =
     (actions : List PlaceAction) (x : PlaceExchange) → BothRun (world_after actions) x → NoStartsOfEither x
@@ -132,6 +132,6 @@ pub record IsWithinLimits (w : PlaceWorld) : Type 0 where
   pub versions : (owner place : ℕ) (entry : EntryValue) → at_place (w.histories owner) place ≡ Some entry
       → newest entry < NUMBER_LIMIT
 
--- Where none of the actions was refused, the limits hold.
+-- The limits hold if none of the actions was refused.
 abbrev pub DoneActionsKeepLimits : Type 0
 DoneActionsKeepLimits = (actions : List PlaceAction) → AreDone nobody actions → IsWithinLimits (world_after actions)

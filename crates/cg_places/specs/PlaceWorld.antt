@@ -26,9 +26,9 @@ pub record PlaceWorld : Type 0 where
   pub histories : ℕ → List EntryValue
   -- the place that a node holds of an owner
   pub places : ℕ → ℕ → ℕ
-  -- each message that was ever sent, the first one first; they are numbered from 1
+  -- all messages that were ever sent, the first one first; they are numbered from 1
   pub sent : List PlaceMessage
-  -- the spans about an owner that were handed to a node since its last start, but for gaps
+  -- the spans about an owner that were handed to a node since its last start, except gaps
   pub taken : ℕ → ℕ → List Span
   -- each owner that has started, once
   pub owners : List ℕ
@@ -37,7 +37,7 @@ pub record PlaceWorld : Type 0 where
 unfoldable pub nobody : PlaceWorld
 nobody = record { histories = λ owner. []; places = λ node owner. 0; sent = []; taken = λ node owner. []; owners = [] }
 
--- a node runs where its history has an entry
+-- a node runs if its history has an entry
 abbrev pub runs : PlaceWorld → ℕ → Bool
 runs w node = nat_lt 0 (length (w.histories node))
 
@@ -49,7 +49,7 @@ put_at f n x m = if m == n then x else f m
 abbrev pub grown : (ℕ → List EntryValue) → ℕ → EntryValue → ℕ → List EntryValue
 grown histories owner entry = put_at histories owner (histories owner ++ entry ∷ [])
 
--- ---- what an action changes
+-- ---- the world after an action
 
 -- the node starts, and holds its own entry alone
 unfoldable pub with_start : PlaceWorld → ℕ → ℕ → PlaceWorld
@@ -82,7 +82,7 @@ with_message w message =
       owners = w.owners;
     }
 
--- what was handed over, with one more span, but for a gap
+-- the spans handed over with one more, unless that is a gap
 abbrev pub unless_gap : Took → List Span → Span → List Span
 unless_gap took.Gap spans span = spans
 unless_gap took.Taken spans span = spans ++ span ∷ []
@@ -106,7 +106,7 @@ with_spans w node spans = record {
 
 -- ---- actions
 
--- whether the generation is greater than at each start of the node before
+-- `true` if the generation is greater than at each earlier start of the node
 abbrev pub may_start : PlaceWorld → ℕ → ℕ → Bool
 may_start w node generation = nat_lt (generation_at (w.histories node) (length (w.histories node))) generation
 

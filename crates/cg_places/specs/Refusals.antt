@@ -1,5 +1,5 @@
--- Why an action is refused where memory is ample, and what is done of a list. `act` itself knows no limit: what is
--- refused is left out of the list.
+-- Refusals of actions with ample memory, and the actions of a list that are done. `act` itself knows no limit: refused
+-- actions are left out of the list.
 use Rattle.std.specs.Prelude.{◌≡◌, ⊤, ℕ, List, [], ◌∷◌, length, Option, Some, None, nat_lt, if◌then◌else◌}
 use Rattle.cg_types.specs.declared.fault.Fault.{Fault}
 use Rattle.cg_types.specs.declared.fault.Fault.TheVariants.{TableFull, NotRising, NoSuchMessage, NoSuchNode}
@@ -13,7 +13,7 @@ use Rattle.cg_exchange_laws.specs.PlaceMessages.{PlaceMessage}
 use Rattle.cg_places.specs.PlaceWorld.{PlaceAction, Start, Beat, Set, Opening, Tick, Deliver, PlaceWorld, runs, may_start, last_entry, after_action}
 use Rattle.cg_places.specs.Exchange.{PlaceExchange, by_places, after_opening, after_syn, after_ack}
 
--- a generation that does not rise; or an owner more than there can be
+-- a generation that does not rise; or one owner more than there can be
 abbrev pub start_refusal : PlaceWorld → ℕ → ℕ → Option Fault
 start_refusal w node generation =
     if may_start w node generation
@@ -25,7 +25,7 @@ abbrev pub change_refusal : Option EntryValue → Option Fault
 change_refusal None = Some NoSuchNode
 change_refusal (Some entry) = fault_of (next_version (newest entry))
 
--- whether the node runs
+-- no fault if the node runs
 abbrev pub node_refusal : PlaceWorld → ℕ → Option Fault
 node_refusal w node = if runs w node then None else Some NoSuchNode
 
@@ -33,7 +33,7 @@ abbrev pub deliver_refusal : PlaceWorld → ℕ → Option PlaceMessage → Opti
 deliver_refusal w to None = Some NoSuchMessage
 deliver_refusal w to (Some message) = node_refusal w to
 
--- why an action is refused, if it is
+-- the fault with which an action is refused, if it is
 abbrev pub refusal : PlaceWorld → PlaceAction → Option Fault
 refusal w (Start node generation) = start_refusal w node generation
 refusal w (Beat node) = change_refusal (last_entry (w.histories node))

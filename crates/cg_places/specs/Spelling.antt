@@ -1,4 +1,4 @@
--- How tables and messages spell a world, and go on to spell it as it changes.
+-- Tables and messages spell a world, and go on to spell it as it changes.
 use Rattle.std.specs.Prelude.{ℕ, ◌≡◌, ◌≢◌, ◌==◌, true, Option, Some, is_some, List, if◌then◌else◌}
 use Rattle.std.specs.FinMap as table
 use Rattle.cg_entry.specs.Values.{EntryValue}
@@ -27,7 +27,7 @@ pub record SpellsNodes (tables : ℕ → Option Entries) (w : PlaceWorld) : Type
 
 -- ---- histories that go on
 
--- What was spelled by the earlier histories is spelled by the later ones.
+-- The later histories spell all that the earlier ones spelled.
 pub record StaySpelled (earlier later : ℕ → List EntryValue) : Type 0 where
   pub tables : (entries : Entries) (places : ℕ → ℕ) → SpellsPlaces earlier entries places
       → SpellsPlaces later entries places
@@ -38,7 +38,7 @@ pub record StaySpelled (earlier later : ℕ → List EntryValue) : Type 0 where
   pub spans : (deltas : List OwnerDelta) (spans : ℕ → Option Span) → AreSpans earlier spans
       → SpellsSpans earlier deltas spans → SpellsSpans later deltas spans
 
--- Where histories go on, tables and messages go on to spell what they spelled.
+-- Tables and messages go on to spell what they spelled if histories go on.
 abbrev pub SpellingStays : Type 0
 SpellingStays =
     (earlier later : ℕ → List EntryValue) → ((owner : ℕ) → Continues (earlier owner) (later owner))
@@ -46,12 +46,12 @@ SpellingStays =
 
 -- ---- each change of a world
 
--- The later tables are the earlier ones, but that this one is the node's.
+-- The later tables are the earlier ones, except that this one is the node's.
 pub record IsReplaced (earlier later : ℕ → Option Entries) (node : ℕ) (entries : Entries) : Type 0 where
   pub here : later node ≡ Some entries
   pub elsewhere : (other : ℕ) → other ≢ node → later other ≡ earlier other
 
--- What spells the world after each change of it.
+-- The tables that spell the world after each change of it.
 pub record Follow (tables : ℕ → Option Entries) (w : PlaceWorld) : Type 0 where
   -- after a start the started entry alone
   pub start : (node generation : ℕ) (later : ℕ → Option Entries)
@@ -63,7 +63,7 @@ pub record Follow (tables : ℕ → Option Entries) (w : PlaceWorld) : Type 0 wh
       → SpellsNodes later (with_entry w node entry)
   -- after a message the same tables
   pub message : (message : PlaceMessage) → SpellsNodes tables (with_message w message)
-  -- after spans what spells the places that they lead to
+  -- after spans the tables that spell the places to which these lead
   pub spans : (node : ℕ) (spans : ℕ → Option Span) (entries : Entries) (later : ℕ → Option Entries)
       → runs w node ≡ true → SpellsPlaces w.histories entries (places_after node (w.places node) spans)
       → IsReplaced tables later node entries → SpellsNodes later (with_spans w node spans)
@@ -74,7 +74,7 @@ TablesFollow =
     (actions : List PlaceAction) (tables : ℕ → Option Entries) → SpellsNodes tables (world_after actions)
     → Follow tables (world_after actions)
 
--- ---- what one node's action changes
+-- ---- the change by one node's action
 
 -- The later world is the earlier one after an action of this node, which then has this table.
 pub record IsChangedAt (w v : PlaceWorld) (node : ℕ) (entries : Entries) : Type 0 where

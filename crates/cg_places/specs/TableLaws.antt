@@ -1,4 +1,4 @@
--- What holds of tables that spell the places of nodes, after every list of actions.
+-- Properties of tables that spell the places of nodes, after every list of actions.
 use Rattle.std.specs.Prelude.{ℕ, ◌≡◌, ◌≤◌, List, length, Option, Some}
 use Rattle.std.specs.FinMap as table
 use Rattle.cg_types.specs.Rising.{Rises}
@@ -19,9 +19,9 @@ use Rattle.cg_places.specs.PlaceWorld.{PlaceAction, PlaceWorld, world_after}
 use Rattle.cg_places.specs.Spelling.{SpellsNode}
 use Rattle.cg_places.specs.Join.{join, furthest, sources, SamePlaces}
 
--- What a node's table is.
+-- Properties of a node's table.
 pub record IsJoined (w : PlaceWorld) (node : ℕ) (entries : Entries) : Type 0 where
-  -- the join of its own newest entry and of the entries to which the deltas led that it took since its start
+  -- it is the join of its own newest entry and of the entries to which the deltas led that it took since its start
   pub joined : (owner : ℕ) → table.get entries owner ≡ at_place (w.histories owner) (furthest (sources w node owner))
   -- each entry is its owner's whole entry at one past place
   pub whole : (owner : ℕ) (entry : EntryValue) → table.get entries owner ≡ Some entry
@@ -39,7 +39,7 @@ pub record AreEqual (one other : Entries) : Type 0 where
   pub entries : one ≡ other
   pub rings : ring one ≡ ring other
 
--- Equal sources, equal tables, whatever the order and number of deliveries.
+-- Equal sources give equal tables, in any order and number of deliveries.
 abbrev pub EqualSourcesEqualTables : Type 0
 EqualSourcesEqualTables =
     (actions : List PlaceAction) (a b : ℕ) (one other : Entries) → SpellsNode (world_after actions) a one
@@ -47,14 +47,14 @@ EqualSourcesEqualTables =
     → ((owner : ℕ) → SamePlaces (sources (world_after actions) a owner) (sources (world_after actions) b owner))
     → AreEqual one other
 
--- Equal digests, equal tables.
+-- Equal digests give equal tables.
 abbrev pub EqualDigestsEqualTables : Type 0
 EqualDigestsEqualTables =
     (actions : List PlaceAction) (a b : ℕ) (one other : Entries) → SpellsNode (world_after actions) a one
     → SpellsNode (world_after actions) b other
     → digests_of one ≡ digests_of other → AreEqual one other
 
--- What the merged tables of three nodes are.
+-- Properties of the merged tables of three nodes.
 pub record IsMergedOf (w : PlaceWorld) (a b c : ℕ) (entries : Entries) : Type 0 where
   -- they spell the join of their places
   pub joined : SpellsPlaces w.histories entries (join (join (w.places a) (w.places b)) (w.places c))

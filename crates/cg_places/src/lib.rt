@@ -1,9 +1,9 @@
-//! The nodes of a cluster by the places that they hold of each owner's history: what lists of actions lead to, and what
-//! holds then.
+//! Nodes of a cluster by the places that they hold of each owner's history: the worlds that lists of actions lead to,
+//! and their laws.
 //!
 //! A place says how many of an owner's entries were seen, so a join is a maximum, and every rule of taking is
 //! arithmetic. The laws of nodes that run rest on these: each step of a node leaves a table and sends a message that
-//! spell what the places say. Each function is a law: its contract says it, and its body is empty.
+//! spell the places. Each function is a law: its contract says it, and its body is empty.
 #![tactic(auto)]
 
 ghost use Rattle.cg_places.specs.Laws.{
@@ -28,18 +28,19 @@ ghost use Rattle.cg_places.specs.TableLaws.{
 };
 ghost use Rattle.cg_places.specs.WorkedPlaces.{WorkedPlaces};
 
-/// Each owner's entries are a history, each place and each message stands in it, a node's place of its own entry is
-/// the newest, and the owners are those that started.
+/// Each owner's entries are a history, and each place and each message is in it. A node's place of its own entry is the
+/// newest, and the owners are those that started.
 pub fn actions_make_worlds()
     ensures { ActionsMakeWorlds }
 {}
 
-/// Whatever is done, each entry of a history stays at its place.
+/// Each entry of a history stays at its place, after any action.
 pub fn histories_continue()
     ensures { HistoriesContinue }
 {}
 
-/// A node's places are the join of its own newest place and of where the spans lead that it took since its start.
+/// A node's places are the join of its own newest place and of the places to which the spans lead that it took since
+/// its start.
 pub fn places_are_joins()
     ensures { PlacesAreJoins }
 {}
@@ -49,18 +50,18 @@ pub fn equal_sources_equal_places()
     ensures { EqualSourcesEqualPlaces }
 {}
 
-/// The join is the least of what is at or past all three, whatever the grouping and the order.
+/// The join is the least that is at or past all three, in any grouping and order.
 pub fn joins_are_least()
     ensures { JoinsAreLeast }
 {}
 
-/// An exchange takes both of its nodes to the join of what they held or past it, whatever is done between its messages
-/// but a start of the two.
+/// An exchange takes both of its nodes to the join of what they held or past it, after any actions between its messages
+/// except a start of the two.
 pub fn exchanges_reach_the_join()
     ensures { ExchangesReachTheJoin }
 {}
 
-/// With nothing between its messages, an exchange leaves both nodes with the same places.
+/// An exchange with nothing between its messages leaves both nodes with the same places.
 pub fn undisturbed_exchanges_equal()
     ensures { UndisturbedExchangesEqual }
 {}
@@ -70,17 +71,17 @@ pub fn exchanges_are_lists()
     ensures { PlaceExchangesAreLists }
 {}
 
-/// An exchange is done where its refused actions are left out: none of its own steps is refused.
+/// An exchange is done if its refused actions are left out: none of its own steps is refused.
 pub fn exchanges_are_done()
     ensures { ExchangesAreDone }
 {}
 
-/// Where no action was refused, owners are few and versions below their limit.
+/// Owners are few and versions below their limit if no action was refused.
 pub fn done_actions_keep_limits()
     ensures { DoneActionsKeepLimits }
 {}
 
-/// Where histories go on, tables and messages go on to spell what they spelled.
+/// Tables and messages go on to spell what they spelled if histories go on.
 pub fn spelling_stays()
     ensures { SpellingStays }
 {}
@@ -91,7 +92,8 @@ pub fn tables_follow()
 {}
 
 /// A table that spells a node's places is the join of the node's own newest entry and of the entries to which the
-/// deltas led that it took since its start; each entry in it is whole; and it has no more than owners have started.
+/// deltas led that it took since its start. Each entry in it is whole, and it has no more entries than owners have
+/// started.
 pub fn tables_are_joined()
     ensures { TablesAreJoined }
 {}
@@ -111,7 +113,7 @@ pub fn merges_are_joined()
     ensures { MergesAreJoined }
 {}
 
-/// No delivery and no merge finds a table full while owners are few: no more is held than owners have started.
+/// No delivery and no merge finds a table full while owners are few: a table holds no more than have started.
 pub fn tables_find_room()
     ensures { TablesFindRoom }
 {}

@@ -39,15 +39,15 @@ use Rattle.cg_places.proofs.PutLemmas.{put_at_here}
 use Rattle.cg_places.proofs.FollowLemmas.{running_here, entry_changes, message_changes, spans_change}
 use Rattle.cg_steps.specs.Step.{message_in, message_of, action_at, IsPlaced, SaysSent, IsSentBefore, IsSent, SendsOne, Sends, spans_in, span_handed, IsStepAt, StepsAreByPlaces}
 
--- what hands nothing over
+-- the empty handover: no span about any owner
 abbrev no_spans : ℕ → Option Span
 no_spans owner = None
 
--- where nothing stands at the end, there is nothing
+-- a history with no entry at its end is empty
 none_at_end : (h : List EntryValue) → at_place h (length h) ≡ None → length h ≡ 0
 none_at_end h e = at_place_none h (length h) (omega arith) e
 
--- what is so of what a step gives where something is due
+-- a property of the outcome of a step holds if it holds for each expected value
 done_then : {A : Type 0} (due : Result A Fault) (go : A → NodeValue × Reply) (x : NodeValue × Reply) (P : NodeValue × Reply → Type 0) → ((a : A) → due ≡ Ok a → P (go a)) → then due go ≡ Ok x → P x
 done_then (Ok a) go x P so e = let same : go a ≡ x = cc in subst P same (so a refl)
 done_then (Err fault) go x P so e = absurd cc

@@ -40,7 +40,7 @@ message_of (reply.Sent m) = Some m
 message_of (reply.Both outcomes ack2) = Some (message.Ack2 ack2)
 message_of (reply.Took outcomes) = None
 
--- the action by places that an event of a node is; a message handed over is the one of this number
+-- the action by places of a node's event; a message that it hands over is the one of this number
 abbrev pub action_at : ℕ → ℕ → Event → PlaceAction
 action_at node number event.Beat = Beat node
 action_at node number (event.Set key text) = Set node key text
@@ -65,7 +65,7 @@ span_handed w (Opening node) owner = None
 span_handed w (Tick node) owner = None
 span_handed w (Deliver number to) owner = option_and_then (λ said. spans_in said owner) (at_place w.sent number)
 
--- ---- what a step needs
+-- ---- before a step
 
 -- The node runs, and its table spells its places.
 pub record IsPlaced (w : PlaceWorld) (node : ℕ) (n : NodeValue) : Type 0 where
@@ -79,12 +79,12 @@ pub record SaysSent (w : PlaceWorld) (number : ℕ) (m : Message) : Type 0 where
   pub is_said : at_place w.sent number ≡ Some said
   pub says : Says w.histories m said
 
--- So it is with a message that is handed over, if one is.
+-- The message that is handed over, if one is, says the one that was sent under this number.
 abbrev pub IsSentBefore : PlaceWorld → ℕ → Option Message → Type 0
 IsSentBefore w number None = ⊤
 IsSentBefore w number (Some m) = SaysSent w number m
 
--- ---- what a step leaves
+-- ---- after a step
 
 -- A SYN names this cluster.
 abbrev pub NamesCluster : ClusterValue → Message → Type 0
@@ -98,19 +98,19 @@ pub record IsSent (cluster : ClusterValue) (histories : ℕ → List EntryValue)
   pub says : Says histories m said
   pub names : NamesCluster cluster m
 
--- One more message was sent, which this one says.
+-- One more message was sent, and the message says it.
 pub record SendsOne (cluster : ClusterValue) (w v : PlaceWorld) (m : Message) : Type 0 where
   pub said : PlaceMessage
   pub added : v.sent ≡ w.sent ++ said ∷ []
   pub is_sent : IsSent cluster v.histories m said
 
--- It was, where a message is sent, and else none was.
+-- One more message was sent if the step sends one; else none was.
 abbrev pub Sends : ClusterValue → PlaceWorld → PlaceWorld → Option Message → Type 0
 Sends cluster w v None = v.sent ≡ w.sent
 Sends cluster w v (Some m) = SendsOne cluster w v m
 
--- The step of a node n, which gives the node and the reply x, is what one of its actions does by places, where it is
--- handed these spans, if any, and leads to v.
+-- The step of a node n, which gives the node and the reply x, is the step of one of its actions by places. That action
+-- hands over these spans, if any, and leads to v.
 pub record IsStepAt (w v : PlaceWorld) (spans : ℕ → Option Span) (node : ℕ) (n : NodeValue) (x : NodeValue × Reply)
     : Type 0 where
   pub settings : x.0.settings ≡ n.settings
@@ -119,15 +119,15 @@ pub record IsStepAt (w v : PlaceWorld) (spans : ℕ → Option Span) (node : ℕ
   pub changed : IsChangedAt w v node x.0.table.entries
   -- the message that is sent says the one by places
   pub sends : Sends n.settings.cluster w v (message_of x.1)
-  -- what is told of a delta about an owner is what becomes of the span about it, at the node's place before the step
+  -- the outcome that the reply says of a delta is that of the span about its owner, at the node's place before the step
   pub told : (owner : ℕ) → outcome_about owner (outcomes_in x.1)
       ≡ option_map (λ span. record { endpoint = owner; took = took_for (owner == node) (w.places node owner) span })
       (spans owner)
   -- nobody started
   pub owners : v.owners ≡ w.owners
 
--- Each step of a node whose table spells its places, and that is handed a message that was sent, if it is handed one,
--- is the step by places, whatever its settings and however many endpoints there are.
+-- Each step of a node is the step by places, if the node's table spells its places and a message that it is handed was
+-- sent. Its settings and the number of endpoints may be any.
 abbrev pub StepsAreByPlaces : Type 0
 StepsAreByPlaces =
     (w : PlaceWorld) (node number : ℕ) (n : NodeValue) (e : Event) (x : NodeValue × Reply)
