@@ -1,4 +1,4 @@
--- Which layout of a list is due.
+-- The expected layout of a list: its properties, and the bytes that decide it.
 use Rattle.std.proofs.Common.{◌≡◌, ℕ, ◌<◌, ◌≤◌, Bool, true, false, cond, List, [], ◌∷◌, ◌++◌, length, Option, Some, None, refl, sym, ap, ◌∙◌, subst, inl, inr, arith, length-append}
 use Rattle.std.specs.Prelude.{◌==◌, nat_lt, slice_get}
 use Rattle.std.specs.List.{find, fold, AllByRecursion}
@@ -12,9 +12,9 @@ use Rattle.cg_frames.specs.declared.layout.Layout.{Layout}
 use Rattle.cg_frames.specs.Spelling.{four_bytes, frame}
 use Rattle.cg_frames.specs.Choosing.{layout_with_byte, wider, widest, due_by, due, IsOneOf}
 
--- ---- what holds of each layout of a list
+-- ---- properties of each layout of a list
 
--- What is found is of the list.
+-- An item that is found is of the list.
 find_all : {X : Type 0} (P : X → Type 0) (test : X → Bool) (xs : List X) (x : X) → AllByRecursion P xs → find test xs ≡ Some x → P x
 find_all P test [] x all e = absurd cc
 find_all {X = X} P test (y ∷ ys) x all e =
@@ -23,7 +23,7 @@ find_all {X = X} P test (y ∷ ys) x all e =
       | false ↦ λ later. find_all P test ys x all.1 later
     ] e
 
--- What holds of each layout holds of the one that is named.
+-- A property of each layout is one of the layout that is named.
 pub named_all : (P : Layout → Type 0) (layouts : List Layout) (layout : Layout) → AllByRecursion P layouts → IsOneOf layouts layout → P layout
 named_all P layouts layout all one = find_all P (λ l. l.byte == layout.byte) layouts layout all one
 
@@ -38,7 +38,7 @@ widest_all : (P : Layout → Type 0) (layouts : List Layout) → 0 < length layo
 widest_all P [] some all = absurd (omega arith)
 widest_all P (l ∷ ls) some all = fold_all P l ls all.0 all.1
 
--- What holds of the widest layout and of each holds of the one that is due.
+-- A property of the widest layout and of each is one of the expected layout.
 due_by_all : (P : Layout → Type 0) (layouts : List Layout) (byte : Option ℕ) → P (widest layouts) → AllByRecursion P layouts → P (due_by layouts byte)
 due_by_all P layouts None wide all = wide
 due_by_all P layouts (Some byte) wide all =
@@ -106,17 +106,17 @@ one_by : (layouts : List Layout) (layout : Layout) (o : Option Layout) → 0 < l
 one_by layouts layout None some none is = absurd (widest_named layouts some (subst (λ (l : Layout). layout_with_byte layouts l.byte ≡ None) is none))
 one_by layouts layout (Some l) some found is = found ∙ ap (λ (k : Layout). Some k) (sym is)
 
--- The layout that is due is of the list, where its byte stands behind the length.
+-- The expected layout is of the list, if its byte comes after the length.
 pub due_is_one : (layouts : List Layout) (bytes : List ℕ) → 0 < length layouts → slice_get bytes 4 ≡ Some (due layouts bytes).byte → IsOneOf layouts (due layouts bytes)
 unfolding due
 due_is_one layouts bytes some at = one_by layouts (due layouts bytes) (layout_with_byte layouts (due layouts bytes).byte) some refl (ap (due_by layouts) at)
 
--- A layout of the list is due where its byte stands behind the length.
+-- A layout of the list is the expected one if its byte comes after the length.
 pub due_of : (layouts : List Layout) (layout : Layout) (bytes : List ℕ) → IsOneOf layouts layout → slice_get bytes 4 ≡ Some layout.byte → due layouts bytes ≡ layout
 unfolding due
 due_of layouts layout bytes one at = ap (due_by layouts) at ∙ ap (λ (o : Option Layout). unwrap_or o (widest layouts)) one
 
--- Where the byte names no layout the widest is due.
+-- The widest layout is expected if the byte names none.
 pub due_unnamed : (layouts : List Layout) (byte : ℕ) (bytes : List ℕ) → layout_with_byte layouts byte ≡ None → slice_get bytes 4 ≡ Some byte → due layouts bytes ≡ widest layouts
 unfolding due
 due_unnamed layouts byte bytes none at = ap (due_by layouts) at ∙ ap (λ (o : Option Layout). unwrap_or o (widest layouts)) none
@@ -125,13 +125,13 @@ pub byte_of_frame : (layout : Layout) (m : Message) (rest : List ℕ) → slice_
 unfolding four_bytes
 byte_of_frame layout m rest = refl
 
--- At a frame the layout that it is spelled in is due.
+-- The expected layout at a frame is the one that it is spelled in.
 pub due_of_frame : (layouts : List Layout) (layout : Layout) (m : Message) (rest : List ℕ) → IsOneOf layouts layout → due layouts (frame layout m ++ rest) ≡ layout
 due_of_frame layouts layout m rest one = due_of layouts layout (frame layout m ++ rest) one (byte_of_frame layout m rest)
 
 -- ---- more bytes
 
--- Until the byte has come the widest layout is due.
+-- The widest layout is expected until the byte has come.
 pub due_early : (layouts : List Layout) (bytes : List ℕ) → length bytes ≤ 4 → due layouts bytes ≡ widest layouts
 unfolding due
 due_early layouts bytes few = ap (due_by layouts) (slice_get_past bytes 4 few)
@@ -142,7 +142,7 @@ fifth_longer xs ys long =
     ∙ ap (λ (b : ℕ). Some b) (get_or_append_left xs ys 0 4 long)
     ∙ sym (slice_get-get_or xs 4 0 long)
 
--- Once it has come, more bytes change nothing.
+-- More bytes change nothing once it has come.
 pub due_longer : (layouts : List Layout) (xs ys : List ℕ) → 4 < length xs → due layouts (xs ++ ys) ≡ due layouts xs
 unfolding due
 due_longer layouts xs ys long = ap (due_by layouts) (fifth_longer xs ys long)

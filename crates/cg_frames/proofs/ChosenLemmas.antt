@@ -1,4 +1,4 @@
--- Which frames are read, wait or are refused among several layouts, rule by rule.
+-- Frames that are read, wait or are refused among several layouts, rule by rule.
 use Rattle.std.proofs.Common.{◌≡◌, ℕ, suc, zero, ◌+◌, ◌<◌, ◌≤◌, Bool, true, false, cond, List, ◌∷◌, length, get_or, take, drop, Some, None, Result, Ok, Err, refl, ap, ◌∙◌, subst, arith, length-drop, length-take, drop-cons}
 use Rattle.std.specs.Prelude.{◌==◌, slice_get}
 use Rattle.std.proofs.Math.Nat.{le_trans}
@@ -18,7 +18,7 @@ use Rattle.cg_frames.proofs.SpelledIsReadLemmas.{byte_again}
 use Rattle.cg_frames.proofs.ChoosingLemmas.{named_all, due_all, each_shorter, due_early, due_of, due_unnamed, widest_named}
 use Rattle.cg_frames.proofs.FrontLemmas.{over_is, part_is, whole_is}
 
--- Another byte than the layout's is refused.
+-- A byte other than the layout's is refused.
 other_inside : (layout : Layout) (byte : ℕ) (rest : List ℕ) → (byte == layout.byte) ≡ false → inside_at layout (byte ∷ rest) ≡ Err (record { cause = causes.Layout; left = length (byte ∷ rest) })
 unfolding inside_at
 other_inside layout byte rest other =
@@ -26,7 +26,7 @@ other_inside layout byte rest other =
     ap (λ (r : Field ℕ). (r >>= λ b. cond (b.0 == layout.byte) (Ok b) (Err fault)) >>= λ b. kind_at b.1 >>= λ kind. of_kind layout kind.0 kind.1) (byte_again byte rest)
     ∙ ap (λ (t : Bool). cond t (Ok (byte, rest)) (Err fault) >>= λ (b : ℕ × List ℕ). kind_at b.1 >>= λ kind. of_kind layout kind.0 kind.1) other
 
--- The byte behind the length, and so many bytes from there on.
+-- The byte after the length is the first of the n bytes from there on.
 front_byte : (n byte : ℕ) (bytes : List ℕ) → 0 < n → 4 < length bytes → slice_get bytes 4 ≡ Some byte → (rest : List ℕ) × (take n (drop 4 bytes) ≡ byte ∷ rest)
 front_byte zero byte bytes some long at = absurd (omega arith)
 front_byte (suc n) byte bytes some long at =

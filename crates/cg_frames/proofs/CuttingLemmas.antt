@@ -11,11 +11,11 @@ use Rattle.cg_frames.specs.Feeding.{Standing, Cut, with_front, frames_in, IsCut}
 use Rattle.cg_frames.proofs.FrameLemmas.{frame_parts}
 use Rattle.cg_frames.proofs.FeedingLemmas.{frames_at, fed_nothing}
 
--- Cutting has come so far.
+-- The progress of cutting.
 pub record Progress (layouts : List Layout) (bytes : List ℕ) (messages : List Message) (taken : ℕ) : Type 0 where
   pub within : taken ≤ length bytes
   pub so_far : frames_in layouts bytes ≡ with_front messages (frames_in layouts (drop taken bytes))
-  -- A fault at the front is met at once.
+  -- A fault at the start is met at once.
   pub first : IsErr (frame_among layouts bytes) → taken ≡ 0
 
 none_err : (p : Message × ℕ) → IsErr {T = Option (Message × ℕ)} {E = Fault} (Ok (Some p)) → ⊥
@@ -31,7 +31,7 @@ module _ (layouts : List Layout) where
   pub begun : (bytes : List ℕ) → Progress layouts bytes [] 0
   begun bytes = record { within = omega arith; so_far = refl; first = λ err. refl }
 
-  -- Behind a fault at the front nothing is cut off.
+  -- Nothing is cut off after a fault at the start.
   pub still_faulty : (bytes : List ℕ) (messages : List Message) (taken : ℕ) → Progress layouts bytes messages taken
       → IsErr (frame_among layouts bytes) → IsErr (frame_among layouts (drop taken bytes))
   still_faulty bytes messages taken progress err = subst (λ n. IsErr (frame_among layouts (drop n bytes))) (sym (progress.first err)) err
@@ -72,11 +72,11 @@ module _ (layouts : List Layout) where
       let both : ◌≡◌ {A = Standing} (Err f) (Ok held) = ap (λ (c : Cut). c.rest) (sym (frames_at layouts bytes (Err f) is) ∙ cut) in
       cc both
 
-  -- Where a fault stands at the front, cutting ends in a fault.
+  -- Cutting ends in a fault if the bytes begin with one.
   pub not_cut : (bytes : List ℕ) (messages : List Message) (taken : ℕ) → IsCut layouts bytes messages taken None → IsErr (frame_among layouts bytes) → ⊥
   not_cut bytes messages taken is err = not_held bytes (frame_among layouts bytes) messages (drop taken bytes) refl err is.all
 
-  -- The empty piece gives nothing.
+  -- The empty chunk gives nothing.
   pub cut_nothing : (held piece : List ℕ) → length piece ≡ 0 → frame_among layouts held ≡ Ok None
       → frames_in layouts (held ++ piece) ≡ record { messages = []; rest = Ok held }
   cut_nothing held [] none partial = fed_nothing layouts (Ok held) partial

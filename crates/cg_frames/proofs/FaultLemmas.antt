@@ -13,7 +13,7 @@ use Rattle.cg_frames.specs.Laws.{FaultsAreBadFrames}
 use Rattle.cg_frames.proofs.FrontLemmas.{fault_among}
 use Rattle.cg_frames.proofs.FeedingLemmas.{nothing_at, fed_partial}
 
--- What is a bad frame is one or another fault.
+-- A bad frame is a bad frame or another fault.
 pub bad_or : (other f : Fault) → IsBadFrame f → IsBadFrameOr other f
 bad_or other (faults.BadFrame place cause) bad = tt
 bad_or other f bad = absurd bad
@@ -27,7 +27,7 @@ module _ (layouts : List Layout) where
   refusal_is_bad bytes (Err faults.OutOfMemory) is = refl
   refusal_is_bad bytes (Err f) is = bad_or faults.OutOfMemory f (fault_among layouts bytes f is)
 
-  -- The fault that stands is a bad frame.
+  -- The lasting fault is a bad frame.
   pub bad_standing : (held : List ℕ) (fault : Option Fault) → IsPartial layouts (standing_of held fault) → IfSome fault IsBadFrame
   bad_standing held None partial = tt
   bad_standing held (Some f) partial = partial

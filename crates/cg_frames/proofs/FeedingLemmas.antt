@@ -1,4 +1,4 @@
--- Cutting bytes into messages: by turns, after more bytes, and in pieces.
+-- Cutting bytes into messages: by turns, after more bytes, and in chunks.
 use Rattle.std.proofs.Common.{◌≡◌, ℕ, zero, suc, ◌+◌, ◌≤◌, List, [], ◌∷◌, ◌++◌, length, drop, Option, Some, None, Result, Ok, Err, refl, sym, ap, ◌∙◌, subst, inl, inr, arith, length-drop, append_assoc, append-nil}
 use Rattle.std.specs.List.{flat_map}
 use Rattle.std.specs.Prelude.{IfErr}
@@ -30,7 +30,7 @@ module _ (layouts : List Layout) where
   within_nothing zero = refl
   within_nothing (suc n) = ap (cut_by (cut_within layouts n) []) nothing_at
 
-  -- Enough turns are as good as more.
+  -- More turns than enough give the same.
   cut_enough : (n m : ℕ) (bytes : List ℕ) → length bytes ≤ n → length bytes ≤ m → cut_within layouts n bytes ≡ cut_within layouts m bytes
   cut_enough n m [] a b = within_nothing n ∙ sym (within_nothing m)
   cut_enough zero m (x ∷ xs) a b = absurd (omega arith)
@@ -43,7 +43,7 @@ module _ (layouts : List Layout) where
       let left_too : length (drop p.1 (x ∷ xs)) ≤ m = omega (arith, length-drop p.1 (x ∷ xs)) in
       cut_enough n m (drop p.1 (x ∷ xs)) left left_too)
 
-  -- What stands at the front decides how bytes are cut.
+  -- The first frame or fault of the bytes decides how they are cut.
   pub frames_by : (bytes : List ℕ) → frames_in layouts bytes ≡ cut_by (frames_in layouts) bytes (frame_among layouts bytes)
   unfolding frames_in
   frames_by [] = within_nothing 0 ∙ sym (ap (cut_by (frames_in layouts) []) nothing_at)
@@ -59,7 +59,7 @@ module _ (layouts : List Layout) where
 
   -- ---- more bytes
 
-  -- What is cut from the bytes, and then from the rest with what follows.
+  -- The messages cut from the bytes, and then from the rest with the bytes that follow.
   abbrev pub carried : List Message → Standing → List ℕ → Cut
   carried messages rest more = with_front messages (cut_of_piece layouts rest more)
 
@@ -94,13 +94,13 @@ module _ (layouts : List Layout) where
       let size : p.1 ≡ 4 + size_of xs = s.size in
       longer_within n (drop p.1 xs) ys (omega (arith, length-drop p.1 xs))))
 
-  -- More bytes change nothing of what was cut, and go on behind it.
+  -- More bytes change nothing of the messages that were cut, and go on after them.
   pub frames_longer : (xs ys : List ℕ) → frames_in layouts (xs ++ ys) ≡ carried (frames_in layouts xs).messages (frames_in layouts xs).rest ys
   frames_longer xs ys = longer_within (length xs) xs ys (omega arith)
 
-  -- ---- pieces
+  -- ---- chunks
 
-  -- What a feed is left with holds nothing whole and no fault.
+  -- The rest that a feed is left with holds no whole frame and no fault.
   partial_by : (xs : List ℕ) (r : Result (Option (Message × ℕ)) Fault) → frame_among layouts xs ≡ r
       → ((p : Message × ℕ) → r ≡ Ok (Some p) → IsPartial layouts (frames_in layouts (drop p.1 xs)).rest)
       → IsPartial layouts (cut_by (frames_in layouts) xs r).rest
@@ -128,12 +128,12 @@ module _ (layouts : List Layout) where
   fed_partial (Ok held) piece bad = frames_partial (held ++ piece)
   fed_partial (Err f) piece bad = bad
 
-  -- Two pieces are one.
+  -- Two chunks give what both at once give.
   pub fed_twice : (s : Standing) (first second : List ℕ) → cut_of_piece layouts s (first ++ second) ≡ carried (cut_of_piece layouts s first).messages (cut_of_piece layouts s first).rest second
   fed_twice (Ok held) first second = ap (frames_in layouts) (sym (append_assoc held first second)) ∙ frames_longer (held ++ first) second
   fed_twice (Err f) first second = refl
 
-  -- The fault that stands may be any.
+  -- The lasting fault may be any.
   holds_no_frame : (s : Standing) → IsPartial layouts s → HoldsNoFrame layouts s
   holds_no_frame (Ok held) partial = partial
   holds_no_frame (Err f) partial = tt
@@ -146,7 +146,7 @@ module _ (layouts : List Layout) where
   fed_nothing (Ok held) none = ap (frames_in layouts) (append-nil held) ∙ frames_at held (Ok None) none
   fed_nothing (Err f) none = refl
 
-  -- However the stream is cut into pieces, they give what the whole gives.
+  -- Chunks of a stream give what the whole gives, however the stream is cut.
   pub pieces_add_up : (s : Standing) (pieces : List (List ℕ)) → HoldsNoFrame layouts s → fed_all layouts s pieces ≡ cut_of_piece layouts s (flat_map (λ (piece : List ℕ). piece) pieces)
   pieces_add_up s [] none = sym (fed_nothing s none)
   pieces_add_up s (piece ∷ pieces) none =

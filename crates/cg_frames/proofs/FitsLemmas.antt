@@ -1,4 +1,4 @@
--- What each member of a list has, member by member, and that messages fit.
+-- Properties of list members, one by one, and messages that fit.
 use Rattle.std.proofs.Common.{◌≡◌, ℕ, ◌≤◌, Bool, true, false, cond, List, [], ◌∷◌, length, map, refl, sym, ap, ◌∙◌, arith}
 use Rattle.std.specs.Prelude.{nat_lt}
 use Rattle.cg_types.specs.declared.limits.TheConstants.{TEXT_LIMIT, STATE_LIMIT}
@@ -69,7 +69,7 @@ message_fits layout written (Ack m) is = record {
 }
 message_fits layout written (Ack2 m) is = record { is = is; within = deltas_within layout written m.deltas is.listed is.deltas }
 
--- ---- what fits, fits field by field
+-- ---- messages that fit, fit field by field
 
 filtered : {X : Type 0} (p : X → Bool) (xs : List X) → length (filter p xs) ≤ length xs
 filtered p [] = omega arith
@@ -87,7 +87,7 @@ kept p x xs e = elim (p x) as (λ b. cond b (x ∷ filter p xs) (filter p xs) �
   | false ↦ λ e. absurd (omega (arith, filtered p xs, ap length e))
 ] e
 
--- the states of a delta, each of which is above what the delta stands above
+-- the states of a delta, each of which is above the version that the delta is above
 states_fields : (layout : Layout) (above : ℕ) (es : List (ℕ × Versioned)) → filter (λ s. nat_lt above s.1.version) es ≡ es → AllByRecursion IsState es
     → AllByRecursion (λ (s : ℕ × Versioned). length s.1.text ≤ layout.text) es → AllByRecursion (FitsState layout above) es
 states_fields layout above [] e all short = tt
@@ -134,7 +134,7 @@ fields_of layout (Ack2 m) fits = record {
   deltas = deltas_fields layout m.deltas fits.is.deltas fits.within.short;
 }
 
--- ---- what fits field by field, fits: messages hold what a layout allows that is read
+-- ---- messages that fit field by field, fit: they hold what a layout allows that is read
 
 all_kept : (layout : Layout) (above : ℕ) (es : List (ℕ × Versioned)) → AllByRecursion (FitsState layout above) es → filter (λ s. nat_lt above s.1.version) es ≡ es
 all_kept layout above [] all = refl

@@ -1,4 +1,4 @@
--- What feeding needs of the grammar: what stands at the front is settled once it is there, and how long it is.
+-- Properties of the grammar for feeding: the first frame or fault is settled once it is there, and has a length.
 use Rattle.std.proofs.Common.{◌≡◌, ℕ, ◌+◌, ◌-◌, ◌<◌, ◌≤◌, List, [], ◌++◌, length, take, drop, Option, Some, None, Result, Ok, Err, refl, sym, ap, ◌∙◌, subst, inl, inr, arith, length-append, length-drop}
 use Rattle.std.specs.Prelude.{◌⊎◌}
 use Rattle.std.specs.Int.{w32, from_be_bytes}
@@ -31,7 +31,7 @@ with_size_none n (Err f) is = cc
 err_is : (f g : Fault) → ◌≡◌ {A = Result (Option (Message × ℕ)) Fault} (Err f) (Err g) → f ≡ g
 err_is f g e = cc
 
--- A fault that is located is a bad frame.
+-- A fault with its offset is a bad frame.
 located_fault : (n : ℕ) (r : Result Message Misread) (f : Fault) → with_size n (with_place n r) ≡ Err f → IsBadFrame f
 located_fault n (Ok x) f is = cc
 located_fault n (Err m) f is = subst IsBadFrame (err_is (fault_at n m) f is) tt
@@ -46,7 +46,7 @@ long_lacks xs long = rw (le-ltb (length xs) 4 long) refl
 
 -- ---- in one layout
 
--- How the front of bytes may look.
+-- The cases of the start of bytes.
 data Front (layout : Layout) (xs : List ℕ) : Type 0 where
   short : length xs < 4 → frame_at layout xs ≡ Ok None → Front layout xs
   over : 4 ≤ length xs → layout.length < size_of xs → frame_at layout xs ≡ Err (faults.BadFrame 0 causes.Length) → Front layout xs
@@ -82,7 +82,7 @@ module _ (layout : Layout) where
     ]
   ]
 
-  -- What stands at the front stays there, whatever follows.
+  -- The first frame or fault of the bytes stays the same, whatever follows.
   settled : (xs ys : List ℕ) → (frame_at layout xs ≡ Ok None) ⊎ (frame_at layout (xs ++ ys) ≡ frame_at layout xs)
   settled xs ys = elim (front_of xs) [
     | short few is ↦ inl is
@@ -120,10 +120,10 @@ module _ (layout : Layout) where
       whole_is xs long (omega (arith, zero)) (omega (arith, zero))
       ∙ ap (λ n. with_size n (with_place n (inside_at layout (take n (drop 4 xs))))) zero
 
--- ---- the same, in the layout that is due
+-- ---- the same, in the expected layout
 
 module _ (layouts : List Layout) where
-  -- The length is settled by the first four bytes, whichever layout is due then.
+  -- The length is settled by the first four bytes, in any expected layout.
   settled_early : (xs ys : List ℕ) → length xs ≤ 4 → (frame_among layouts xs ≡ Ok None) ⊎ (frame_among layouts (xs ++ ys) ≡ frame_among layouts xs)
   settled_early xs ys early = elim (front_of (due layouts xs) xs) [
     | short few is ↦ inl is
@@ -138,7 +138,7 @@ module _ (layouts : List Layout) where
         inr (empty_is (due layouts (xs ++ ys)) (xs ++ ys) (omega (arith, length-append xs ys)) (same ∙ zero) ∙ sym (empty_is (due layouts xs) xs (omega arith) zero))
   ]
 
-  -- What stands at the front stays there, whatever follows.
+  -- The first frame or fault of the bytes stays the same, whatever follows.
   pub settled_among : (xs ys : List ℕ) → (frame_among layouts xs ≡ Ok None) ⊎ (frame_among layouts (xs ++ ys) ≡ frame_among layouts xs)
   settled_among xs ys = elim (cases_lt 4 (length xs)) [
     | inl long ↦ elim (settled (due layouts xs) xs ys) [
@@ -152,11 +152,11 @@ module _ (layouts : List Layout) where
   pub fault_among : (xs : List ℕ) (f : Fault) → frame_among layouts xs ≡ Err f → IsBadFrame f
   fault_among xs f bad = fault_is_bad (due layouts xs) xs f bad
 
-  -- Where more bytes are needed, some are lacking.
+  -- Some bytes are lacking if more are needed.
   pub some_lacking : (xs : List ℕ) → frame_among layouts xs ≡ Ok None → 0 < lack_of xs
   some_lacking xs none = partial_lacks (due layouts xs) xs none
 
-  -- A piece that is no longer than what is lacking doesn't pass the frame.
+  -- A chunk that is no longer than the lack doesn't pass the frame.
   pub frame_is_all : (held piece : List ℕ) (p : Message × ℕ) → frame_among layouts held ≡ Ok None → length piece ≤ lack_of held → frame_among layouts (held ++ piece) ≡ Ok (Some p) → drop p.1 (held ++ piece) ≡ []
   frame_is_all held piece p none fits some =
       let s = frame_parts (due layouts (held ++ piece)) (held ++ piece) p.0 p.1 some in

@@ -1,4 +1,4 @@
--- Laws of whole messages: what is spelled so is read, is short, and is no other message's spelling.
+-- Laws of whole messages: one that is spelled so is read, is short, and has no other message's spelling.
 use Rattle.std.proofs.Common.{◌≡◌, ℕ, ◌+◌, ◌*◌, ◌^◌, ◌<◌, ◌≤◌, Bool, true, cond, List, [], ◌∷◌, ◌++◌, length, take, drop, Option, Some, Result, Ok, Err, refl, sym, ap, subst, ◌∙◌, append_assoc, arith, length-append}
 use Rattle.std.specs.Prelude.{◌==◌, max}
 use Rattle.std.proofs.Math.Nat.{le_trans}
@@ -115,7 +115,7 @@ fields_short layout (Ack2 m) fits =
 pub inside_short : (layout : Layout) → EachIsShort layout
 inside_short layout m fits = fields_short layout m (fields_of layout m fits)
 
--- ---- what is spelled so is read
+-- ---- messages that are spelled so are read
 
 -- a body that is read, whatever follows, is read to its end
 ended_again : {A : Type 0} (tag : A → Message) (at : List ℕ → Field A) (x : A) (bytes : List ℕ) → at (bytes ++ []) ≡ Ok (x, []) → as_message tag (whole_field (at bytes)) ≡ Ok (tag x)
@@ -162,7 +162,7 @@ frame_is_read layout is m rest fits =
     frame_again layout spelled rest m short is.length (inside_again layout m is.text is.members fits)
     ∙ ap (λ (n : ℕ). Ok (Some (m, n))) long
 
--- In whichever layout of a list it is spelled, that one is due.
+-- A frame in any layout of a list is read: that layout is the expected one.
 pub frame_is_read_among : (layouts : List Layout) → AllByRecursion IsLayout layouts → (layout : Layout) → IsOneOf layouts layout → (m : Message) (rest : List ℕ) → Fits layout m → frame_among layouts (frame layout m ++ rest) ≡ Ok (Some (m, length (frame layout m)))
 frame_is_read_among layouts each layout one m rest fits =
     ap (λ (l : Layout). frame_at l (frame layout m ++ rest)) (due_of_frame layouts layout m rest one)
@@ -191,7 +191,7 @@ same_inside a b rest short few e =
     let none : rest ≡ [] = no_more rest (omega (arith, ap length behind, length-append a rest, sizes)) in
     (sym (append-nil a) ∙ ap (λ (ys : List ℕ). a ++ ys) (sym none) ∙ behind, none)
 
--- What stands behind a length fits into its bytes.
+-- The bytes after a length fit into its bytes.
 pub inside_fits : (layout : Layout) → IsLayout layout → (m : Message) → Fits layout m → length (inside layout m) < 2 ^ 32
 inside_fits layout is m fits =
     let short : length (inside layout m) ≤ layout.length = le_trans (inside_short layout m fits) is.room in

@@ -1,4 +1,4 @@
--- How long spellings are.
+-- Lengths of spellings.
 use Rattle.std.proofs.Common.{◌≡◌, ℕ, ◌+◌, ◌*◌, ◌<◌, ◌≤◌, List, [], ◌∷◌, ◌++◌, length, get_or, zero, suc, refl, sym, ap, ◌∙◌, take, arith, length-append}
 use Rattle.std.specs.Prelude.{sum_by}
 use Rattle.std.specs.FinMap.{entries}
@@ -78,7 +78,7 @@ length-states (e ∷ es) =
 pub length-members : {X : Type 0} (spell : X → List ℕ) (xs : List X) → length (members spell xs) ≡ 2 + length (flat_map spell xs)
 length-members spell xs = omega (arith, length-append (two_bytes (length xs)) (flat_map spell xs), length-two_bytes (length xs))
 
--- What is spelled up to a member, and that member, is no longer than what is spelled of all.
+-- The spelling up to a member, and that member, is no longer than the spelling of all.
 pub part_shorter : {X : Type 0} (spell : X → List ℕ) (xs : List X) (i : ℕ) (x : X) → i < length xs → x ≡ get_or xs i x
     → length (flat_map spell (take i xs)) + length (spell x) ≤ length (flat_map spell xs)
 part_shorter spell [] i x lt at = absurd (omega arith)

@@ -103,7 +103,7 @@ pub record KindFound (layout : Layout) (number : ℕ) (behind : List ℕ) (m : M
   pub whole : behind ≡ body m
   pub fits : FitsFields layout m
 
--- ---- what stands before a body
+-- ---- the bytes before a body
 
 layout_read : (layout : Layout) (bytes : List ℕ) (p : ℕ × List ℕ) → layout_at layout bytes ≡ Ok p → (p.0 ≡ layout.byte) × (number_at w8 bytes ≡ Ok p)
 layout_read layout bytes p h =
@@ -147,7 +147,7 @@ no_bytes : (rest : List ℕ) → length rest ≡ 0 → rest ≡ []
 no_bytes [] e = refl
 no_bytes (b ∷ rest) e = absurd (omega arith)
 
--- a body that was read to its end, by how its kind is read
+-- a body that was read to its end, by the reading of its kind
 body_found : {A : Type 0} (tag : A → Message) (layout : Layout) (at : List ℕ → Field A) → ((bytes : List ℕ) (x : A) (rest : List ℕ) → AreBytes bytes → at bytes ≡ Ok (x, rest) → Stands (body (tag x)) bytes rest × FitsFields layout (tag x))
     → (number : ℕ) (behind : List ℕ) (m : Message) → ((x : A) → number ≡ kind (tag x)) → AreBytes behind → as_message tag (whole_field (at behind)) ≡ Ok m → KindFound layout number behind m
 body_found tag layout at found number behind m is small h =
@@ -202,7 +202,7 @@ frame_found layout read bytes m n small h =
     ∙ sym (append_assoc (four_bytes (length (inside layout m))) (inside layout m) (drop size behind)) in
     record { within = p.within; spelled = ap (take n) whole ∙ take_at (frame layout m) (drop size behind) n long; fits = fits_of layout read m f.fits }
 
--- What is read in the layout that is due is spelled so in a layout of the list: it is that one.
+-- A message that is read in the expected layout is spelled so in a layout of the list: it is that one.
 pub found_among : (layouts : List Layout) → AreRead layouts → (bytes : List ℕ) (m : Message) (n : ℕ) → AreBytes bytes → frame_among layouts bytes ≡ Ok (Some (m, n)) → (layout : Layout) × IsOneOf layouts layout × IsSpelledIn layout bytes m n
 found_among layouts are bytes m n small h =
     let layout = due layouts bytes in

@@ -1,4 +1,4 @@
--- What is read is spelled so, and fits.
+-- Values that are read are spelled so, and fit.
 use Rattle.std.proofs.Common.{◌≡◌, ℕ, zero, suc, ◌+◌, ◌^◌, ◌<◌, ◌≤◌, Bool, true, false, cond, List, [], ◌∷◌, ◌++◌, length, map, take, drop, Option, Some, None, Ok, Err, refl, sym, ap, subst, ◌∙◌, inl, inr, append_assoc, arith, length-take, length-drop, get_or-drop, get_or-take}
 use Rattle.std.specs.Prelude.{nat_lt, ◌==◌, not, ◌&&◌, ◌||◌}
 use Rattle.std.specs.Int.{w8, w16, w32, from_be_bytes, to_be_bytes}
@@ -35,7 +35,7 @@ front_bytes n bytes small i = elim (cases_lt i n) [
 pub later_bytes : (n : ℕ) (bytes : List ℕ) → AreBytes bytes → AreBytes (drop n bytes)
 later_bytes n bytes small i = subst (λ k. k < 2 ^ 8) (sym (get_or-drop n bytes i 0)) (small (n + i))
 
--- The bytes begin with a spelling; the rest stands behind it.
+-- The bytes begin with a spelling; the rest comes after it.
 pub record Stands (spelled bytes rest : List ℕ) : Type 0 where
   pub whole : bytes ≡ spelled ++ rest
   pub bytes_behind : AreBytes rest

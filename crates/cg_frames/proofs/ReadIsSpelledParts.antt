@@ -1,4 +1,4 @@
--- What was read: the fields of members, members that rise, and the lists of messages.
+-- Parts of values that were read: the fields of members, members that rise, and the lists of messages.
 use Rattle.std.proofs.Common.{◌≡◌, ℕ, zero, suc, ◌≤◌, Bool, true, false, cond, List, [], ◌∷◌, length, map, take, drop, Option, Some, None, Result, Ok, Err, refl, ap, subst, arith}
 use Rattle.std.specs.Prelude.{◌==◌, ◌||◌, ◌&&◌, not, nat_lt, nat_le}
 use Rattle.std.specs.List.{list_all}
@@ -224,7 +224,7 @@ state_newer layout above last bytes s after h =
     let p = state_parts layout above last bytes s after h in
     (version_newer above p.from_version s.version p.from_text p.version).1
 
--- what each member has that was read
+-- a property of each member that was read
 rising_all : {X : Type 0} (key : X → ℕ) (one : Option ℕ → List ℕ → Field X) (test : X → Bool) → ((last : Option ℕ) (bytes : List ℕ) (x : X) (after : List ℕ) → one last bytes ≡ Ok (x, after) → test x ≡ true)
     → (n : ℕ) (last : Option ℕ) (bytes : List ℕ) (xs : List X) (rest : List ℕ) → rising_at key one n last bytes ≡ Ok (xs, rest) → list_all test xs ≡ true
 rising_all key one test holds zero last bytes xs rest h =
@@ -247,7 +247,7 @@ and_true : (b : Bool) → (b && (true && true)) ≡ b
 and_true true = refl
 and_true false = refl
 
--- a delta can be made of what was read exactly where it carries something
+-- a delta can be made of the parts that were read exactly if it carries something
 pub delta_made : (layout : Layout) (above heartbeat n : ℕ) (bytes : List ℕ) (ss : List State) (rest : List ℕ) → states_at layout above n None bytes ≡ Ok (ss, rest) → makes_delta above heartbeat ss ≡ carries above heartbeat n
 delta_made layout above heartbeat n bytes ss rest h =
     let r = states_rise layout above n bytes ss rest h in

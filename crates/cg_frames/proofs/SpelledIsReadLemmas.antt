@@ -1,4 +1,4 @@
--- What is spelled so is read, whatever follows.
+-- Values that are spelled so are read, whatever follows.
 use Rattle.std.proofs.Common.{◌≡◌, ℕ, suc, ◌^◌, ◌<◌, ◌≤◌, true, false, cond, List, [], ◌∷◌, ◌++◌, length, map, take, drop, Option, Some, None, Ok, Err, refl, ap, ◌∙◌, append_assoc, arith, length-append}
 use Rattle.std.specs.Prelude.{nat_lt, ◌==◌, ◌||◌}
 use Rattle.std.specs.Int.{w8, w16, w32, from_be_bytes, to_be_bytes}
@@ -72,7 +72,7 @@ digest_again last d rest fits past =
     ap (digest_at last) regrouped
     ∙ rw (endpoint_again last d.endpoint (four_bytes d.generation ++ (four_bytes d.newest ++ rest)) fits.endpoint past, ranged_again _ d.generation (four_bytes d.newest ++ rest) fits.generation.0 fits.generation.1, ranged_again _ d.newest rest fits.newest.0 fits.newest.1) refl
 
--- a list of members, where each member that fits is read again
+-- a list of members, if each member that fits is read again
 pub rising_again : {X : Type 0} (key : X → ℕ) (spell : X → List ℕ) (one : Option ℕ → List ℕ → Field X) (Fits : X → Type 0)
     → ((last : Option ℕ) (x : X) (rest : List ℕ) → Fits x → is_past last (key x) ≡ true → one last (spell x ++ rest) ≡ Ok (x, rest))
     → (last : Option ℕ) (xs : List X) (rest : List ℕ) → AllByRecursion Fits xs → rise_past last (map key xs) ≡ true → rising_at key one (length xs) last (flat_map spell xs ++ rest) ≡ Ok (xs, rest)

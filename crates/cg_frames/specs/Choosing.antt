@@ -1,4 +1,4 @@
--- Which layout of a list a frame is read in: the byte behind the length names it.
+-- The layout of a list that a frame is read in: the byte after the length names it.
 use Rattle.std.specs.Prelude.{◌≡◌, ℕ, ◌<◌, ◌==◌, List, length, Option, Some, None, Result, Ok, slice_get, nat_lt, if◌then◌else◌}
 use Rattle.std.specs.List.{find, reduce, AllByRecursion}
 use Rattle.std.specs.Option.{unwrap_or}
@@ -13,7 +13,7 @@ use Rattle.cg_frames.specs.Reading.{frame_at}
 abbrev pub layout_with_byte : List Layout → ℕ → Option Layout
 layout_with_byte layouts byte = find (λ layout. layout.byte == byte) layouts
 
--- the one with the longer frames; the first where both are as long
+-- the one with the longer frames; the first if both are as long
 abbrev pub wider : Layout → Layout → Layout
 wider a b = if nat_lt a.length b.length then b else a
 
@@ -21,21 +21,21 @@ wider a b = if nat_lt a.length b.length then b else a
 abbrev pub widest : List Layout → Layout
 widest layouts = unwrap_or (reduce wider layouts) LAYOUT_1
 
--- the layout that is due by the byte behind the length, where it has come
+-- the expected layout by the byte after the length, if it has come
 abbrev pub due_by : List Layout → Option ℕ → Layout
 due_by layouts (Some byte) = unwrap_or (layout_with_byte layouts byte) (widest layouts)
 due_by layouts None = widest layouts
 
--- The layout that is due: the one that the byte behind the length names; where it names none, or none has come yet,
--- the one with the longest frames.
+-- The expected layout: the one that the byte after the length names; if it names none, or none has come yet, the one
+-- with the longest frames.
 unfoldable pub due : List Layout → List ℕ → Layout
 due layouts bytes = due_by layouts (slice_get bytes 4)
 
--- The frame at the front of the bytes in the layout that is due, and how long it is; None where more bytes are needed.
+-- The frame at the start of the bytes in the expected layout, and its length; None if more bytes are needed.
 abbrev pub frame_among : List Layout → List ℕ → Result (Option (Message × ℕ)) Fault
 frame_among layouts bytes = frame_at (due layouts bytes) bytes
 
--- More bytes are needed: neither a whole frame nor a fault stands at the front.
+-- More bytes are needed: the bytes begin with neither a whole frame nor a fault.
 abbrev pub NeedsMore : List Layout → List ℕ → Type 0
 NeedsMore layouts bytes = frame_among layouts bytes ≡ Ok None
 

@@ -1,9 +1,9 @@
--- Which faults a frame has.
+-- Faults of a frame.
 use Rattle.std.specs.Prelude.{◌≡◌}
 use Rattle.cg_types.specs.declared.fault.Fault.{Fault}
 use Rattle.cg_types.specs.declared.fault.Fault.TheVariants.{BadFrame}
 
--- a bad frame, with its place and cause
+-- a bad frame, with its offset and cause
 abbrev pub IsBadFrame : Fault → Type 0
 IsBadFrame (BadFrame place cause) = Unit {0}
 IsBadFrame fault = ⊥

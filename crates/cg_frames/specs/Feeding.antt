@@ -1,4 +1,4 @@
--- Bytes that come in pieces, cut into messages.
+-- Bytes that come in chunks, cut into messages.
 use Rattle.std.specs.Prelude.{◌≡◌, ℕ, zero, suc, ◌+◌, ◌-◌, ◌≤◌, List, [], ◌∷◌, ◌++◌, length, drop, map, Option, Some, None, Result, Ok, Err, IfOk, nat_lt, if◌then◌else◌}
 use Rattle.std.specs.List.{flat_map, AllByRecursion}
 use Rattle.cg_types.specs.declared.fault.Fault.{Fault}
@@ -11,17 +11,17 @@ use Rattle.cg_frames.specs.Choosing.{frame_among, NeedsMore, IsOneOf}
 use Rattle.cg_frames.specs.Spelling.{frame}
 use Rattle.cg_frames.specs.Fits.{Fits}
 
--- How many bytes the present length or frame lacks.
+-- The number of bytes that the present length or frame lacks.
 unfoldable pub lack_of : List ℕ → ℕ
 lack_of bytes =
     if nat_lt (length bytes) 4 then 4 - length bytes
     else 4 + size_of bytes - length bytes
 
--- Where a feed stands: the bytes that it holds of the next frame, or the fault that stands for good.
+-- The state of a feed: the bytes that it holds of the next frame, or its lasting fault.
 abbrev pub Standing : Type 0
 Standing = Result (List ℕ) Fault
 
--- What bytes are cut into: whole messages, and where a feed stands behind them.
+-- The cut of bytes: whole messages, and the state of a feed after them.
 pub record Cut : Type 0 where
   pub messages : List Message
   pub rest : Standing
@@ -29,7 +29,7 @@ pub record Cut : Type 0 where
 abbrev pub with_front : List Message → Cut → Cut
 with_front front c = record { messages = front ++ c.messages; rest = c.rest }
 
--- What stands at the front decides; behind a message it goes on as next says.
+-- The first frame or fault of the bytes decides; after a message it goes on as next says.
 abbrev pub cut_by : (List ℕ → Cut) → List ℕ → Result (Option (Message × ℕ)) Fault → Cut
 cut_by next bytes (Err f) = record { messages = []; rest = Err f }
 cut_by next bytes (Ok None) = record { messages = []; rest = Ok bytes }
@@ -39,31 +39,31 @@ abbrev pub cut_within : List Layout → ℕ → List ℕ → Cut
 cut_within layouts zero bytes = record { messages = []; rest = Ok bytes }
 cut_within layouts (suc n) bytes = cut_by (cut_within layouts n) bytes (frame_among layouts bytes)
 
--- All messages of the bytes, and where a feed stands behind them. There are no more frames than bytes.
+-- All messages of the bytes, and the state of a feed after them. There are no more frames than bytes.
 unfoldable pub frames_in : List Layout → List ℕ → Cut
 frames_in layouts bytes = cut_within layouts (length bytes) bytes
 
--- What a piece gives, and where the feed stands then.
+-- The messages of a chunk, and the state of the feed after it.
 abbrev pub cut_of_piece : List Layout → Standing → List ℕ → Cut
 cut_of_piece layouts (Ok held) piece = frames_in layouts (held ++ piece)
 cut_of_piece layouts (Err f) piece = record { messages = []; rest = Err f }
 
--- What pieces give, one after another.
+-- The messages of chunks, one after another.
 abbrev pub fed_all : List Layout → Standing → List (List ℕ) → Cut
 fed_all layouts s [] = record { messages = []; rest = s }
 fed_all layouts s (piece ∷ pieces) =
     with_front (cut_of_piece layouts s piece).messages (fed_all layouts (cut_of_piece layouts s piece).rest pieces)
 
--- What is held needs more; a fault may stand.
+-- The bytes held need more; or there is a lasting fault, any.
 abbrev pub HoldsNoFrame : List Layout → Standing → Type 0
 HoldsNoFrame layouts s = IfOk s (NeedsMore layouts)
 
--- What is held needs more; the fault that stands is a bad frame.
+-- The bytes held need more; a lasting fault is a bad frame.
 abbrev pub IsPartial : List Layout → Standing → Type 0
 IsPartial layouts (Ok held) = NeedsMore layouts held
 IsPartial layouts (Err f) = IsBadFrame f
 
--- These bytes stand behind the messages.
+-- These bytes come after the messages.
 abbrev pub StandsAt : List Layout → Standing → List ℕ → Type 0
 StandsAt layouts (Ok held) rest = (rest ≡ held) × NeedsMore layouts held
 StandsAt layouts (Err f) rest = frame_among layouts rest ≡ Err f
@@ -85,7 +85,7 @@ pub record Splits (layouts : List Layout) (bytes : List ℕ) (c : Cut) : Type 0 
   pub fit : AllByRecursion (IsSpellable layouts) spelled
   pub stands : StandsAt layouts c.rest rest
 
--- What is held and then the piece is split so; after a fault nothing is given, and the fault stands.
+-- The bytes held and then the chunk are split so; after a fault no message is given, and the fault stays.
 abbrev pub SplitsFrom : List Layout → Standing → List ℕ → Cut → Type 0
 SplitsFrom layouts (Ok held) piece c = Splits layouts (held ++ piece) c
 SplitsFrom layouts (Err f) piece c = c ≡ record { messages = []; rest = Err f }
@@ -98,7 +98,7 @@ abbrev pub standing_of : List ℕ → Option Fault → Standing
 standing_of held None = Ok held
 standing_of held (Some f) = Err f
 
--- how many bytes may come without passing the present length or frame
+-- the number of bytes that may come without passing the present length or frame
 abbrev pub wants_of : Standing → ℕ
 wants_of (Ok held) = lack_of held
 wants_of (Err f) = 0
@@ -109,13 +109,13 @@ HasAtMostOne [] rest = Unit {0}
 HasAtMostOne (m ∷ []) rest = rest ≡ Ok []
 HasAtMostOne (m ∷ (n ∷ ms)) rest = ⊥
 
--- Cutting gave these messages of so many bytes, and this fault behind them.
+-- Cutting gave these messages of this number of bytes, and this fault after them.
 pub record IsCut (layouts : List Layout) (bytes : List ℕ) (messages : List Message) (taken : ℕ) (fault : Option Fault)
     : Type 0 where
   pub within : taken ≤ length bytes
   pub all : frames_in layouts bytes ≡ record { messages = messages; rest = standing_of (drop taken bytes) fault }
 
--- Where no byte is held and no fault stands a stream may end.
+-- A stream may end if no byte is held and there is no lasting fault.
 abbrev pub Ends : Standing → Result Unit Fault → Type 0
 Ends (Ok []) result = result ≡ Ok tt
 Ends (Ok (b ∷ held)) result = result ≡ Err Truncated

@@ -15,11 +15,11 @@ use Rattle.cg_frames.specs.declared.misread.Misread.{Misread}
 abbrev pub Field : Type 0 → Type 0
 Field A = Result (A × List ℕ) Misread
 
--- The fault stands where these bytes begin.
+-- The fault is where these bytes begin.
 abbrev pub wrong : {A : Type 0} → Cause → List ℕ → Result A Misread
 wrong cause bytes = Err (record { cause = cause; left = length bytes })
 
--- so many bytes, as one field
+-- this number of bytes, as one field
 abbrev pub bytes_at : ℕ → List ℕ → Field (List ℕ)
 bytes_at count bytes =
     if nat_lt (length bytes) count then wrong causes.Short bytes
@@ -30,7 +30,7 @@ number_at w bytes = do
   front ← bytes_at (byte_len w) bytes
   Ok (from_be_bytes w front.0, front.1)
 
--- how many members a list has
+-- the number of members of a list
 abbrev pub count_at : Layout → List ℕ → Field ℕ
 count_at layout bytes = do
   n ← number_at w16 bytes
@@ -64,7 +64,7 @@ version_at = ranged_at causes.Version 1
 abbrev pub heartbeat_at : List ℕ → Field ℕ
 heartbeat_at = ranged_at causes.Heartbeat 1
 
--- A version, or 0: of a request, and the version that a delta stands above.
+-- A version, or 0: of a request, and the version that a delta is above.
 abbrev pub held_at : Cause → List ℕ → Field ℕ
 held_at cause = ranged_at cause 0
 
@@ -74,7 +74,7 @@ version_above_at above bytes = do
   version ← version_at bytes
   if nat_lt above version.0 then Ok version else wrong causes.Version bytes
 
--- so many bytes of plain text
+-- this number of bytes of plain text
 abbrev pub plain_at : ℕ → Cause → List ℕ → Field (List ℕ)
 plain_at count cause bytes = do
   front ← bytes_at count bytes
@@ -97,7 +97,7 @@ key_at last bytes = do
   key ← number_at w8 bytes
   key_from last bytes key.0 key.1
 
--- how many states a delta has: one byte
+-- the number of states of a delta: one byte
 abbrev pub state_count_at : List ℕ → Field ℕ
 state_count_at bytes = do
   count ← number_at w8 bytes

@@ -1,4 +1,4 @@
--- Messages that a layout can spell: the premise of what is said of spelling and reading.
+-- Messages that a layout can spell: the premise of the laws of spelling and reading.
 use Rattle.std.specs.Prelude.{◌≤◌, List, length}
 use Rattle.std.specs.List.{AllByRecursion}
 use Rattle.std.specs.FinMap as map
@@ -27,7 +27,7 @@ WithinLayout layout (Syn m) = AreFew layout m.digests
 WithinLayout layout (Ack m) = AreFew layout m.requests × AreWithin layout m.deltas
 WithinLayout layout (Ack2 m) = AreWithin layout m.deltas
 
--- The layout can spell the message: what every message holds, within the limits of the layout.
+-- The layout can spell the message, which keeps the rules of all messages and the limits of the layout.
 pub record Fits (layout : Layout) (m : Message) : Type 0 where
   pub is : IsMessage m
   pub within : WithinLayout layout m

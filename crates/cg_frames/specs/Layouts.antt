@@ -1,4 +1,4 @@
--- What the limits of a layout keep.
+-- Rules for the limits of a layout.
 use Rattle.std.specs.Prelude.{◌≡◌, ◌<◌, ◌≤◌, ◌^◌, false}
 use Rattle.cg_types.specs.declared.limits.TheConstants.{MEMBER_LIMIT, TEXT_LIMIT}
 use Rattle.cg_frames.specs.declared.layout.Layout.{Layout}
@@ -11,8 +11,8 @@ pub record IsLayout (layout : Layout) : Type 0 where
   pub length : layout.length < 2 ^ 32
   pub room : greatest_length layout ≤ layout.length
 
--- Messages hold what the layout allows, so that whatever it spells can be read. No message holds the mark of a removed
--- key in this version, so no layout with marks is read.
+-- Messages hold what the layout allows, so that each of its spellings can be read. No message holds the mark of a
+-- removed key in this version, so no layout with marks is read.
 pub record IsRead (layout : Layout) : Type 0 where
   pub members : layout.members ≤ MEMBER_LIMIT
   pub text : layout.text ≤ TEXT_LIMIT

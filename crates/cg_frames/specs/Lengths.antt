@@ -27,6 +27,6 @@ syn_most layout = 2 + NAME_LIMIT + digests_most layout
 abbrev pub ack_most : Layout → ℕ
 ack_most layout = digests_most layout + deltas_most layout
 
--- what stands behind the length of a frame: the layout's byte, the kind and a body
+-- the bytes after the length of a frame: the layout's byte, the kind and a body
 abbrev pub greatest_length : Layout → ℕ
 greatest_length layout = 2 + max (syn_most layout) (ack_most layout)

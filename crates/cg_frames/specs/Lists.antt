@@ -34,7 +34,7 @@ state_at layout above last bytes = do
   text ← text_at layout version.1
   Ok (record { key = key.0; version = version.0; text = text.0 }, text.1)
 
--- So many members, each of which comes after the one before it.
+-- The members, n of them, each of which comes after the one before it.
 unfoldable pub rising_at : {X : Type 0} → (X → ℕ) → (Option ℕ → List ℕ → Field X) → ℕ → Option ℕ → List ℕ
     → Field (List X)
 rising_at key one zero last bytes = Ok ([], bytes)
@@ -46,19 +46,19 @@ rising_at key one (suc n) last bytes = do
 abbrev pub digests_at : ℕ → Option ℕ → List ℕ → Field (List Digest)
 digests_at = rising_at (λ d. d.endpoint) digest_at
 
--- so many requests, rising by endpoint
+-- n requests, rising by endpoint
 abbrev pub requests_at : ℕ → Option ℕ → List ℕ → Field (List RequestValue)
 requests_at = rising_at (λ r. r.endpoint) request_at
 
--- so many states of a delta above a version, rising by key
+-- n states of a delta above a version, rising by key
 abbrev pub states_at : Layout → ℕ → ℕ → Option ℕ → List ℕ → Field (List State)
 states_at layout above = rising_at (λ s. s.key) (state_at layout above)
 
--- Whether a delta carries something above `above`: each of its states does.
+-- `true` if a delta carries something above `above`: each of its states does.
 abbrev pub carries : ℕ → ℕ → ℕ → Bool
 carries above heartbeat count = nat_lt above heartbeat || not (count == 0)
 
--- what a delta is made of; where it carries nothing, the fault stands at its first byte
+-- the delta of its parts; if it carries nothing, the fault is at its first byte
 abbrev pub delta_from : List ℕ → ℕ → ℕ → ℕ → ℕ → ℕ → List State → List ℕ → Field OwnerDelta
 delta_from bytes endpoint generation above heartbeat count states rest =
     if carries above heartbeat count
@@ -87,7 +87,7 @@ delta_at layout last bytes = do
   states ← states_at layout above.0 count.0 None count.1
   delta_from bytes endpoint.0 generation.0 above.0 heartbeat.0 count.0 states.0 states.1
 
--- so many deltas, rising by endpoint
+-- n deltas, rising by endpoint
 abbrev pub deltas_at : Layout → ℕ → Option ℕ → List ℕ → Field (List OwnerDelta)
 deltas_at layout = rising_at (λ d. d.endpoint) (delta_at layout)
 

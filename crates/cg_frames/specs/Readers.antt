@@ -1,4 +1,4 @@
--- How a reader answers, beside what reading gives.
+-- Answers of a reader, beside the values that reading gives.
 use Rattle.std.specs.Prelude.{◌≡◌, ℕ, true, false, List, length, Result, Ok, Err, IsOk, ◌==◌}
 use Rattle.cg_types.specs.declared.fault.Cause.TheVariants as causes
 use Rattle.cg_frames.specs.declared.misread.Misread.{Misread}
@@ -6,7 +6,7 @@ use Rattle.cg_frames.specs.declared.misread.ReadError.{ReadError}
 use Rattle.cg_frames.specs.declared.misread.ReadError.TheVariants as errors
 use Rattle.cg_frames.specs.Fields.{Field}
 
--- A reader gives exactly what reading gives, and stands behind it.
+-- A reader gives exactly what reading gives, and is left after it.
 abbrev pub Reads : {X Y : Type 0} → (X → Y) → Result X Misread → List ℕ → Field Y → Type 0
 Reads view (Ok x) rest read = read ≡ Ok (view x, rest)
 Reads view (Err m) rest read = read ≡ Err m
@@ -16,12 +16,12 @@ abbrev pub part_of_field : {X Y : Type 0} → (Y → X) → Field Y → Field X
 part_of_field part (Ok y) = Ok (part y.0, y.1)
 part_of_field part (Err m) = Err m
 
--- where reading stands behind a field
+-- the bytes after a field
 abbrev pub behind : {A : Type 0} → Field A → Result (List ℕ) Misread
 behind (Ok x) = Ok x.1
 behind (Err m) = Err m
 
--- A reader that keeps nothing goes where reading goes.
+-- A reader that keeps nothing goes as far as reading goes.
 abbrev pub Passes : {X Y : Type 0} → Result X Misread → List ℕ → Field Y → Type 0
 Passes (Ok x) rest read = behind read ≡ Ok rest
 Passes (Err m) rest read = behind read ≡ Err m
@@ -40,7 +40,7 @@ abbrev pub FindsEnd : {X : Type 0} → Result X Misread → List ℕ → Type 0
 FindsEnd (Ok x) bytes = (length bytes == 0) ≡ true
 FindsEnd (Err m) bytes = ((length bytes == 0) ≡ false) × (m ≡ record { cause = causes.Rest; left = length bytes })
 
--- What is checked is read, or has this fault.
+-- A frame that passes the check is read, else reading has this fault.
 abbrev pub Checks : {X Y : Type 0} → Result X Misread → Result Y Misread → Type 0
 Checks (Ok x) read = IsOk read
 Checks (Err m) read = read ≡ Err m

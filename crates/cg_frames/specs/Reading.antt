@@ -37,7 +37,7 @@ ack2_at layout bytes = do
   deltas ← listed_deltas_at layout bytes
   Ok (record { deltas = deltas.0 }, deltas.1)
 
--- nothing is left behind the last field
+-- nothing is left after the last field
 abbrev pub whole_field : {A : Type 0} → Field A → Result A Misread
 whole_field (Ok x) = if length x.1 == 0 then Ok x.0 else wrong causes.Rest x.1
 whole_field (Err m) = Err m
@@ -65,20 +65,20 @@ kind_at bytes = do
   number ← number_at w8 bytes
   kind_from bytes number.0 number.1
 
--- the body of a message of this kind, and nothing behind it
+-- the body of a message of this kind, and nothing after it
 abbrev pub of_kind : Layout → Kind → List ℕ → Result Message Misread
 of_kind layout kinds.Syn bytes = as_message messages.Syn (whole_field (syn_at layout bytes))
 of_kind layout kinds.Ack bytes = as_message messages.Ack (whole_field (ack_at layout bytes))
 of_kind layout kinds.Ack2 bytes = as_message messages.Ack2 (whole_field (ack2_at layout bytes))
 
--- all that stands behind the length of a frame
+-- all bytes after the length of a frame
 unfoldable pub inside_at : Layout → List ℕ → Result Message Misread
 inside_at layout bytes = do
   byte ← layout_at layout bytes
   kind ← kind_at byte.1
   of_kind layout kind.0 kind.1
 
--- the fault of a frame with so many bytes behind its length
+-- the fault of a frame with this number of bytes after its length
 abbrev pub fault_at : ℕ → Misread → Fault
 fault_at size m = faults.BadFrame (4 + size - m.left) m.cause
 
@@ -100,7 +100,7 @@ sized_at layout size rest =
 abbrev pub size_of : List ℕ → ℕ
 size_of bytes = from_be_bytes w32 (take 4 bytes)
 
--- The frame at the front of the bytes, and how long it is; None where more bytes are needed.
+-- The frame at the start of the bytes, and its length; None if more bytes are needed.
 unfoldable pub frame_at : Layout → List ℕ → Result (Option (Message × ℕ)) Fault
 frame_at layout bytes =
     if nat_lt (length bytes) 4 then Ok None

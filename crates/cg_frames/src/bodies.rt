@@ -1,4 +1,4 @@
-//! What stands behind the length of a frame: checked with no memory, and read.
+//! The bytes after the length of a frame: checked with no memory, and read.
 
 ghost use Rattle.std.specs.Prelude.{◌≡◌, Ok};
 ghost use Rattle.cg_types.specs.Text.{cluster_of as cluster_due};
@@ -78,7 +78,7 @@ fn check_whole_ack2(layout: &Layout, reader: &mut Reader<'_>) -> Result<(), Misr
     Ok(())
 }
 
-/// Whether what stands behind the length is a message.
+/// Tests whether the bytes after the length are a message.
 #[tactic(auto, unfolding(crate::specs::Reading::inside_at))]
 pub(crate) fn check(layout: &Layout, inside: &[u8]) -> Result<(), Misread>
     ensures { spec.Checks result (spec.inside_at layout.now inside.now) }
@@ -194,7 +194,7 @@ fn whole_ack2_of(alloc: Global, layout: &Layout, reader: &mut Reader<'_>) -> Res
     Ok(ack2)
 }
 
-/// The message that stands behind the length.
+/// Reads the message in the bytes after the length.
 #[tactic(auto, unfolding(crate::specs::Reading::inside_at))]
 pub(crate) fn read(alloc: Global, layout: &Layout, inside: &[u8]) -> Result<Message, ReadError>
     requires { IsRead layout.now }

@@ -1,4 +1,4 @@
-//! Frames at the front of bytes.
+//! Frames at the start of bytes.
 
 ghost use Rattle.std.specs.Prelude.{◌≡◌, ◌<◌, ◌^◌, length, Ok, None, IfErr};
 ghost use Rattle.cg_frames.specs.declared.layout.TheConstants.{LAYOUTS};
@@ -18,11 +18,12 @@ use cg_messages::Message;
 use cg_types::{Cause, Fault};
 use std::alloc::Global;
 
-// The most bytes behind its length of a frame that is read in one pass. Before its fault is found such a frame takes less than
-// 160 KB, twenty times this. In layout 1 each SYN is shorter, and so are the heartbeats of as many members as a list can have.
+// The most bytes after its length of a frame that is read in one pass. Before its fault is found such a frame takes
+// less than 160 KB, twenty times this. In layout 1 each SYN is shorter, and so are the heartbeats of as many members as
+// a list can have.
 const SHORT: usize = 8_192;
 
-// The fault of a frame with so many bytes behind its length.
+// The fault of a frame with this number of bytes after its length.
 fn fault_at(size: usize, misread: Misread) -> Fault
     requires { size < 2 ^ 32 }
     ensures { result ≡ spec.fault_at size misread }
@@ -33,7 +34,7 @@ fn fault_at(size: usize, misread: Misread) -> Fault
     }
 }
 
-// As `read_inside`: all faults are found before memory is asked for.
+// Reads as `read_inside`: all faults are found before memory is requested.
 fn read_checked(alloc: Global, layout: &Layout, inside: &[u8]) -> Result<Message, Fault>
     requires short { length inside.now < 2 ^ 32 }
     requires layout { IsRead layout.now }
@@ -50,7 +51,7 @@ fn read_checked(alloc: Global, layout: &Layout, inside: &[u8]) -> Result<Message
     }
 }
 
-// As `read_inside`, in one pass: where memory is short, a second one tells whether a fault comes first.
+// Reads as `read_inside`, in one pass: if memory is short, a second one decides whether a fault comes first.
 fn read_at_once(alloc: Global, layout: &Layout, inside: &[u8]) -> Result<Message, Fault>
     requires short { length inside.now < 2 ^ 32 }
     requires layout { IsRead layout.now }
@@ -67,7 +68,7 @@ fn read_at_once(alloc: Global, layout: &Layout, inside: &[u8]) -> Result<Message
     }
 }
 
-// What stands behind the length.
+// Reads the bytes after the length.
 fn read_inside(alloc: Global, layout: &Layout, inside: &[u8]) -> Result<Message, Fault>
     requires short { length inside.now < 2 ^ 32 }
     requires layout { IsRead layout.now }
@@ -81,7 +82,8 @@ fn read_inside(alloc: Global, layout: &Layout, inside: &[u8]) -> Result<Message,
     }
 }
 
-/// As `decode`, in one layout that messages can hold, whatever its byte: a frame of another byte is a `BadFrame` of `Layout`.
+/// Reads as `decode`, in one layout that messages can hold, of any byte: a frame of another byte is a `BadFrame` of
+/// `Layout`.
 #[tactic(auto, unfolding(crate::specs::Reading::frame_at))]
 pub fn decode_in(
     alloc: Global,
@@ -111,7 +113,7 @@ pub fn decode_in(
     Ok(Some((message, 4 + size)))
 }
 
-/// As `decode`, in any layouts that messages can hold, told apart by their bytes.
+/// Reads as `decode`, in any layouts that messages can hold, distinguished by their bytes.
 pub fn decode_among(
     alloc: Global,
     layouts: &[Layout],
@@ -125,14 +127,14 @@ pub fn decode_among(
     decode_in(alloc, &layout, bytes)
 }
 
-/// The message whose frame stands at the front of the bytes, and how many bytes that frame has.
+/// Reads the message whose frame begins the bytes, and returns it with the frame's length in bytes.
 ///
-/// None where more bytes are needed: fewer than 4, or fewer than the length says. The byte behind the length names the
-/// layout; until it has come, the longest frames of all layouts are allowed. What follows the frame is not looked at.
-/// `BadFrame` has the first cause that is met, and its place, in bytes from the first byte of the length; it is found
-/// whatever memory there is. `OutOfMemory` comes only where the frame reads. Of a frame of more than 8,192 bytes behind
-/// its length nothing is asked for before all faults are ruled out; a shorter one may have taken room for what is
-/// announced and read before its fault is found, and gives it back.
+/// It returns `None` if more bytes are needed: fewer than 4 are there, or fewer than the length says. The byte after
+/// the length names the layout; until it has come, the longest frames of all layouts are allowed. Bytes after the frame
+/// are not looked at. `BadFrame` has the first cause that is met, and its offset, in bytes from the first byte of the
+/// length; it is found whatever memory there is. `OutOfMemory` comes only if the frame has no fault. For a frame of
+/// more than 8,192 bytes after its length, no memory is requested before all faults are ruled out. A shorter one may
+/// take room for what is announced and read before its fault is found, and gives it back.
 pub fn decode(alloc: Global, bytes: &[u8]) -> Result<Option<(Message, usize)>, Fault>
     ensures exact { Answers (λ x. x) (frame_among LAYOUTS bytes.now) result }
     ensures more { frame_among LAYOUTS bytes.now ≡ Ok None → result ≡ Ok None }

@@ -30,7 +30,7 @@ fn check_state(
     Ok(key)
 }
 
-// Reads past so many states, rising by key.
+// Reads past this number of states, rising by key.
 fn check_states(
     layout: &Layout,
     above: u32,
@@ -73,7 +73,7 @@ fn check_delta(
     Ok(endpoint)
 }
 
-/// Reads past so many deltas, rising by endpoint.
+/// Reads past this number of deltas, rising by endpoint.
 pub(crate) fn check_deltas(
     layout: &Layout,
     reader: &mut Reader<'_>,
@@ -89,7 +89,7 @@ pub(crate) fn check_deltas(
     Ok(())
 }
 
-// A text of a state, copied, so that it keeps no frame alive.
+// Copies a text of a state, so that it keeps no frame alive.
 fn text_of(alloc: Global, text: &str) -> Result<StateText, ReadError>
     requires { IsStateText text.now }
     ensures { spec.GivesWhole (λ t. t) result (Ok text.now) }
@@ -97,7 +97,7 @@ fn text_of(alloc: Global, text: &str) -> Result<StateText, ReadError>
     Ok(StateText::of_plain(alloc, text)?)
 }
 
-// A state of a delta above a version.
+// Reads a state of a delta above a version.
 #[tactic(auto, unfolding(crate::specs::Lists::state_at))]
 fn state_of(
     alloc: Global,
@@ -116,7 +116,7 @@ fn state_of(
     Ok(State { key, version, text })
 }
 
-// So many states, rising by key.
+// Reads this number of states, rising by key.
 fn states_of(
     alloc: Global,
     layout: &Layout,
@@ -137,7 +137,7 @@ fn states_of(
     Ok(states)
 }
 
-// A delta, whose list of states what takes it will share; where it would carry nothing, the fault stands at its first byte.
+// Reads a delta, whose list of states its taker will share; if it would carry nothing, the fault is at its first byte.
 #[tactic(auto, unfolding(crate::specs::Lists::delta_at))]
 fn delta_of(
     alloc: Global,
@@ -174,7 +174,7 @@ fn delta_of(
     }
 }
 
-/// So many deltas, rising by endpoint.
+/// Reads this number of deltas, rising by endpoint.
 pub(crate) fn deltas_of(
     alloc: Global,
     layout: &Layout,

@@ -34,7 +34,7 @@ fn put_four(out: &mut Vec<u8>, n: u32) -> Result<(), AllocError>
     out.put_u32(n)
 }
 
-// An endpoint and two numbers: what is put at once is put in a fraction of the time.
+// The bytes of an endpoint and two numbers: put at once, they take a fraction of the time.
 #[tactic(auto, unfolding(crate::specs::Spelling::two_bytes, crate::specs::Spelling::four_bytes))]
 fn member_bytes(endpoint: Endpoint, first: u32, second: u32) -> [u8; 14]
     ensures { result ≡ spelling.endpoint endpoint ++ spelling.four_bytes first ++ spelling.four_bytes second }
@@ -98,7 +98,7 @@ fn put_requests(out: &mut Vec<u8>, requests: &[Request]) -> Result<(), AllocErro
     Ok(())
 }
 
-// What stands before a state's text: the key, the version and the length.
+// The bytes before a state's text: the key, the version and the length.
 #[tactic(auto, unfolding(crate::specs::Spelling::two_bytes, crate::specs::Spelling::four_bytes))]
 fn state_head(key: u8, version: u32, size: u16) -> [u8; 7]
     ensures { result ≡ key ∷ (spelling.four_bytes version ++ spelling.two_bytes size) }
@@ -127,7 +127,7 @@ fn put_states(out: &mut Vec<u8>, states: &[State]) -> Result<(), AllocError>
     Ok(())
 }
 
-// What stands before a delta's states: the endpoint, the generation, two versions and the count.
+// The bytes before a delta's states: the endpoint, the generation, two versions and the count.
 #[tactic(auto, unfolding(crate::specs::Spelling::two_bytes, crate::specs::Spelling::four_bytes))]
 fn delta_head(
     endpoint: Endpoint,
@@ -176,7 +176,7 @@ fn put_deltas(out: &mut Vec<u8>, deltas: &[OwnerDelta]) -> Result<(), AllocError
     Ok(())
 }
 
-// The kind and the body of a SYN.
+// Writes the kind and the body of a SYN.
 fn put_syn(out: &mut Vec<u8>, syn: &Syn) -> Result<(), AllocError>
     ensures { OnOk result (out.new.items ≡ out.old.items ++ spelling.message (messages.Syn syn.now)) }
 {
@@ -214,8 +214,8 @@ fn put_message(out: &mut Vec<u8>, message: Lent<'_>) -> Result<(), AllocError>
     Ok(())
 }
 
-/// As `encode_lent`, in any layout that allows what messages hold. The message fits it, so its length fits into four
-/// bytes.
+/// Writes as `encode_lent`, in any layout that allows what messages hold. The message fits it, so its length fits into
+/// four bytes.
 pub fn encode_in(alloc: Global, layout: &Layout, message: Lent<'_>) -> Result<Bytes, AllocError>
     requires layout { IsLayout layout.now }
     requires written { IsWritten layout.now }
@@ -231,19 +231,19 @@ pub fn encode_in(alloc: Global, layout: &Layout, message: Lent<'_>) -> Result<By
     Ok(Bytes::from_vec(frame)?)
 }
 
-/// The message as a frame: its length in four bytes, and what stands behind it.
+/// Writes a message as a frame: its length in four bytes, and the bytes of that length.
 ///
-/// `AllocError` where memory is short, and no other refusal, since each message is short enough for its length: at most
-/// 4,231,430 bytes stand behind it (`laws::each_is_short`).
+/// `AllocError` if memory is short, and no other refusal, since each message is short enough for its length: at most
+/// 4,231,430 bytes come after it (`laws::each_is_short`).
 pub fn encode(alloc: Global, message: &Message) -> Result<Bytes, AllocError>
     ensures written { IfOk result (λ b. b ≡ spelling.frame WRITTEN message.now) }
-    // So what is written is read again.
+    // so a message that is written can be read again
     ensures fits { Fits WRITTEN message.now }
 {
     encode_lent(alloc, message.lent())
 }
 
-/// As `encode`, of a message that is lent: what holds one in another form writes it without a copy.
+/// Writes as `encode`, of a borrowed message: a holder of one in another form writes it without a copy.
 pub fn encode_lent(alloc: Global, message: Lent<'_>) -> Result<Bytes, AllocError>
     ensures written { IfOk result (λ b. b ≡ spelling.frame WRITTEN (lent_message message.entry)) }
     ensures fits { Fits WRITTEN (lent_message message.entry) }

@@ -1,4 +1,4 @@
-//! Bytes that come in pieces, cut into messages.
+//! Bytes that come in chunks, cut into messages.
 
 ghost use Rattle.std.specs.Prelude.{◌≡◌, ◌<◌, ◌≤◌, [], ◌++◌, length, IfOk, IfErr, IfSome, OnErr, OnOk, Ok, IsOk, IsErr};
 ghost use Rattle.cg_types.specs.declared.fault.Fault.TheVariants as faults;
@@ -15,23 +15,23 @@ use cg_types::Fault;
 use std::alloc::Global;
 use std::marker::Model;
 
-/// What a piece gave.
+/// The messages and the fault of a chunk.
 #[derive(Debug, Drop)]
 pub struct Fed {
     /// The messages that are whole now, in the order of their bytes.
     pub messages: Vec<Message>,
-    /// The fault that stands behind them, if any: `BadFrame`, with the place in its frame.
+    /// The fault after them, if any: `BadFrame`, with the offset in its frame.
     pub fault: Option<Fault>,
 }
 
-// What stands at the front of bytes: messages of so many bytes, and the fault behind them, if any.
+// The messages at the start of bytes, the number of bytes that they take, and the fault after them, if any.
 #[derive(Drop)]
 struct Cutting {
     fed: Fed,
     taken: usize,
 }
 
-// Cuts off all messages at the front. Only memory may run out, and a fault at the front is found without any.
+// Cuts off all messages at the start. Only memory may run out, and a fault at the start is found without any.
 fn cut(alloc: Global, layouts: &[Layout], bytes: &[u8]) -> Result<Cutting, Fault>
     requires { AreRead layouts.now }
     ensures ok { IfOk result (λ c. spec.IsCut layouts.now bytes.now c.fed.messages.items c.taken c.fed.fault) }
@@ -67,7 +67,7 @@ fn cut(alloc: Global, layouts: &[Layout], bytes: &[u8]) -> Result<Cutting, Fault
     }
 }
 
-// Cuts the piece where nothing is held, and holds what is left of it; a refusal changes nothing.
+// Cuts the chunk if nothing is held, and holds what is left of it; a refusal changes nothing.
 fn begin(alloc: Global, layouts: &[Layout], held: &mut Vec<u8>, piece: &[u8]) -> Result<Fed, Fault>
     requires layouts { AreRead layouts.now }
     requires empty { held.old.items ≡ [] }
@@ -86,7 +86,7 @@ fn begin(alloc: Global, layouts: &[Layout], held: &mut Vec<u8>, piece: &[u8]) ->
     Ok(cutting.fed)
 }
 
-// Appends the piece and cuts off all messages; a refusal changes nothing.
+// Appends the chunk and cuts off all messages; a refusal changes nothing.
 fn extend(alloc: Global, layouts: &[Layout], held: &mut Vec<u8>, piece: &[u8]) -> Result<Fed, Fault>
     requires { AreRead layouts.now }
     ensures ok { IfOk result (λ fed. spec.frames_in layouts.now (held.old.items ++ piece.now)
@@ -113,8 +113,8 @@ fn extend(alloc: Global, layouts: &[Layout], held: &mut Vec<u8>, piece: &[u8]) -
     Ok(cutting.fed)
 }
 
-// Cuts what is held and then the piece, and holds what is left; a refusal changes nothing. The empty piece needs no
-// memory, and where nothing is held a fault at the front needs none.
+// Cuts the bytes held and then the chunk, and holds what is left; a refusal changes nothing. The empty chunk needs no
+// memory, and if nothing is held a fault at the start needs none.
 fn take(alloc: Global, layouts: &[Layout], held: &mut Vec<u8>, piece: &[u8]) -> Result<Fed, Fault>
     requires layouts { AreRead layouts.now }
     requires partial { NeedsMore layouts.now held.old.items }
@@ -137,8 +137,8 @@ fn take(alloc: Global, layouts: &[Layout], held: &mut Vec<u8>, piece: &[u8]) -> 
     extend(alloc, layouts, held, piece)
 }
 
-/// A stream of frames that comes in pieces: it holds what has come of the next frame, or the fault that stands for
-/// good. Between pieces it holds less than one frame of the greatest length. It takes room for bytes that came, never for a
+/// A stream of frames that comes in chunks. It holds the bytes of the next frame that have come, or its lasting fault.
+/// Between chunks it holds less than one frame of the greatest length. It takes room for bytes that came, never for a
 /// frame's length that was announced; for the counts within a whole frame it does as `decode`.
 #[derive(Drop)]
 pub struct Feed {
@@ -159,7 +159,7 @@ impl Model for Feed {
 }
 
 impl Feed {
-    /// A stream of which nothing has come. It takes no memory; what it will hold comes from `alloc`.
+    /// Opens a stream of which nothing has come. It takes no memory; what it will hold comes from `alloc`.
     pub fn new(alloc: Global) -> Feed
         ensures { result ≡ Ok [] }
     {
@@ -170,14 +170,13 @@ impl Feed {
         }
     }
 
-    /// Takes the next piece of the stream, of any length, and gives the messages that are whole now.
+    /// Takes the next chunk of the stream, of any length, and returns the messages that are whole now.
     ///
-    /// What was held and the piece are the spellings of these messages, each in a layout that it fits, then a rest:
-    /// what is held from now on, or bytes that begin with the fault. After a fault each piece is dropped, and gives no
-    /// message and that fault. A piece no longer than `wants` gives at most one message, and if it gives one, nothing
-    /// is held after it.
-    /// `OutOfMemory` leaves the feed as it was; there is no other refusal. There is none for the empty piece, after a
-    /// fault, and where nothing is held and the piece begins with a fault: none of these needs memory.
+    /// The bytes held and the chunk are the spellings of these messages, each in a layout that it fits, and then a
+    /// rest. The rest is held from now on, or begins with the fault. After a fault each chunk is dropped, and gives no
+    /// message and that fault. A chunk no longer than `wants` gives at most one message, and if it gives one, nothing
+    /// is held after it. `OutOfMemory` leaves the feed unchanged; there is no other refusal. The empty chunk, a chunk
+    /// after a fault, and one that begins with a fault while nothing is held need no memory, so they are never refused.
     pub fn push(&mut self, piece: &[u8]) -> Result<Fed, Fault>
         ensures given { IfOk result (λ fed. fed.messages.items
             ≡ (spec.cut_of_piece LAYOUTS self.old piece.now).messages) }
@@ -205,7 +204,8 @@ impl Feed {
         Ok(fed)
     }
 
-    /// How many bytes the present length, of 4 bytes, or the present frame lacks: at least 1, and 0 after a fault.
+    /// The number of bytes that the present length, of 4 bytes, or the present frame lacks: at least 1, and 0 after a
+    /// fault.
     pub fn wants(&self) -> usize
         ensures is { result ≡ spec.wants_of self.now }
         ensures some { IsOk self.now → 0 < result }
@@ -216,7 +216,7 @@ impl Feed {
         }
     }
 
-    /// Whether the stream may end here: `Truncated` where a part of a frame is held, and the fault after one.
+    /// Tests whether the stream may end here: `Truncated` if a part of a frame is held, and the fault after one.
     pub fn end(&self) -> Result<(), Fault>
         ensures is { spec.Ends self.now result }
         ensures faults { IfErr result (IsBadFrameOr faults.Truncated) }
@@ -229,7 +229,7 @@ impl Feed {
     }
 }
 
-// How many bytes the length or the frame lacks of which these have come.
+// The number of bytes that the length or the frame lacks of which these have come.
 #[tactic(auto, unfolding(crate::specs::Feeding::lack_of))]
 fn lack(held: &[u8]) -> usize
     ensures { result ≡ spec.lack_of held.now }

@@ -1,4 +1,4 @@
-//! That messages in hand fit a layout. None of this takes memory.
+//! Proofs that messages in hand fit a layout. None of this takes memory.
 
 ghost use Rattle.cg_messages.specs.Lent.{lent_message};
 ghost use Rattle.cg_messages.specs.Messages.{IsMessage};
@@ -9,7 +9,7 @@ ghost use Rattle.cg_frames.specs.Layouts.{IsWritten};
 use crate::layout::{Layout, WRITTEN};
 use cg_messages::{Lent, Message};
 
-// What is true of every message, as the readers of its lists tell it.
+// Shows the properties of every message, by the readers of its lists.
 fn show_message(message: Lent<'_>)
     ensures { IsMessage (lent_message message.entry) }
 {
@@ -26,7 +26,7 @@ fn show_message(message: Lent<'_>)
     }
 }
 
-/// Each message fits each layout that allows what messages hold.
+/// Shows that each message fits each layout that allows what messages hold.
 pub(crate) fn message_fits(layout: &Layout, message: Lent<'_>)
     requires { IsWritten layout.now }
     ensures { Fits layout.now (lent_message message.entry) }
@@ -34,9 +34,9 @@ pub(crate) fn message_fits(layout: &Layout, message: Lent<'_>)
     show_message(message);
 }
 
-/// The layout that is written can spell each message: its numbers are in their ranges, its lists rise and are few, its
-/// texts are short and plain. So the laws of messages that fit hold of the message in hand. It takes no memory, and
-/// walks nothing.
+/// Shows that the layout that is written can spell a message: its numbers are in their ranges, its lists rise and are
+/// few, its texts are short and plain. So the laws of messages that fit hold of the message in hand. It takes no
+/// memory, and walks nothing.
 pub fn every_message_fits(message: &Message)
     ensures { Fits WRITTEN message.now }
 {

@@ -8,12 +8,12 @@ ghost use Rattle.cg_frames.specs.Choosing.{AreLayouts, AreRead, IsOneOf};
 ghost use Rattle.cg_frames.specs.Lengths.{greatest_length};
 ghost use Rattle.cg_frames.specs.Laws.{NoSpellingBeginsAnother, EachIsShort, ChoosesByTheByte, SomeAreLacking, PiecesAddUp, EveryCuttingIsTheWhole, WhatIsHeldIsPartial, FaultsAreBadFrames, TwoPiecesAreOne, OneAtATime, AllIsSpelled, NothingElseIsSpelled};
 
-/// No message's frame begins with the frame of another message, in whichever layouts of a list they are spelled.
+/// No message's frame begins with the frame of another message, in any layouts of a list.
 pub fn no_spelling_begins_another()
     ensures { (layouts : List Layout) → AreLayouts layouts → NoSpellingBeginsAnother layouts }
 {}
 
-/// No message's frame has more bytes behind its length than its layout's greatest, by the limits: in the first layout,
+/// No message's frame has more bytes after its length than its layout's greatest, by the limits: in the first layout,
 /// 4,231,430.
 pub fn each_is_short()
     ensures each { (layout : Layout) → EachIsShort layout }
@@ -32,50 +32,50 @@ pub fn what_is_written_is_read()
     ensures read { IsOneOf LAYOUTS WRITTEN }
 {}
 
-/// The layouts of this version are told apart by their bytes; the limits of each fit, and messages hold what it allows.
+/// The layouts of this version have different bytes; the limits of each fit, and messages hold what it allows.
 pub fn layouts_are_told_apart()
     ensures layouts { AreLayouts LAYOUTS }
     ensures read { AreRead LAYOUTS }
 {}
 
-/// A frame is read in the layout that the byte behind its length names. Before the byte has come its length is refused
-/// where no layout allows it, and else the byte is waited for; a byte that names no layout is refused once the frame is
+/// A frame is read in the layout that the byte after its length names. Before the byte has come, a length that no
+/// layout allows is refused, and any other waits for the byte. A byte that names no layout is refused once the frame is
 /// whole.
 pub fn the_byte_names_the_layout()
     ensures { (layouts : List Layout) → 0 < length layouts → ChoosesByTheByte layouts }
 {}
 
-/// Where more bytes are needed, some are lacking.
+/// Some bytes are lacking if more are needed.
 pub fn some_are_lacking()
     ensures { (layouts : List Layout) → SomeAreLacking layouts }
 {}
 
-/// Pieces give the messages, the fault and the rest that they give at once, from wherever the feed stands.
+/// Chunks give the messages, the fault and the rest that they give at once, in any state of the feed.
 pub fn pieces_add_up()
     ensures { (layouts : List Layout) → PiecesAddUp layouts }
 {}
 
-/// However a stream is cut into pieces, they give the messages, the fault and the rest of the whole.
+/// Chunks of a stream give the messages, the fault and the rest of the whole, however it is cut.
 pub fn every_cutting_is_the_whole()
     ensures { (layouts : List Layout) → EveryCuttingIsTheWhole layouts }
 {}
 
-/// What a feed holds is never a whole frame, and begins with no fault.
+/// The bytes that a feed holds are never a whole frame, and begin with no fault.
 pub fn what_is_held_is_partial()
     ensures { (layouts : List Layout) → WhatIsHeldIsPartial layouts }
 {}
 
-/// A fault of a frame, and of a stream that comes in pieces, is `BadFrame`.
+/// A fault of a frame, and of a stream that comes in chunks, is `BadFrame`.
 pub fn faults_are_bad_frames()
     ensures { (layouts : List Layout) → FaultsAreBadFrames layouts }
 {}
 
-/// Two pieces give what both at once give.
+/// Two chunks give what both at once give.
 pub fn two_pieces_are_one()
     ensures { (layouts : List Layout) → TwoPiecesAreOne layouts }
 {}
 
-/// A piece that is no longer than what is lacking gives at most one message, and then nothing is held.
+/// A chunk that is no longer than the lack gives at most one message, and then nothing is held.
 pub fn one_at_a_time()
     ensures { (layouts : List Layout) → OneAtATime layouts }
 {}
@@ -85,7 +85,7 @@ pub fn all_is_spelled()
     ensures { (layouts : List Layout) → AreRead layouts → AllIsSpelled layouts }
 {}
 
-/// No other messages and no other rest stand in the bytes.
+/// No other messages and no other rest are in the bytes.
 pub fn nothing_else_is_spelled()
     ensures { (layouts : List Layout) → AreLayouts layouts → NothingElseIsSpelled layouts }
 {}

@@ -1,10 +1,10 @@
 //! The layouts of frames.
 
-/// What tells one layout of frames from another: its byte, its limits, and whether it has marks. The fields of a frame,
-/// and their order, are the same in each.
+/// A layout of frames: its byte, its limits, and whether it has marks. The fields of a frame, and their order, are the
+/// same in each.
 #[derive(Clone, Copy, Debug, PartialEq, Eq)]
 pub struct Layout {
-    /// The byte that names the layout, behind the length.
+    /// The byte that names the layout, after the length.
     pub byte: u8,
     /// The most members of a list; the count has two bytes.
     pub members: usize,
@@ -12,14 +12,14 @@ pub struct Layout {
     pub text: usize,
     /// The most bytes after the length, which has four bytes.
     pub length: usize,
-    /// Whether a state's length of 65,535 is the mark of a removed key, with no text behind it. No message holds such a
-    /// mark in this version, so no layout that has them is read or written (`IsRead`, `IsWritten`), and nothing else
-    /// looks at this: what is said of spelling is of messages without marks.
+    /// `true` if a state's length of 65,535 is the mark of a removed key, with no text after it. No message holds such
+    /// a mark in this version, so no layout that has them is read or written (`IsRead`, `IsWritten`). Nothing else
+    /// looks at this: the laws of spelling are of messages without marks.
     pub marks: bool,
 }
 
 /// The first layout. Its numbers are its own: members of other versions read and write by them, so a change of what
-/// messages may hold leaves them as they are.
+/// messages may hold leaves them unchanged.
 pub const LAYOUT_1: Layout = Layout {
     byte: 1,
     members: 256,
@@ -31,5 +31,5 @@ pub const LAYOUT_1: Layout = Layout {
 /// The layout that frames are written in.
 pub const WRITTEN: Layout = LAYOUT_1;
 
-/// The layouts that frames are read in, told apart by their bytes.
+/// The layouts that frames are read in, distinguished by their bytes.
 pub const LAYOUTS: [Layout; 1] = [LAYOUT_1];

@@ -13,22 +13,22 @@ fn named(layouts: &[Layout], byte: u8) -> Option<Layout>
     layouts.iter().copied().find(|layout| layout.byte == byte)
 }
 
-// The one with the longer frames; the first where both are as long.
+// The one with the longer frames; the first if both are as long.
 fn wider(a: Layout, b: Layout) -> Layout
     ensures { result ≡ spec.wider a b }
 {
     if a.length < b.length { b } else { a }
 }
 
-// The layout with the longest frames; `LAYOUT_1` of none at all.
+// The layout with the longest frames; `LAYOUT_1` of no layouts.
 fn widest(layouts: &[Layout]) -> Layout
     ensures { result ≡ spec.widest layouts.now }
 {
     layouts.iter().copied().reduce(wider).unwrap_or(LAYOUT_1)
 }
 
-// The layout that is due: the one that the byte behind the length names; where it names none, or none has come yet, the
-// one with the longest frames.
+// The expected layout: the one that the byte after the length names; if it names none, or none has come yet, the one
+// with the longest frames.
 #[tactic(auto, unfolding(crate::specs::Choosing::due))]
 pub(crate) fn due(layouts: &[Layout], bytes: &[u8]) -> Layout
     ensures { result ≡ spec.due layouts.now bytes.now }

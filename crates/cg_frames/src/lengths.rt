@@ -1,4 +1,4 @@
-//! How long the spellings of messages are. None of this takes memory.
+//! Lengths of the spellings of messages. None of this takes memory.
 
 ghost use Rattle.std.specs.Prelude.{◌≡◌, ◌<◌, ◌+◌, ◌^◌, length};
 ghost use Rattle.cg_messages.specs.declared.message.Message.TheVariants as messages;
@@ -61,7 +61,7 @@ fn ack2_length(ack2: &Ack2) -> usize
     1 + deltas_length(ack2.deltas())
 }
 
-/// How long the message is, with its kind: a byte may stand before it.
+/// The length of the message with its kind: a byte may come before it.
 pub(crate) fn message_length(message: Lent<'_>) -> usize
     requires { 1 + length (spelling.message (lent_message message)) < 2 ^ 32 }
     ensures value { result ≡ length (spelling.message (lent_message message.entry)) }

@@ -1,4 +1,4 @@
-//! Messages as bytes, both ways.
+//! Messages as bytes, written and read.
 #![tactic(auto)]
 
 mod bodies;

@@ -10,7 +10,7 @@ use cg_messages::Request;
 use cg_types::Endpoint;
 use std::alloc::Global;
 
-/// Reads past so many digests, rising by endpoint.
+/// Reads past this number of digests, rising by endpoint.
 pub(crate) fn check_digests(reader: &mut Reader<'_>, count: u16) -> Result<(), Misread>
     ensures { spec.Passes result reader.new (spec.digests_at count None reader.old) }
 {
@@ -22,7 +22,7 @@ pub(crate) fn check_digests(reader: &mut Reader<'_>, count: u16) -> Result<(), M
     Ok(())
 }
 
-/// So many digests, rising by endpoint.
+/// Reads this number of digests, rising by endpoint.
 pub(crate) fn digests_of(
     alloc: Global,
     reader: &mut Reader<'_>,
@@ -40,7 +40,7 @@ pub(crate) fn digests_of(
     Ok(digests)
 }
 
-/// Reads past so many requests, rising by endpoint.
+/// Reads past this number of requests, rising by endpoint.
 pub(crate) fn check_requests(reader: &mut Reader<'_>, count: u16) -> Result<(), Misread>
     ensures { spec.Passes result reader.new (spec.requests_at count None reader.old) }
 {
@@ -52,7 +52,7 @@ pub(crate) fn check_requests(reader: &mut Reader<'_>, count: u16) -> Result<(), 
     Ok(())
 }
 
-/// So many requests, rising by endpoint.
+/// Reads this number of requests, rising by endpoint.
 pub(crate) fn requests_of(
     alloc: Global,
     reader: &mut Reader<'_>,

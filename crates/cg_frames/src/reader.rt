@@ -1,4 +1,4 @@
-//! Fields at the front of what is left of a frame, read with no memory.
+//! Fields at the start of the rest of a frame, read with no memory.
 
 ghost use Rattle.std.specs.Prelude.{◌≡◌, ◌<◌, ◌≤◌, true, length, IfOk};
 ghost use Rattle.cg_types.specs.Text.{plain};
@@ -23,7 +23,7 @@ pub enum Kind {
     Ack2,
 }
 
-/// What is left of a frame.
+/// The rest of a frame.
 #[derive(Drop)]
 pub struct Reader<'a> {
     rest: &'a [u8],
@@ -50,7 +50,7 @@ impl<'a> Reader<'a> {
         self.rest.len()
     }
 
-    /// Nothing is left.
+    /// Tests whether nothing is left.
     pub(crate) fn end(&self) -> Result<(), Misread>
         ensures { spec.FindsEnd result self.now }
     {
@@ -63,7 +63,7 @@ impl<'a> Reader<'a> {
         Ok(())
     }
 
-    // So many bytes, as one field.
+    // Reads this number of bytes, as one field.
     fn bytes(&mut self, count: usize) -> Result<&'a [u8], Misread>
         ensures value { spec.Reads (λ x. x.now) result self.new (spec.bytes_at count self.old) }
         ensures whole { IfOk result (λ x. length x.now ≡ count) }
@@ -86,7 +86,7 @@ impl<'a> Reader<'a> {
         Ok(u8::from_be_bytes([front[0]]))
     }
 
-    /// The byte that names the layout.
+    /// Reads the byte that names the layout.
     pub(crate) fn layout(&mut self, layout: &Layout) -> Result<u8, Misread>
         ensures { spec.Reads (λ x. x) result self.new (spec.layout_at layout.now self.old) }
     {
@@ -101,7 +101,7 @@ impl<'a> Reader<'a> {
         Ok(byte)
     }
 
-    /// The kind of the message.
+    /// Reads the kind of the message.
     pub(crate) fn kind(&mut self) -> Result<Kind, Misread>
         ensures { spec.Reads (λ x. x) result self.new (spec.kind_at self.old) }
     {
@@ -124,7 +124,7 @@ impl<'a> Reader<'a> {
         Ok(u16::from_be_bytes([front[0], front[1]]))
     }
 
-    /// How many members a list has.
+    /// Reads the number of members of a list.
     pub(crate) fn count(&mut self, layout: &Layout) -> Result<u16, Misread>
         ensures { spec.Reads (λ x. x) result self.new (spec.count_at layout.now self.old) }
     {
@@ -146,7 +146,7 @@ impl<'a> Reader<'a> {
         Ok(u32::from_be_bytes([front[0], front[1], front[2], front[3]]))
     }
 
-    /// An endpoint, which has to come after the last one of its list.
+    /// Reads an endpoint, which has to come after the last one of its list.
     pub(crate) fn endpoint(&mut self, last: Option<Endpoint>) -> Result<Endpoint, Misread>
         ensures { spec.Reads (λ x. x) result self.new (spec.endpoint_at last self.old) }
     {
@@ -198,7 +198,7 @@ impl<'a> Reader<'a> {
         }
     }
 
-    /// A heartbeat version.
+    /// Reads a heartbeat version.
     pub(crate) fn heartbeat(&mut self) -> Result<Version, Misread>
         ensures { spec.Reads (λ x. x) result self.new (spec.heartbeat_at self.old) }
     {
@@ -213,7 +213,7 @@ impl<'a> Reader<'a> {
         }
     }
 
-    /// A version, or 0.
+    /// Reads a version, or 0.
     pub(crate) fn held(&mut self, cause: Cause) -> Result<u32, Misread>
         ensures value { spec.Reads (λ x. x) result self.new (spec.held_at cause self.old) }
         ensures range { IfOk result (λ n. n < NUMBER_LIMIT) }
@@ -226,7 +226,7 @@ impl<'a> Reader<'a> {
         Ok(number)
     }
 
-    /// A version that is greater than `above`.
+    /// Reads a version that is greater than `above`.
     pub(crate) fn version_above(&mut self, above: u32) -> Result<Version, Misread>
         ensures { spec.Reads (λ x. x) result self.new (spec.version_above_at above self.old) }
     {
@@ -241,7 +241,7 @@ impl<'a> Reader<'a> {
         Ok(version)
     }
 
-    /// A key, which has to come after the last one of its delta.
+    /// Reads a key, which has to come after the last one of its delta.
     pub(crate) fn key(&mut self, last: Option<StateKey>) -> Result<StateKey, Misread>
         ensures { spec.Reads (λ x. x) result self.new (spec.key_at last self.old) }
     {
@@ -264,7 +264,7 @@ impl<'a> Reader<'a> {
         Ok(key)
     }
 
-    /// How many states a delta has.
+    /// Reads the number of states of a delta.
     pub(crate) fn state_count(&mut self) -> Result<u8, Misread>
         ensures { spec.Reads (λ x. x) result self.new (spec.state_count_at self.old) }
     {
@@ -279,7 +279,7 @@ impl<'a> Reader<'a> {
         Ok(count)
     }
 
-    /// A request, which has to come after the last one of its list.
+    /// Reads a request, which has to come after the last one of its list.
     #[tactic(auto, unfolding(crate::specs::Lists::request_at))]
     pub(crate) fn request(&mut self, last: Option<Endpoint>) -> Result<Request, Misread>
         ensures { spec.Reads (λ x. x) result self.new (spec.request_at last self.old) }
@@ -293,7 +293,7 @@ impl<'a> Reader<'a> {
         }
     }
 
-    /// A digest, which has to come after the last one of its list.
+    /// Reads a digest, which has to come after the last one of its list.
     #[tactic(auto, unfolding(crate::specs::Lists::digest_at))]
     pub(crate) fn digest(&mut self, last: Option<Endpoint>) -> Result<Digest, Misread>
         ensures { spec.Reads (λ x. x) result self.new (spec.digest_at last self.old) }
@@ -305,7 +305,7 @@ impl<'a> Reader<'a> {
         })
     }
 
-    // So many bytes of plain text.
+    // Reads this number of bytes of plain text.
     fn plain(&mut self, count: usize, cause: Cause) -> Result<&'a str, Misread>
         ensures value { spec.Reads (λ x. x.now) result self.new (spec.plain_at count cause self.old) }
         ensures whole { IfOk result (λ x. length x.now ≡ count) }
@@ -322,7 +322,7 @@ impl<'a> Reader<'a> {
         Ok(text)
     }
 
-    /// The name of a cluster, with its length before it.
+    /// Reads the name of a cluster, with its length before it.
     #[tactic(auto, unfolding(crate::specs::Fields::name_at))]
     pub(crate) fn name(&mut self) -> Result<&'a str, Misread>
         ensures value { spec.Reads (λ x. x.now) result self.new (spec.name_at self.old) }
@@ -341,7 +341,7 @@ impl<'a> Reader<'a> {
         self.plain(len, Cause::Name)
     }
 
-    /// A state's text, with its length before it.
+    /// Reads a state's text, with its length before it.
     #[tactic(auto, unfolding(crate::specs::Fields::text_at))]
     pub(crate) fn text(&mut self, layout: &Layout) -> Result<&'a str, Misread>
         ensures value { spec.Reads (λ x. x.now) result self.new (spec.text_at layout.now self.old) }

@@ -1,10 +1,10 @@
--- Lines of a text that comes in pieces.
+-- Lines of a text that comes in chunks.
 use Rattle.std.proofs.Common.{◌≡◌, ℕ, ◌+◌, ◌≤◌, Bool, true, false, cond, List, [], ◌∷◌, ◌++◌, length, Option, Some, None, refl, sym, ap, ◌∙◌, append_assoc, append-nil, arith}
 use Rattle.std.specs.Prelude.{◌==◌}
 use Rattle.cg_types.specs.Words.{cut_at, with_first}
 use Rattle.cg_lines.specs.Lines.{ended_lines, open_line}
 
--- ---- a text in two pieces
+-- ---- a text in two chunks
 
 pub ended_lines-append : (front xs ys : List ℕ) → ended_lines front (xs ++ ys) ≡ ended_lines front xs ++ ended_lines (open_line front xs) ys
 ended_lines-append front [] ys = refl
@@ -24,7 +24,7 @@ open_line-append front (b ∷ bs) ys =
 
 -- ---- a text that is cut at its first line feed
 
--- what the cut of the rest says of all
+-- the cut of all bytes by the cut of the rest
 abbrev EndedBy : List ℕ → List ℕ → Option (List ℕ × List ℕ) → Type 0
 EndedBy front bs None = (ended_lines front bs ≡ []) × (open_line front bs ≡ front ++ bs)
 EndedBy front bs (Some p) = (ended_lines front bs ≡ (front ++ p.0) ∷ ended_lines [] p.1) × (open_line front bs ≡ open_line [] p.1)
@@ -72,7 +72,7 @@ behind_shorter b bs p (Some q) shorter h =
     let less = shorter q refl in
     omega (arith, less, lengths)
 
--- the rest behind a line feed is shorter
+-- the rest after a line feed is shorter
 pub cut_shorter : (bs : List ℕ) (p : List ℕ × List ℕ) → cut_at 10 bs ≡ Some p → length p.1 + 1 ≤ length bs
 cut_shorter [] p e = absurd cc
 cut_shorter (b ∷ bs) p e =

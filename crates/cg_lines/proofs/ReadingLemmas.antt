@@ -1,4 +1,4 @@
--- A text, read piece by piece.
+-- A text, read chunk by chunk.
 use Rattle.std.proofs.Common.{◌≡◌, ℕ, ◌+◌, ◌⊎◌, inl, inr, List, [], ◌++◌, Option, Result, Ok, Err, refl, sym, ap, ◌∙◌, subst, append-nil, arith}
 use Rattle.std.specs.Prelude.{MatchResult}
 use Rattle.std.specs.Io.KnownBytes.{Consumes, IsAtEnd, Keeps}
@@ -14,7 +14,7 @@ use Rattle.cg_lines.specs.Taken.{Takes, Refuses, Lacks, Stops, IsUnread, TakesLi
 use Rattle.cg_lines.proofs.LineLemmas.{ended_lines-append, open_line-append}
 use Rattle.cg_lines.proofs.TakenLemmas.{takes_on, refuses_on, lacks_on}
 
--- so many calls were made
+-- k calls were made
 abbrev pub Counts : {L : Type 0} → Counted L → Counted L → ℕ → Type 0
 Counts old new k = ((calls_of new ≡ calls_of old) × (k ≡ 0)) ⊎ CountsCalls old new k
 

@@ -44,9 +44,9 @@ module _ {S : Type 0} (takes : S → List ℕ → S → Type 0) (refuses : S →
   pub lacks_now : (p : S) (lines : List (List ℕ)) (f : Fault) → f ≡ OutOfMemory → Lacks takes refuses p lines p f
   lacks_now p lines f short = record { fault = short; front = []; rest = lines; are = refl; taken = refl }
 
-  -- ---- the lines of a piece
+  -- ---- the lines of a chunk
 
-  -- some lines of the piece are taken, and the others stand in the rest
+  -- some lines of the chunk are taken, and the others are in the rest
   pub record Taking (p q : S) (first front piece rest : List ℕ) : Type 0 where
     pub lines : List (List ℕ)
     pub ended : ended_lines first piece ≡ lines ++ ended_lines front rest

@@ -1,12 +1,12 @@
 -- The lines of a text, whose last line feed may be missing.
 use Rattle.std.specs.Prelude.{ℕ, ◌==◌, List, [], ◌∷◌, ◌++◌, if◌then◌else◌}
 
--- the lines that end with a line feed, where `front` stands before the text
+-- the lines that end with a line feed, if `front` comes before the text
 abbrev pub ended_lines : List ℕ → List ℕ → List (List ℕ)
 ended_lines front [] = []
 ended_lines front (b ∷ bs) = if b == 10 then front ∷ ended_lines [] bs else ended_lines (front ++ b ∷ []) bs
 
--- what stands behind the last line feed, where `front` stands before the text
+-- the bytes after the last line feed, if `front` comes before the text
 abbrev pub open_line : List ℕ → List ℕ → List ℕ
 open_line front [] = front
 open_line front (b ∷ bs) = if b == 10 then open_line [] bs else open_line (front ++ b ∷ []) bs

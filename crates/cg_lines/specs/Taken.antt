@@ -1,4 +1,4 @@
--- Lines that are handed over one after the other, and what becomes of them.
+-- Lines that are handed over one after the other, and their outcomes.
 use Rattle.std.specs.Prelude.{◌≡◌, ℕ, ◌⊎◌, List, [], ◌∷◌, ◌++◌, Option, Result, MatchResult}
 use Rattle.std.specs.Io.KnownBytes.{Consumes, IsAtEnd}
 use Rattle.cg_types.specs.declared.fault.Fault.{Fault}
@@ -8,8 +8,8 @@ use Rattle.cg_links.specs.Counted.{KeepsCounts, CountsCalls, CountsFailed}
 use Rattle.cg_links.specs.declared.transfer.TheConstants.{MOST_READS}
 use Rattle.cg_lines.specs.Lines.{ended_lines, lines_of}
 
--- What takes lines, by its ghost members: a state, a line and the state that it leads to; a state, a line that is
--- refused, the state that is left, and why.
+-- A taker of lines, by its ghost members: a state, a line and the state that it leads to; a state, a line that is
+-- refused, the state that is left, and the fault.
 module _ {S : Type 0} (takes : S → List ℕ → S → Type 0) (refuses : S → List ℕ → S → Fault → Type 0) where
   -- The lines were taken, one after the other.
   abbrev pub Takes : S → List (List ℕ) → S → Type 0
@@ -34,7 +34,7 @@ module _ {S : Type 0} (takes : S → List ℕ → S → Type 0) (refuses : S →
     pub are : lines ≡ front ++ rest
     pub taken : Takes s front t
 
-  -- ---- how reading a text ends, by what is left of the reader before and after, and its counts
+  -- ---- the ends of reading a text, by what is left of the reader before and after, and its counts
 
   module _ {R : Type 0} (before after : Option (List ℕ)) (old new : Counted R) (s t : S) where
     -- all of the text was read, and its lines were taken
@@ -60,7 +60,7 @@ module _ {S : Type 0} (takes : S → List ℕ → S → Type 0) (refuses : S →
       pub kept : KeepsCounts old new
       pub stops : Refuses s (lines_of text) t f
 
-    -- A read failed, or as many were made as may be: the lines that were read whole were taken.
+    -- A read failed, or the most reads allowed were made: the lines that were read whole were taken.
     pub record IsUnread (f : Fault) : Type 0 where
       pub text : List ℕ
       pub read : Consumes before after text

@@ -12,12 +12,12 @@ use cg_types::{Fault, cut};
 use std::alloc::Global;
 use std::io::Read;
 
-/// What lines are handed to.
+/// A taker of the lines of a text, one after the other.
 pub trait TakeLine {
     // a state, a line, and the state that it leads to
     ghost takes: { Self → List ℕ → Self → Type 0 };
 
-    // a state, a line that is refused, the state that is left, and why
+    // a state, a line that is refused, the state that is left, and the fault
     ghost refuses: { Self → List ℕ → Self → FaultValue → Type 0 };
 
     /// Takes the next line, which has no line feed.
@@ -37,8 +37,8 @@ fn hold(front: &mut Vec<u8>, part: &[u8]) -> Result<(), Fault>
     }
 }
 
-// Hands over a line that ends with `part`, and leaves nothing in `front`, which is what stood before that part. A line that
-// stands whole in a piece is handed over where it lies.
+// Hands over a line that ends with `part`, and leaves nothing in `front`, which came before that part. A line that is
+// whole in a chunk is handed over where it lies.
 fn take_ended<T: TakeLine>(
     alloc: Global,
     taker: &mut T,
@@ -69,8 +69,8 @@ fn take_ended<T: TakeLine>(
     Ok(())
 }
 
-// Hands over each line that ends in a piece of a text. `front` is what stands before the piece in its line, and then
-// what stands behind the last line feed.
+// Hands over each line that ends in a chunk of a text. `front` comes before the chunk in its line, and then holds the
+// bytes after the last line feed.
 fn take_piece<T: TakeLine>(
     alloc: Global,
     taker: &mut T,
@@ -94,7 +94,7 @@ fn take_piece<T: TakeLine>(
     hold(front, rest)
 }
 
-// Hands over the last line, where it does not end with a line feed.
+// Hands over the last line, if it does not end with a line feed.
 fn take_last<T: TakeLine>(alloc: Global, taker: &mut T, line: &[u8]) -> Result<(), Fault>
     ensures { MatchResult result
         (λ _. Takes T.takes T.refuses taker.old (last_line line.now) taker.new)
@@ -135,11 +135,11 @@ fn take_pieces<T: TakeLine, R: Read>(
     Err(Fault::ReadFault)
 }
 
-/// Hands over each line of what the reader has left, without its line feed; the last line feed may be missing. It stops
-/// at the first line that is refused, with the fault of that.
+/// Hands over each line that the reader has left, without its line feed; the last line feed may be missing. It stops at
+/// the first line that is refused, with the fault of that.
 ///
-/// `ReadFault` where a read fails or 4,294,967,295 reads were made, `OutOfMemory` where a line finds no room: then the
-/// lines were taken that were whole before.
+/// `ReadFault` if a read fails or 4,294,967,295 reads were made, `OutOfMemory` if a line finds no room: then the lines
+/// that were whole before were taken.
 pub fn take_lines<T: TakeLine, R: Read>(
     alloc: Global,
     taker: &mut T,
