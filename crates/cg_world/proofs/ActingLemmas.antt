@@ -1,4 +1,4 @@
--- What an action leaves and shows, by what was answered, and what runs do.
+-- Actions and runs by their answers: the worlds that they leave, and the outcomes that they show.
 use Rattle.std.proofs.Common.{◌≡◌, ℕ, suc, ◌+◌, ◌<◌, length, get_or, drop, drop-cons, arith, List, [], ◌∷◌, ◌++◌, Bool, true, false, Result, Ok, Err, refl, sym, ap, subst, ◌∙◌, append_assoc, append-nil}
 use Rattle.std.specs.Prelude.{OnOk, OnErr, cond}
 use Rattle.std.specs.Bool.{MatchBool}
@@ -23,14 +23,14 @@ module _ (c d : WorldValue) (action : Action) where
   unchanged (Ok e) f is = absurd cc
   unchanged (Err fault) f is = refl
 
-  -- where memory was found, the action led to this world
+  -- the action led to this world if memory was found
   pub acted : (r : Result Shown Fault) → found_no_memory r ≡ false → Answers (λ s. s) (showing c action) r → OnOk r (d ≡ act c action) → OnErr r (d ≡ c) → d ≡ act c action
   acted (Ok s) found due done same = done
   acted (Err f) found due done same =
       let other : f ≡ faults.OutOfMemory → ⊥ = λ e. let short : found_no_memory (Err f) ≡ true = ap (λ f. found_no_memory (Err f)) e in cc in
       same ∙ unchanged (acting c action) f (refused f (showing c action) other due)
 
-  -- where it led is reached
+  -- the world to which it led is reached
   pub reached_by : (r : Result Shown Fault) → IsReached c → OnOk r (d ≡ act c action) → OnErr r (d ≡ c) → IsReached d
   reached_by (Ok s) reached done same = subst IsReached (sym done) (reached_worlds.go_on c action reached)
   reached_by (Err f) reached done same = subst IsReached (sym same) reached
@@ -54,7 +54,7 @@ module _ (c d : WorldValue) (action : Action) (actions : List Action) (answer : 
       left (Ok s) short same = absurd cc
       left (Err f) short same = same
 
--- a run leads where its actions do, up to the one that found no memory
+-- a run leads to the world of its actions, up to the one that found no memory
 pub ran_leads : (c d : WorldValue) (actions : List Action) (answers : List (Result Shown Fault)) → Ran c actions answers d → d ≡ run_from c (done_of actions answers)
 ran_leads c d [] [] ran = ran
 ran_leads c d [] (answer ∷ answers) ran = absurd ran
@@ -66,7 +66,7 @@ ran_leads c d (action ∷ actions) (answer ∷ answers) ran = go (ran_leads (act
     go on true left = left.1
     go on false rest = on rest
 
--- ---- what is true after actions
+-- ---- properties after actions
 
 pub consistent_after : (settings : SettingsValue) (actions : List Action) (c : WorldValue) → c ≡ run settings actions → IsConsistent settings actions c
 consistent_after settings actions c is = subst (IsConsistent settings actions) (sym is) (record {
@@ -86,12 +86,12 @@ pub consistent_ran : (settings : SettingsValue) (actions : List Action) (answers
     → IsConsistent settings (done_of actions answers) c
 consistent_ran settings actions answers c ran = consistent_after settings (done_of actions answers) c (ran_leads (new_world settings) c actions answers ran)
 
--- where actions lead from a world that is reached
+-- actions lead from a reached world to a reached world
 reached_from : (c : WorldValue) (actions : List Action) → IsReached c → IsReached (run_from c actions)
 reached_from c [] reached = reached
 reached_from c (action ∷ actions) reached = reached_from (act c action) actions (reached_worlds.go_on c action reached)
 
--- and whatever list leads to that world
+-- the same after every list that leads to that world
 pub consistent_world_ran : (settings : SettingsValue) (actions : List Action) (answers : List (Result Shown Fault)) (c : WorldValue) → Ran (new_world settings) actions answers c
     → IsConsistentWorld c
 consistent_world_ran settings actions answers c ran =
@@ -99,7 +99,7 @@ consistent_world_ran settings actions answers c ran =
 
 -- ---- a run that goes on
 
--- what the rest of the actions answer, all of them answer, behind the answers so far
+-- the answers of all actions are the answers so far and then those of the rest
 abbrev pub RunsOn : WorldValue → List Action → WorldValue → List Action → List (Result Shown Fault) → Type 0
 RunsOn begin actions c rest so_far = (answers : List (Result Shown Fault)) (d : WorldValue) → Ran c rest answers d → Ran begin actions (so_far ++ answers) d
 
@@ -113,7 +113,7 @@ module _ (begin c d : WorldValue) (actions rest more : List Action) (action : Ac
   pub runs_out : found_no_memory answer ≡ true → OnErr answer (d ≡ c) → Ran begin actions (so_far ++ answer ∷ []) d
   runs_out short same = runs (answer ∷ []) d (subst (λ (xs : List Action). Ran c xs (answer ∷ []) d) (sym split) (ran_short c d action more answer due short same))
 
--- a run is over where no action is left
+-- a run is over if no action is left
 pub runs_end : (begin c : WorldValue) (actions rest : List Action) (so_far : List (Result Shown Fault)) → RunsOn begin actions c rest so_far → rest ≡ [] → Ran begin actions so_far c
 runs_end begin c actions rest so_far runs none =
     subst (λ (xs : List (Result Shown Fault)). Ran begin actions xs c) (append-nil so_far) (runs [] c (subst (λ (xs : List Action). Ran c xs [] c) (sym none) refl))

@@ -48,12 +48,12 @@ use Rattle.cg_world.specs.World.{LocalEvent, Beat, Set, Opening, Tick, Action, S
 use Rattle.cg_world.specs.WorldLaws.{AllSent, IsNodeAt, SpellsWorld}
 use Rattle.cg_world.proofs.SpellingLemmas.{Tied, Bounded, BothSent, both_at, all_stay, all_push, nodes_with, replaced, len_with, entries_in, node_spells}
 
--- the refusals are the same, and what is done is the same
+-- the refusals are the same, and so are the done actions
 abbrev pub AgreesBy : Option Fault → PlaceWorld → Result WorldValue Fault → Type 0
 AgreesBy due v (Ok d) = (due ≡ None) × SpellsWorld d v
 AgreesBy due v (Err fault) = due ≡ Some fault
 
--- ---- what a node has
+-- ---- the entry of a node
 
 is_some_mapped : (o : Option NodeValue) → is_some (option_map entries_in o) ≡ is_some o
 is_some_mapped None = refl
@@ -137,12 +137,12 @@ module _ (c : WorldValue) (w : PlaceWorld) (t : Tied c w) (node generation : ℕ
 
 -- ---- a step
 
--- a step is refused where its first part is
+-- a step is refused if its first part is
 then_refused : {A B : Type 0} (due : Result A Fault) (go : A → B) → fault_of (then due go) ≡ fault_of due
 then_refused (Ok x) go = refl
 then_refused (Err fault) go = refl
 
--- what is sent says what is sent by places
+-- the message that is sent says the one that is sent by places
 sent_after : (c : WorldValue) (node : ℕ) (n : NodeValue) (w v : PlaceWorld) (o : Option Message) → AllSent c.settings.cluster v.histories c.sent w.sent → Sends c.settings.cluster w v o
     → AllSent c.settings.cluster v.histories (with_sent (with_node c node n) o).sent v.sent
 sent_after c node n w v None all same = subst (AllSent c.settings.cluster v.histories c.sent) (sym same) all
@@ -158,7 +158,7 @@ module _ (c : WorldValue) (w : PlaceWorld) (t : Tied c w) (node : ℕ) (n : Node
   at : IsNodeAt c.settings node n
   at = at_node c w t node n e
 
-  -- a step that is one by places leaves what the places say
+  -- a step that is one by places leaves the tables and messages that the places say
   step_spells : (v : PlaceWorld) (spans : ℕ → Option Span) (x : NodeValue × Reply) → IsStepAt w v spans node n x → SpellsWorld (with_sent (with_node c node x.0) (message_of x.1)) v
   step_spells v spans x s = sent_spells c node x.0 v (message_of x.1)
       (replaced_spells (tables_of c) (tables_of (with_node c node x.0)) w v node x.0.table.entries t.is.tables s.changed (replaced c node x.0))
@@ -174,7 +174,7 @@ module _ (c : WorldValue) (w : PlaceWorld) (t : Tied c w) (node : ℕ) (n : Node
       each q m true same is = let gives : x.0 ≡ m = cc in subst (λ k. IsNodeAt c.settings k m) (sym (same_number q node same)) (subst (IsNodeAt c.settings node) gives here)
       each q m false apart is = t.is.each q m is
 
-  -- where it is refused as it is by places, both agree
+  -- both agree if the step is refused as it is by places
   step_agrees : (number : ℕ) (f : Event) → IsSentBefore w number (message_in f) → fault_of (node_step n f) ≡ refusal w (action_at node number f)
       → AgreesBy (refusal w (action_at node number f)) (after_action w (action_at node number f)) (after_step c node (node_step n f))
   step_agrees number f sent alike = go (node_step n f) refl alike
@@ -186,7 +186,7 @@ module _ (c : WorldValue) (w : PlaceWorld) (t : Tied c w) (node : ℕ) (n : Node
       go (Ok x) is alike = (sym alike, step_spells (after_action w (action_at node number f)) (span_handed w (action_at node number f)) x (steps_are_by_places w node number n f x t.is_world (placed_here c w t node n e) sent is))
       go (Err fault) is alike = sym alike
 
-  -- a change of the own entry is refused where there is no next version
+  -- a change of the own entry is refused if there is no next version
   change_alike : (X : Type 0) (go : ℕ → X) → fault_of (then (next_of n) go) ≡ change_refusal (last_entry (w.histories node))
   change_alike X go = then_refused (next_of n) go ∙ ap change_refusal (sym (own_held c w t node n e))
 
@@ -214,7 +214,7 @@ module _ (c : WorldValue) (w : PlaceWorld) (t : Tied c w) (b : Bounded w) (node 
       let small : length w.owners ≤ MEMBER_LIMIT = b.limits.owners in
       grind (arith, nat_tests, few, small)
 
-  -- an ACK of the world fits, and is taken so
+  -- an ACK of the world fits, and is taken
   pub ack_fits : (ack : AckValue) (asks : ℕ → Option Ask) (spans : ℕ → Option Span) → IsSent c.settings.cluster w.histories (message.Ack ack) (Ack asks spans) → nat_lt MEMBER_LIMIT (held_after n.table ack.deltas) ≡ false
   ack_fits ack asks spans s = room ack.deltas spans s.says.spells.deltas_rise s.says.spells.deltas s.says.stands.1
 

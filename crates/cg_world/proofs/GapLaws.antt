@@ -1,4 +1,4 @@
--- Which deltas are left out: those that lie past what is held.
+-- Gaps: the deltas that lie past what is held, and no others.
 use Rattle.std.proofs.Common.{◌≡◌, ℕ, ◌<◌, ◌≤◌, ◌⊎◌, inl, inr, List, [], ◌∷◌, ◌++◌, length, refl, sym, ◌∙◌, ap, subst, arith, Bool, true, false, Option, Some, None}
 use Rattle.std.specs.Prelude.{◌↔◌, ◌==◌, IsTrue, nat_le, cond}
 use Rattle.std.specs.Option.{option_map, option_and_then}
@@ -41,7 +41,7 @@ spans_are histories (Ack2 spans) is = is
 
 module _ (h : List EntryValue) (is : IsHistory h) (span : Span) (s : IsSpan h span) (d : DeltaValue) (generation : d.generation ≡ generation_at h span.to) (above : d.above ≡ version_at h span.from)
     (p : ℕ) (stands : p ≤ length h) where
-  -- what lies above a version begins at a place
+  -- a delta above a version begins at a place
   begins_somewhere : 0 < d.above → 0 < span.from
   begins_somewhere pos = go (grind arith)
     where
@@ -83,7 +83,7 @@ module _ (h : List EntryValue) (is : IsHistory h) (span : Span) (s : IsSpan h sp
               (subst (λ (m : ℕ × ℕ). IsWithin m (mark_at h p)) (λ i. (sym same i, sym above i)) rises) in
               absurd (l.1 within)
 
--- a span that does not reach back to the place is told as a gap
+-- a span that does not reach back to the place has the outcome Gap
 pub gap_by_place : (own : Bool) (p : ℕ) (span : Span) → span.from < span.to → (own ≡ true → span.from ≤ p) → IsTrue (is_gap (took_for own p span)) ↔ p < span.from
 gap_by_place true p span rises own = (λ gap. absurd cc, λ lt. let le = own refl in absurd (omega (arith, lt, le)))
 gap_by_place false p span rises own = go (nat_le span.to p) (nat_le span.from p) refl refl

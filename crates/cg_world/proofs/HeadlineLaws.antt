@@ -48,9 +48,9 @@ use Rattle.cg_world.proofs.TakenLaws.{all_more, outcomes_tell_what_is_taken}
 use Rattle.cg_world.proofs.WholeEntries.{entries_are_whole, places_were_own}
 use Rattle.cg_world.proofs.GapLaws.{spans_are, gap_told}
 
--- ---- what a node took
+-- ---- the deltas that a node took
 
--- what it took, by marks and by places
+-- the deltas that it took, by marks and by places
 abbrev pub Marked : PlaceWorld → ℕ → ℕ → List Mark → Type 0
 Marked w node owner marks = (marks ≡ marks_at (w.histories owner) (w.taken node owner)) × AllSpans (w.histories owner) (w.taken node owner)
 
@@ -58,7 +58,7 @@ Marked w node owner marks = (marks ≡ marks_at (w.histories owner) (w.taken nod
 placed_goes_on : (earlier later : List Action) → Keeps (place_world earlier) (place_world (earlier ++ later))
 placed_goes_on earlier later = subst (Keeps (place_world earlier)) (sym (all_more nobody earlier later)) (actions_from_keeps (place_world earlier) (done_by_places (place_world earlier) later))
 
--- where the same was taken, or one span more
+-- the marks if the same was taken, or one span more
 pub marked_still : (w v : PlaceWorld) (node owner : ℕ) (marks : List Mark) → Continues (w.histories owner) (v.histories owner) → v.taken node owner ≡ w.taken node owner → Marked w node owner marks → Marked v node owner marks
 marked_still w v node owner marks on same m =
     subst (λ (spans : List Span). (marks ≡ marks_at (v.histories owner) spans) × AllSpans (v.histories owner) spans) (sym same)
@@ -170,7 +170,7 @@ module _ (settings : SettingsValue) (earlier : List Action) (owner : ℕ) where
   action_marked node marks (Local other change) m = other_still node marks (Local other change) (λ e. cc) m
   action_marked node marks (Deliver number to now) m = deliver_marked node marks number to now m (to == node) refl
 
--- and so after all actions
+-- the same after all actions
 took_marked : (settings : SettingsValue) (node owner : ℕ) (earlier later : List Action) (marks : List Mark) → Marked (place_world earlier) node owner marks
     → Marked (place_world (earlier ++ later)) node owner (took_from (run settings earlier) node owner marks later)
 took_marked settings node owner earlier [] marks m = subst (λ (xs : List Action). Marked (place_world xs) node owner marks) (sym (append-nil earlier)) m
@@ -187,7 +187,7 @@ nothing_marked node owner = (refl, tt)
 
 -- ---- marks of places
 
--- P holds of each, by recursion
+-- P is true of each, by recursion
 abbrev pub Each : {X : Type 0} → (X → Type 0) → List X → Type 0
 Each P [] = ⊤
 Each P (x ∷ xs) = P x × Each P xs
@@ -244,7 +244,7 @@ greatest_held h is places has = go (furthest_stands places)
         subst (λ o. HasGreatest o (map_list (mark_at h) places)) (sym held.1)
         (subst (λ (m : Mark). Contains (map_list (mark_at h) places) m × All (λ n. IsWithin n m) (map_list (mark_at h) places)) mark (there, all))
 
--- ---- what is held
+-- ---- the entries held
 
 same_marks : (m n : Mark) → IsWithin m n → IsWithin n m → m ≡ n
 same_marks m n a b =
@@ -324,7 +324,7 @@ module _ (settings : SettingsValue) (actions : List Action) where
             let x = at_place_some (u.histories owner) p has.0.0 has.0.1 in
             ((x.0, places_were_own settings actions owner p x.0 x.1, sym (mark_here (u.histories owner) p x.0 x.1)), each places has.1)
 
-  -- an entry that was its owner's own stands in the history
+  -- an entry that was its owner's own is in the history
   was_placed : (owner : ℕ) (entry : EntryValue) → Was settings actions owner entry → (p : ℕ) × (at_place (u.histories owner) p ≡ Some entry)
   was_placed owner entry was = subst (λ (xs : List Action). (p : ℕ) × (at_place ((place_world xs).histories owner) p ≡ Some entry)) was.in_order (length ((place_world was.earlier).histories owner), there)
     where

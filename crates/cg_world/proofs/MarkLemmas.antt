@@ -1,4 +1,4 @@
--- What deltas and places of a history are called by: a generation, and the newest version in it.
+-- Marks of deltas and of places of a history: a generation, and the newest version in it.
 use Rattle.std.proofs.Common.{◌≡◌, ℕ, ◌<◌, ◌≤◌, ◌⊎◌, inl, inr, List, [], ◌∷◌, ◌++◌, length, refl, sym, ◌∙◌, ap, subst, arith, Bool, true, false, Option, Some, None, max, ltb-false}
 use Rattle.std.specs.Prelude.{⊤, cond, IsSome, nat_lt, nat_le, map as map_list}
 use Rattle.std.specs.List.{filter}
@@ -30,7 +30,7 @@ greatest_max n s (e ∷ es) =
     let turned : max (max n s) e.1.version ≡ max (max n e.1.version) s = omega arith in
     ap (λ m. greatest_of m es) turned ∙ greatest_max (max n e.1.version) s es
 
--- what is left out below the greatest leaves it
+-- leaving out versions up to one below the greatest leaves the greatest
 greatest_over : (v n : ℕ) (es : List (ℕ × Versioned)) → v < greatest_of n es → greatest_of n (filter (is_over v) es) ≡ greatest_of n es
 greatest_over v n [] lt = refl
 greatest_over v n (e ∷ es) lt = go (λ n lt. greatest_over v n es lt) (nat_lt v e.1.version) refl
@@ -57,7 +57,7 @@ leads_to_mark v e d is = go (nat_le (newest e) v) refl is
         let same : record { generation = e.generation; above = v; heartbeat = e.heartbeat; states = newer_than v e.states } ≡ d = cc in
         subst (λ d. mark_led_to d ≡ mark_of e) same (ap (λ (n : ℕ). (e.generation, n)) (newest_newer v e.heartbeat e.states lt))
 
--- what a delta lies above
+-- the version that a delta is above
 begins_at : (v : ℕ) (e : EntryValue) (d : DeltaValue) → delta_above v e ≡ Some d → (d.generation ≡ e.generation) × (d.above ≡ v)
 begins_at v e d is = go (nat_le (newest e) v) refl is
   where

@@ -1,4 +1,4 @@
--- What one action shows and changes.
+-- Replies, changes and windows of one action.
 use Rattle.std.proofs.Common.{◌≡◌, ◌≢◌, ℕ, List, [], ◌∷◌, refl, sym, ◌∙◌, ap, subst, Bool, true, false, Option, Some, None, Result, Ok, Err}
 use Rattle.std.specs.Prelude.{IsOk, is_ok, is_some, cond, nat_lt}
 use Rattle.std.specs.FinMap as map
@@ -55,7 +55,7 @@ stepped_replies : (c : WorldValue) (node : ℕ) (s : Step) → is_some (reply_of
 stepped_replies c node (Ok x) = refl
 stepped_replies c node (Err fault) = refl
 
--- what a change of the own entry tells
+-- the reply to a change of the own entry
 told_by : (n : NodeValue) (answer : ℕ → Reply) (version : ℕ) (due : Result ℕ Fault) → due ≡ Ok version → reply_of (then due (λ v. (n, answer v))) ≡ Some (answer version)
 told_by n answer version due is = ap (λ (due : Result ℕ Fault). reply_of (then due (λ v. (n, answer v)))) is
 

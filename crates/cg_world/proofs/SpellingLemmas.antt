@@ -92,7 +92,7 @@ module _ (cluster : ClusterValue) (old new : ℕ → List EntryValue) (on : AllC
   pub says_on : (m : Message) (said : PlaceMessage) → Says old m said → Says new m said
   says_on m said s = record { spells = spells_on m said s; stands = message_stays old new on said s.stands }
 
-  -- what was sent goes on to be what it says
+  -- messages that were sent go on to be what they say
   pub all_stay : (ms : List Message) (more : List PlaceMessage) → AllSent cluster old ms more → AllSent cluster new ms more
   all_stay [] [] a = tt
   all_stay [] (said ∷ more) a = a
@@ -124,7 +124,7 @@ module _ (cluster : ClusterValue) (histories : ℕ → List EntryValue) where
   both_at ms more a zero = tt
   both_at ms more a (suc k) = got_both ms more a k
 
--- ---- what is kept
+-- ---- properties that are kept
 
 -- the nodes go on so, with one of them replaced
 pub node_spells : (c : WorldValue) (w v : PlaceWorld) (node : ℕ) (n : NodeValue) → SpellsWorld c w → SpellsNodes (tables_of (with_node c node n)) v → AllContinue w.histories v.histories → v.sent ≡ w.sent
@@ -140,13 +140,13 @@ node_spells c w v node n p tables on same at many = record {
     go q m true t e = let same : n ≡ m = cc in subst (λ k. IsNodeAt c.settings k m) (sym (same_number q node t)) (subst (IsNodeAt c.settings node) same at)
     go q m false t e = p.each q m e
 
--- what is known of the nodes and of the places of the same actions
+-- the tie of the nodes to the places of the same actions
 pub record Tied (c : WorldValue) (w : PlaceWorld) : Type 0 where
   pub sound : IsSound w
   pub is_world : IsWorld w
   pub is : SpellsWorld c w
 
--- what is known of the owners of places
+-- the bounds of the owners of places
 pub record Bounded (w : PlaceWorld) : Type 0 where
   pub knows : KnowsOwners w
   pub limits : IsWithinLimits w

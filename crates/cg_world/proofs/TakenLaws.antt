@@ -1,4 +1,4 @@
--- What a node took is what the outcomes in its replies tell.
+-- The spans that a node took are those that the outcomes in its replies report.
 use Rattle.std.proofs.Common.{◌≡◌, ◌≢◌, ◌==◌, ℕ, Bool, false, length, nat_lt, List, [], ◌∷◌, ◌++◌, refl, sym, ◌∙◌, ap, subst, true, Option, Some, None, Result, Ok, Err}
 use Rattle.std.specs.Prelude.{cond, IsOk}
 use Rattle.std.specs.Option.{option_map}
@@ -64,7 +64,7 @@ pub message_takes_nothing : (w : PlaceWorld) (said : PlaceMessage) (node owner :
 unfolding with_message
 message_takes_nothing w said node owner = refl
 
--- what a message does where it is taken
+-- the changes by a message that is taken
 record AreCountedBy (w v : PlaceWorld) (node : ℕ) (m : Message) (said : PlaceMessage) (outcomes : List Outcome) : Type 0 where
   spelled : SpellsSpans w.histories (deltas_in m) (spans_in said)
   in_order : endpoints_of_outcomes outcomes ≡ endpoints_of_deltas (deltas_in m)
@@ -79,7 +79,7 @@ module _ (c : WorldValue) (w : PlaceWorld) (t : Tied c w) (b : Bounded w) (node 
       subst (λ (k : ℕ). outcome_about owner outcomes ≡ option_map (λ span. record { endpoint = owner; took = took_for (owner == k) (w.places node owner) span }) (spans owner)) (at_node c w t node n e).its_endpoint
       (moved.outcomes_about owner)
 
-  -- of a reply that is due
+  -- the outcomes of an expected reply
   counted_as : (v : PlaceWorld) (m : Message) (said : PlaceMessage) (due : Reply) (left : Option Reply) → left ≡ Some due → AreCountedBy w v node m said (outcomes_in due) → (answer : Reply) → left ≡ Some answer
       → AreCountedBy w v node m said (outcomes_in answer)
   counted_as v m said due left is counts answer e = let same : due ≡ answer = cc in subst (λ r. AreCountedBy w v node m said (outcomes_in r)) same counts
@@ -151,7 +151,7 @@ one_more : (w : PlaceWorld) (actions : List Action) (action : Action)
     → after_actions w (done_by_places w (actions ++ action ∷ [])) ≡ after_actions (after_actions w (done_by_places w actions)) (done_by_places (after_actions w (done_by_places w actions)) (action ∷ []))
 one_more w actions action = all_more w actions (action ∷ [])
 
--- ---- what an action leaves as it was
+-- ---- nodes that an action leaves unchanged
 
 changed_takes_nothing : (w : PlaceWorld) (node : ℕ) (change : EntryValue → EntryValue) (o : Option EntryValue) → (after_change w node change o).taken ≡ w.taken
 unfolding with_entry
@@ -240,7 +240,7 @@ module _ (settings : SettingsValue) (actions : List Action) (number to now : ℕ
         taken = λ owner. ap (λ (v : PlaceWorld). v.taken to owner) after ∙ counts.taken owner;
       }
 
--- what is done is not refused
+-- an action that is done is not refused
 no_fault : (left : Result WorldValue Fault) → IsOk left → fault_of left ≡ None
 no_fault (Ok d) ok = refl
 no_fault (Err fault) ok = absurd cc
@@ -262,7 +262,7 @@ module _ (settings : SettingsValue) (actions : List Action) where
       delivery_counted settings actions number to now answer (at_place d.sent number) (at_place v.sent number) refl refl
       (both_at d.settings.cluster v.histories d.sent v.sent (joined settings actions).tied.is.messages number) (map.get d.nodes to) refl is
 
-  -- where an action is refused, and where it is not
+  -- the places after a refused action, and after one that is not
   after_refusal : (action : Action) (fault : Fault) → refusal v (plain action) ≡ Some fault → place_world (actions ++ action ∷ []) ≡ v
   after_refusal action fault due = one_more nobody actions action ∙ rw due refl
 

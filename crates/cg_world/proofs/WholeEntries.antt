@@ -20,9 +20,9 @@ use Rattle.cg_places.proofs.ExchangeLemmas.{sent_last}
 use Rattle.cg_world.proofs.ActionLemmas.{AgreesBy, action_agrees, own_held}
 use Rattle.cg_world.proofs.WorldLaws.{Joined, done_by_places, done_joined, joined, spelled, running_node}
 
--- ---- what an action adds to histories
+-- ---- the entries that an action adds to histories
 
--- an entry stood there before, or is the last one
+-- an entry was there before, or is the last one
 abbrev pub OldOrLast : PlaceWorld → PlaceWorld → Type 0
 OldOrLast w v = (owner place : ℕ) (entry : EntryValue) → at_place (v.histories owner) place ≡ Some entry → (at_place (w.histories owner) place ≡ Some entry) ⊎ (last_entry (v.histories owner) ≡ Some entry)
 
@@ -64,7 +64,7 @@ action_old w action = action_kept (OldOrLast w) (old_kept w) w action (same_old 
 
 -- ---- in the order of the actions
 
--- an entry stood there at the beginning, or was its owner's own later
+-- an entry was there at the beginning, or was its owner's own later
 abbrev Stood : WorldValue → PlaceWorld → List Action → PlaceWorld → Type 0
 Stood c w actions v = (owner place : ℕ) (entry : EntryValue) → at_place (v.histories owner) place ≡ Some entry → (at_place (w.histories owner) place ≡ Some entry) ⊎ WasOwn c actions owner entry
 
@@ -75,7 +75,7 @@ own_now c w j owner entry e =
     let held : last_entry (w.histories owner) ≡ Some (own_entry n.0.table) = own_held c w j.tied owner n.0 n.1 in
     (n.0, n.1, cc)
 
--- what was so after an action was so after it and the others
+-- an entry that was the own one after an action was so after it and the others
 was_later : (c d : WorldValue) (action : Action) (actions : List Action) (owner : ℕ) (entry : EntryValue) → act c action ≡ d → WasOwn d actions owner entry → WasOwn c (action ∷ actions) owner entry
 was_later c d action actions owner entry same was = record {
   earlier = action ∷ was.earlier;

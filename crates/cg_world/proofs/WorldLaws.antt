@@ -95,12 +95,13 @@ run_on c (first ∷ actions) action = run_on (act c first) actions action
 pub actions_one_by_one : ActionsOneByOne
 actions_one_by_one settings actions action = run_on (new_world settings) actions action
 
--- what a step leaves as sent
+-- the messages sent after a step
 sent_by : (c : WorldValue) (node : ℕ) (n : NodeValue) (o : Option Message) → (with_sent (with_node c node n) o).sent ≡ c.sent ++ option_to_list o
 sent_by c node n None = sym (append-nil c.sent)
 sent_by c node n (Some m) = refl
 
--- What an action leaves: the world as it was, and then nothing is sent, or its node made anew, and what it sends.
+-- The world that an action leaves: unchanged, and then nothing is sent, or with its node made anew and its message
+-- sent.
 pub data LeftBy (c : WorldValue) (node : ℕ) (sent : Option Message) (d : WorldValue) : Type 0 where
   AsItWas : d ≡ c → sent ≡ None → LeftBy c node sent d
   MadeAnew : (n : NodeValue) → d ≡ with_sent (with_node c node n) sent → LeftBy c node sent d
@@ -127,7 +128,7 @@ sent_left c node o d (MadeAnew n is) = ap (λ (d : WorldValue). d.sent) is ∙ s
 all_sent : (c : WorldValue) (action : Action) → (act c action).sent ≡ c.sent ++ option_to_list (message_to c action)
 all_sent c action = sent_left c (node_of action) (message_to c action) (act c action) (left_by c action)
 
--- what is added stands at the number after the last one
+-- the message that is added is at the number after the last one
 last_number : (ms : List Message) (o : Option Message) → option_and_then (at_place (ms ++ option_to_list o)) (option_map (λ m. length ms + 1) o) ≡ o
 last_number ms None = refl
 last_number ms (Some m) = let last : length ms + 1 ≡ suc (length ms) = omega arith in rw last (at_place_last ms m)
@@ -182,12 +183,12 @@ pub deliveries_find_room : DeliveriesFindRoom
 deliveries_find_room settings actions number to now fault e =
     refused_by (place_world actions) to (at_place (place_world actions).sent number) fault (sym (refusals_agree settings actions (Deliver number to now)) ∙ ap fault_of e)
 
--- what is not refused is done
+-- an action that is not refused is done
 done_by : (left : Result WorldValue Fault) → fault_of left ≡ None → IsOk left
 done_by (Ok d) e = refl
 done_by (Err fault) e = absurd cc
 
--- where a message was sent, one was by places
+-- a message was sent by places if one was sent
 sent_refusal : (cluster : ClusterValue) (w : PlaceWorld) (to : ℕ) (o : Option Message) (said : Option PlaceMessage) → BothSent cluster w.histories o said → is_some o ≡ true → runs w to ≡ true → deliver_refusal w to said ≡ None
 sent_refusal cluster w to None said both some e = absurd cc
 sent_refusal cluster w to (Some m) None both some e = absurd both

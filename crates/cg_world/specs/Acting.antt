@@ -1,4 +1,4 @@
--- What actions show as they are done.
+-- Outcomes of actions, as they are done one after the other.
 use Rattle.std.specs.Prelude.{◌≡◌, Bool, true, false, cond, List, [], ◌∷◌, Result, Ok, Err}
 use Rattle.std.specs.Bool.{MatchBool}
 use Rattle.cg_types.specs.declared.fault.Fault.{Fault}
@@ -12,20 +12,21 @@ use Rattle.cg_world.specs.World.{Action, WorldValue, reply_to, number_to, acting
 abbrev pub shown_by : WorldValue → Action → Shown
 shown_by c action = record { reply = reply_to c action; sent = number_to c action }
 
--- what an action shows, or why it is refused
+-- the outcome that an action shows, or the fault with which it is refused
 abbrev pub showing : WorldValue → Action → Result Shown Fault
 showing c action = then (acting c action) (λ d. shown_by c action)
 
 -- ---- runs
 
--- whether an action found no memory
+-- `true` if an action found no memory
 abbrev pub found_no_memory : Result Shown Fault → Bool
 found_no_memory (Ok shown) = false
 found_no_memory (Err OutOfMemory) = true
 found_no_memory (Err fault) = false
 
--- A run of actions gave these answers and led from c to d. Each answer is what its action shows, or why it is refused.
--- Where one found no memory, it is the last, and the world is the one before its action; else each action has one.
+-- A run of actions gave these answers and led from c to d. Each answer is its action's outcome, or the fault with which
+-- it is refused. If one found no memory, it is the last, and the world is the one before its action; else each action
+-- has one.
 abbrev pub Ran : WorldValue → List Action → List (Result Shown Fault) → WorldValue → Type 0
 Ran c [] [] d = d ≡ c
 Ran c [] (answer ∷ answers) d = ⊥

@@ -1,4 +1,4 @@
--- What is true of the nodes that run after a list of actions.
+-- Properties of the nodes that run after a list of actions.
 use Rattle.std.specs.Prelude.{ℕ, ◌≡◌, ◌++◌, List}
 use Rattle.cg_settings.specs.Values.{SettingsValue}
 use Rattle.cg_core.specs.Values.{NodeValue}
@@ -12,11 +12,11 @@ use Rattle.cg_world.specs.Headline.{Headline}
 pub record IsConsistent (settings : SettingsValue) (actions : List Action) (c : WorldValue) : Type 0 where
   -- the actions lead here
   pub led : c ≡ run settings actions
-  -- the headline, over nodes, replies and messages; what follows ties it to the places of the actions
+  -- the headline, over nodes, replies and messages; the next parts tie it to the places of the actions
   pub headline : Headline settings actions c
   -- the nodes hold and have sent what the places of the actions say
   pub spelled : SpellsWorld c (place_world actions)
-  -- each change of what the places say that a node took is what the node's reply told
+  -- the changes by places of what a node took are those that the node's replies report
   pub told : (earlier later : List Action) → earlier ++ later ≡ actions → IsTold settings earlier
   -- each node's table is the join of its own newest entry and of those to which the deltas led that it took
   pub joined : (node : ℕ) (n : NodeValue) → Runs c node n → IsJoined (place_world actions) node n.table.entries
@@ -25,7 +25,7 @@ pub record IsConsistent (settings : SettingsValue) (actions : List Action) (c : 
       → ((owner : ℕ) → SamePlaces (sources (place_world actions) a owner) (sources (place_world actions) b owner))
       → AreEqual one.table.entries other.table.entries
 
--- A world is where some actions led, and consistent after whatever list of actions leads to it.
+-- A world is one that some actions lead to, and consistent after each list of actions that leads to it.
 pub record IsConsistentWorld (c : WorldValue) : Type 0 where
   pub reached : IsReached c
   pub consistent : (actions : List Action) → c ≡ run c.settings actions → IsConsistent c.settings actions c

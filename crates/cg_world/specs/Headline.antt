@@ -1,5 +1,5 @@
--- The headline: what is true of the nodes of a cluster after any list of starts, local changes, openings, ticks and
--- deliveries, whatever messages are lost, repeated and reordered. A refused action changes nothing.
+-- The headline: properties of the nodes of a cluster after any list of starts, local changes, openings, ticks and
+-- deliveries, with any messages lost, repeated and reordered. A refused action changes nothing.
 use Rattle.std.specs.Prelude.{ℕ, ◌≡◌, ◌↔◌, ◌==◌, ◌&&◌, ◌++◌, IsTrue, is_ok, List, [], ◌∷◌, All, Some, if◌then◌else◌}
 use Rattle.std.specs.List.{Contains}
 use Rattle.std.specs.FinMap as map
@@ -16,8 +16,8 @@ use Rattle.cg_world.specs.WorldLaws.{Runs, WasOwn}
 use Rattle.cg_world.specs.Taken.{delta_sent, outcome_told, is_gap}
 pub use Rattle.cg_world.specs.Mark.{Mark, mark_of, mark_led_to, IsWithin, HasGreatest, LiesPast, with_delta}
 
--- What a node took of an owner since its start, by the marks of the deltas that were handed to it and were no gap, with
--- what one action brings; a start that is done forgets all.
+-- The marks of the deltas of an owner that were handed to a node since its start and were no gap, with what one action
+-- brings; a start that is done forgets all.
 abbrev pub with_action : WorldValue → ℕ → ℕ → List Mark → Action → List Mark
 with_action c node owner marks (Start other generation) =
     if other == node && is_ok (acting c (Start other generation)) then [] else marks
@@ -33,7 +33,7 @@ took_from c node owner marks (action ∷ actions) =
 -- ---- after a list of actions
 
 module _ (settings : SettingsValue) (actions : List Action) where
-  -- what a node has of an owner: its own entry's mark, if it is the owner, and those that it took since its start
+  -- the marks of an owner at a node: its own entry's mark, if it is the owner, and those that it took since its start
   abbrev pub marks_of : ℕ → NodeValue → ℕ → List Mark
   marks_of node n owner =
       if owner == node then mark_of (own_entry n.table) ∷ took_from (new_world settings) node owner [] actions
@@ -56,7 +56,7 @@ module _ (settings : SettingsValue) (actions : List Action) where
     -- each table is the join of the node's own entry and the deltas that it took: it holds the furthest of each owner
     pub joined : (node : ℕ) (n : NodeValue) → Runs c node n
         → (owner : ℕ) → HasGreatest (map.get n.table.entries owner) (marks_of node n owner)
-    -- a delta is left out, as a gap, exactly where it lies past what the node then held
+    -- a delta is left out, as a gap, exactly if it lies past what the node then held
     pub gaps : (earlier later : List Action) → earlier ++ later ≡ actions → (number node now owner : ℕ) (n : NodeValue)
         → Runs (run settings earlier) node n → (outcome : Outcome) (d : OwnerDelta)
         → outcome_told (run settings earlier) number node now owner ≡ Some outcome
@@ -75,6 +75,6 @@ module _ (settings : SettingsValue) (actions : List Action) where
     pub equal_digests : (a b : ℕ) (one other : NodeValue) → Runs c a one → Runs c b other
         → digests_of one.table.entries ≡ digests_of other.table.entries → AreEqual one.table.entries other.table.entries
 
--- After every list of actions the headline holds.
+-- The headline holds after every list of actions.
 abbrev pub HeadlineHolds : Type 0
 HeadlineHolds = (settings : SettingsValue) (actions : List Action) → Headline settings actions (run settings actions)

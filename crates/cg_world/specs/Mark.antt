@@ -1,4 +1,4 @@
--- How far entries and deltas lead, and what is made of the deltas that a node takes.
+-- Marks: how far entries and deltas lead, and how the deltas that a node takes are counted.
 use Rattle.std.specs.Prelude.{ℕ, ◌≡◌, ◌<◌, ◌≤◌, ◌⊎◌, ◌++◌, List, [], ◌∷◌, All, Option, Some, None, if◌then◌else◌}
 use Rattle.std.specs.List.{Contains}
 use Rattle.cg_entry.specs.Values.{EntryValue, DeltaValue}
@@ -7,14 +7,14 @@ use Rattle.cg_messages.specs.declared.outcome.Outcome.{Outcome}
 use Rattle.cg_messages.specs.declared.owner_delta.OwnerDelta.{OwnerDelta}
 use Rattle.cg_world.specs.Taken.{is_gap}
 
--- how far an owner has come: its generation, and the newest version in it
+-- the progress of an owner: its generation, and the newest version in it
 abbrev pub Mark : Type 0
 Mark = ℕ × ℕ
 
 abbrev pub mark_of : EntryValue → Mark
 mark_of e = (e.generation, newest e)
 
--- the mark of the entry that a delta leads to
+-- the mark of the entry to which a delta leads
 abbrev pub mark_led_to : DeltaValue → Mark
 mark_led_to d = (d.generation, greatest d.heartbeat d.states)
 
@@ -27,7 +27,7 @@ abbrev pub LiesPast : DeltaValue → Option EntryValue → Type 0
 LiesPast d None = 0 < d.above
 LiesPast d (Some e) = (0 < d.above) × (IsWithin (d.generation, d.above) (mark_of e) → ⊥)
 
--- The entry held has the greatest of the marks; where there are none, nothing is held.
+-- The entry held has the greatest of the marks; if there are none, nothing is held.
 abbrev pub HasGreatest : Option EntryValue → List Mark → Type 0
 HasGreatest None marks = marks ≡ []
 HasGreatest (Some e) marks = Contains marks (mark_of e) × All (λ m. IsWithin m (mark_of e)) marks

@@ -1,4 +1,4 @@
--- What one action shows and changes: the node that it is about, its reply, and whom the node hears.
+-- One action alone: the node that it is about, its reply, and the arrivals that the node counts.
 use Rattle.std.specs.Prelude.{ℕ, ◌≡◌, ◌≢◌, IsOk, is_ok, is_some, List, [], Option, Some, None, Ok}
 use Rattle.std.specs.FinMap as map
 use Rattle.cg_entry.specs.History.{at_place}
@@ -39,21 +39,21 @@ OneNodeChanges =
 pub record AreReplies (c : WorldValue) : Type 0 where
   -- a start has none
   pub start : (node generation : ℕ) → reply_to c (Start node generation) ≡ None
-  -- any other action has one where it is done
+  -- any other action has one exactly if it is done
   pub local : (node : ℕ) (change : LocalEvent)
       → is_some (reply_to c (Local node change)) ≡ is_ok (acting c (Local node change))
   pub delivery : (number to now : ℕ)
       → is_some (reply_to c (Deliver number to now)) ≡ is_ok (acting c (Deliver number to now))
-  -- a beat and a set tell the version that they gave
+  -- a beat and a set return the version that they gave
   pub beat : (node : ℕ) (n : NodeValue) (version : ℕ) → Runs c node n → next_of n ≡ Ok version
       → reply_to c (Local node Beat) ≡ Some (reply.Done version)
   pub set : (node key : ℕ) (text : List ℕ) (n : NodeValue) (version : ℕ) → Runs c node n → next_of n ≡ Ok version
       → reply_to c (Local node (Set key text)) ≡ Some (reply.Done version)
-  -- the peers of a tick are chosen after its beat, at its moment, with its words
+  -- the peers of a tick are chosen after its beat, at its time, with its words
   pub tick : (node now : ℕ) (words : List ℕ) (n : NodeValue) (version : ℕ) → Runs c node n → next_of n ≡ Ok version
       → reply_to c (Local node (Tick now words))
       ≡ Some (reply.Round (round_of (beating n) now words) (opening (beating n)))
-  -- a delivery tells what became of each delta
+  -- a delivery returns the outcome of each delta
   pub ack : (number to now : ℕ) (n : NodeValue) (ack : AckValue) (r : Reply) → Runs c to n
       → at_place c.sent number ≡ Some (message.Ack ack) → reply_to c (Deliver number to now) ≡ Some r
       → outcomes_in r ≡ outcomes_of n.table ack.deltas
@@ -66,7 +66,7 @@ RepliesAreOfSteps = (c : WorldValue) → AreReplies c
 
 -- ---- windows
 
--- and nothing where there is no reply
+-- the outcomes of a reply, and none if there is no reply
 abbrev pub outcomes_shown : Option Reply → List Outcome
 outcomes_shown None = []
 outcomes_shown (Some r) = outcomes_in r
@@ -78,7 +78,7 @@ pub record AreHeard (c : WorldValue) : Type 0 where
   -- by itself it hears of nobody
   pub local : (node : ℕ) (change : LocalEvent) (n m : NodeValue) → Runs c node n
       → Runs (act c (Local node change)) node m → m.windows ≡ n.windows
-  -- each delta that was taken is an arrival of its owner at the moment of the delivery
+  -- each delta that was taken is an arrival of its owner at the time of the delivery
   pub delivery : (number to now : ℕ) (n m : NodeValue) → Runs c to n → Runs (act c (Deliver number to now)) to m
       → m.windows ≡ arrivals n.settings.silence now n.windows (outcomes_shown (reply_to c (Deliver number to now)))
 

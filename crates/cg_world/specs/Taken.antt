@@ -1,4 +1,4 @@
--- What a node took, by the outcomes that its replies have.
+-- Deltas that a node took, by the outcomes in its replies.
 use Rattle.std.specs.Prelude.{ℕ, ◌≡◌, ◌≢◌, ◌==◌, Bool, true, false, IsOk, Err, List, [], ◌∷◌, ◌++◌, Option, Some, None}
 use Rattle.std.specs.Option.{option_map, option_map_or}
 use Rattle.cg_types.specs.declared.fault.Fault.{Fault}
@@ -32,28 +32,28 @@ deltas_in (kinds.Ack2 ack2) = ack2.deltas
 abbrev pub deltas_sent : WorldValue → ℕ → List OwnerDelta
 deltas_sent c number = option_map_or deltas_in (at_place c.sent number) []
 
--- the delta about an owner among them, and what the node that they are handed to tells of it
+-- the delta about an owner among them, and the outcome that the node to which they are handed reports of it
 abbrev pub delta_sent : WorldValue → ℕ → ℕ → Option OwnerDelta
 delta_sent c number owner = delta_about owner (deltas_sent c number)
 
 abbrev pub outcome_told : WorldValue → ℕ → ℕ → ℕ → ℕ → Option Outcome
 outcome_told c number node now owner = outcome_about owner (outcomes_shown (reply_to c (Deliver number node now)))
 
--- whether a delta was left out
+-- `true` if a delta was left out
 abbrev pub is_gap : Took → Bool
 is_gap took.Gap = true
 is_gap took.Taken = false
 is_gap took.Old = false
 is_gap took.Own = false
 
--- what was taken of an owner, with one more span where its outcome is Taken, Old or Own
+-- the taken spans of an owner, with one more if its outcome is Taken, Old or Own
 abbrev pub with_outcome : List Span → Option Outcome → Option Span → List Span
 with_outcome spans (Some outcome) (Some span) = unless_gap outcome.took spans span
 with_outcome spans (Some outcome) None = spans
 with_outcome spans None span = spans
 
--- The outcomes of a delivery to a node are those of its spans at the places of w, and tell what the node took, as v
--- has it.
+-- The outcomes of a delivery to a node are those of its spans at the places of w, and say what the node took, as v has
+-- it.
 pub record AreCounted (c : WorldValue) (w v : PlaceWorld) (number node : ℕ) (outcomes : List Outcome) : Type 0 where
   -- the message, and what it says by places: its deltas spell these spans, owner by owner
   pub message : Message
@@ -69,7 +69,7 @@ pub record AreCounted (c : WorldValue) (w v : PlaceWorld) (number node : ℕ) (o
       → outcome_about owner outcomes
       ≡ option_map (λ span. record { endpoint = owner; took = took_for (owner == node) (w.places node owner) span })
       (spans_in said owner)
-  -- what the node took since its start is now one span more about each owner whose outcome is no gap
+  -- the spans that the node took since its start are now one more about each owner whose outcome is no gap
   pub taken : (owner : ℕ)
       → v.taken node owner ≡ with_outcome (w.taken node owner) (outcome_about owner outcomes) (spans_in said owner)
 
@@ -79,9 +79,9 @@ taker (Start node generation) = Some node
 taker (Local node change) = None
 taker (Deliver number to now) = Some to
 
--- What one more action changes of what the nodes took.
+-- The change that one more action makes to what the nodes took.
 pub record IsTold (settings : SettingsValue) (actions : List Action) : Type 0 where
-  -- a delivery that is done adds what the outcomes in the node's reply tell
+  -- a delivery that is done adds what the outcomes in the node's reply report
   pub deliveries : (number to now : ℕ) (answer : Reply)
       → reply_to (run settings actions) (Deliver number to now) ≡ Some answer
       → AreCounted (run settings actions) (place_world actions)
@@ -90,13 +90,13 @@ pub record IsTold (settings : SettingsValue) (actions : List Action) : Type 0 wh
   -- a start that is done forgets all that its node took
   pub starts : (node generation owner : ℕ) → IsOk (acting (run settings actions) (Start node generation))
       → (place_world (actions ++ Start node generation ∷ [])).taken node owner ≡ []
-  -- what the other nodes took stays, as does what any took where a node does something by itself
+  -- the other nodes keep what they took, and all nodes do if a node does something by itself
   pub others : (action : Action) (node owner : ℕ) → taker action ≢ Some node
       → (place_world (actions ++ action ∷ [])).taken node owner ≡ (place_world actions).taken node owner
   -- a refused action changes nothing
   pub refused : (action : Action) (fault : Fault) → acting (run settings actions) action ≡ Err fault
       → place_world (actions ++ action ∷ []) ≡ place_world actions
 
--- What a node took since its start is what the outcomes in its replies tell.
+-- The spans that a node took since its start are those that the outcomes in its replies report.
 abbrev pub OutcomesTellWhatIsTaken : Type 0
 OutcomesTellWhatIsTaken = (settings : SettingsValue) (actions : List Action) → IsTold settings actions

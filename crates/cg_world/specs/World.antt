@@ -33,10 +33,10 @@ pub record WorldValue : Type 0 where
   pub settings : SettingsValue
   -- the nodes that run, by their endpoints
   pub nodes : map.FinMap nat_cmp NodeValue
-  -- each message that was ever sent, the first one first; they are numbered from 1
+  -- all messages that were ever sent, the first one first; they are numbered from 1
   pub sent : List Message
 
--- the code that a model of such a value asks for
+-- the code that a model of such a value requires
 abbrev pub world_code : Coded WorldValue
 world_code =
     code_by (SettingsValue × (map.FinMap nat_cmp NodeValue × List Message))
@@ -47,22 +47,22 @@ world_code =
 abbrev pub new_world : SettingsValue → WorldValue
 new_world settings = record { settings = settings; nodes = map.empty; sent = [] }
 
--- what each node holds
+-- the table of each node
 abbrev pub tables_of : WorldValue → ℕ → Option Entries
 tables_of c node = option_map (λ n. n.table.entries) (map.get c.nodes node)
 
--- ---- what a step leaves
+-- ---- the world after a step
 
 -- the node is now this one
 abbrev pub with_node : WorldValue → ℕ → NodeValue → WorldValue
 with_node c node n = record { settings = c.settings; nodes = map.insert c.nodes node n; sent = c.sent }
 
--- this was sent, if anything was
+-- this message was sent, if there is one
 abbrev pub with_sent : WorldValue → Option Message → WorldValue
 with_sent c None = c
 with_sent c (Some m) = record { settings = c.settings; nodes = c.nodes; sent = c.sent ++ m ∷ [] }
 
--- A node's step leaves the new node, and what it answers is sent.
+-- A node's step leaves the new node, and the message of its reply is sent.
 abbrev pub after_step : WorldValue → ℕ → Step → Result WorldValue Fault
 after_step c node (Ok x) = Ok (with_sent (with_node c node x.0) (message_of x.1))
 after_step c node (Err fault) = Err fault
@@ -79,12 +79,12 @@ step_at c to now (Some m) = step_of (map.get c.nodes to) (arrival_of now m)
 
 -- ---- actions
 
--- the generation of a node's own entry, and 0 where it never started
+-- the generation of a node's own entry, and 0 if it never started
 abbrev pub generation_held : Option NodeValue → ℕ
 generation_held None = 0
 generation_held (Some n) = (own_entry n.table).generation
 
--- whether the node runs, or there may be one more
+-- `true` if the node runs, or there may be one more
 abbrev pub has_room : WorldValue → ℕ → Bool
 has_room c node = map.contains_key c.nodes node || nat_lt (map.len c.nodes) MEMBER_LIMIT
 
@@ -101,7 +101,7 @@ event_of (Set key text) = event.Set key text
 event_of Opening = event.Opening
 event_of (Tick now words) = event.Tick now words
 
--- the world after an action, or why the action is refused
+-- the world after an action, or the fault with which it is refused
 abbrev pub acting : WorldValue → Action → Result WorldValue Fault
 acting c (Start node generation) = starting c node generation
 acting c (Local node change) = after_step c node (step_of (map.get c.nodes node) (event_of change))
@@ -123,7 +123,7 @@ run_from c (action ∷ actions) = run_from (act c action) actions
 abbrev pub run : SettingsValue → List Action → WorldValue
 run settings actions = run_from (new_world settings) actions
 
--- ---- what an action shows
+-- ---- the outcome of an action
 
 -- the reply of a step that is done
 abbrev pub reply_of : Step → Option Reply
@@ -144,7 +144,7 @@ message_to c action = option_and_then message_of (reply_to c action)
 abbrev pub number_to : WorldValue → Action → Option ℕ
 number_to c action = option_map (λ m. length c.sent + 1) (message_to c action)
 
--- whether an action starts a node
+-- `true` if an action starts a node
 abbrev pub starts : ℕ → Action → Bool
 starts node (Start other generation) = other == node
 starts node (Local other change) = false
@@ -158,7 +158,7 @@ plain_local node (Set key text) = places.Set node key text
 plain_local node Opening = places.Opening node
 plain_local node (Tick now words) = places.Tick node
 
--- the action without its moment and words
+-- the action without its time and words
 abbrev pub plain : Action → PlaceAction
 plain (Start node generation) = places.Start node generation
 plain (Local node change) = plain_local node change

@@ -1,5 +1,5 @@
--- What holds of the nodes of a cluster as they run, after every list of actions. A refused action may stand in the
--- list: it changes nothing.
+-- Laws of the nodes of a cluster as they run, after every list of actions. The list may have refused actions: they
+-- change nothing.
 use Rattle.std.specs.Prelude.{ℕ, ◌≡◌, ◌⊎◌, Result, Ok, Err, IsOk, true, is_some, ⊤, List, [], ◌∷◌, ◌++◌, length, Some}
 use Rattle.std.specs.Option.{option_and_then, option_to_list}
 use Rattle.std.specs.FinMap as map
@@ -30,29 +30,29 @@ ActionsOneByOne =
     (settings : SettingsValue) (actions : List Action) (action : Action)
     → run settings (actions ++ action ∷ []) ≡ act (run settings actions) action
 
--- What an action sends, and its number.
+-- The message that an action sends, and its number.
 pub record IsNumbered (c : WorldValue) (action : Action) : Type 0 where
   -- the message that the action sends, if any, is added at the end, and nothing else is
   pub sent : (act c action).sent ≡ c.sent ++ option_to_list (message_to c action)
-  -- it stands at its number
+  -- it is at its number
   pub numbered : option_and_then (at_place (act c action).sent) (number_to c action) ≡ message_to c action
 
 abbrev pub MessagesAreNumbered : Type 0
 MessagesAreNumbered = (c : WorldValue) (action : Action) → IsNumbered c action
 
--- What a tick leaves of a world, by what a beat leaves of it: the tick is refused where the beat is, by the same
--- fault; where the beat is done, it is the opening after the beat.
+-- A tick's world by the world after a beat: the tick is refused if the beat is, by the same fault; if the beat is done,
+-- the tick is the opening after the beat.
 pub record IsBeatAndOpening (node : ℕ) (beat tick : Result WorldValue Fault) : Type 0 where
   pub refused : fault_of tick ≡ fault_of beat
   pub done : (d : WorldValue) → beat ≡ Ok d → tick ≡ acting d (Local node Opening)
 
--- A tick is a beat and then an opening, whatever its moment and words.
+-- A tick is a beat and then an opening, at any time and with any words.
 abbrev pub TicksAreBeatsAndOpenings : Type 0
 TicksAreBeatsAndOpenings =
     (c : WorldValue) (node now : ℕ) (words : List ℕ)
     → IsBeatAndOpening node (acting c (Local node Beat)) (acting c (Local node (Tick now words)))
 
--- The world is where some actions lead.
+-- The world is one to which some actions lead.
 pub record IsReached (c : WorldValue) : Type 0 where
   pub actions : List Action
   pub is : c ≡ run c.settings actions
@@ -61,7 +61,7 @@ pub record ReachedWorlds : Type 0 where
   pub begin : (settings : SettingsValue) → IsReached (new_world settings)
   pub go_on : (c : WorldValue) (action : Action) → IsReached c → IsReached (act c action)
 
--- ---- what is held and sent, by places
+-- ---- tables and messages, by places
 
 -- Each message says the one by places of the same number, and there are as many of both.
 abbrev pub AllSent : ClusterValue → (ℕ → List EntryValue) → List Message → List PlaceMessage → Type 0
@@ -84,7 +84,7 @@ pub record SpellsWorld (c : WorldValue) (w : PlaceWorld) : Type 0 where
   -- a node runs for each owner that has started
   pub as_many : map.len c.nodes ≡ length w.owners
 
--- What runs is what the places of the actions say, of which the refused ones are left out.
+-- The nodes that run spell the places of the actions, of which the refused ones are left out.
 abbrev pub NodesSpellPlaces : Type 0
 NodesSpellPlaces =
     (settings : SettingsValue) (actions : List Action) → SpellsWorld (run settings actions) (place_world actions)
@@ -95,7 +95,7 @@ RefusalsAgree =
     (settings : SettingsValue) (actions : List Action) (action : Action)
     → fault_of (acting (run settings actions) action) ≡ refusal (place_world actions) (plain action)
 
--- A delivery is refused where there is no such message, or no such node, and never for want of room or for another
+-- A delivery is refused only if there is no such message or no such node, and never for want of room or for another
 -- cluster.
 abbrev pub DeliveriesFindRoom : Type 0
 DeliveriesFindRoom =
@@ -110,7 +110,7 @@ DeliveriesAreDone =
     → is_some (map.get (run settings actions).nodes to) ≡ true
     → IsOk (acting (run settings actions) (Deliver number to now))
 
--- ---- what the tables are
+-- ---- the tables of nodes
 
 -- the node of this endpoint runs, and is this one
 abbrev pub Runs : WorldValue → ℕ → NodeValue → Type 0
@@ -139,7 +139,7 @@ EntriesAreWhole =
     → Runs (run settings actions) node n → (owner : ℕ) (entry : EntryValue) → map.get n.table.entries owner ≡ Some entry
     → WasOwn (new_world settings) actions owner entry
 
--- Nodes that took the same have equal tables and rings, whatever the order and number of deliveries.
+-- Nodes that took the same have equal tables and rings, in any order and number of deliveries.
 abbrev pub EqualSetsGiveEqualTables : Type 0
 EqualSetsGiveEqualTables =
     (settings : SettingsValue) (actions : List Action) (a b : ℕ) (one other : NodeValue)

@@ -1,4 +1,4 @@
-//! What is done to the nodes of a cluster.
+//! Actions on the nodes of a cluster.
 
 ghost use Rattle.std.specs.Prelude.{◌≡◌, IfOk};
 ghost use Rattle.cg_world.specs.World.{starts};
@@ -6,21 +6,21 @@ ghost use Rattle.cg_world.specs.World.{starts};
 use cg_types::{Endpoint, Generation, StateKey, StateText};
 use std::alloc::AllocError;
 
-/// What a node is told to do by itself.
+/// An event that a node does by itself.
 #[derive(Debug, Drop)]
 pub enum LocalEvent {
-    /// The node's heartbeat version is to rise.
+    /// Raises the node's heartbeat version.
     Beat,
-    /// One of the node's own keys is to get a text.
+    /// Sets one of the node's own keys to a text.
     Set { key: StateKey, text: StateText },
-    /// The node is to send a SYN.
+    /// Sends a SYN.
     Opening,
-    /// A round is due at a moment, in milliseconds: a beat, and a SYN for peers that are chosen with four random words.
+    /// Does a round at a time, in milliseconds: a beat, and a SYN for peers that are chosen with four random words.
     Tick { now: u64, words: [u64; 4] },
 }
 
 impl LocalEvent {
-    /// The same event, which shares its text.
+    /// Returns the same event, which shares its text.
     pub fn copy(&self) -> Result<LocalEvent, AllocError>
         ensures { IfOk result (λ e. e ≡ self.now) }
     {
@@ -46,12 +46,12 @@ pub enum Action {
     Start(Endpoint, Generation),
     /// A node does something by itself.
     Local(Endpoint, LocalEvent),
-    /// The message of a number is handed to a node at a moment, in milliseconds. A loss is a delivery that never comes.
+    /// The message of a number is handed to a node at a time, in milliseconds. A loss is a delivery that never comes.
     Deliver { number: u64, to: Endpoint, now: u64 },
 }
 
 impl Action {
-    /// Whether it starts the node of this endpoint.
+    /// Returns `true` if it starts the node of this endpoint.
     pub fn starts(&self, endpoint: Endpoint) -> bool
         ensures { result ≡ starts endpoint self.now }
     {
@@ -61,7 +61,7 @@ impl Action {
         }
     }
 
-    /// The same action, which shares its text.
+    /// Returns the same action, which shares its text.
     pub fn copy(&self) -> Result<Action, AllocError>
         ensures { IfOk result (λ a. a ≡ self.now) }
     {

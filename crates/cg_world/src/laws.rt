@@ -1,5 +1,5 @@
-//! Laws of every list of actions: what holds of the nodes as they run. Each is the contract of an empty function. Laws
-//! of the same actions by places stand in `cg_places`, those of exchanges and merges in `cg_world_laws`.
+//! Laws of the nodes as they run, after every list of actions. Each is the contract of an empty function. Laws of the
+//! same actions by places are in `cg_places`, those of exchanges and merges in `cg_world_laws`.
 
 ghost use Rattle.cg_world.specs.Headline.{HeadlineHolds};
 ghost use Rattle.cg_world.specs.WorldLaws.{
@@ -28,15 +28,16 @@ ghost use Rattle.cg_world.specs.WorkedRuns.{WorkedRuns};
 
 // ---- the headline
 
-/// The headline: after every list of actions each node's table holds of each owner the furthest of its own entry and
-/// of those to which the deltas led that it took since its start; each was its owner's own, whole, at one past time;
-/// so equal sets give equal tables, and equal digests give equal tables and rings.
+/// The headline: after every list of actions each node's table holds of each owner the furthest of its own entry and of
+/// those to which the deltas led that it took since its start. Each was its owner's own, whole, at one past time. So
+/// equal sets give equal tables, and equal digests give equal tables and rings.
 pub fn headline()
     ensures { HeadlineHolds }
 {}
 
 /// Each node's table is the join of its own newest entry and of the entries to which the deltas led that it took since
-/// its start; each entry in it is its owner's whole entry at one past place; and it has no more than owners started.
+/// its start. Each entry in it is its owner's whole entry at one past place, and there are no more than owners that
+/// started.
 pub fn tables_are_the_join()
     ensures { TablesAreTheJoin }
 {}
@@ -46,7 +47,7 @@ pub fn entries_are_whole()
     ensures { EntriesAreWhole }
 {}
 
-/// Nodes that took the same have equal tables and equal rings, whatever the order and number of deliveries.
+/// Nodes that took the same have equal tables and equal rings, in any order and number of deliveries.
 pub fn equal_sets_give_equal_tables()
     ensures { EqualSetsGiveEqualTables }
 {}
@@ -63,9 +64,9 @@ pub fn merges_of_nodes_are_the_join()
     ensures { MergesOfNodesAreTheJoin }
 {}
 
-// ---- single actions, and what all of them leave
+// ---- single actions, and the worlds after them
 
-/// After one more action the nodes are as that action leaves those of the actions before it.
+/// The nodes after one more action are those that it leaves of the nodes after the actions before it.
 pub fn actions_one_by_one()
     ensures { ActionsOneByOne }
 {}
@@ -75,38 +76,38 @@ pub fn messages_are_numbered()
     ensures { MessagesAreNumbered }
 {}
 
-/// A tick is a beat and then an opening: it is refused where the beat is, by the same fault, and sends the SYN that an
+/// A tick is a beat and then an opening: it is refused if the beat is, by the same fault, and sends the SYN that an
 /// opening sends after the beat.
 pub fn ticks_are_beats_and_openings()
     ensures { TicksAreBeatsAndOpenings }
 {}
 
-/// What a node took since its start is what the outcomes in its replies tell: where a delivery is done, there is one
-/// outcome for each delta of the message, and of each whose outcome is no gap the node has taken one span more. A start
-/// forgets all, and nothing else changes it.
+/// The spans that a node took since its start are those that the outcomes in its replies report. A delivery that is
+/// done has one outcome for each delta of the message, and the node has taken one span more of each whose outcome is no
+/// gap. A start forgets all, and nothing else changes it.
 pub fn outcomes_tell_what_is_taken()
     ensures { OutcomesTellWhatIsTaken }
 {}
 
-/// A local action or a delivery has a reply exactly where it is done, and a start has none. A beat and a set tell the
-/// version that they gave, a tick the peers that are chosen after its beat, at its moment and with its words, and a
-/// delivery what became of each delta.
+/// A local action or a delivery has a reply exactly if it is done, and a start has none. A beat and a set return the
+/// version that they gave. A tick returns the peers that are chosen after its beat, at its time and with its words, and
+/// a delivery the outcome of each delta.
 pub fn replies_are_of_steps()
     ensures { RepliesAreOfSteps }
 {}
 
-/// An action changes no node but the one that it is about.
+/// An action changes no node except the one that it is about.
 pub fn one_node_changes()
     ensures { OneNodeChanges }
 {}
 
-/// A node that starts has heard of nobody; what it does by itself leaves its windows as they were; and at a delivery
-/// each delta that it took is an arrival of its owner at the moment of that delivery.
+/// A node that starts has heard of nobody, and its own events leave its windows unchanged. At a delivery each delta
+/// that it took is an arrival of its owner at the time of that delivery.
 pub fn nodes_hear_by_deliveries()
     ensures { NodesHearByDeliveries }
 {}
 
-/// Whatever is done, each node has the settings that were given.
+/// Each node keeps the settings that were given, after any actions.
 pub fn settings_stay()
     ensures { SettingsStay }
 {}
@@ -117,8 +118,8 @@ pub fn refusals_agree()
     ensures { RefusalsAgree }
 {}
 
-/// A delivery is refused only where there is no such message or no such node: none finds a table full, and none comes
-/// from another cluster.
+/// A delivery is refused only if there is no such message or no such node: none finds a table full, and none comes from
+/// another cluster.
 pub fn deliveries_find_room()
     ensures { DeliveriesFindRoom }
 {}
@@ -128,19 +129,19 @@ pub fn deliveries_are_done()
     ensures { DeliveriesAreDone }
 {}
 
-/// After every list of actions, with refused ones in it or without, the nodes that run hold and have sent what the
-/// places of the same actions say: the same nodes run, each table spells its node's places, each message the one by
+/// The nodes that run hold and have sent what the places of the same actions say, after every list of actions, with
+/// refused ones in it or without. The same nodes run, each table spells its node's places, each message the one by
 /// places of its number, and all nodes have the settings and the endpoint that they started with.
 pub fn nodes_spell_places()
     ensures { NodesSpellPlaces }
 {}
 
-/// Where no node runs is a world that some actions lead to, and each action leads from such a world to such a world.
+/// The world before any action is reached by some actions, and each action leads from a reached world to a reached one.
 pub fn reached_worlds()
     ensures { ReachedWorlds }
 {}
 
-/// The first worked exchange, on nodes that run with any settings: nothing of it is refused, and each node then holds
+/// The first worked exchange runs on nodes with any settings: none of its actions is refused, and each node then holds
 /// the other's entry.
 pub fn worked_runs()
     ensures { WorkedRuns }

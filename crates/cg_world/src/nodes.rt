@@ -1,4 +1,4 @@
-//! The nodes of a cluster and what they sent, changed one action at a time.
+//! Nodes of a cluster and the messages that they sent, changed one action at a time.
 
 ghost use Rattle.std.specs.Prelude.{◌≡◌, ◌+◌, IfOk, OnOk, OnErr, length, option_copied};
 ghost use Rattle.std.specs.Option.{option_map};
@@ -20,7 +20,7 @@ use cg_types::{Endpoint, Fault, Generation, MEMBER_LIMIT};
 use std::alloc::{AllocError, Global};
 use std::marker::Model;
 
-/// The nodes that run and what was sent, of which nothing more is known.
+/// The nodes that run and the messages that were sent, of which nothing more is known.
 #[derive(Drop)]
 pub(crate) struct Nodes {
     settings: Settings,
@@ -63,7 +63,7 @@ fn message_of(alloc: Global, reply: &Reply) -> Result<Option<Message>, AllocErro
 }
 
 impl Nodes {
-    /// No node runs, and nothing was sent. It takes no memory.
+    /// Makes a cluster in which no node runs and nothing was sent. It takes no memory.
     pub(crate) fn new(alloc: Global, settings: Settings) -> Nodes
         ensures { result ≡ new_world settings }
     {
@@ -74,7 +74,7 @@ impl Nodes {
         }
     }
 
-    /// What all nodes are set to.
+    /// The settings of all nodes.
     pub(crate) fn settings(&self) -> &Settings
         ensures { result.now ≡ self.now.settings }
     {
@@ -96,7 +96,7 @@ impl Nodes {
         self.sent.get(place as usize)
     }
 
-    /// How many messages were sent.
+    /// The number of messages sent.
     pub(crate) fn message_count(&self) -> u64
         ensures { result ≡ length self.now.sent }
     {
@@ -115,7 +115,7 @@ impl Nodes {
         Ok(endpoints)
     }
 
-    // The generation in which an endpoint started last, and 0 where it never did.
+    // The generation in which an endpoint started last, and 0 if it never did.
     fn generation_held(&self, endpoint: Endpoint) -> u32
         ensures { result ≡ generation_held (map.get self.now.nodes endpoint) }
     {
@@ -125,7 +125,7 @@ impl Nodes {
         }
     }
 
-    // Whether the node runs, or there may be one more.
+    // Returns `true` if the node runs, or there may be one more.
     fn has_room(&self, endpoint: Endpoint) -> bool
         ensures { result ≡ has_room_in self.now endpoint }
     {
@@ -135,7 +135,7 @@ impl Nodes {
         }
     }
 
-    // A node starts, anew or for the first time.
+    // Starts a node, anew or for the first time.
     fn start(
         &mut self,
         alloc: Global,
@@ -161,7 +161,7 @@ impl Nodes {
         })
     }
 
-    // Keeps the message that a reply sends, if any, and tells its number.
+    // Keeps the message that a reply sends, if any, and returns its number.
     fn send(&mut self, alloc: Global, reply: &Reply) -> Result<Option<u64>, AllocError>
         ensures ok { IfOk result (λ number. (self.new ≡ with_sent self.old (message_of_reply reply.now))
             × (number ≡ option_map (λ m. length self.old.sent + 1) (message_of_reply reply.now))) }
@@ -176,7 +176,7 @@ impl Nodes {
         }
     }
 
-    // A node's step is done: the node is now this one, and what it answers is sent.
+    // Takes in a node's step that is done: the node is now this one, and the message of its reply is sent.
     fn done(
         &mut self,
         alloc: Global,
@@ -201,7 +201,7 @@ impl Nodes {
         })
     }
 
-    // A node does something by itself.
+    // Has a node do something by itself.
     fn local(
         &mut self,
         alloc: Global,
@@ -219,7 +219,7 @@ impl Nodes {
         Ok(self.done(alloc, endpoint, after, reply)?)
     }
 
-    // A message is handed to a node.
+    // Hands a message to a node.
     fn deliver(
         &mut self,
         alloc: Global,

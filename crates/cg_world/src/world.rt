@@ -19,17 +19,17 @@ use cg_types::{Endpoint, Fault};
 use std::alloc::{AllocError, Global};
 use std::marker::Model;
 
-/// What an action shows.
+/// The outcome of an action that is done: its reply, and the number of the message that was sent.
 #[derive(Debug, Drop, PartialEq, Eq)]
 pub struct Shown {
-    /// The reply of the node that made a step; `None` of a start.
+    /// The reply of the node that made a step; `None` for a start.
     pub reply: Option<Reply>,
     /// The number of the message that was sent, if one was; they are numbered from 1.
     pub sent: Option<u64>,
 }
 
 impl Shown {
-    /// The same, which shares its texts.
+    /// Returns the same outcome, which shares its texts.
     pub fn copy(&self, alloc: Global) -> Result<Shown, AllocError>
         ensures { IfOk result (λ s. s ≡ self.now) }
     {
@@ -44,8 +44,8 @@ impl Shown {
     }
 }
 
-/// The nodes that run and all messages that were ever sent, as some list of actions leaves them. So what holds after
-/// every list of actions (`laws`) holds of it.
+/// The nodes that run and all messages that were ever sent, as some list of actions leaves them. So the laws of every
+/// list of actions (`laws`) hold of it.
 #[derive(Drop)]
 pub struct World {
     nodes: Nodes,
@@ -64,7 +64,7 @@ impl Model for World {
     ghost invariant = { λ w. IsReached w.nodes };
 }
 
-/// Whether an action found no memory.
+/// Returns `true` if an action found no memory.
 pub fn is_out_of_memory(answer: &Result<Shown, Fault>) -> bool
     ensures { result ≡ found_no_memory answer.now }
 {
@@ -72,7 +72,7 @@ pub fn is_out_of_memory(answer: &Result<Shown, Fault>) -> bool
 }
 
 impl World {
-    /// No node runs, and nothing was sent. All nodes will be set to `settings`. It takes no memory.
+    /// Makes a world in which no node runs and nothing was sent. All nodes will have `settings`. It takes no memory.
     pub fn new(alloc: Global, settings: Settings) -> World
         ensures { result ≡ new_world settings }
     {
@@ -81,7 +81,7 @@ impl World {
         }
     }
 
-    /// What all nodes are set to.
+    /// The settings of all nodes.
     pub fn settings(&self) -> &Settings
         ensures { result.now ≡ self.now.settings }
     {
@@ -91,7 +91,7 @@ impl World {
     /// The node of an endpoint, if it runs.
     pub fn node(&self, endpoint: Endpoint) -> Option<&Node>
         ensures value { option_copied result ≡ map.get self.now.nodes endpoint }
-        // Whatever list of actions leads here, the tables are joins after it, and their entries whole.
+        // after each list of actions that leads here, the tables are joins, and their entries whole
         ensures consistent { IsConsistentWorld self.now }
     {
         self.nodes.node(endpoint)
@@ -104,7 +104,7 @@ impl World {
         self.nodes.message(number)
     }
 
-    /// How many messages were sent, which is the number of the last one.
+    /// The number of messages sent, which is the number of the last one.
     pub fn message_count(&self) -> u64
         ensures { result ≡ length self.now.sent }
     {
@@ -118,29 +118,30 @@ impl World {
         self.nodes.endpoints(alloc)
     }
 
-    /// Does an action, and tells what it shows. A refused action changes nothing.
+    /// Does an action, and returns its outcome. A refused action changes nothing.
     ///
-    /// `NotRising` for a start in a generation that is not greater than that of the endpoint's last start, and
-    /// `TableFull` where it would be one endpoint more than `MEMBER_LIMIT`. `NoSuchMessage`, and then `NoSuchNode`,
-    /// for a delivery of what was not sent, or to whom no node runs; `NoSuchNode` for a local event of none.
-    /// `VersionsSpent` for a beat, a set or a tick where the node's versions are spent; a delivery has no other
-    /// refusal (`laws::deliveries_find_room`). Else at most `OutOfMemory`.
+    /// `NotRising` for a start in a generation that is not greater than that of the endpoint's last start. `TableFull`
+    /// if a start would make one endpoint more than `MEMBER_LIMIT`. `NoSuchMessage`, and then `NoSuchNode`, for a
+    /// delivery of a message that was not sent, or to an endpoint that runs no node. `NoSuchNode` for a local event of
+    /// an endpoint that runs no node. `VersionsSpent` for a beat, a set or a tick if the node's versions are spent. A
+    /// delivery has no other refusal (`laws::deliveries_find_room`). Else at most `OutOfMemory`.
     pub fn act(&mut self, alloc: Global, action: &Action) -> Result<Shown, Fault>
         ensures shown { Answers (λ s. s) (showing self.old action.now) result }
         ensures done { OnOk result (self.new ≡ after_act self.old action.now) }
         ensures err { OnErr result (self.new ≡ self.old) }
-        // Whatever list of actions leads here, the tables are joins after it, and their entries whole.
+        // after each list of actions that leads here, the tables are joins, and their entries whole
         ensures consistent { IsConsistentWorld self.new }
     {
         self.nodes.act(alloc, action)
     }
 
-    /// The world after a list of actions, and an answer for each: what it shows, or why it is refused, and then the run
-    /// goes on. An action that finds no memory ends the run: its `OutOfMemory` is the last answer, and the world is the
-    /// one before it, after the actions that were done.
+    /// Does a list of actions from the empty world, and returns the world after them with an answer for each. An answer
+    /// is the action's outcome, or the fault with which it is refused, and then the run goes on. An action that finds
+    /// no memory ends the run: its `OutOfMemory` is the last answer, and the world is the one before it, after the
+    /// actions that were done.
     ///
-    /// `OutOfMemory` comes in place of a world only where the list of answers could not be made, before the first
-    /// action: all that follows is `run_in`, which can't fail.
+    /// `OutOfMemory` comes in place of a world only if the list of answers could not be made, before the first action:
+    /// the rest is `run_in`, which can't fail.
     pub fn run(
         alloc: Global,
         settings: Settings,
@@ -148,18 +149,18 @@ impl World {
     ) -> Result<(World, Vec<Result<Shown, Fault>>), Fault>
         ensures ran { IfOk result (λ x. Ran (new_world settings) actions.now x.1.items x.0) }
         ensures consistent { IfOk result (λ x. IsConsistent settings (done_of actions.now x.1.items) x.0) }
-        // Whatever list of actions leads to this world, the headline holds of that list.
+        // after each list of actions that leads to this world, the headline holds of that list
         ensures world { IfOk result (λ x. IsConsistentWorld x.0) }
         ensures err { IfErr result (λ f. f ≡ faults.OutOfMemory) }
-        // No room is needed for no answers.
+        // no room is needed for no answers
         ensures empty { actions.now ≡ [] → IsOk result }
     {
         let room = Vec::with_capacity(alloc, actions.len())?;
         Ok(World::run_in(alloc, settings, actions, room))
     }
 
-    /// What `run` does once the list of answers is made: it is handed a list with room for one answer for each action,
-    /// whose members it drops. It always answers a world.
+    /// Runs actions as `run` does, once the list of answers is made: it is handed a list with room for one answer for
+    /// each action, whose members it drops. It always returns a world.
     pub fn run_in(
         alloc: Global,
         settings: Settings,

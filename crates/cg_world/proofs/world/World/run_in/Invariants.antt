@@ -5,7 +5,7 @@ use Rattle.cg_world.specs.Acting.{Ran}
 use Rattle.cg_world.specs.World.{WorldValue, new_world}
 use Rattle.cg_world.proofs.world.World.run_in.Given as goal
 
--- What the rest of the actions answer, all of them answer, behind the answers so far, for which there is room.
+-- The answers of all actions are the answers so far, for which there is room, and then those of the rest.
 abbrev pub invariant-loop-action : goal.invariant-loop-action
 invariant-loop-action l =
     ((answers : List (Result Shown Fault)) (d : WorldValue) → Ran l.world (drop l.action-index l.actions) answers d
