@@ -51,8 +51,8 @@ pub fn nodes_hear_others_alone()
     ensures { NodesHearOthersAlone }
 {}
 
-/// A node's window of an endpoint shows the times of all deltas of it that were taken since the node started, after any
-/// events, refused ones among them. If none was taken, there is no window.
+/// A node's window of an endpoint shows the times of all deltas of it that were taken since the node started. If none
+/// was taken, there is no window. Any events may come, refused ones among them.
 pub fn windows_show_all_taken()
     ensures { WindowsShowAllTaken }
 {}

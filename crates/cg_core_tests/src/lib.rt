@@ -1,4 +1,4 @@
-//! Tests of a node, of what it is set to, and of windows of silence, over their public calls.
+//! Tests of a node, of its settings, and of windows of silence, over their public calls.
 #![tactic(auto)]
 
 #[cfg(test)]

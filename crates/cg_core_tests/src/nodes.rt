@@ -63,8 +63,8 @@ fn took(reply: &Reply) -> Option<Took> {
     }
 }
 
-// That outcome; of its owner, the generation and newest version that the node then holds and the verdict at 10,000; and
-// the number of owners.
+// The outcome of an ACK2's only delta; of its owner, the generation and newest version that the node then holds and the
+// verdict at 10,000; and the number of owners.
 type Seen = (Option<Took>, Option<(u32, u32)>, Verdict, usize);
 
 fn seen(alloc: Global, node: &Node, event: &Event, owner: u16) -> Result<Seen, Fault> {

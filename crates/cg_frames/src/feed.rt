@@ -175,8 +175,9 @@ impl Feed {
     /// The bytes held and the chunk are the spellings of these messages, each in a layout that it fits, and then a
     /// rest. The rest is held from now on, or begins with the fault. After a fault each chunk is dropped, and gives no
     /// message and that fault. A chunk no longer than `wants` gives at most one message, and if it gives one, nothing
-    /// is held after it. `OutOfMemory` leaves the feed unchanged; there is no other refusal. The empty chunk, a chunk
-    /// after a fault, and one that begins with a fault while nothing is held need no memory, so they are never refused.
+    /// is held after it. `OutOfMemory` leaves the feed unchanged; there is no other refusal. Three chunks are never
+    /// refused, since they need no memory: the empty one, one after a fault, and one that begins with a fault while
+    /// nothing is held.
     pub fn push(&mut self, piece: &[u8]) -> Result<Fed, Fault>
         ensures given { IfOk result (λ fed. fed.messages.items
             ≡ (spec.cut_of_piece LAYOUTS self.old piece.now).messages) }

@@ -47,8 +47,8 @@ EachEventMakesOneRecord =
     (h : HistoryValue) (caller : ℕ) (e : Event) (after : HistoryValue) (q : Receipt) → apply h caller e ≡ Ok (after, q)
     → HasOneMore h caller e after q
 
--- An event is one step of a world for a node, if the node's table spells its places there and a message that the event
--- hands over says one that was sent there. The receipt's reply has the message and the outcomes.
+-- An event is one step of a world for a node, if the node's table spells its places there. A message that the event
+-- hands over, if any, has to say one that was sent there. The receipt's reply has the message and the outcomes.
 abbrev pub RecordsAreStepsByPlaces : Type 0
 RecordsAreStepsByPlaces =
     (w : PlaceWorld) (node number : ℕ) (h : HistoryValue) (caller : ℕ) (e : Event) (after : HistoryValue) (q : Receipt)

@@ -138,8 +138,8 @@ abbrev pub after_delivery : PlaceWorld → ℕ → Option PlaceMessage → Place
 after_delivery w node None = w
 after_delivery w node (Some message) = if runs w node then after_receipt w node message else w
 
--- The world after an action. A start whose generation does not rise, an action of a node that does not run, and the
--- delivery of a message that was never sent change nothing.
+-- The world after an action. An action of a node that does not run changes nothing. Neither does a start whose
+-- generation does not rise, or the delivery of a message that was never sent.
 unfoldable pub after_action : PlaceWorld → PlaceAction → PlaceWorld
 after_action w (Start node generation) = if may_start w node generation then with_start w node generation else w
 after_action w (Beat node) = after_change w node entry_after_beat (last_entry (w.histories node))

@@ -39,8 +39,7 @@ pub record HasText (puts : List Put) (own key : ℕ) (text : List ℕ) (version 
   pub stands : Has puts (own, entry)
   pub given : map.get entry.states key ≡ Some (record { text = text; version = version })
 
--- If what was told begins what was read, the read has each key of the own entry that was told, at its version or a
--- later one.
+-- If what was told begins what was read, each told key of the own entry is read at its version or a later one.
 abbrev pub ToldSetsAreRead : Type 0
 ToldSetsAreRead =
     (opening : TableValue) (told read : List Put) (key : ℕ) (text : List ℕ) (version : ℕ)

@@ -52,7 +52,7 @@ with_outcome spans (Some outcome) (Some span) = unless_gap outcome.took spans sp
 with_outcome spans (Some outcome) None = spans
 with_outcome spans None span = spans
 
--- The outcomes of a delivery to a node are those of its spans at the places of w, and say what the node took, as v has
+-- The outcomes of a delivery to a node are those of its spans at the places of w. They say what the node took, as v has
 -- it.
 pub record AreCounted (c : WorldValue) (w v : PlaceWorld) (number node : ℕ) (outcomes : List Outcome) : Type 0 where
   -- the message, and what it says by places: its deltas spell these spans, owner by owner

@@ -28,9 +28,9 @@ ghost use Rattle.cg_world.specs.WorkedRuns.{WorkedRuns};
 
 // ---- the headline
 
-/// The headline: after every list of actions each node's table holds of each owner the furthest of its own entry and of
-/// those to which the deltas led that it took since its start. Each was its owner's own, whole, at one past time. So
-/// equal sets give equal tables, and equal digests give equal tables and rings.
+/// The headline: after every list of actions each node's table is the join of its own entry and the deltas it took.
+/// These are the deltas since its start, and the join holds of each owner the furthest. Each entry was its owner's own,
+/// whole, at one past time. So equal sets give equal tables, and equal digests give equal tables and rings.
 pub fn headline()
     ensures { HeadlineHolds }
 {}
@@ -83,7 +83,7 @@ pub fn ticks_are_beats_and_openings()
 {}
 
 /// The spans that a node took since its start are those that the outcomes in its replies report. A delivery that is
-/// done has one outcome for each delta of the message, and the node has taken one span more of each whose outcome is no
+/// done has one outcome for each delta of the message. The node has taken one span more of each whose outcome is no
 /// gap. A start forgets all, and nothing else changes it.
 pub fn outcomes_tell_what_is_taken()
     ensures { OutcomesTellWhatIsTaken }
@@ -112,8 +112,9 @@ pub fn settings_stay()
     ensures { SettingsStay }
 {}
 
-/// The nodes refuse what the places refuse, by the same fault: versions that are spent, a generation that does not
-/// rise, a message that was never sent, a node that does not run, and a start of one node too many.
+/// The nodes refuse what the places refuse, by the same fault. They refuse changes by spent versions, and starts in a
+/// generation that does not rise or of one node too many. They refuse messages that were never sent, and local events
+/// of and deliveries to a node that does not run.
 pub fn refusals_agree()
     ensures { RefusalsAgree }
 {}
@@ -129,9 +130,9 @@ pub fn deliveries_are_done()
     ensures { DeliveriesAreDone }
 {}
 
-/// The nodes that run hold and have sent what the places of the same actions say, after every list of actions, with
-/// refused ones in it or without. The same nodes run, each table spells its node's places, each message the one by
-/// places of its number, and all nodes have the settings and the endpoint that they started with.
+/// The nodes that run hold and have sent what the places of the same actions say, after every list of actions. Refused
+/// actions may be in the list. The same nodes run, each table spells its node's places, and each message the one by
+/// places of its number. All nodes have the settings and the endpoint that they started with.
 pub fn nodes_spell_places()
     ensures { NodesSpellPlaces }
 {}
