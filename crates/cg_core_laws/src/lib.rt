@@ -13,7 +13,7 @@ ghost use Rattle.cg_core_laws.specs.Laws.{
   WindowsShowAllTaken,
 };
 
-/// The table part of a step follows the rule of tables and messages: the own entry is beaten or set, the table stays
+/// The table part of a step follows the rule of tables and messages. The own entry is beaten or set, the table stays
 /// the same, or the deltas of a message are taken one after the other.
 pub fn tables_go_by_their_rules()
     ensures { TablesGoByTheirRules }

@@ -34,7 +34,7 @@ pub(crate) fn message_fits(layout: &Layout, message: Lent<'_>)
     show_message(message);
 }
 
-/// Shows that the layout that is written can spell a message: its numbers are in their ranges, its lists rise and are
+/// Shows that the layout that is written can spell a message. Its numbers are in their ranges, its lists rise and are
 /// few, its texts are short and plain. So the laws of messages that fit hold of the message in hand. It takes no
 /// memory, and walks nothing.
 pub fn every_message_fits(message: &Message)

@@ -20,7 +20,8 @@ pub fn each_is_short()
     ensures greatest { greatest_length LAYOUT_1 ≡ 4231430 }
 {}
 
-/// The numbers of the first layout. They fit into the fields that count and measure, and its greatest frame is read.
+/// The first layout's numbers fit into the fields that count and measure, and its greatest frame is read. The law
+/// states each of the numbers.
 pub fn layout_1_is_one()
     ensures numbers { LAYOUT_1 ≡ record { byte = 1; members = 256; text = 1024; length = 5000000; marks = false } }
     ensures layout { IsLayout LAYOUT_1 }
@@ -45,7 +46,7 @@ pub fn the_byte_names_the_layout()
     ensures { (layouts : List Layout) → 0 < length layouts → ChoosesByTheByte layouts }
 {}
 
-/// Some bytes are lacking if more are needed.
+/// The number of bytes that are lacking is at least 1 if more bytes are needed.
 pub fn some_are_lacking()
     ensures { (layouts : List Layout) → SomeAreLacking layouts }
 {}
@@ -70,7 +71,7 @@ pub fn faults_are_bad_frames()
     ensures { (layouts : List Layout) → FaultsAreBadFrames layouts }
 {}
 
-/// Two chunks give what both at once give.
+/// Two chunks in turn give what both give at once.
 pub fn two_pieces_are_one()
     ensures { (layouts : List Layout) → TwoPiecesAreOne layouts }
 {}

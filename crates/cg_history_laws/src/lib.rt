@@ -26,9 +26,9 @@ pub fn each_event_makes_one_record()
     ensures { EachEventMakesOneRecord }
 {}
 
-/// An event is one step of a world for a node, if the node's table spells its places there. A message that the event
-/// hands over, if any, has to say one that was sent there. The receipt's reply says the message sent there and the
-/// outcomes of the spans.
+/// An event is one step by places, if the node's table spells its places and the event's message, if any, was sent.
+/// Both are of one world: the message says one that was sent there. The receipt's reply says the message sent there and
+/// the outcomes of the spans.
 pub fn records_are_steps_by_places()
     ensures { RecordsAreStepsByPlaces }
 {}

@@ -2,7 +2,7 @@
 
 ghost use Rattle.cg_links.specs.Laws.{LimitsAreThese};
 
-/// The most reads made to reach a link's end are 4,294,967,295.
+/// `MOST_READS`, the most reads made to reach a link's end, is 4,294,967,295.
 pub fn limits_are_these()
     ensures { LimitsAreThese }
 {}

@@ -55,8 +55,8 @@ pub fn joins_are_least()
     ensures { JoinsAreLeast }
 {}
 
-/// An exchange takes both of its nodes to the join of what they held or past it. Any actions may come between its
-/// messages except a start of the two.
+/// An exchange takes both of its nodes to the join of what they held or past it, unless one restarts on the way. Any
+/// other actions may come between its messages.
 pub fn exchanges_reach_the_join()
     ensures { ExchangesReachTheJoin }
 {}
@@ -91,9 +91,9 @@ pub fn tables_follow()
     ensures { TablesFollow }
 {}
 
-/// A table that spells a node's places is the join of its own newest entry and of the entries to which deltas led.
-/// These are the deltas that the node took since its start. Each entry in it is whole, and it has no more entries than
-/// owners have started.
+/// A table that spells a node's places is the join of its own newest entry and the deltas it took since its start. It
+/// holds of each owner the furthest of these. Each entry in it is whole, and it has no more entries than owners have
+/// started.
 pub fn tables_are_joined()
     ensures { TablesAreJoined }
 {}

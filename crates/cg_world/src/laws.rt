@@ -28,9 +28,9 @@ ghost use Rattle.cg_world.specs.WorkedRuns.{WorkedRuns};
 
 // ---- the headline
 
-/// The headline: after every list of actions each node's table is the join of its own entry and the deltas it took.
-/// These are the deltas since its start, and the join holds of each owner the furthest. Each entry was its owner's own,
-/// whole, at one past time. So equal sets give equal tables, and equal digests give equal tables and rings.
+/// The headline: after any actions each node's table is the join of its own entry and the deltas it took since its
+/// start. The join holds of each owner the furthest of these. Each entry was its owner's own, whole, at one past time.
+/// So equal sets give equal tables, and equal digests give equal tables and rings.
 pub fn headline()
     ensures { HeadlineHolds }
 {}
@@ -125,7 +125,7 @@ pub fn deliveries_find_room()
     ensures { DeliveriesFindRoom }
 {}
 
-/// The delivery of a message that was sent to a node that runs is done.
+/// A delivery is done if its message was sent and the node that it is handed to runs.
 pub fn deliveries_are_done()
     ensures { DeliveriesAreDone }
 {}

@@ -159,8 +159,8 @@ impl World {
         Ok(World::run_in(alloc, settings, actions, room))
     }
 
-    /// Runs actions as `run` does, once the list of answers is made: it is handed a list with room for one answer for
-    /// each action, whose members it drops. It always returns a world.
+    /// Runs actions as `run` does, into a list of answers that the caller made. The list has room for one answer for
+    /// each action, and its members are dropped. It always returns a world.
     pub fn run_in(
         alloc: Global,
         settings: Settings,
