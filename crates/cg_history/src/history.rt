@@ -121,8 +121,8 @@ impl History {
     /// Has the node do an event for a caller, keeps the record, and returns its receipt. If the event is refused,
     /// nothing changes and no record is made.
     ///
-    /// `VersionsSpent` for every event, before all else, if the history has the record of the last number, 2^64 - 1;
-    /// else the refusals of `Node::stepped`, and `OutOfMemory` for every event.
+    /// `VersionsSpent` for every event, before all else, if the history has the record of the last number, 2^64 - 1.
+    /// Else the refusals of `Node::stepped`, and `OutOfMemory` for every event.
     pub fn apply(&mut self, alloc: Global, caller: u32, event: Event) -> Result<Receipt, Fault>
         ensures due { Answers (λ receipt. (self.new, receipt)) (apply_of self.old caller event) result }
         ensures err { OnErr result (self.new ≡ self.old) }

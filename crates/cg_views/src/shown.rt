@@ -99,7 +99,7 @@ impl Absorb<Shown> for Shown {
 /// any length.
 pub(crate) type Known = [Puts; 0];
 
-/// The rule of the views under a name: the published table is the opening table after its operations, and the
+/// The rule of the views under a name. The published table is the opening table after its operations, and the
 /// operations that each pass has seen are a prefix of these.
 pub struct Published<N: Naming> {
     of: PhantomData<N>,

@@ -76,7 +76,7 @@ pub fn messages_are_numbered()
     ensures { MessagesAreNumbered }
 {}
 
-/// A tick is a beat and then an opening: it is refused if the beat is, by the same fault, and sends the SYN that an
+/// A tick is a beat and then an opening. It is refused if the beat is, by the same fault, and sends the SYN that an
 /// opening sends after the beat.
 pub fn ticks_are_beats_and_openings()
     ensures { TicksAreBeatsAndOpenings }
@@ -119,7 +119,7 @@ pub fn refusals_agree()
     ensures { RefusalsAgree }
 {}
 
-/// A delivery is refused only if there is no such message or no such node: none finds a table full, and none comes from
+/// A delivery is refused only if there is no such message or no such node. None finds a table full, and none comes from
 /// another cluster.
 pub fn deliveries_find_room()
     ensures { DeliveriesFindRoom }
