@@ -1,4 +1,4 @@
--- What stays in range: states that are chosen, put and overlaid.
+-- States that are chosen, put and overlaid stay in range.
 use Rattle.std.proofs.Common.{ℕ, Bool, true, false, cond, List, [], ◌∷◌, nat_lt}
 use Rattle.std.specs.List.{AllByRecursion, filter}
 use Rattle.std.specs.Ordering.{nat_cmp}
@@ -38,7 +38,7 @@ pub put_all_valid : (news olds : List (ℕ × Versioned)) → AreValid news → 
 put_all_valid [] olds fresh all = all
 put_all_valid (e ∷ es) olds fresh all = put_all_valid es (put nat_cmp e.0 e.1 olds) fresh.1 (put_valid e.0 e.1 olds fresh.0 all)
 
--- what holds of each state of a list holds of each entry that it is
+-- a fact of each state of a list is a fact of each entry that the states are
 pub all_pairs : (P : ℕ × Versioned → Type 0) (ss : List State) → AllByRecursion (λ (s : State). P (pair s)) ss → AllByRecursion P (pairs ss)
 all_pairs P [] all = tt
 all_pairs P (s ∷ ss) all = (all.0, all_pairs P ss all.1)

@@ -30,7 +30,7 @@ not_none None some none = cc
 not_none (Some s) some none = cc
 
 module _ (news : List State) (q : ℕ) (none : find_entry nat_cmp q (pairs news) ≡ None) where
-  -- a key that stands there is not the one that does not
+  -- a key that is there is not the one that is not
   other_key : (s : State) → is_some (find (λ (t : State). t.key == s.key) news) ≡ true → eq_by_cmp nat_cmp q s.key ≡ true → ⊥
   other_key s some tied =
       let same : q ≡ s.key = same_tied q s.key tied in
@@ -47,7 +47,7 @@ module _ (news : List State) (q : ℕ) (none : find_entry nat_cmp q (pairs news)
       let stand : State → Bool = λ u. is_some (find (λ (t : State). t.key == u.key) news) in
       none_at s (pairs ss) (eq_by_cmp nat_cmp q s.key) (first_of (stand s) (list_all stand ss) all) (none_of ss (second_of (stand s) (list_all stand ss) all)) refl
 
--- where each key of one list stands in another, the other's map shows all
+-- if each key of one list is in another, the other's map shows all
 pub covered : (given others items news : List State) (old new : States) → given ≡ items → others ≡ news → KeysRise items → KeysRise news
     → from_sorted {R = nat_cmp} (pairs items) ≡ old → from_sorted {R = nat_cmp} (pairs news) ≡ new
     → list_all (λ (s : State). is_some (find (λ (t : State). t.key == s.key) others)) given ≡ true → overlay old new ≡ new

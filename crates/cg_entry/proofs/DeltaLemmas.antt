@@ -1,4 +1,4 @@
--- What is newer than a version.
+-- States newer than a version, and the deltas made of parts.
 use Rattle.std.proofs.Common.{◌≡◌, ℕ, suc, ◌<◌, ◌≤◌, Bool, true, false, cond, List, [], ◌∷◌, length, None, refl, sym, ap, subst, ◌∙◌, arith, nat_lt}
 use Rattle.std.specs.Prelude.{count_by, max, not, ◌||◌, ◌&&◌, ◌==◌, nat_le, Option, Result, Ok, Err, IfSome, is_some}
 use Rattle.std.specs.Result.{result_ok}
@@ -29,7 +29,7 @@ filter_again p (x ∷ xs) =
       | false ↦ λ e. filter_again p xs
     ] refl
 
--- the entries of what is newer
+-- the entries of the newer states
 pub entries-newer_than : (v : ℕ) (states : States) → entries (newer_than v states) ≡ filter (is_newer v) (entries states)
 entries-newer_than v states = entries_rising (filter (is_newer v) (entries states)) (rise_filter (is_newer v) None (entries states) (rise_sorted (entries states) (entries_sorted states)))
 
@@ -73,7 +73,7 @@ first_over v n (s ∷ ss) h some =
 not_empty : (n : ℕ) → (suc n == 0) ≡ false
 not_empty n = grind (arith, nat_tests)
 
--- a list that is all newer has something newer exactly where it or the heartbeat does
+-- a list that is all newer has something newer exactly if it or the heartbeat does
 something_newer : (v heartbeat : ℕ) (items : List State) → all_newer v items ≡ true → (nat_lt v heartbeat || not (length items == 0)) ≡ nat_lt v (greatest_of heartbeat (pairs items))
 something_newer v heartbeat [] all = elim (nat_lt v heartbeat) as (λ b. (b || false) ≡ b) [ true ↦ refl | false ↦ refl ]
 something_newer v heartbeat (s ∷ ss) all =
@@ -122,7 +122,7 @@ module _ (v heartbeat : ℕ) (items : List State) where
   value_by true true true d = tt
   value_by true true false d = refl
 
-  -- what a caller sees of the delta that is made, or not
+  -- a caller's view of the delta that is made, or not
   pub delta_made : (g : ℕ) (r : Result DeltaValue Cause) (o : Option DeltaValue) → r ≡ delta_from g v heartbeat items → o ≡ result_ok r → is_some o ≡ makes_delta v heartbeat items
   delta_made g r o is ok = ap is_some (ok ∙ ap result_ok is) ∙ made_by (all_newer v items) (keys_rise items) nothing (delta_of_parts g v heartbeat items) refl refl refl
 
@@ -130,7 +130,7 @@ module _ (v heartbeat : ℕ) (items : List State) where
   delta_value g r o is ok =
       subst (λ (p : Option DeltaValue). IfSome p (λ d. d ≡ delta_of_parts g v heartbeat items)) (sym (ok ∙ ap result_ok is)) (value_by (all_newer v items) (keys_rise items) nothing (delta_of_parts g v heartbeat items))
 
--- ---- how many there are, and how many are newer
+-- ---- the number of states, and of newer ones
 
 pub length-pairs : (items : List State) → length (pairs items) ≡ length items
 length-pairs [] = refl
@@ -158,7 +158,7 @@ len-newer_than v given items states same rise seen =
     ap (count_by (λ (s : State). nat_lt v s.version)) same ∙ sym (length-filter (λ (s : State). nat_lt v s.version) items)
     ∙ len-pairs (newer v items) (newer_than v states) (newer_rise v items rise) (newer_than-pairs v items rise ∙ ap (newer_than v) seen)
 
--- where all are counted, all are kept
+-- if all are counted, all are kept
 filter_all : {X : Type 0} (p : X → Bool) (xs : List X) → length (filter p xs) ≡ length xs → filter p xs ≡ xs
 filter_all p [] e = refl
 filter_all p (x ∷ xs) e =

@@ -40,7 +40,7 @@ module _ (P : ℕ × Versioned → Type 0) (key : (e : ℕ × Versioned) → P e
       let others = keys_few e.0 es all.1 (second_of true (rise_past (Some e.0) (keys es)) rise) here.1 in
       omega (arith, others, here.0)
 
--- ---- how many bytes the texts have
+-- ---- the number of bytes of the texts
 
 abbrev text_size : State → ℕ
 text_size s = length s.text

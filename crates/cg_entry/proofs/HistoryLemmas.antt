@@ -39,7 +39,7 @@ newest_beaten x = go (newest_stands (entry_after_beat x))
     go (inr e) = absurd (omega (arith, e.3, state_within x e.0 e.1 e.2, heartbeat_within (entry_after_beat x)))
 
 module _ (key : ℕ) (text : List ℕ) (x : EntryValue) where
-  -- what a set leaves at its key
+  -- the text and version that a set leaves at its key
   abbrev pub given : Versioned
   given = record { text = text; version = newest x + 1 }
 
@@ -176,7 +176,7 @@ version_positive h p is lt l =
 
 -- ---- two entries of one history
 
--- how they stand to each other
+-- the order of two entries of a history
 pub data Compared (p q : ℕ) (x y : EntryValue) : Type 0 where
   Behind : p < q → x.generation < y.generation → Compared p q x y
   Ahead : q < p → y.generation < x.generation → Compared p q x y

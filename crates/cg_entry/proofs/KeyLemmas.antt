@@ -1,4 +1,4 @@
--- What is found at a key of rising entries that were filtered, or of mapped ones.
+-- The entry found at a key of rising entries that were filtered, or of mapped ones.
 use Rattle.std.proofs.Common.{◌≡◌, ℕ, Bool, true, false, cond, List, [], ◌∷◌, map, Option, Some, None, refl, sym, ap, ◌∙◌}
 use Rattle.std.specs.List.{filter}
 use Rattle.std.specs.Option.{option_map}
@@ -9,13 +9,13 @@ use Rattle.cg_types.specs.Rising.{is_past, rise_past}
 use Rattle.cg_types.proofs.RisingLemmas.{keys_of, find_past, same_tied, second_of}
 
 module _ {X : Type 0} (p : ℕ × X → Bool) (q : ℕ) where
-  -- where the first entry has the key
+  -- the first entry has the key
   filtered_here : (e : ℕ × X) (es : List (ℕ × X)) (b : Bool) → eq_by_cmp nat_cmp q e.0 ≡ true → find nat_cmp q (filter p es) ≡ None
       → find nat_cmp q (cond b (e ∷ filter p es) (filter p es)) ≡ cond b (Some e.1) None
   filtered_here e es true is none = rw is refl
   filtered_here e es false is none = none
 
-  -- where it has another one
+  -- the first entry has another key
   filtered_past : (e : ℕ × X) (es : List (ℕ × X)) (b : Bool) → eq_by_cmp nat_cmp q e.0 ≡ false → find nat_cmp q (cond b (e ∷ filter p es) (filter p es)) ≡ find nat_cmp q (filter p es)
   filtered_past e es true is = rw is refl
   filtered_past e es false is = refl

@@ -51,7 +51,7 @@ put_inserts s d (x ∷ xs) other =
           ap (put_at s x xs) (nat_cmp_is s.key x.key Less (omega (arith, differ)))
     ] refl other
 
--- what keys rise, rise with one more put in
+-- keys that rise still rise with one more put in
 pub put_rises : (k : ℕ) (v : Versioned) (xs ys : List State) → KeysRise xs → pairs ys ≡ put nat_cmp k v (pairs xs) → KeysRise ys
 put_rises k v xs ys h e =
     rw (← keys-pairs ys) (rw e (rise_sorted (put nat_cmp k v (pairs xs)) (is_sorted-put nat_cmp nat_cmp_total k v (pairs xs) (sorted_rising (pairs xs) (pairs_rise xs h)))))
@@ -73,13 +73,13 @@ find-put_all q last (e ∷ es) olds h =
       | false ↦ λ b. refl
     ] refl
 
--- what an overlay has at a key
+-- the state that an overlay has at a key
 pub get-overlay : (old new : States) (q : ℕ) → get (overlay old new) q ≡ option_or (get new q) (get old q)
 get-overlay old new q =
     get-from_entries nat_cmp_total (entries new ++ entries old) q ∙ find-before q (entries new) (entries old)
     ∙ ap (λ (o : Option Versioned). option_or o (find nat_cmp q (entries old))) (sym (get-entries new q)) ∙ ap (option_or (get new q)) (sym (get-entries old q))
 
--- no states leave all as they were
+-- an overlay by no states changes nothing
 pub overlay_none : (old : States) → overlay old map.empty ≡ old
 overlay_none old =
     same_map nat_cmp_total nat_cmp-IsAntisymmetric (overlay old map.empty) old (λ q.
@@ -102,7 +102,7 @@ pub put_all_whole : (i : ℕ) (made first olds xs news : List State) → length 
 put_all_whole i made first olds xs news le so_far xs_is first_is =
     ap (λ (ys : List State). put_all (pairs ys) (pairs made)) (sym (drop_all i xs le)) ∙ so_far ∙ ap (λ (ys : List State). put_all (pairs ys) (pairs first)) xs_is ∙ ap (λ (ys : List State). put_all (pairs news) (pairs ys)) first_is
 
--- what is put into a list is inserted into its map
+-- a state put into a list is inserted into its map
 pub put_inserted : (k : ℕ) (v : Versioned) (given xs ys : List State) (states : States) → given ≡ xs → KeysRise xs → from_sorted {R = nat_cmp} (pairs xs) ≡ states → pairs ys ≡ put nat_cmp k v (pairs given)
     → from_sorted {R = nat_cmp} (pairs ys) ≡ map.insert states k v
 put_inserted k v given xs ys states same rise seen e =

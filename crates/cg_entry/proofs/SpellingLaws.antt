@@ -15,7 +15,7 @@ use Rattle.cg_entry.proofs.HistoryLemmas.{version_tells}
 use Rattle.cg_entry.proofs.TakingLemmas.{part, above_some, above_none}
 use Rattle.cg_entry.proofs.SpellingLemmas.{span_below, met_spelled}
 
--- what is then held
+-- the entry held afterwards
 held_spelled : (h : List EntryValue) (span : Span) (r : ℕ) (y : EntryValue) → at_place h span.to ≡ Some y → (t : SpanOutcome) → entry_after (at_place h r) (absorbed_of h span t) ≡ at_place h (place_after t r span)
 held_spelled h span r y ey Taken = rw ey refl
 held_spelled h span r y ey Old = refl
@@ -33,7 +33,7 @@ spelled_deltas_are_taken h is span s r le d e =
     let same : part (version_at h span.from) y.0 ≡ d = cc in
     subst (IsTakenAsItsSpan h span r) same (taken_as_its_span h is span s r le y.0 y.1)
 
--- ---- what a node sends
+-- ---- the delta that a node sends
 
 module _ (h : List EntryValue) (is : IsHistory h) (from to : ℕ) (y : EntryValue) (stands : from ≤ length h) (ey : at_place h to ≡ Some y) (alike : (from ≡ 0) ⊎ (generation_at h from ≡ y.generation)) where
   span_is : from < to → IsSpan h (record { from = from; to = to })

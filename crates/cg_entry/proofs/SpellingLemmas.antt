@@ -60,7 +60,7 @@ keeps_between h p q is x z ex ez le same k =
     let e : q ≡ p + (q - p) = omega arith in
     keeps_by h p (q - p) is x z ex (subst (λ n. at_place h n ≡ Some z) e ez) same k
 
--- ---- what the places of a span say of versions
+-- ---- the order of versions at the places of a span
 
 pub taking_cases : (place : ℕ) (span : Span) →
     ((span_outcome place span ≡ Old) × (span.to ≤ place)) ⊎ ((span_outcome place span ≡ Taken) × (span.from ≤ place) × (place < span.to)) ⊎ ((span_outcome place span ≡ Gap) × (place < span.from) × (place < span.to))

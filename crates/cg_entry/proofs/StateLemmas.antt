@@ -69,7 +69,7 @@ pub find-pairs : (q : ℕ) (ss : List State) → option_map value_at_key (find (
 find-pairs q [] = refl
 find-pairs q (s ∷ ss) = found_by (s.key == q) s ss q (find-pairs q ss) ∙ ap (λ (b : Bool). cond b (Some (value_at_key s)) (find_entry nat_cmp q (pairs ss))) (sym (same_keys q s.key))
 
--- what a list has at a key, its map has
+-- a list and its map have the same state at a key
 pub get-pairs : (q : ℕ) (given items : List State) (states : States) → given ≡ items → KeysRise items → from_sorted {R = nat_cmp} (pairs items) ≡ states
     → option_map value_at_key (find (λ (t : State). t.key == q) given) ≡ get states q
 get-pairs q given items states same rise seen =
@@ -94,6 +94,6 @@ pairs_is (x ∷ xs) (y ∷ ys) e =
     let parts = front_is (pair x) (pair y) (pairs xs) (pairs ys) e in
     (λ i. pair_is x y parts.0 i ∷ pairs_is xs ys parts.1 i)
 
--- what has one map is one list, where the keys rise
+-- two lists with one map are one list, if the keys rise
 pub same_items : (xs ys : List State) (m n : States) → KeysRise xs → KeysRise ys → from_sorted {R = nat_cmp} (pairs xs) ≡ m → from_sorted {R = nat_cmp} (pairs ys) ≡ n → m ≡ n → xs ≡ ys
 same_items xs ys m n rx ry mx my e = pairs_is xs ys (sym (entries-pairs xs rx) ∙ ap entries (mx ∙ e ∙ sym my) ∙ entries-pairs ys ry)

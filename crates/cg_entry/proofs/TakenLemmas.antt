@@ -1,4 +1,4 @@
--- What a delta that is taken leads to, key by key.
+-- The entry that a delta leads to if it is taken, key by key.
 use Rattle.std.proofs.Common.{◌≡◌, Bool, true, false, cond, Option, Some, None, refl, sym, subst, arith, nat_lt, ◌==◌, IfOk}
 use Rattle.std.specs.Prelude.{nat_le, Result, Ok, Err}
 use Rattle.std.specs.Option.{option_or}
@@ -16,7 +16,7 @@ or_none : {X : Type 0} (o p : Option X) → p ≡ None → o ≡ option_or o p
 or_none None p e = sym e
 or_none (Some x) p e = refl
 
--- of a whole delta, where nothing is under it
+-- of a whole delta, with nothing under it
 whole_taken : (held : Option EntryValue) (d : DeltaValue) → states_under held d ≡ empty → IfTaken (taken_or_gap (whole_entry d)) (IsTakenEntry held d)
 whole_taken held d nothing = go (d.above == 0)
   where
@@ -63,7 +63,7 @@ taken_at : (held : Option EntryValue) (d : DeltaValue) → IfTaken (meeting held
 taken_at None d = whole_taken None d refl
 taken_at (Some e) d = by_generation e d (nat_lt d.generation e.generation) (nat_lt e.generation d.generation) refl refl
 
--- what a caller sees of what a delta was made
+-- a caller's view of the outcome of a delta
 pub taken_each : {E : Type 0} (held : Option EntryValue) (d : DeltaValue) (r : Result Absorbed E) → IfOk r (λ a. a ≡ meeting held d) → IfOk r (λ a. IfTaken a (IsTakenEntry held d))
 taken_each held d (Ok a) e = subst (λ (x : Absorbed). IfTaken x (IsTakenEntry held d)) (sym e) (taken_at held d)
 taken_each held d (Err x) e = tt

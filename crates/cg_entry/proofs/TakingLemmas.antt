@@ -1,4 +1,4 @@
--- What the delta of one entry makes of an earlier one.
+-- The outcome of the delta of one entry at an earlier one.
 use Rattle.std.proofs.Common.{◌≡◌, ℕ, ◌<◌, ◌≤◌, inl, inr, Bool, true, false, cond, Option, Some, None, refl, sym, ap, ◌∙◌, arith, nat_lt}
 use Rattle.std.specs.Option.{option_or}
 use Rattle.std.specs.Cmp.{nat_cmp_total}
@@ -76,7 +76,7 @@ no_whole_part v y lt = rw (ne_eqb v 0 (omega arith)) refl
 
 -- ---- a part over an earlier entry
 
--- what a key has in y, it has in x, or by a version that x has not reached
+-- the state of a key in y is that of x, or has a version that x has not reached
 pub data KeptAt (x y : EntryValue) (k : ℕ) : Type 0 where
   Kept : get y.states k ≡ get x.states k → KeptAt x y k
   Renewed : (s : Versioned) → get y.states k ≡ Some s → newest x < s.version → KeptAt x y k
@@ -96,7 +96,7 @@ module _ (v : ℕ) (x y : EntryValue) (keeps : (k : ℕ) → KeptAt x y k) (same
   advanced_is : advanced_entry x (part v y) ≡ y
   advanced_is = λ i. record { generation = same i; heartbeat = y.heartbeat; states = same_states (overlay x.states (newer_than v y.states)) y.states at_each i }
 
--- ---- what becomes of it
+-- ---- the outcome of it
 
 module _ (v : ℕ) (x y : EntryValue) where
   pub absorbed_older : y.generation < x.generation → absorption x (part v y) ≡ Old

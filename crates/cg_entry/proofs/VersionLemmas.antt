@@ -1,4 +1,4 @@
--- What is newer than a version at a key, and the greatest version.
+-- States newer than a version at a key, and the greatest version.
 use Rattle.std.proofs.Common.{◌≡◌, ℕ, ◌≤◌, ◌⊎◌, inl, inr, ◌<◌, Bool, true, false, cond, List, [], ◌∷◌, Option, Some, None, refl, sym, ap, ◌∙◌, arith, nat_lt}
 use Rattle.std.specs.Prelude.{max}
 use Rattle.std.proofs.lemmas.Map.Entries.{option_filter}

@@ -1,4 +1,4 @@
--- What entries and deltas hold: numbers in their ranges, and plain and short texts.
+-- The contents of entries and deltas: numbers in their ranges, and plain and short texts.
 use Rattle.std.specs.Prelude.{ℕ}
 use Rattle.std.specs.List.{AllByRecursion}
 use Rattle.std.specs.FinMap as map
@@ -23,7 +23,7 @@ pub record IsEntry (e : EntryValue) : Type 0 where
   pub heartbeat : IsVersion e.heartbeat
   pub states : AreStates e.states
 
--- Each state of the delta is newer than what the delta stands above, and something is.
+-- Each state of the delta is newer than the version that the delta is above, and something is.
 pub record IsDeltaOfEntry (d : DeltaValue) : Type 0 where
   pub generation : IsGeneration d.generation
   pub above : IsVersionHeld d.above

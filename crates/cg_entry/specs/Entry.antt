@@ -1,4 +1,4 @@
--- What is held of an endpoint.
+-- Entries: starts, beats, sets, and the part above a version.
 use Rattle.std.specs.Prelude.{ℕ, ◌+◌, ◌≡◌, ◌<◌, Bool, ◌&&◌, ◌||◌, ◌==◌, ◌++◌, List, [], ◌∷◌, length, sum_by, nat_lt, nat_le, max, Option, Some, None, if◌then◌else◌}
 use Rattle.std.specs.List.{filter}
 use Rattle.std.specs.FinMap as map
@@ -14,7 +14,7 @@ greatest_of n (s ∷ ss) = greatest_of (max n s.1.version) ss
 abbrev pub greatest : ℕ → States → ℕ
 greatest heartbeat states = greatest_of heartbeat (map.entries states)
 
--- how many bytes the texts of states have
+-- the number of bytes of the texts of states
 abbrev pub text_bytes : States → ℕ
 text_bytes states = sum_by (λ s. length s.1.text) (map.entries states)
 
@@ -46,11 +46,11 @@ with_state key text e = record {
   states = map.insert e.states key (record { text = text; version = newest e + 1 });
 }
 
--- Entry x is later than y: a greater generation, or in the same one a greater version.
+-- Entry x is later than y: of a greater generation, or of the same one with a greater version.
 abbrev pub is_later : EntryValue → EntryValue → Bool
 is_later x y = nat_lt y.generation x.generation || (x.generation == y.generation && nat_lt (newest y) (newest x))
 
--- what a holder at v lacks of an entry
+-- the part of an entry that a holder at v lacks
 abbrev pub delta_above : ℕ → EntryValue → Option DeltaValue
 delta_above v e =
     if nat_le (newest e) v then None

@@ -1,4 +1,4 @@
--- How the entries of one owner follow one another.
+-- Histories: the entries of one owner, each following the one before.
 use Rattle.std.specs.Prelude.{◌≡◌, ℕ, suc, ◌<◌, List, Option, Some, None}
 pub use Rattle.cg_types.specs.ListPlace.{at_place}
 use Rattle.cg_entry.specs.Values.{EntryValue}

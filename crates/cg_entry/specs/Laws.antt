@@ -1,4 +1,4 @@
--- What holds of the entries of one owner, and of the deltas that spell spans of its history.
+-- The laws of the entries of one owner, and of the deltas that spell spans of its history.
 use Rattle.std.specs.Prelude.{◌≡◌, ◌↔◌, ℕ, ◌<◌, ◌≤◌, ◌⊎◌, true, List, [], ◌∷◌, ◌++◌, length, Option, Some, IsSome}
 use Rattle.cg_entry.specs.Values.{EntryValue, DeltaValue}
 use Rattle.cg_entry.specs.Entry.{starting_entry, newest, is_later, delta_above}
@@ -27,12 +27,11 @@ VersionsNameEntries =
     → at_place history p ≡ Some x → at_place history q ≡ Some y
     → x.generation ≡ y.generation → newest x ≡ newest y → (p ≡ q) × (x ≡ y)
 
--- What is said of a delta that spells a span, at a holder at a place of the history.
+-- The facts of a delta that spells a span, at a holder at a place of the history.
 pub record IsTakenAsItsSpan (history : List EntryValue) (span : Span) (place : ℕ) (delta : DeltaValue) : Type 0 where
-  -- what becomes of it is what becomes of the span: where it is taken, the entry that it leads to is the whole entry at
-  -- the span's end
+  -- its outcome is that of the span: if it is taken, the entry that it leads to is the whole entry at the span's end
   pub outcome : meeting (at_place history place) delta ≡ absorbed_of history span (span_outcome place span)
-  -- what is then held is the whole entry at the new place
+  -- the entry held afterwards is the whole entry at the new place
   pub held : entry_after (at_place history place) (meeting (at_place history place) delta)
       ≡ at_place history (place_after (span_outcome place span) place span)
 
@@ -43,15 +42,15 @@ SpelledDeltasAreTaken =
     → (place : ℕ) → place ≤ length history
     → (delta : DeltaValue) → delta_of history span ≡ Some delta → IsTakenAsItsSpan history span place delta
 
--- What the entry at one place has above the version at another one.
+-- The facts of the part that the entry at one place has above the version at another one.
 pub record IsDeltaOfPlaces (history : List EntryValue) (from to : ℕ) (delta : Option DeltaValue) : Type 0 where
-  -- it is there exactly where the first place is later
+  -- it is there exactly if the first place is later
   pub exists : IsSome delta ↔ (from < to)
   -- it spells the span from one place to the other
   pub spells : (d : DeltaValue) → delta ≡ Some d
       → IsSpan history (record { from = from; to = to }) × (delta_of history (record { from = from; to = to }) ≡ Some d)
 
--- What an entry has above the version at a place of its generation, or at none, spells a span.
+-- The part of an entry above the version at a place of its generation, or at none, spells a span.
 abbrev pub DeltasSpellSpans : Type 0
 DeltasSpellSpans =
     (history : List EntryValue) → IsHistory history → (from to : ℕ) (entry : EntryValue)

@@ -1,4 +1,4 @@
--- How places and spans are spelled by entries, versions and deltas.
+-- Places and spans, spelled by entries, versions and deltas.
 use Rattle.std.specs.Prelude.{ℕ, List, Option, Some, None}
 use Rattle.std.specs.Option.{option_and_then}
 use Rattle.cg_entry.specs.declared.entry.Absorbed.{Absorbed}
@@ -17,11 +17,11 @@ version_of (Some e) = newest e
 abbrev pub version_at : List EntryValue → ℕ → ℕ
 version_at history place = version_of (at_place history place)
 
--- a span is spelled by what the entry at its end has above the version at its beginning
+-- the delta that spells a span: the part of the entry at its end above the version at its beginning
 abbrev pub delta_of : List EntryValue → Span → Option DeltaValue
 delta_of history span = option_and_then (delta_above (version_at history span.from)) (at_place history span.to)
 
--- what becomes of a span is spelled so: a span that is taken leads to the entry at its end
+-- the outcome of a span, spelled: a span that is taken leads to the entry at its end
 abbrev pub absorbed_of : List EntryValue → Span → SpanOutcome → Absorbed
 absorbed_of history span Taken = taken_or_gap (at_place history span.to)
 absorbed_of history span Old = absorbed.Old

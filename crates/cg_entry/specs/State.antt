@@ -11,11 +11,11 @@ use Rattle.cg_entry.specs.Versioned.{Versioned}
 use Rattle.cg_entry.specs.Entry.{greatest}
 use Rattle.cg_entry.specs.Contents.{IsState}
 
--- what is held at a state's key
+-- the text and version held at a state's key
 abbrev pub value_at_key : State → Versioned
 value_at_key s = record { text = s.text; version = s.version }
 
--- a state as its key and what is held at it
+-- a state as its key and the text and version at it
 abbrev pub pair : State → ℕ × Versioned
 pair s = (s.key, value_at_key s)
 
@@ -27,25 +27,25 @@ pairs items = map pair items
 abbrev pub KeysRise : List State → Type 0
 KeysRise items = Rises (map (λ s. s.key) items)
 
--- how many bytes the texts of listed states have
+-- the number of bytes of the texts of listed states
 abbrev pub listed_bytes : List State → ℕ
 listed_bytes items = sum_by (λ s. length s.text) items
 
--- The keys rise strictly, each state is in range, and the texts have so many bytes.
+-- The keys rise strictly, each state is in range, and the texts have that number of bytes.
 pub record IsStateList (items : List State) (bytes : ℕ) : Type 0 where
   pub rise : KeysRise items
   pub valid : AllByRecursion IsState (pairs items)
   pub counted : bytes ≡ listed_bytes items
 
--- whether the keys rise strictly
+-- a test that the keys rise strictly
 abbrev pub keys_rise : List State → Bool
 keys_rise items = rise_past None (map (λ s. s.key) items)
 
--- whether each version is greater than above
+-- a test that each version is greater than above
 abbrev pub all_newer : ℕ → List State → Bool
 all_newer above items = list_all (λ s. nat_lt above s.version) items
 
--- whether a delta can be made of these
+-- a test that these make a delta
 abbrev pub makes_delta : ℕ → ℕ → List State → Bool
 makes_delta above heartbeat items =
     (nat_lt above heartbeat || not (length items == 0)) && (all_newer above items && keys_rise items)
@@ -63,7 +63,7 @@ delta_from generation above heartbeat items =
     else if nat_le (greatest heartbeat (from_sorted (pairs items))) above then Err cause.Empty
     else Ok (delta_of_parts generation above heartbeat items)
 
--- how many entries stand before the first key that is not below k
+-- the number of entries before the first key that is not below k
 abbrev pub count_below : ℕ → List (ℕ × Versioned) → ℕ
 count_below k [] = 0
 count_below k (e ∷ es) = if nat_lt e.0 k then suc (count_below k es) else 0

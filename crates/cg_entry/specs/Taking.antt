@@ -1,4 +1,4 @@
--- What a delta makes of an entry.
+-- Taking: the entry that a delta makes of another.
 use Rattle.std.specs.Prelude.{ℕ, ◌≡◌, ⊤, Bool, true, false, nat_lt, nat_le, ◌==◌, Option, Some, None, if◌then◌else◌}
 use Rattle.std.specs.FinMap as map
 use Rattle.std.specs.Option.{option_or}
@@ -18,7 +18,7 @@ abbrev pub taken_or_gap : Option EntryValue → Absorbed
 taken_or_gap None = Gap
 taken_or_gap (Some e) = Taken e
 
--- whether a delta is taken
+-- a test that a delta is taken
 abbrev pub is_taken : Absorbed → Bool
 is_taken (Taken e) = true
 is_taken Old = false
@@ -37,18 +37,18 @@ absorption e d =
     else if nat_lt (newest e) d.above then Gap
     else Taken (advanced_entry e d)
 
--- what becomes of a delta at what is held
+-- the outcome of a delta at what is held
 abbrev pub meeting : Option EntryValue → DeltaValue → Absorbed
 meeting None d = taken_or_gap (whole_entry d)
 meeting (Some e) d = absorption e d
 
--- what is then held
+-- the entry held afterwards
 abbrev pub entry_after : Option EntryValue → Absorbed → Option EntryValue
 entry_after held (Taken e) = Some e
 entry_after held Old = held
 entry_after held Gap = held
 
--- the states that those of a delta come over: what is held of its generation
+-- the states under those of a delta: the states held of its generation
 abbrev pub states_under : Option EntryValue → DeltaValue → States
 states_under None d = map.empty
 states_under (Some e) d = if e.generation == d.generation then e.states else map.empty
@@ -59,7 +59,7 @@ pub record IsTakenEntry (held : Option EntryValue) (d : DeltaValue) (after : Ent
   pub heartbeat : after.heartbeat ≡ d.heartbeat
   pub each : (key : ℕ) → map.get after.states key ≡ option_or (map.get d.states key) (map.get (states_under held d) key)
 
--- where a delta was taken, a fact of the entry that it led to
+-- if a delta was taken, a fact of the entry that it led to
 abbrev pub IfTaken : Absorbed → (EntryValue → Type 0) → Type 0
 IfTaken (Taken e) P = P e
 IfTaken Old P = ⊤

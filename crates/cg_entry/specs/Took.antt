@@ -1,10 +1,10 @@
--- What becomes of deltas: its names, and the code by which `==` of what holds one tells values apart.
+-- The names of outcomes, and the code by which `==` of what holds one tells values apart.
 use Rattle.std.specs.Prelude.{ℕ, zero, suc, ◌≡◌, List, codes, refl}
 use Rattle.std.specs.Coded.{Coded, code_by, coded_ℕ}
 use Rattle.cg_entry.specs.declared.took.Took.{Took}
 use Rattle.cg_entry.specs.declared.took.Took.TheVariants.{Taken, Old, Gap, Own}
 
--- the name of what became of a delta
+-- the name of an outcome
 abbrev pub took_name : Took → List ℕ
 took_name Taken = codes "took"
 took_name Old = codes "old"

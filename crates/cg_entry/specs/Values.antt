@@ -1,22 +1,22 @@
--- What contracts see of entries and deltas.
+-- Values of entries and deltas, as contracts see them.
 use Rattle.std.specs.Prelude.{ℕ, refl}
 use Rattle.std.specs.Coded.{Coded, code_by, coded×, coded_ℕ}
 use Rattle.cg_entry.specs.Versioned.{States, states_code}
 
--- what is held of an endpoint
+-- all that is held of an endpoint
 pub record EntryValue : Type 0 where
   pub generation : ℕ
   pub heartbeat : ℕ
   pub states : States
 
--- what a message carries of it
+-- the part of it that a message carries
 pub record DeltaValue : Type 0 where
   pub generation : ℕ
   pub above : ℕ
   pub heartbeat : ℕ
   pub states : States
 
--- the codes that models of such values ask for
+-- the codes that models of such values require
 abbrev pub entry_code : Coded EntryValue
 entry_code =
     code_by (ℕ × (ℕ × States)) (coded× coded_ℕ (coded× coded_ℕ states_code))

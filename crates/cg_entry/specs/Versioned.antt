@@ -8,11 +8,11 @@ pub record Versioned : Type 0 where
   pub text : List ℕ
   pub version : ℕ
 
--- what is held at each key
+-- the text and version held at each key
 abbrev pub States : Type 0
 States = map.FinMap nat_cmp Versioned
 
--- the code that a model of such values asks for
+-- the code that a model of such values requires
 abbrev pub versioned_code : Coded Versioned
 versioned_code =
     code_by (List ℕ × ℕ) (coded× (coded_list coded_ℕ) coded_ℕ) (λ v. (v.text, v.version))

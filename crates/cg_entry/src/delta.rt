@@ -1,4 +1,4 @@
-//! What a message carries of one endpoint.
+//! Deltas: the part of an entry that a message carries.
 
 ghost use Rattle.std.specs.Prelude.{◌≡◌, ◌↔◌, IsTrue, IfSome, IfOk, IsOk, is_some, nat_lt, []};
 ghost use Rattle.std.specs.FinMap as map;
@@ -14,8 +14,8 @@ use cg_types::{Cause, Generation, Version};
 use std::alloc::{AllocError, Global};
 use std::marker::Model;
 
-/// What stands above a version in an entry: its generation, its heartbeat version, and the states with a greater
-/// version. It is whole where that version is 0.
+/// The part of an entry above a version: its generation, its heartbeat version, and the states with a greater version.
+/// It is whole if that version is 0.
 #[derive(Debug, Drop)]
 pub struct Delta {
     generation: Generation,
@@ -46,8 +46,8 @@ fn all_newer(above: u32, items: &[State]) -> bool
 }
 
 impl Delta {
-    /// `None` unless the keys rise strictly, each state's version is greater than `above`, and there is a state or
-    /// the heartbeat version is greater than `above`.
+    /// Makes a delta of its parts. `None` unless the keys rise strictly, each state's version is greater than `above`,
+    /// and there is a state or the heartbeat version is greater than `above`.
     pub fn new(
         generation: Generation,
         above: u32,
@@ -60,8 +60,9 @@ impl Delta {
         Delta::try_new(generation, above, heartbeat, states).ok()
     }
 
-    /// As `new`, with what is wrong: `Version` where a state is not newer than `above`, else `Order` where the keys do
-    /// not rise strictly, else `Empty` where neither a state nor the heartbeat is newer than `above`.
+    /// Makes a delta, as `new` does, or returns what is wrong: `Version` if a state is not newer than `above`, else
+    /// `Order` if the keys do not rise strictly, else `Empty` if neither a state nor the heartbeat is newer than
+    /// `above`.
     pub fn try_new(
         generation: Generation,
         above: u32,
@@ -83,8 +84,8 @@ impl Delta {
         Ok(Delta::of_parts(generation, above, heartbeat, Held::own(states)))
     }
 
-    /// The delta without states. `None` unless the heartbeat version is greater than `above`. `alloc` is kept for what
-    /// is made of it later.
+    /// Makes a delta without states. `None` unless the heartbeat version is greater than `above`. `alloc` is kept for
+    /// what is made of it later.
     pub fn bare(
         alloc: Global,
         generation: Generation,
@@ -118,14 +119,14 @@ impl Delta {
         }
     }
 
-    /// The generation of the entry that it is a part of.
+    /// The generation of the entry that the delta is a part of.
     pub fn generation(&self) -> Generation
         ensures { result ≡ self.now.generation }
     {
         self.generation
     }
 
-    /// The version that its receiver has to hold already, or 0 where it carries the whole entry.
+    /// The version that its receiver has to hold already, or 0 if it carries the whole entry.
     pub fn above(&self) -> u32
         ensures value { result ≡ self.now.above }
         ensures range { IsVersionHeld result }
@@ -134,7 +135,7 @@ impl Delta {
         self.above
     }
 
-    /// The heartbeat version of the entry.
+    /// The heartbeat version of the delta's entry.
     pub fn heartbeat(&self) -> Version
         ensures { result ≡ self.now.heartbeat }
     {
@@ -148,8 +149,8 @@ impl Delta {
         self.states.list().greatest(self.heartbeat)
     }
 
-    /// The same delta, whose list of states its copies, and the entries that take it, will share. Without states no
-    /// memory is asked for; `AllocError` where the sharing of a list finds none.
+    /// The same delta, whose list of states its copies, and the entries that take it, will share. Without states it
+    /// takes no memory; `AllocError` if the sharing of a list finds none.
     pub fn shared(self, alloc: Global) -> Result<Delta, AllocError>
         ensures value { IfOk result (λ d. d ≡ self) }
         ensures bare { self.states ≡ map.empty → IsOk result }
@@ -158,7 +159,7 @@ impl Delta {
         Ok(Delta::of_parts(self.generation, self.above, self.heartbeat, states))
     }
 
-    /// How many bytes the texts of its states have, which their list keeps.
+    /// The number of bytes of its states' texts, which their list keeps.
     pub fn text_bytes(&self) -> usize
         ensures { result ≡ text_bytes self.now.states }
     {
@@ -171,7 +172,7 @@ impl Delta {
         &self.states
     }
 
-    /// The states, rising by key. That the delta is in range is told here.
+    /// The states, rising by key. The contract also states that the delta is in range.
     pub fn states(&self) -> &[State]
         ensures value { pairs result.now ≡ map.entries self.now.states }
         ensures rise { KeysRise result.now }
@@ -182,7 +183,8 @@ impl Delta {
         self.states.list().as_slice()
     }
 
-    /// Whether it is the same delta: generation, version that it stands above, heartbeat version and states.
+    /// Tests whether both are the same delta: in generation, the version that it is above, heartbeat version and
+    /// states.
     pub fn is_same(&self, other: &Delta) -> bool
         ensures { IsTrue result ↔ (self.now ≡ other.now) }
     {
@@ -192,8 +194,8 @@ impl Delta {
             && self.states.list().is_same(other.states.list())
     }
 
-    /// The same delta, which shares its list of states. Where that list was given to `new` or `try_new`, it shares the
-    /// texts alone, and `AllocError` comes where a new list finds no memory.
+    /// The same delta, which shares its list of states. A list that was given to `new` or `try_new` is not shared: then
+    /// the copy shares the texts alone, and `AllocError` comes if a new list finds no memory.
     pub fn copy(&self, alloc: Global) -> Result<Delta, AllocError>
         ensures { IfOk result (λ d. d ≡ self.now) }
     {

@@ -2,8 +2,8 @@
 
 use cg_types::{Endpoint, Generation, Owned, Version};
 
-/// How far what is held of an endpoint has come: its generation, and the greatest version of that generation
-/// (Apache Cassandra's `GossipDigest`).
+/// A digest: the generation held of an endpoint, and the greatest version held of that generation (Apache Cassandra's
+/// `GossipDigest`).
 #[derive(Clone, Copy, Debug, PartialEq, Eq)]
 pub struct Digest {
     pub endpoint: Endpoint,

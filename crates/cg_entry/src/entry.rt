@@ -1,4 +1,4 @@
-//! What is held of one endpoint.
+//! Entries: all that is held of one endpoint.
 
 ghost use Rattle.std.specs.Prelude.{◌≡◌, ◌↔◌, true, IsTrue, IfOk, IfErr, OnOk, OnErr, IsOk, Some, None, Ok, option_copied};
 ghost use Rattle.std.specs.FinMap as map;
@@ -44,8 +44,8 @@ impl Model for Entry {
     ghost invariant = { λ e. e.newest ≡ greatest e.heartbeat e.states };
 }
 
-/// What became of a delta: the entry that it led to, or why it was not taken. `Old` brings nothing new; at a `Gap`
-/// the holder lacks something below it.
+/// The outcome of a delta: the entry that it led to, or why it was not taken. `Old` brings nothing new; at a `Gap` the
+/// holder lacks something below it.
 #[derive(Debug, Drop)]
 pub enum Absorbed {
     Taken(Entry),
@@ -53,7 +53,7 @@ pub enum Absorbed {
     Gap,
 }
 
-// What becomes of a delta where nothing of its generation is held: it is taken if it is whole.
+// The outcome of a delta if nothing of its generation is held: it is taken if it is whole.
 fn whole(alloc: Global, delta: &Delta) -> Result<Absorbed, AllocError>
     ensures value { IfOk result (λ a. a ≡ taken_or_gap (whole_entry delta.now)) }
     ensures refused { IfErr result (λ _. is_taken (taken_or_gap (whole_entry delta.now)) ≡ true) }
@@ -74,9 +74,9 @@ fn outcome_of(alloc: Global, held: Option<&Entry>, delta: &Delta) -> Result<Abso
     }
 }
 
-/// What a delta makes of what is held of its endpoint, if anything is. Texts are shared; the whole list of states is the
-/// entry's where the delta brings no state, and the delta's where it brings each key that the entry has. `AllocError`
-/// only where the delta is to be taken and a new list of states finds no memory.
+/// Meets a delta with what is held of its endpoint, if anything is, and returns the outcome. Texts are shared. The
+/// whole list of states is the entry's if the delta brings no state, and the delta's if it brings each key that the
+/// entry has. `AllocError` only if the delta is to be taken and a new list of states finds no memory.
 pub fn meet(alloc: Global, held: Option<&Entry>, delta: &Delta) -> Result<Absorbed, AllocError>
     ensures value { IfOk result (λ a. a ≡ met_of (option_copied held.entry) delta.now) }
     ensures each { IfOk result (λ a. IfTaken a (IsTakenEntry (option_copied held.entry) delta.now)) }
@@ -105,8 +105,8 @@ impl Entry {
         }
     }
 
-    /// The entry that a whole delta carries; `None` where the delta stands above a version. It has the delta's list of
-    /// states, as a copy of the delta has; `AllocError` where a whole delta's list finds no memory.
+    /// The entry that a whole delta carries; `None` if the delta is above a version. It has the delta's list of states,
+    /// as a copy of the delta has; `AllocError` if a whole delta's list finds no memory.
     pub fn of_delta(alloc: Global, delta: &Delta) -> Result<Option<Entry>, AllocError>
         ensures value { IfOk result (λ e. e ≡ whole_entry delta.now) }
         ensures none { whole_entry delta.now ≡ None → result ≡ Ok None }
@@ -118,8 +118,8 @@ impl Entry {
         Ok(Some(Entry::of_parts(delta.generation(), delta.heartbeat(), states)))
     }
 
-    /// Sets the heartbeat version to the next version. `VersionsSpent` where there is none; the entry and the versions
-    /// are then as before. No other refusal comes.
+    /// Sets the heartbeat version to the next version. `VersionsSpent` if there is none; the entry and the versions
+    /// then stay unchanged. No other refusal comes.
     pub fn beat(&mut self, versions: &mut Versions) -> Result<Version, Fault>
         requires { versions.old ≡ newest self.old }
         ensures version { AnswersExactly (λ v. v) (next_version (newest self.old)) result }
@@ -135,8 +135,8 @@ impl Entry {
         Ok(version)
     }
 
-    /// Gives a key a text with the next version. `VersionsSpent` where there is none, in whose place `OutOfMemory`
-    /// never comes; else at most `OutOfMemory`. The entry and the versions are then as before.
+    /// Gives a key a text with the next version. `VersionsSpent` if there is none, in whose place `OutOfMemory` never
+    /// comes; else at most `OutOfMemory`. After a refusal the entry and the versions are unchanged.
     pub fn set(
         &mut self,
         versions: &mut Versions,
@@ -169,7 +169,7 @@ impl Entry {
         }
     }
 
-    /// The states, rising by key. That the entry is in range is told here.
+    /// The states, rising by key. The contract also states that the entry is in range.
     pub fn states(&self) -> &[State]
         ensures value { pairs result.now ≡ map.entries self.now.states }
         ensures rise { KeysRise result.now }
@@ -207,7 +207,8 @@ impl Entry {
         Ok(Absorbed::Taken(self.advance(alloc, delta)?))
     }
 
-    /// What taking a delta about this endpoint makes of the entry, which stays as it is; shared and refused as by `meet`.
+    /// Meets a delta about this endpoint with the entry, which stays unchanged, and returns the outcome. It shares and
+    /// refuses as `meet` does.
     pub fn absorb(&self, alloc: Global, delta: &Delta) -> Result<Absorbed, AllocError>
         ensures value { IfOk result (λ a. a ≡ absorption self.now delta.now) }
         ensures each { IfOk result (λ a. IfTaken a (IsTakenEntry (Some self.now) delta.now)) }
@@ -216,7 +217,7 @@ impl Entry {
         meet(alloc, Some(self), delta)
     }
 
-    /// Which start of the endpoint the entry tells of.
+    /// The start of the endpoint that the entry belongs to.
     pub fn generation(&self) -> Generation
         ensures { result ≡ self.now.generation }
     {
@@ -237,7 +238,7 @@ impl Entry {
         self.newest
     }
 
-    /// Whether it is the same entry: generation, heartbeat version and states.
+    /// Tests whether both are the same entry: in generation, heartbeat version and states.
     pub fn is_same(&self, other: &Entry) -> bool
         ensures { IsTrue result ↔ (self.now ≡ other.now) }
     {
@@ -246,8 +247,8 @@ impl Entry {
             && self.states.list().is_same(other.states.list())
     }
 
-    /// Whether it is later than another entry of this endpoint: of a greater generation, or in the same one with a
-    /// greater newest version.
+    /// Tests whether the entry is later than another entry of this endpoint: of a greater generation, or of the same
+    /// one with a greater newest version.
     pub fn is_later(&self, other: &Entry) -> bool
         ensures { result ≡ is_later_of self.now other.now }
     {
@@ -255,13 +256,13 @@ impl Entry {
             || (self.generation == other.generation && other.newest() < self.newest())
     }
 
-    /// What a holder of this generation at version `above` lacks; 0 stands for a holder of nothing. `None` where
-    /// it lacks nothing. Where it lacks all states, the delta shares their list; else `AllocError` where a list of newer
-    /// states finds no memory.
+    /// Returns the delta that a holder of this generation at version `above` lacks; 0 represents a holder of nothing.
+    /// `None` if it lacks nothing. If it lacks all states, the delta shares their list; else `AllocError` if a list of
+    /// newer states finds no memory.
     pub fn above(&self, alloc: Global, above: u32) -> Result<Option<Delta>, AllocError>
         ensures value { IfOk result (λ d. d ≡ delta_above above self.now) }
         ensures none { delta_above above self.now ≡ None → result ≡ Ok None }
-        // Without a newer state no memory is asked for.
+        // Without a newer state it takes no memory.
         ensures bare { newer_than above self.now.states ≡ map.empty → IsOk result }
     {
         if self.newest().get() <= above {
@@ -271,7 +272,7 @@ impl Entry {
         Ok(Some(Delta::of_parts(self.generation, above, self.heartbeat, states)))
     }
 
-    /// The same entry, which shares its list of states. Refused as `StateText::copy` is.
+    /// The same entry, which shares its list of states. It is refused as `StateText::copy` is.
     pub fn copy(&self, alloc: Global) -> Result<Entry, AllocError>
         ensures { IfOk result (λ e. e ≡ self.now) }
     {

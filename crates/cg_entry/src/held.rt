@@ -12,7 +12,7 @@ use std::marker::Model;
 use std::ops::Deref;
 use std::sync::Arc;
 
-// A list that nothing has shared yet is its holder's own; where it is empty, it takes no memory.
+// A list that nothing has shared yet is its holder's own; if it is empty, it takes no memory.
 #[derive(Debug, Drop)]
 enum Kept {
     Own(States),
@@ -69,7 +69,7 @@ impl Held {
         }
     }
 
-    // Shares the list where it is shared already; an own one that is empty takes no memory.
+    // Shares the list if it is shared already; an own one that is empty takes no memory.
     pub(crate) fn copy(&self, alloc: Global) -> Result<Held, AllocError>
         ensures { IfOk result (λ h. h ≡ self.now) }
     {
@@ -124,7 +124,7 @@ impl Held {
         Held::of(alloc, states.newer_than(alloc, above, count)?)
     }
 
-    // Those of `newer`, and at every other key these. Where one list shows all of that, it is shared.
+    // Those of `newer`, and at every other key these. If one list shows all of that, it is shared.
     pub(crate) fn overlay(&self, alloc: Global, newer: &Held) -> Result<Held, AllocError>
         ensures { IfOk result (λ h. h ≡ overlay self.now newer.now) }
     {

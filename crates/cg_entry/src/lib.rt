@@ -1,4 +1,4 @@
-//! What a member holds of one endpoint, and what a message carries of it.
+//! Entries and deltas: the state that a member holds of one endpoint, and the part of it in a message.
 //!
 //! An entry is what Apache Cassandra's gossip calls an `EndpointState`: the generation and the heartbeat version of
 //! its `HeartBeatState`, and application states, each with the version that set it. A delta is the part of an entry
@@ -10,6 +10,7 @@ mod delta;
 mod digest;
 mod entry;
 mod held;
+/// Laws of histories and deltas.
 pub mod laws;
 mod state;
 mod states;

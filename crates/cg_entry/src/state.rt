@@ -14,7 +14,7 @@ pub struct State {
 }
 
 impl State {
-    /// The same state, which shares the text. Refused as `StateText::copy` is.
+    /// The same state, which shares the text. It is refused as `StateText::copy` is.
     pub fn copy(&self) -> Result<State, AllocError>
         ensures { IfOk result (λ s. s ≡ self.now) }
     {

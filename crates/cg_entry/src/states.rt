@@ -18,7 +18,7 @@ use std::marker::Model;
 #[derive(Debug, Drop)]
 pub(crate) struct States {
     items: Vec<State>,
-    // How many bytes the texts have, so that the length of a spelling costs no walk.
+    // The number of bytes of the texts, so that the length of a spelling costs no walk.
     text_bytes: usize,
 }
 
@@ -38,7 +38,7 @@ impl Model for States {
     ghost invariant = { λ s. IsStateList s.items.items s.text_bytes };
 }
 
-// Whether the keys rise strictly.
+// Tests whether the keys rise strictly.
 pub(crate) fn keys_rise(items: &[State]) -> bool
     ensures { result ≡ keys_rise_of items.now }
 {
@@ -81,7 +81,7 @@ fn put_state(items: &mut Vec<State>, state: State) -> Result<(), AllocError>
     Ok(())
 }
 
-// Reads a state, which tells that it is in range.
+// Reads a state; the read shows that it is in range.
 fn show_state(state: &State)
     ensures { IsState (pair state.now) }
 {
@@ -115,7 +115,7 @@ fn size_of_texts(items: &[State]) -> usize
     bytes
 }
 
-// In a list with room for so many.
+// Copies states into a list with the room that is given.
 fn copies(alloc: Global, items: &[State], room: usize) -> Result<Vec<State>, AllocError>
     ensures { IfOk result (λ v. v.items ≡ items.now) }
 {
@@ -126,7 +126,7 @@ fn copies(alloc: Global, items: &[State], room: usize) -> Result<Vec<State>, All
     Ok(copies)
 }
 
-// Whether each key of these stands in another list.
+// Tests whether each key of these is in another list.
 fn keys_stand_in(items: &[State], other: &[State]) -> bool
     ensures { result ≡ list_all (λ s. is_some (find (λ t. t.key == s.key) other.now)) items.now }
 {
@@ -135,7 +135,7 @@ fn keys_stand_in(items: &[State], other: &[State]) -> bool
         .all(|state| state_of(other, state.key).is_some())
 }
 
-// How many states have a version greater than `above`.
+// Counts the states with a version greater than `above`.
 fn count_newer(items: &[State], above: u32) -> usize
     ensures { result ≡ count_by (λ s. nat_lt above s.version) items.now }
 {
@@ -168,7 +168,7 @@ impl States {
         States { items, text_bytes }
     }
 
-    // Each state is read, which tells that it is in range.
+    // Each state is read, which shows that it is in range.
     pub(crate) fn from_rising(items: Vec<State>) -> States
         requires { KeysRise items.items }
         ensures { result ≡ map.from_sorted (pairs items.items) }
@@ -188,28 +188,28 @@ impl States {
         most
     }
 
-    // How many there are.
+    // The number of states.
     pub(crate) fn len(&self) -> usize
         ensures { result ≡ map.len self.now }
     {
         self.items.as_slice().len()
     }
 
-    // How many bytes the texts have.
+    // The number of bytes of the texts.
     pub(crate) fn text_bytes(&self) -> usize
         ensures { result ≡ text_bytes_of self.now }
     {
         self.text_bytes
     }
 
-    // How many have a version greater than `above`.
+    // Counts the states with a version greater than `above`.
     pub(crate) fn count_newer(&self, above: u32) -> usize
         ensures { result ≡ map.len (newer_than above self.now) }
     {
         count_newer(&self.items, above)
     }
 
-    // The states with a version greater than `above`, in a list with room for so many.
+    // The states with a version greater than `above`, in a list with the room that is given.
     pub(crate) fn newer_than(
         &self,
         alloc: Global,
@@ -243,7 +243,7 @@ impl States {
         state_of(&self.items, key)
     }
 
-    // Whether there is none.
+    // Tests whether there is no state.
     pub(crate) fn is_empty(&self) -> bool
         ensures { IsTrue result ↔ (self.now ≡ map.empty) }
     {
@@ -261,7 +261,7 @@ impl States {
         Ok((alloc, States::of(items)))
     }
 
-    // Whether each key stands in `newer`, so that nothing of these shows beside it.
+    // Tests whether each key is in `newer`, so that nothing of these shows beside it.
     pub(crate) fn is_covered(&self, newer: &States) -> bool
         ensures { IsTrue result → overlay self.now newer.now ≡ newer.now }
     {
@@ -280,14 +280,14 @@ impl States {
         Ok(States::of(items))
     }
 
-    // Whether both are the same map.
+    // Tests whether both are the same map.
     pub(crate) fn is_same(&self, other: &States) -> bool
         ensures { IsTrue result ↔ (self.now ≡ other.now) }
     {
         self.items.as_slice() == other.items.as_slice()
     }
 
-    // In the order of the keys.
+    // The states, in the order of the keys.
     pub(crate) fn as_slice(&self) -> &[State]
         ensures value { pairs result.now ≡ map.entries self.now }
         ensures rise { KeysRise result.now }

@@ -1,9 +1,9 @@
-//! What became of a delta.
+//! Outcomes of deltas.
 
 ghost use Rattle.std.specs.Prelude.{◌≡◌};
 ghost use Rattle.cg_entry.specs.Took.{took_name};
 
-/// What became of a delta about an owner: taken, old (it brings nothing new), a gap (the holder lacks something below
+/// The outcome of a delta about an owner: taken, old (it brings nothing new), a gap (the holder lacks something below
 /// it), or about the holder's own endpoint, which no delta changes.
 #[derive(Clone, Copy, Debug, PartialEq, Eq)]
 pub enum Took {
@@ -14,7 +14,7 @@ pub enum Took {
 }
 
 impl Took {
-    /// Its name: `took`, `old`, `gap` or `own`.
+    /// The outcome's name: `took`, `old`, `gap` or `own`.
     pub fn name(self) -> &'static str
         ensures { result.now ≡ took_name self }
     {

@@ -1,4 +1,4 @@
--- A text is an endpoint's exactly where it is the one that the endpoint writes.
+-- A text is an endpoint's exactly if it is the one that the endpoint writes.
 use Rattle.std.proofs.Common.{◌≡◌, ◌≢◌, IfSome, IfNone, ℕ, ◌+◌, ◌*◌, ◌/◌, ◌%◌, ◌<◌, ◌≤◌, Bool, true, false, cond, ◌==◌, suc, zero, List, [], ◌∷◌, ◌++◌, Option, Some, None, refl, sym, ap, ◌∙◌, subst, arith, decimal, eq-eqb, eqb-true}
 use Rattle.std.specs.Prelude.{nat_lt, IsUtf8, IsAscii}
 use Rattle.std.specs.List.{list_all}
@@ -33,7 +33,7 @@ cut_step : (t : Bool) (c b : ℕ) (bs : List ℕ) (rest : Option (List ℕ × Li
 cut_step true c b bs rest p is h e = subst (IsCut c (b ∷ bs)) (same_Some ([], bs) p e) (ap (λ (k : ℕ). k ∷ bs) (eqb-true b c is))
 cut_step false c b bs rest p is h e = cut_first c b bs rest p h e
 
--- what was cut is the text
+-- the parts of a cut text make the text
 pub cut_at-some : (c : ℕ) (text : List ℕ) (p : List ℕ × List ℕ) → cut_at c text ≡ Some p → text ≡ p.0 ++ (c ∷ p.1)
 cut_at-some c [] p e = absurd cc
 cut_at-some c (b ∷ bs) p e = cut_step (b == c) c b bs (cut_at c bs) p refl (cut_at-some c bs) e
@@ -85,7 +85,7 @@ port_in-some text n e =
 
 -- ---- endpoints
 
--- the parts of what is joined
+-- the parts of an endpoint made of them
 pub record Parted (a b c d port : ℕ) (e : ℕ) : Type 0 where
   pub first : address_of e / 16777216 ≡ a
   pub second : address_of e / 65536 % 256 ≡ b
@@ -102,17 +102,17 @@ text_of_parted : (a b c d port e : ℕ) → Parted a b c d port e → endpoint_t
 unfolding endpoint_text
 text_of_parted a b c d port e p = rw (p.first, p.second, p.third, p.fourth, p.last) refl
 
--- what four bytes and a port make is an endpoint
+-- four bytes and a port make an endpoint
 joined_valid : (a b c d port : ℕ) → a < 256 → b < 256 → c < 256 → d < 256 → 1 ≤ port → port < 65536 → IsEndpoint (endpoint_of_parts a b c d port)
 joined_valid a b c d port ha hb hc hd low hp = (omega arith, omega arith)
 
--- what is read of a dotted text
+-- the endpoint read of a dotted text
 dotted_read : (a b c d port : ℕ) → a < 256 → b < 256 → c < 256 → d < 256 → 1 ≤ port → port ≤ 65535 → endpoint_in (text_of_parts a b c d port) ≡ Some (endpoint_of_parts a b c d port)
 unfolding endpoint_in
 dotted_read a b c d port ha hb hc hd low high =
     rw (octet_before-text 46 a _ refl ha, octet_before-text 46 b _ refl hb, octet_before-text 46 c _ refl hc, octet_before-text 58 d _ refl hd, port_in-text port low high) refl
 
--- what an endpoint writes is read as that endpoint
+-- the text that an endpoint writes is read as that endpoint
 pub endpoint_in-text : (e : ℕ) → IsEndpoint e → endpoint_in (endpoint_text e) ≡ Some e
 unfolding endpoint_text
 endpoint_in-text e is =
@@ -121,7 +121,7 @@ endpoint_in-text e is =
     dotted_read a (address_of e / 65536 % 256) (address_of e / 256 % 256) (address_of e % 256) (port_of e) (omega (arith, is.0)) (omega arith) (omega arith) (omega arith) (omega (arith, is.1)) (omega arith)
     ∙ ap (λ (n : ℕ). Some n) whole
 
--- what is read as an endpoint is what it writes
+-- a text read as an endpoint is the one that the endpoint writes
 pub endpoint_in-some : (text : List ℕ) (e : ℕ) → endpoint_in text ≡ Some e → IsEndpoint e × (text ≡ endpoint_text e)
 unfolding endpoint_in
 endpoint_in-some text e found =
@@ -159,7 +159,7 @@ endpoint_text-utf8 e is =
     (part_ascii (address_of e / 256 % 256) 46 _ (omega arith) (omega arith) (part_ascii (address_of e % 256) 58 _ (omega arith) (omega arith)
     (IsAscii-decimal (port_of e) (omega arith))))))
 
--- what a caller sees of an endpoint that is there, or is not
+-- a caller's view of an endpoint that is there, or is not
 pub endpoint_found : (text : List ℕ) (r : Option ℕ) → r ≡ endpoint_in text → IfSome r (λ e. text ≡ endpoint_text e)
 endpoint_found text None e = tt
 endpoint_found text (Some x) e = (endpoint_in-some text x (sym e)).1

@@ -1,4 +1,4 @@
--- A list rises where each member's key is less than the next one's.
+-- A list rises if each member's key is less than the next one's.
 use Rattle.std.proofs.Common.{◌≡◌, ℕ, zero, suc, ◌+◌, ◌<◌, Bool, true, false, List, [], ◌∷◌, length, map, get_or, Option, Some, None, refl, sym, ap, subst, arith, nat_lt}
 use Rattle.std.specs.Prelude.{◌&&◌}
 use Rattle.std.specs.List.{IsAllAdjacentAnswer}
@@ -13,7 +13,7 @@ place_after : (k : ℕ) → suc k + 1 ≡ suc (k + 1)
 place_after k = omega arith
 
 module _ {X : Type 0} (key : X → ℕ) where
-  -- whether the key at a place is less than the key at another
+  -- a test for a key at one place less than the key at another
   abbrev is_less_at : List X → X → ℕ → ℕ → Bool
   is_less_at xs d i j = nat_lt (key (get_or xs i d)) (key (get_or xs j d))
 

@@ -1,4 +1,4 @@
--- What is no UTF-8 is no plain text.
+-- Bytes that are no UTF-8 are no plain text.
 use Rattle.std.proofs.Common.{◌≡◌, ℕ, true, false, List, refl}
 use Rattle.std.specs.Prelude.{◌&&◌}
 use Rattle.std.specs.Str.{IsUtf8, is_utf8}

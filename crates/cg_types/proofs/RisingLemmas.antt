@@ -25,7 +25,7 @@ pub second_of : (a b : Bool) → (a && b) ≡ true → b ≡ true
 second_of true b e = e
 second_of false b e = absurd cc
 
--- what comes after x comes after what x comes after
+-- a number greater than x is past all that x is past
 pub past_trans : (last : Option ℕ) (x y : ℕ) → is_past last x ≡ true → x < y → is_past last y ≡ true
 past_trans None x y p lt = refl
 past_trans (Some l) x y p lt = let q : l < x = ltb-true l x p in lt-ltb l y (omega arith)
@@ -49,7 +49,7 @@ module _ {X : Type 0} where
         | false ↦ rise_filter p last es (rise_earlier last e.0 (keys_of es) here rest)
       ]
 
--- keys that the mapped items keep rise where those of the items do
+-- keys that the mapped items keep rise if those of the items do
 pub rise_mapped : {X Y : Type 0} (f : X → Option Y) (key : X → ℕ) (kept : Y → ℕ) → ((x : X) (y : Y) → f x ≡ Some y → kept y ≡ key x) → (last : Option ℕ) (xs : List X) → rise_past last (map key xs) ≡ true → rise_past last (map kept (filter_map f xs)) ≡ true
 rise_mapped f key kept same last [] h = refl
 rise_mapped f key kept same last (x ∷ xs) h =
@@ -81,7 +81,7 @@ module _ {X : Type 0} where
       let rest = second_of (is_past last e.0) (rise_past (Some e.0) (keys_of es)) h in
       T_both (below_all nat_cmp e.0 es) (is_sorted nat_cmp es) (below_from_rise e.0 es rest) (sorted_past (Some e.0) es rest)
 
-  -- what rises is the list of the entries of its map
+  -- a list that rises is the list of the entries of its map
   pub entries_rising : (es : List (ℕ × X)) → Rises (keys_of es) → entries (from_sorted {R = nat_cmp} es) ≡ es
   entries_rising es h = entries-from_sorted nat_cmp es (sorted_past None es h)
 
@@ -160,7 +160,7 @@ module _ {X : Type 0} where
         | false ↦ find-before q xs ys
       ]
 
--- what a tree finds
+-- a tree finds the entry that a list of its entries has
 pub find_looked_up : {X : Type 0} (es : List (ℕ × X)) (q : ℕ) → find nat_cmp q es ≡ lookup (is_at (nat_cmp q)) es
 find_looked_up [] q = refl
 find_looked_up (e ∷ es) q = ap (cond (is_at (nat_cmp q) e.0) (Some e.1)) (find_looked_up es q)

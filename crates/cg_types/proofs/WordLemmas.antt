@@ -26,7 +26,7 @@ tells = search rules
 own : IsNumeralModel (λ ds. list_all is_ascii_digit ds ≡ true) (digits_value 10)
 own = numerals_by_value _ tells
 
--- what a number is
+-- the facts of a text that is a number
 pub record Canonical (text : List ℕ) : Type 0 where
   pub digits : list_all is_ascii_digit text ≡ true
   pub some : 0 < length text
@@ -58,7 +58,7 @@ value_more text i value byte digit inside all is at ascii same =
       rw (is, one) (sym (digits_value_more 10 text i inside)),
     )
 
--- what fits is kept
+-- a number that fits is kept
 pub digit_kept : (sum most n : ℕ) (r : Option ℕ) → r ≡ cond (nat_le sum most) (Some sum) None → r ≡ Some n → (n ≡ sum) × (n ≤ most)
 digit_kept sum most n r e is =
     let g = some_guard (nat_le sum most) sum n (sym e ∙ is) in
@@ -71,7 +71,7 @@ no_value : {X : Type 0} (a b : Bool) (x : X) → b ≡ false → cond (a && b) (
 no_value true b x e = rw e refl
 no_value false b x e = refl
 
--- once the digits are too many, so they stay
+-- digits that make too great a number still do with more digits
 pub value_past : (text : List ℕ) (i sum most : ℕ) (r : Option ℕ) → r ≡ cond (nat_le sum most) (Some sum) None → r ≡ None
     → sum ≡ digits_value 10 (take i text)
     → None ≡ cond (list_all is_ascii_digit text && nat_le (digits_value 10 text) most) (Some (digits_value 10 text)) None
@@ -114,7 +114,7 @@ number_of-decimal most n small le =
     let value = digits_value-decimal own n (omega arith) in
     rw (is, value) (grind (arith, common_steps))
 
--- what a caller sees of a number that is there, or is not
+-- a caller's view of a number that is there, or is not
 pub numbers_found : (most : ℕ) (text : List ℕ) (r : Option ℕ) → most < 2 ^ 64 → r ≡ number_of most text → IfSome r (λ n. (text ≡ decimal n) × (n ≤ most))
 numbers_found most text None small e = tt
 numbers_found most text (Some n) small e = number_of-some most text n small (sym e)
@@ -136,7 +136,7 @@ between_by (Some k) least n e =
       | false ↦ λ b e. let same : k ≡ n = same_Some k n e in let le : least ≤ k = ltb-false k least b in (e, omega arith)
     ] refl e
 
--- what a caller sees of such a number that is there, or is not
+-- a caller's view of such a number that is there, or is not
 pub between_found : (least most : ℕ) (text : List ℕ) (r : Option ℕ) → most < 2 ^ 64 → r ≡ number_between least most text
     → IfSome r (λ n. (text ≡ decimal n) × (least ≤ n) × (n ≤ most))
 unfolding number_between

@@ -19,7 +19,7 @@ endpoint_text e =
 abbrev pub endpoint_of_parts : ℕ → ℕ → ℕ → ℕ → ℕ → ℕ
 endpoint_of_parts a b c d port = endpoint_of (((a * 256 + b) * 256 + c) * 256 + d) port
 
--- a number of at most 255 before the first byte c, and what stands behind that
+-- a number of at most 255 before the first byte c, and what follows that byte
 unfoldable pub octet_before : ℕ → List ℕ → Option (ℕ × List ℕ)
 octet_before c text = do
   parts ← cut_at c text
@@ -32,7 +32,7 @@ port_in text = do
   port ← number_of 65535 text
   if nat_lt 0 port then Some port else None
 
--- the endpoint that a text is
+-- the endpoint of a text, if it is the text of one
 unfoldable pub endpoint_in : List ℕ → Option ℕ
 endpoint_in text = do
   a ← octet_before 46 text

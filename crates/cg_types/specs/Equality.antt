@@ -1,4 +1,4 @@
--- Whether two values are the same, by a code that tells values apart, and that this is what `==` may answer.
+-- Equality by codes that tell values apart, and a proof that `==` may answer so.
 use Rattle.std.specs.Prelude.{◌≡◌, Bool, true, false, ◌&&◌, ◌==◌, refl}
 use Rattle.std.proofs.Common.{sym, ap, subst}
 use Rattle.std.specs.Bool.{Decides}
@@ -6,7 +6,7 @@ use Rattle.std.specs.Cmp.{IsEquivalence, IsPartialEquivalence, partial_equiv_fro
 use Rattle.std.specs.Coded.{Coded}
 use base.Stored.{Gv, gnil, gnum, gcons}
 
--- whether two codes are the same
+-- a test for the same code
 unfoldable pub same_code : Gv → Gv → Bool
 same_code gnil gnil = true
 same_code gnil (gnum n) = false
@@ -18,11 +18,11 @@ same_code (gcons a b) gnil = false
 same_code (gcons a b) (gnum n) = false
 same_code (gcons a b) (gcons c d) = same_code a c && same_code b d
 
--- whether two values have the same code
+-- a test for values with the same code
 abbrev pub same_by : {A : Type 0} → Coded A → A → A → Bool
 same_by c x y = same_code (c.code x) (c.code y)
 
--- ---- that it is an equality: an `impl` cites its laws, and cites only what stands in `specs/`
+-- ---- a proof that it is an equality: an `impl` cites its laws, and cites only what is in `specs/`
 
 both_tell : {a b c d : Gv} (s t : Bool) → (s ≡ true → a ≡ c) → (t ≡ true → b ≡ d) → (s && t) ≡ true
     → gcons a b ≡ gcons c d
@@ -66,7 +66,7 @@ module _ {A : Type 0} (c : Coded A) where
   pub same_by-partial : IsPartialEquivalence (same_by c)
   same_by-partial = partial_equiv_from_equiv same_by-laws
 
-  -- a test that tells whether two values are the same is sameness by their code
+  -- a test that decides whether two values are the same is sameness by their code
   pub same_by-is : (x y : A) (r : Bool) → Decides r (x ≡ y) → r ≡ same_by c x y
   same_by-is x y r d = both_ways r (same_by c x y)
       (λ e. (same_by-Decides x y).1 (d.0 e)) (λ e. d.1 ((same_by-Decides x y).0 e))

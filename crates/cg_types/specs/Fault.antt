@@ -1,4 +1,4 @@
--- The numbers and names of faults, the names of causes, and how faults are written.
+-- The numbers and names of faults, the names of causes, and the texts of faults.
 use Rattle.std.specs.Prelude.{ℕ, List, ◌++◌, codes, decimal}
 use Rattle.cg_types.specs.declared.fault.Cause.{Cause}
 use Rattle.cg_types.specs.declared.fault.Cause.TheVariants as cause
@@ -63,7 +63,7 @@ fault_name fault.Stuck = codes "Stuck"
 fault_name fault.Folded = codes "Folded"
 fault_name fault.NoSuchNode = codes "NoSuchNode"
 
--- how a fault is written: its number and name, and of a bad frame its place and cause
+-- the text of a fault: its number and name, and of a bad frame its offset and cause
 abbrev pub fault_shown : Fault → List ℕ
 fault_shown (fault.BadFrame place why) = codes "12 BadFrame " ++ (decimal place ++ (codes " " ++ cause_name why))
 fault_shown f = decimal (fault_number f) ++ (codes " " ++ fault_name f)

@@ -1,4 +1,4 @@
--- The values of the limits, and of what is numbered.
+-- The values of the limits, and of the numbered keys and partitioner.
 use Rattle.std.specs.Prelude.{◌≡◌}
 use Rattle.cg_types.specs.declared.limits.TheConstants.{MEMBER_LIMIT, TEXT_LIMIT, NAME_LIMIT, STATE_LIMIT, STATUS_KEY}
 use Rattle.cg_types.specs.declared.limits.TheConstants.{TOKENS_KEY, NUMBER_LIMIT, PARTITIONER}

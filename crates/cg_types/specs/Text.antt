@@ -1,4 +1,4 @@
--- Plain text, and what texts of states and clusters are.
+-- Plain text, and the texts of states and clusters.
 use Rattle.std.specs.Prelude.{ℕ, ◌<◌, ◌≤◌, ◌≡◌, Bool, true, ◌&&◌, not, nat_le, nat_lt, ◌==◌, List, length, Result, Ok, Err, if◌then◌else◌, refl}
 use Rattle.cg_types.specs.declared.fault.Fault.{Fault}
 use Rattle.cg_types.specs.declared.fault.Fault.TheVariants.{TooLong, BadText}
@@ -28,7 +28,7 @@ pub record ClusterValue : Type 0 where
   pub name : List ℕ
   pub partitioner : ℕ
 
--- the code that models of values with a cluster ask for
+-- the code that models of values with a cluster require
 abbrev pub cluster_code : Coded ClusterValue
 cluster_code =
     code_by (List ℕ × ℕ) (coded× (coded_list coded_ℕ) coded_ℕ) (λ c. (c.name, c.partitioner))
@@ -38,13 +38,13 @@ pub record IsCluster (c : ClusterValue) : Type 0 where
   pub is_named : IsClusterName c.name
   pub is_byte : c.partitioner < 256
 
--- what a text of a state is due: itself, or why it is refused
+-- the expected answer for a text of a state: itself, or why it is refused
 abbrev pub state_text_of : List ℕ → Result (List ℕ) Fault
 state_text_of text =
     if nat_lt TEXT_LIMIT (length text) then Err TooLong
     else if plain text then Ok text else Err BadText
 
--- what a cluster's name and partitioner are due
+-- the expected answer for a cluster's name and partitioner
 abbrev pub cluster_of : List ℕ → ℕ → Result ClusterValue Fault
 cluster_of name partitioner =
     if nat_lt NAME_LIMIT (length name) then Err TooLong

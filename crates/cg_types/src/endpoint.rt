@@ -1,4 +1,4 @@
-//! Where a member is reached.
+//! Endpoints: the addresses at which members are reached.
 
 ghost use Rattle.std.specs.Prelude.{◌≡◌, ◌≢◌, ◌↔◌, ◌<◌, ◌≤◌, ◌+◌, ◌∷◌, ◌++◌, drop, decimal, ℕ, IsSome, IfSome, IfNone, IfOk, IfErr, OnOk, OnErr, MatchResult, string_bytes, Some, None, nat_eq, option_map};
 ghost use Rattle.std.specs.Ordering.{nat_cmp};
@@ -84,7 +84,7 @@ impl Ord for Endpoint {
     }
 }
 
-/// Written as `10.0.0.1:7000`: the address's bytes with dots, a colon and the port.
+/// Writes an endpoint as `10.0.0.1:7000`: the address's bytes with dots, a colon and the port.
 impl fmt::Display for Endpoint {
     ghost output = { λ e. Some (endpoint_text e) };
 
@@ -96,7 +96,7 @@ impl fmt::Display for Endpoint {
 // The bytes of the longest text, `255.255.255.255:65535`.
 const LONGEST: usize = 21;
 
-// Puts a number and the byte behind it before what begins at `end`, and tells where it begins.
+// Puts a number and the byte after it before what begins at `end`, and returns where it begins.
 fn put_part(part: u8, mark: u8, text: &mut [u8; LONGEST], end: usize) -> usize
     requires room { 4 ≤ end }
     requires within { end ≤ 21 }
@@ -108,8 +108,8 @@ fn put_part(part: u8, mark: u8, text: &mut [u8; LONGEST], end: usize) -> usize
     write_digits(u64::from(part), text, end - 1)
 }
 
-// Puts an endpoint's text at the end of some bytes, and tells where it begins. What is put last comes first, so that the
-// whole text is written at once.
+// Puts an endpoint's text at the end of some bytes, and returns where it begins. The last part is put first, so that
+// the whole text is written at once.
 #[tactic(auto, unfolding(crate::specs::EndpointText::endpoint_text))]
 fn put_endpoint(endpoint: Endpoint, text: &mut [u8; LONGEST]) -> usize
     ensures start { result ≤ 21 }
@@ -124,7 +124,8 @@ fn put_endpoint(endpoint: Endpoint, text: &mut [u8; LONGEST]) -> usize
     put_part(a, b'.', text, at)
 }
 
-// The endpoint's text, in the room that is given for it. That it is UTF-8 is proved: it is digits, dots and a colon.
+// The endpoint's text, in the room that the caller gives for it. The proof shows that it is UTF-8: it is digits, dots
+// and a colon.
 fn text_of(endpoint: Endpoint, room: &mut [u8; LONGEST]) -> &str
     ensures { result.now ≡ endpoint_text endpoint }
 {
@@ -132,7 +133,7 @@ fn text_of(endpoint: Endpoint, room: &mut [u8; LONGEST]) -> &str
     unsafe { from_utf8_unchecked(&room[start..]) }
 }
 
-// Puts a port at the end of some bytes, and tells where it begins.
+// Puts a port at the end of some bytes, and returns where it begins.
 fn put_port(port: u16, text: &mut [u8; LONGEST]) -> usize
     ensures start { result ≤ 21 }
     ensures short { 16 ≤ result }
@@ -149,7 +150,7 @@ impl Endpoint {
         u64::from(self.address) * 65536 + u64::from(self.port)
     }
 
-    /// None where the port is 0.
+    /// Makes an endpoint of an address and a port; `None` if the port is 0.
     pub fn new(address: [u8; 4], port: u16) -> Option<Endpoint>
         ensures valid { IsSome result ↔ (0 < port) }
         ensures value { IfSome result (λ e. e ≡ endpoint_of (from_be_bytes w32 address) port) }
@@ -163,8 +164,8 @@ impl Endpoint {
         })
     }
 
-    /// The endpoint that a text is, as `10.0.0.1:7000`: four numbers from 0 to 255 and a port from 1 to
-    /// 65,535, with no leading zeros. Any other text is `BadText`, and no other refusal comes.
+    /// Reads an endpoint from its text, as `10.0.0.1:7000`: four numbers from 0 to 255 and a port from 1 to 65,535,
+    /// with no leading zeros. Any other text is `BadText`, and no other refusal comes.
     pub fn read(text: &str) -> Result<Endpoint, Fault>
         ensures value { MatchResult result (λ e. endpoint_in text.now ≡ Some e) (λ _. endpoint_in text.now ≡ None) }
         // The text is the one that the endpoint writes.
@@ -179,7 +180,7 @@ impl Endpoint {
         }
     }
 
-    /// The endpoint that some bytes are the text of, as `read` reads it.
+    /// Reads an endpoint from the bytes of its text, as `read` does.
     pub fn from_bytes(text: &[u8]) -> Option<Endpoint>
         ensures value { result ≡ endpoint_in text.now }
         // The bytes are the text that the endpoint writes.
@@ -190,8 +191,8 @@ impl Endpoint {
         parts_in(text)
     }
 
-    /// Adds the endpoint's text to another, as `write!` would, and with no format between. `AllocError` where that text
-    /// finds no room.
+    /// Appends the endpoint's text to a string, as `write!` would, and with no format between. `AllocError` if that
+    /// text finds no room.
     pub fn push_to(self, text: &mut String) -> Result<(), AllocError>
         ensures { OnOk result (string_bytes text.new ≡ string_bytes text.old ++ endpoint_text self) }
     {
@@ -214,7 +215,7 @@ impl Endpoint {
     }
 }
 
-// An endpoint, from its four numbers and its port.
+// Reads an endpoint: its four numbers and its port.
 #[tactic(auto, unfolding(crate::specs::EndpointText::endpoint_in))]
 fn parts_in(text: &[u8]) -> Option<Endpoint>
     ensures { result ≡ endpoint_in text.now }
@@ -230,7 +231,7 @@ fn parts_in(text: &[u8]) -> Option<Endpoint>
     })
 }
 
-// A number of at most 255 before the first byte `at`, and what stands behind that.
+// Reads a number of at most 255 before the first byte `at`, and returns it with what follows that byte.
 #[tactic(auto, unfolding(crate::specs::EndpointText::octet_before))]
 fn octet_before(text: &[u8], at: u8) -> Option<(u8, &[u8])>
     ensures { option_map (λ p. (p.0, p.1.now)) result ≡ text_octet_before at text.now }

@@ -1,4 +1,4 @@
-//! Why a call was refused: faults, with their numbers, names and lines.
+//! Faults, with their numbers, names and lines.
 
 ghost use Rattle.std.specs.Prelude.{◌≡◌, IfOk, Some, string_bytes};
 ghost use Rattle.cg_types.specs.declared.fault.Fault.TheVariants.{OutOfMemory};
@@ -8,16 +8,16 @@ use std::alloc::{AllocError, AllocFailed, Global};
 use std::fmt;
 use thiserror::Error;
 
-/// What is wrong at a place of a frame. It is written as its name.
+/// A cause of a bad frame: what is wrong at an offset of it. It is written as its name.
 #[derive(Clone, Copy, Debug, PartialEq, Eq, Error)]
 pub enum Cause {
     /// The length of a frame is over its limit.
     Length,
     /// A field does not fit into the frame.
     Short,
-    /// The layout byte is none that is known.
+    /// The layout byte is not a known one.
     Layout,
-    /// The kind byte is none that is known.
+    /// The kind byte is not a known one.
     Kind,
     /// A name is too long, empty or not plain text.
     Name,
@@ -29,9 +29,9 @@ pub enum Cause {
     Order,
     /// A generation is out of its range.
     Generation,
-    /// A version is out of its range, or not greater than what its delta stands above.
+    /// A version is out of its range, or not greater than the version that its delta is above.
     Version,
-    /// What a delta stands above is out of its range.
+    /// The version that a delta is above is out of its range.
     Above,
     /// A heartbeat version is out of its range.
     Heartbeat,
@@ -39,22 +39,22 @@ pub enum Cause {
     Key,
     /// A text is too long or not plain text.
     Text,
-    /// A delta carries nothing above what it stands above.
+    /// A delta carries nothing newer than the version that it is above.
     Empty,
     /// Bytes are left after the last field.
     Rest,
-    /// The message is of another kind than is due.
+    /// The message is of another kind than expected.
     Unexpected,
 }
 
-/// Why a call refused its work. It is written as its number and its name, as `4 VersionsSpent`, and a bad frame as
-/// `12 BadFrame 22 Order`, with its place and cause. Numbers 5, 6 and 7 are none: what becomes of a single delta is no
-/// fault.
+/// A reason for which a call refuses its work. It is written as its number and its name, as `4 VersionsSpent`. A bad
+/// frame is written with its offset and cause, as `12 BadFrame 22 Order`. Numbers 5, 6 and 7 are unused: the outcome of
+/// a single delta is no fault.
 #[derive(Clone, Copy, Debug, PartialEq, Eq, Error)]
 pub enum Fault {
     /// The memory that an answer needs was refused.
     OutOfMemory,
-    /// A text is not of the form that is due.
+    /// A text is not of the expected form.
     BadText,
     /// A text is longer than its limit.
     TooLong,
@@ -76,7 +76,7 @@ pub enum Fault {
     ReadFault,
     /// A writer failed, or took no byte.
     WriteFault,
-    /// A receipt does not stand in the history.
+    /// A receipt is not in the history.
     Stranger,
     /// The histories are not of one run.
     Stuck,
@@ -197,8 +197,8 @@ impl Fault {
         }
     }
 
-    /// The line that says the fault, as `fault 12 BadFrame 22 Order`, with its line feed. `AllocError` where there
-    /// is no memory for it.
+    /// Writes the fault's line, as `fault 12 BadFrame 22 Order`, with its line feed. `AllocError` if there is no memory
+    /// for it.
     pub fn line(self, alloc: Global) -> Result<String, AllocError>
         ensures { IfOk result (λ text. string_bytes text ≡ fault_text self) }
     {

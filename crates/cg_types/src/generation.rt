@@ -28,7 +28,7 @@ impl Model for Generation {
 }
 
 impl Generation {
-    /// `None` unless the number is 1 to 2,147,483,647.
+    /// Makes a generation of its number; `None` unless the number is 1 to 2,147,483,647.
     pub fn new(number: u32) -> Option<Generation>
         ensures valid { IsSome result ↔ IsGeneration number }
         ensures value { IfSome result (λ g. g ≡ number) }
@@ -39,7 +39,7 @@ impl Generation {
         Some(Generation { number })
     }
 
-    /// The generation that a text is, in decimal digits with no leading zero.
+    /// Reads a generation from its text, in decimal digits with no leading zero.
     pub fn from_bytes(text: &[u8]) -> Option<Generation>
         ensures value { result ≡ generation_in text.now }
         ensures some { IfSome result (λ g. text.now ≡ decimal g) }
@@ -51,7 +51,7 @@ impl Generation {
         })
     }
 
-    /// The number, 1 to 2,147,483,647.
+    /// The generation's number, 1 to 2,147,483,647.
     pub fn get(self) -> u32
         ensures value { result ≡ self }
         ensures range { IsGeneration result }

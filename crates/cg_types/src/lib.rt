@@ -4,6 +4,7 @@
 mod endpoint;
 mod fault;
 mod generation;
+/// Laws of the limits.
 pub mod laws;
 mod limits;
 mod owned;

@@ -29,7 +29,7 @@ impl Model for StateKey {
 }
 
 impl StateKey {
-    /// None where the number is 0 or over 16.
+    /// Makes a key of its number; `None` if the number is 0 or over 16.
     pub fn new(number: u8) -> Option<StateKey>
         ensures valid { IsSome result ↔ IsKey number }
         ensures value { IfSome result (λ k. k ≡ number) }
@@ -40,7 +40,7 @@ impl StateKey {
         Some(StateKey { number })
     }
 
-    /// The key that a text is, in decimal digits with no leading zero.
+    /// Reads a key from its text, in decimal digits with no leading zero.
     pub fn from_bytes(text: &[u8]) -> Option<StateKey>
         ensures value { result ≡ key_in text.now }
         ensures some { IfSome result (λ k. text.now ≡ decimal k) }

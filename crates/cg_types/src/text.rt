@@ -11,8 +11,8 @@ use std::alloc::{AllocError, Global};
 use std::marker::Model;
 use std::sync::ArcStr;
 
-// Whether the bytes have no control character: none below 32, and no 127. It looks at each byte, also after a bad one,
-// so that many are compared at once.
+// Tests whether the bytes have no control character: none below 32, and no 127. It looks at each byte, also after a bad
+// one, so that many are compared at once.
 fn is_printable(bytes: &[u8]) -> bool
     ensures { result ≡ printable bytes.now }
 {
@@ -23,7 +23,7 @@ fn is_printable(bytes: &[u8]) -> bool
     printable
 }
 
-/// Whether a text is plain: with none of the bytes 0 to 31 and 127.
+/// Tests whether a text is plain: with none of the bytes 0 to 31 and 127.
 pub fn is_plain(text: &str) -> bool
     ensures { result ≡ plain text.now }
 {
@@ -57,7 +57,7 @@ impl PartialEq for StateText {
 
     ghost laws = { partial_equiv_from_equiv nat_list_eq_equiv };
 
-    /// Whether both have the same bytes.
+    /// Returns `true` if both have the same bytes.
     fn eq(&self, other: &StateText) -> bool
         ensures { IsTrue result ↔ (self.now ≡ other.now) }
     {
@@ -72,8 +72,8 @@ impl Eq for StateText {
 }
 
 impl StateText {
-    /// `TooLong` over 1,024 bytes, else `BadText` where it is not plain, else at most `OutOfMemory`, which never comes
-    /// in another refusal's place.
+    /// Makes the text of a state, which copies the bytes of `text`. `TooLong` over 1,024 bytes, else `BadText` if it is
+    /// not plain, else at most `OutOfMemory`, which never comes in another refusal's place.
     pub fn new(alloc: Global, text: &str) -> Result<StateText, Fault>
         ensures { Answers (λ t. t) (state_text_of text.now) result }
     {
@@ -86,8 +86,8 @@ impl StateText {
         Ok(StateText::of_plain(alloc, text)?)
     }
 
-    /// As `new`, of a text that is known to be one: it is not tested again. `AllocError` where there is no memory for
-    /// it.
+    /// Makes the text of a state, as `new` does, of a text that is known to be one: it is not tested again.
+    /// `AllocError` if there is no memory for it.
     pub fn of_plain(alloc: Global, text: &str) -> Result<StateText, AllocError>
         requires { IsStateText text.now }
         ensures { IfOk result (λ t. t ≡ text.now) }
@@ -97,7 +97,7 @@ impl StateText {
         })
     }
 
-    /// The text.
+    /// The text's bytes, as a string.
     pub fn as_str(&self) -> &str
         ensures value { result.now ≡ self.now }
         ensures valid { IsStateText self.now }
@@ -105,8 +105,8 @@ impl StateText {
         self.text.as_str()
     }
 
-    /// The same text, which shares its bytes: only a count of owners that is at its greatest, 2^63 - 1, could refuse
-    /// it, as `AllocError`.
+    /// The same text, which shares its bytes. `AllocError` could come only if the count of its owners is at its
+    /// greatest, 2^63 - 1.
     pub fn copy(&self) -> Result<StateText, AllocError>
         ensures { IfOk result (λ t. t ≡ self.now) }
     {
@@ -145,7 +145,7 @@ impl PartialEq for Cluster {
 
     ghost laws = { Prim.search (comparing, rules) };
 
-    /// Whether both have the same name and partitioner.
+    /// Returns `true` if both have the same name and partitioner.
     fn eq(&self, other: &Cluster) -> bool
         ensures { IsTrue result ↔ (self.now ≡ other.now) }
     {
@@ -161,15 +161,15 @@ impl Eq for Cluster {
 }
 
 impl Cluster {
-    /// A cluster with the partitioner in use, 1. Refusals are those of `with`.
+    /// Makes a cluster with the partitioner in use, 1. Refusals are those of `with`.
     pub fn new(alloc: Global, name: &str) -> Result<Cluster, Fault>
         ensures { Answers (λ c. c) (cluster_of name.now PARTITIONER) result }
     {
         Cluster::with(alloc, name, PARTITIONER)
     }
 
-    /// `TooLong` over 48 bytes, else `BadText` where the name is empty or not plain, else at most `OutOfMemory`, which
-    /// never comes in another refusal's place.
+    /// Makes a cluster of a name and the number of a partitioner. `TooLong` over 48 bytes, else `BadText` if the name
+    /// is empty or not plain, else at most `OutOfMemory`, which never comes in another refusal's place.
     pub fn with(alloc: Global, name: &str, partitioner: u8) -> Result<Cluster, Fault>
         ensures { Answers (λ c. c) (cluster_of name.now partitioner) result }
     {
@@ -185,7 +185,7 @@ impl Cluster {
         })
     }
 
-    /// The name, 1 to 48 bytes.
+    /// The cluster's name, 1 to 48 bytes.
     pub fn name(&self) -> &str
         ensures value { result.now ≡ self.now.name }
         ensures valid { IsCluster self.now }
@@ -200,7 +200,7 @@ impl Cluster {
         self.partitioner
     }
 
-    /// The same cluster, which shares the name's bytes. Refused as `StateText::copy` is.
+    /// The same cluster, which shares the name's bytes. It is refused as `StateText::copy` is.
     pub fn copy(&self) -> Result<Cluster, AllocError>
         ensures { IfOk result (λ c. c ≡ self.now) }
     {

@@ -35,7 +35,7 @@ impl Version {
         Version { number: 1 }
     }
 
-    /// `None` unless the number is 1 to 2,147,483,647.
+    /// Makes a version of its number; `None` unless the number is 1 to 2,147,483,647.
     pub fn new(number: u32) -> Option<Version>
         ensures valid { IsSome result ↔ IsVersion number }
         ensures value { IfSome result (λ v. v ≡ number) }
@@ -46,7 +46,7 @@ impl Version {
         Some(Version { number })
     }
 
-    /// The version that a text is, in decimal digits with no leading zero.
+    /// Reads a version from its text, in decimal digits with no leading zero.
     pub fn from_bytes(text: &[u8]) -> Option<Version>
         ensures value { result ≡ generation_in text.now }
         ensures some { IfSome result (λ v. text.now ≡ decimal v) }
@@ -58,7 +58,7 @@ impl Version {
         })
     }
 
-    /// The number, 1 to 2,147,483,647.
+    /// The version's number, 1 to 2,147,483,647.
     pub fn get(self) -> u32
         ensures value { result ≡ self }
         ensures range { IsVersion result }

@@ -6,7 +6,8 @@ ghost use Rattle.std.specs.Char.{is_ascii_digit};
 ghost use Rattle.std.specs.Str.Parse.{digits_value};
 ghost use Rattle.cg_types.specs.Words.{cut_at, number_of, number_between as text_number_between};
 
-/// What stands before the first byte `at`, and what stands behind it.
+/// Cuts bytes at the first byte `at`: returns the part before it and the part after it, or `None` if there is no such
+/// byte.
 pub fn cut(bytes: &[u8], at: u8) -> Option<(&[u8], &[u8])>
     ensures { option_map (λ p. (p.0.now, p.1.now)) result ≡ cut_at at bytes.now }
 {
@@ -18,7 +19,7 @@ pub fn cut(bytes: &[u8], at: u8) -> Option<(&[u8], &[u8])>
     None
 }
 
-/// The number of at most `most` that a text is, in decimal digits with no leading zero.
+/// Reads a number of at most `most` from its text, in decimal digits with no leading zero.
 pub fn number(text: &[u8], most: u64) -> Option<u64>
     ensures value { result ≡ number_of most text.now }
     ensures some { IfSome result (λ n. (text.now ≡ decimal n) × (n ≤ most)) }
@@ -27,7 +28,7 @@ pub fn number(text: &[u8], most: u64) -> Option<u64>
     read_number(text, most)
 }
 
-/// The number from `least` to `most` that a text is, as `number` reads it.
+/// Reads a number from `least` to `most` from its text, as `number` does.
 pub fn number_between(text: &[u8], least: u64, most: u64) -> Option<u64>
     ensures value { result ≡ text_number_between least most text.now }
     ensures some { IfSome result (λ n. (text.now ≡ decimal n) × (least ≤ n) × (n ≤ most)) }
@@ -54,7 +55,7 @@ fn read_number(text: &[u8], most: u64) -> Option<u64>
     value_of(text, most)
 }
 
-// Whether there is a byte, and no zero leads others.
+// Tests whether there is a byte, and no zero leads others.
 fn begins_well(text: &[u8]) -> bool
     ensures { result ≡ (nat_lt 0 (length text.now) && (not (slice_index text.now 0 == 48) || length text.now == 1)) }
 {

@@ -6,7 +6,7 @@ ghost use Rattle.cg_version.specs.Version.{generation_after as text_generation_a
 
 use cg_types::{Fault, Generation};
 
-// One more than the stored generation, or 1 where none is stored.
+// Returns one more than the stored generation, or 1 if none is stored.
 fn generation_after(stored: Option<Generation>) -> u32
     ensures { result ≡ text_generation_after stored }
 {
@@ -16,8 +16,8 @@ fn generation_after(stored: Option<Generation>) -> u32
     }
 }
 
-/// The generation of a start at so many seconds since 1970: one more than the stored one (1 where none is
-/// stored), or the seconds where these are more. `VersionsSpent` above 2,147,483,647; no other refusal comes.
+/// Returns the generation of a start at `now_secs` seconds since 1970. It is one more than the stored one (1 if none is
+/// stored), or the seconds if these are more. `VersionsSpent` above 2,147,483,647; no other refusal comes.
 pub fn next_generation(stored: Option<Generation>, now_secs: u64) -> Result<Generation, Fault>
     ensures { AnswersExactly (λ g. g) (generation_at_start stored now_secs) result }
 {

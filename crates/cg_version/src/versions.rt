@@ -9,8 +9,8 @@ ghost use Rattle.cg_version.specs.Version.{next_version};
 use cg_types::{Fault, NUMBER_LIMIT, Version};
 use std::marker::Model;
 
-/// Versions from 1 on, each greater than the last one given. A copy gives the same versions again. A contract sees the
-/// last one given, 0 before the first.
+/// A generator of versions from 1 on, each greater than the last one given. A copy gives the same versions again. A
+/// contract sees the last one given, 0 before the first.
 #[derive(Clone, Copy, Debug, PartialEq, Eq)]
 pub struct Versions {
     last: u32,
@@ -30,14 +30,14 @@ impl Model for Versions {
 }
 
 impl Versions {
-    /// None given yet.
+    /// A generator that has given no version yet.
     pub fn new() -> Versions
         ensures { result ≡ 0 }
     {
         Versions { last: 0 }
     }
 
-    /// Those after a version.
+    /// A generator that gives the versions after one.
     pub fn after(version: Version) -> Versions
         ensures { result ≡ version }
     {
@@ -54,15 +54,15 @@ impl Versions {
         self.last
     }
 
-    /// Whether the greatest version was given: none is left for `next`.
+    /// Tests whether the greatest version was given: none is left for `next`.
     pub fn is_spent(self) -> bool
         ensures { IsTrue result ↔ (next_version self ≡ Err VersionsSpent) }
     {
         Version::new(self.last + 1).is_none()
     }
 
-    /// The version after the last one, which is then the last. `VersionsSpent` after 2,147,483,647, which stays the
-    /// last; no other refusal comes.
+    /// Gives the version after the last one, which is then the last. `VersionsSpent` after 2,147,483,647, which stays
+    /// the last; no other refusal comes.
     pub fn next(&mut self) -> Result<Version, Fault>
         ensures value { AnswersExactly (λ v. v) (next_version self.old) result }
         ensures ok { IfOk result (λ v. self.new ≡ v) }
