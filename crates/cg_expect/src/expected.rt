@@ -1,11 +1,11 @@
-//! Failures of what a test expects.
+//! Failures of a test's expectations.
 
 ghost use Rattle.std.specs.Prelude.{◌≡◌, true, false, MatchResult};
 
 use std::fmt::{Debug, Display};
 use std::test::Fail;
 
-/// Fails unless this holds, with these words.
+/// Fails with these words unless the condition holds.
 pub fn holds<W: Display + Drop>(condition: bool, words: W) -> Result<(), Fail>
     ensures { MatchResult result (λ _. condition ≡ true) (λ _. condition ≡ false) }
 {
@@ -15,7 +15,7 @@ pub fn holds<W: Display + Drop>(condition: bool, words: W) -> Result<(), Fail>
     Err(Fail::new(words))
 }
 
-/// Fails unless the two are equal, with both and these words.
+/// Fails with both values and these words unless the two are equal.
 pub fn eq<T: PartialEq + Debug, W: Display + Drop>(found: &T, due: &T, words: W) -> Result<(), Fail>
     ensures { MatchResult result (λ _. T.eq found.now due.now ≡ true) (λ _. T.eq found.now due.now ≡ false) }
 {

@@ -1,14 +1,14 @@
-//! What a test expects. Where it finds something else it fails, and says what it found.
+//! Expectations of tests: a test that finds something else fails, and says what it found.
 //!
-//! `expect!(x < 5)?` and `expect_eq!(x, 5)?` stand in tests where `assert!` and `assert_eq!` could: they hand the failure
-//! back in place of a panic, so that what a test still holds is dropped in one place, and its proof is short.
+//! `expect!(x < 5)?` and `expect_eq!(x, 5)?` are used in tests where `assert!` and `assert_eq!` could be. They return
+//! the failure instead of a panic, so that all that a test still holds is dropped in one place, and its proof is short.
 #![tactic(auto)]
 
 mod expected;
 
 pub use expected::{eq, holds};
 
-/// Fails unless the condition holds, and then shows its text; or the words behind it, as `format!` has them.
+/// Fails unless the condition holds, and then shows its text, or the words after it, as `format!` writes them.
 #[macro_export]
 macro_rules! expect {
     ($condition:expr $(,)?) => {
@@ -19,7 +19,7 @@ macro_rules! expect {
     };
 }
 
-/// Fails unless the two are equal, and then shows both, and the words behind them, as `format!` has them.
+/// Fails unless the two are equal, and then shows both, and the words after them, as `format!` writes them.
 #[macro_export]
 macro_rules! expect_eq {
     ($found:expr, $due:expr $(,)?) => {

@@ -5,8 +5,8 @@ ghost use Rattle.std.specs.Option.{option_to_list};
 
 use std::alloc::AllocError;
 
-/// Puts an item at the end, if there is one. `AllocError` where the list finds no room for it; the list is then as it
-/// was, and the item is gone. No item needs no room.
+/// Puts an item at the end of a list, if there is one. `AllocError` if the list finds no room for it; the list is then
+/// unchanged, and the item is dropped. No item needs no room.
 pub fn push_some<T: Drop>(items: &mut Vec<T>, item: Option<T>) -> Result<(), AllocError>
     ensures ok { OnOk result (items.new.items ≡ items.old.items ++ option_to_list item) }
     ensures none { IsNone item → IsOk result }

@@ -40,7 +40,7 @@ module _ {X : Type 0} where
   not_got rows given m k at same valid seen gap =
       sym (find_in_gap k rows at (rw same at gap)) ∙ sym (get_rising rows k valid) ∙ ap (λ (n : FinMap nat_cmp X). get n k) seen
 
-  -- a map is empty exactly where it has no rows
+  -- a map is empty exactly if it has no rows
   pub entries-empty : entries (empty {X = X} {R = nat_cmp}) ≡ []
   entries-empty = ap (λ (n : FinMap nat_cmp X). entries n) (sym from_sorted-none) ∙ entries_rising [] refl
 
@@ -50,6 +50,6 @@ module _ {X : Type 0} where
   pub is_empty : (rows : List (ℕ × X)) (m : FinMap nat_cmp X) → rows ≡ entries m → rows ≡ [] → empty ≡ m
   is_empty rows m is none = same_entries_map empty m (entries-empty ∙ sym none ∙ is)
 
-  -- what `put` makes of the rows around the key
+  -- the rows that `put` makes of those around the key
   pub put_rows : (rows given b a : List (ℕ × X)) (k : ℕ) (v : X) → given ≡ rows → b ≡ before k given → a ≡ after k given → ((b ++ (k, v) ∷ []) ++ a) ≡ walk ((k, v) ∷ []) rows
   put_rows rows given b a k v same front back = walk_step [] rows ((k, v) ∷ []) [] b a (k, v) refl (front ∙ ap (before k) same) (back ∙ ap (after k) same)

@@ -1,4 +1,4 @@
--- Rows that rise: what a search finds among them, and what stands around a key.
+-- Rows that rise: a search among them, and the rows around a key.
 use Rattle.std.proofs.Common.{◌≡◌, ℕ, zero, suc, ◌+◌, ◌-◌, ◌<◌, ◌≤◌, Bool, true, false, List, [], ◌∷◌, length, take, drop, get_or, Option, Some, None, Result, Ok, Err, IfOk, IfErr, length-drop, refl, sym, ap, arith, nat_lt}
 use Rattle.std.specs.List.{filter, AllWithin}
 use Rattle.std.specs.List.Sorted.{IsSearchInRange, IsBinarySearchResult, IsNonDecreasingBy}
@@ -20,7 +20,7 @@ ties : (k x : ℕ) → x ≡ k → eq_by_cmp nat_cmp k x ≡ true
 ties k x same = rw same (grind (arith, nat_tests))
 
 module _ {X : Type 0} where
-  -- all after the first are greater than what the first is greater than
+  -- all after the first are greater than all that the first is greater than
   pub later : (x : ℕ) (rs : List (ℕ × X)) → rise_past (Some x) (keys_of rs) ≡ true → AllWithin (λ r. x < r.0) rs 0 (length rs)
   later x [] h k d lo hi = absurd (omega arith)
   later x (r ∷ rs) h zero d lo hi = ltb-true x r.0 (first_of (nat_lt x r.0) (rise_past (Some r.0) (keys_of rs)) h)
@@ -35,7 +35,7 @@ module _ {X : Type 0} where
   keys_lt last (r ∷ rs) h zero (suc j) d lt hi = later r.0 rs (second_of (is_past last r.0) (rise_past (Some r.0) (keys_of rs)) h) j d (omega arith) (omega arith)
   keys_lt last (r ∷ rs) h (suc i) (suc j) d lt hi = keys_lt (Some r.0) rs (second_of (is_past last r.0) (rise_past (Some r.0) (keys_of rs)) h) i j d (omega arith) (omega arith)
 
-  -- the comparisons with k rise along the rows, as a binary search asks
+  -- the comparisons with k rise along the rows, as a binary search requires
   comparisons_rise : (k : ℕ) (rs : List (ℕ × X)) → Rises (keys_of rs) → IsNonDecreasingBy (λ r. ordering_index (nat_cmp r.0 k)) rs
   comparisons_rise k rs h i j d le hi =
       let keys_rise : (get_or rs i d).0 ≤ (get_or rs j d).0 = grind (arith, keys_lt None rs h i j d, λ (same : i ≡ j). ap (λ (n : ℕ). (get_or rs n d).0) same) in
@@ -103,7 +103,7 @@ module _ {X : Type 0} where
     pub after_gap : drop at rs ≡ after k rs
     after_gap = filter_back (λ r. nat_lt k r.0) rs at (λ j d lo lt. let under = gap.less_before j d lo lt in le-ltb k _ (omega arith)) (λ j d lo lt. lt-ltb k _ (gap.greater_from j d lo lt))
 
-  -- ---- what is found
+  -- ---- the row found at a key
 
   pub find_absent : (k : ℕ) (rs : List (ℕ × X)) → AllWithin (λ r. k ≡ r.0 → ⊥) rs 0 (length rs) → find nat_cmp k rs ≡ None
   find_absent k [] none = refl
@@ -124,6 +124,6 @@ module _ {X : Type 0} where
   pub find_row : (k : ℕ) (rs : List (ℕ × X)) (at : ℕ) (d : ℕ × X) → Rises (keys_of rs) → IsRowAt rs k at → find nat_cmp k rs ≡ Some (get_or rs at d).1
   find_row k rs at d h here = find_at_place k rs at d here.in_range (here.has_key d) (λ j e lo lt same. omega (arith, keys_lt None rs h j at e lt here.in_range, here.has_key e))
 
-  -- what `&rows[n..]` is
+  -- the value of `&rows[n..]`
   pub rest_from : (rs : List (ℕ × X)) (n : ℕ) → take (length rs - n) (drop n rs) ≡ drop n rs
   rest_from rs n = take_all (length rs - n) (drop n rs) (omega (arith, length-drop n rs))

@@ -37,7 +37,7 @@ impl<T> Model for SharedMap<T> {
 }
 
 impl<T: Drop> SharedMap<T> {
-    /// The map with no rows. It takes no memory.
+    /// A map with no rows. It takes no memory.
     pub fn new(alloc: Global) -> SharedMap<T>
         ensures { result ≡ map.empty }
     {
@@ -46,7 +46,7 @@ impl<T: Drop> SharedMap<T> {
         }
     }
 
-    /// The value that is held for an endpoint, if there is one.
+    /// The value held for an endpoint, if there is one.
     pub fn get(&self, endpoint: Endpoint) -> Option<&T>
         ensures { option_copied result ≡ map.get self.now endpoint }
     {
@@ -74,8 +74,8 @@ impl<T: Drop> SharedMap<T> {
         &self.rows
     }
 
-    /// A map with one value put, which shares all others. `AllocError` where the new row or the list of rows finds no
-    /// memory.
+    /// Returns a map with one value put, which shares all others. `AllocError` if the new row or the list of rows finds
+    /// no memory.
     pub fn put(
         &self,
         alloc: Global,
@@ -87,7 +87,7 @@ impl<T: Drop> SharedMap<T> {
         self.put_row(alloc, Row::new(alloc, endpoint, value)?)
     }
 
-    /// A map with one row put, which shares all others. `AllocError` where the list of rows finds no memory.
+    /// Returns a map with one row put, which shares all others. `AllocError` if the list of rows finds no memory.
     pub fn put_row(&self, alloc: Global, row: Row<T>) -> Result<SharedMap<T>, AllocError>
         ensures { IfOk result (λ m. m ≡ map.insert self.now row.0 row.1) }
     {
@@ -99,8 +99,8 @@ impl<T: Drop> SharedMap<T> {
         Ok(SharedMap { rows })
     }
 
-    /// A map with each of the rows put, in one walk. It shares all values. The rows have to rise by endpoint, as
-    /// `owners_rise` of `cg_types` tells. `AllocError` where the list of rows finds no memory.
+    /// Returns a map with each of the rows put, in one walk. It shares all values. The rows have to rise by endpoint,
+    /// as `owners_rise` of `cg_types` tests. `AllocError` if the list of rows finds no memory.
     pub fn put_rows(&self, alloc: Global, changes: Vec<Row<T>>) -> Result<SharedMap<T>, AllocError>
         requires { Rises (keys_of changes.items) }
         ensures { IfOk result (λ m. m ≡ put_each changes.items self.now) }
@@ -110,8 +110,8 @@ impl<T: Drop> SharedMap<T> {
         })
     }
 
-    /// As `put_rows`, of rows that are lent: the map shares them. `AllocError` where one of the two lists finds no
-    /// memory.
+    /// Returns a map with each of the rows put, as `put_rows` does, of borrowed rows, which it shares. `AllocError` if
+    /// one of the two lists finds no memory.
     pub fn with_rows(&self, alloc: Global, changes: &[Row<T>]) -> Result<SharedMap<T>, AllocError>
         requires { Rises (keys_of changes.now) }
         ensures { IfOk result (λ m. m ≡ put_each changes.now self.now) }
@@ -121,7 +121,7 @@ impl<T: Drop> SharedMap<T> {
         self.put_rows(alloc, rows)
     }
 
-    /// The same map, which shares its values. `AllocError` where its list of rows finds no memory; an empty map needs
+    /// The same map, which shares its values. `AllocError` if its list of rows finds no memory; an empty map needs
     /// none.
     pub fn copy(&self, alloc: Global) -> Result<SharedMap<T>, AllocError>
         ensures value { IfOk result (λ m. m ≡ self.now) }

@@ -31,7 +31,7 @@ impl<T> Model for Row<T> {
 }
 
 impl<T> Row<T> {
-    /// A row of its own, in one block of memory. `AllocError` where there is none.
+    /// Makes a row of its own, in one block of memory. `AllocError` if there is none.
     pub fn new(alloc: Global, endpoint: Endpoint, value: T) -> Result<Row<T>, AllocError>
     where
         T: Drop,
@@ -57,8 +57,8 @@ impl<T> Row<T> {
         self.value.deref()
     }
 
-    /// The same row. It copies nothing of the value and takes no memory; `AllocError` stands for a count of
-    /// owners that is full, which no memory can hold.
+    /// The same row. It copies nothing of the value and takes no memory; `AllocError` comes if the count of owners is
+    /// full, which takes more of them than memory can hold.
     pub fn share(&self) -> Result<Row<T>, AllocError>
         ensures { IfOk result (λ r. r ≡ self.now) }
     {
@@ -77,7 +77,7 @@ impl<T> Owned for Row<T> {
     }
 }
 
-// Where the endpoint's row is, or where it would go, by halving.
+// The place of the endpoint's row, or the place where it would go, by halving.
 fn halve<T>(rows: &[Row<T>], endpoint: Endpoint) -> Result<usize, usize>
     requires { Rises (keys_of rows.now) }
     ensures found { IfOk result (λ at. IsRowAt rows.now endpoint at) }
@@ -86,8 +86,8 @@ fn halve<T>(rows: &[Row<T>], endpoint: Endpoint) -> Result<usize, usize>
     rows.binary_search_by_key(&endpoint, |row| row.endpoint())
 }
 
-// Where the endpoint's row is, or where it would go. It looks at the first row, where a walk finds most, and then
-// halves.
+// The place of the endpoint's row, or the place where it would go. It looks at the first row, where a walk finds most,
+// and then halves.
 pub(crate) fn search<T>(rows: &[Row<T>], endpoint: Endpoint) -> Result<usize, usize>
     requires { Rises (keys_of rows.now) }
     ensures found { IfOk result (λ at. IsRowAt rows.now endpoint at) }

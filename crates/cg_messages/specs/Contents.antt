@@ -1,4 +1,4 @@
--- What each message holds: numbers in their ranges, plain and short texts, and lists that rise and are few.
+-- The contents of each message: numbers in their ranges, plain and short texts, and lists that rise and are few.
 use Rattle.std.specs.List.{AllByRecursion}
 use Rattle.cg_types.specs.Numbers.{IsEndpoint, IsGeneration, IsVersion, IsVersionHeld}
 use Rattle.cg_types.specs.Text.{IsCluster}

@@ -8,16 +8,16 @@ use Rattle.cg_messages.specs.declared.owner_delta.OwnerDelta.{OwnerDelta}
 use Rattle.cg_messages.specs.declared.outcome.Outcome.{Outcome}
 use Rattle.cg_messages.specs.Values.{RequestValue}
 
--- These endpoints can stand in one list of a message.
+-- These endpoints can be in one list of a message.
 pub record AreListed (endpoints : List ℕ) : Type 0 where
   pub rise : Rises endpoints
   pub few : length endpoints ≤ MEMBER_LIMIT
 
--- whether these endpoints can stand in one list of a message
+-- a test that these endpoints can be in one list of a message
 abbrev pub is_member_list : List ℕ → Bool
 is_member_list endpoints = nat_le (length endpoints) MEMBER_LIMIT && rise_past None endpoints
 
--- whom each member is about
+-- the endpoint that each member is about
 abbrev pub endpoints_of_digests : List Digest → List ℕ
 endpoints_of_digests digests = map (λ d. d.endpoint) digests
 

@@ -1,4 +1,4 @@
--- What is true of every message.
+-- Facts of every message.
 use Rattle.cg_messages.specs.declared.message.Message.{Message}
 use Rattle.cg_messages.specs.declared.message.Message.TheVariants.{Syn, Ack, Ack2}
 use Rattle.cg_messages.specs.Contents.{IsSyn, IsAck, IsAck2}

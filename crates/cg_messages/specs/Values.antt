@@ -1,4 +1,4 @@
--- What contracts see of messages.
+-- Values of messages, as contracts see them.
 use Rattle.std.specs.Prelude.{ℕ, List, refl}
 use Rattle.std.specs.Coded.{Coded, code_by, coded×, coded_ℕ, coded_list}
 use Rattle.cg_entry.specs.Values.{DeltaValue, delta_code}
@@ -9,7 +9,7 @@ use Rattle.cg_entry.specs.declared.digest.Digest.{Digest}
 use Rattle.cg_entry.specs.declared.took.Took.{Took}
 use Rattle.cg_entry.specs.Took.{took_code}
 
--- whose entry is asked for, of which generation, and above which version
+-- the owner whose entry is requested, the generation, and the version above which it is requested
 pub record RequestValue : Type 0 where
   pub endpoint : ℕ
   pub generation : ℕ
@@ -20,12 +20,12 @@ pub record SynValue : Type 0 where
   pub cluster : ClusterValue
   pub digests : List Digest
 
--- what the sender of a SYN is asked for, and what it is sent
+-- the requests to the sender of a SYN, and the deltas for it
 pub record AckValue : Type 0 where
   pub requests : List RequestValue
   pub deltas : List OwnerDelta
 
--- the codes that models of such values ask for
+-- the codes that models of such values require
 abbrev pub request_code : Coded RequestValue
 request_code =
     code_by (ℕ × (ℕ × ℕ)) (coded× coded_ℕ (coded× coded_ℕ coded_ℕ))
@@ -56,7 +56,7 @@ ack_code =
     (λ a. (a.requests, a.deltas))
     (λ p. record { requests = p.0; deltas = p.1 }) (λ _. refl)
 
--- what the sender of an ACK is sent
+-- the deltas for the sender of an ACK
 pub record Ack2Value : Type 0 where
   pub deltas : List OwnerDelta
 

@@ -11,8 +11,8 @@ use crate::request::Request;
 use std::alloc::{AllocError, Global};
 use std::marker::Model;
 
-/// What the sender of a SYN is asked for, and what it is sent (Apache Cassandra's `GossipDigestAck`). Both lists rise
-/// strictly by endpoint and have at most `MEMBER_LIMIT` members.
+/// An answer to a SYN: requests to its sender, and deltas for it (Apache Cassandra's `GossipDigestAck`). Both lists
+/// rise strictly by endpoint and have at most `MEMBER_LIMIT` members.
 #[derive(Debug, Drop)]
 pub struct Ack {
     requests: Vec<Request>,
@@ -40,7 +40,7 @@ impl PartialEq for Ack {
 
     ghost laws = { same_by-partial ack_code };
 
-    /// Whether both ask for the same and send the same deltas.
+    /// Returns `true` if both have the same requests and the same deltas.
     fn eq(&self, other: &Ack) -> bool
         ensures { IsTrue result ↔ (self.now ≡ other.now) }
     {
@@ -56,7 +56,8 @@ impl Eq for Ack {
 }
 
 impl Ack {
-    /// `None` unless each list rises strictly by endpoint and has at most `MEMBER_LIMIT` members.
+    /// Makes an ACK of its two lists. `None` unless each list rises strictly by endpoint and has at most `MEMBER_LIMIT`
+    /// members.
     pub fn new(requests: Vec<Request>, deltas: Vec<OwnerDelta>) -> Option<Ack>
         ensures when { is_some result
             ≡ (is_member_list (endpoints_of_requests requests.items)
@@ -69,8 +70,8 @@ impl Ack {
         Some(Ack::of_parts(requests, deltas))
     }
 
-    /// An ACK of lists that can stand in a message. It takes the lists as they are, no memory, and refuses nothing: `new` is for
-    /// lists that may not be such.
+    /// Makes an ACK of lists that can be in a message. It takes the lists unchanged, no memory, and refuses nothing:
+    /// `new` is for lists that may not be such.
     pub fn of_parts(requests: Vec<Request>, deltas: Vec<OwnerDelta>) -> Ack
         requires requests { AreListed (endpoints_of_requests requests.items) }
         requires deltas { AreListed (endpoints_of_deltas deltas.items) }
@@ -81,7 +82,7 @@ impl Ack {
         Ack { requests, deltas }
     }
 
-    /// What the sender of the SYN is asked for, rising by endpoint.
+    /// The requests to the sender of the SYN, rising by endpoint.
     pub fn requests(&self) -> &[Request]
         ensures value { result.now ≡ self.now.requests }
         ensures listed { AreListed (endpoints_of_requests self.now.requests) }
@@ -90,7 +91,7 @@ impl Ack {
         &self.requests
     }
 
-    /// What it is sent, rising by endpoint.
+    /// The deltas for the sender of the SYN, rising by endpoint.
     pub fn deltas(&self) -> &[OwnerDelta]
         ensures value { result.now ≡ self.now.deltas }
         ensures listed { AreListed (endpoints_of_deltas self.now.deltas) }
@@ -99,7 +100,7 @@ impl Ack {
         &self.deltas
     }
 
-    /// The same answer, which shares the texts of its states. `AllocError` where there is no memory for its lists.
+    /// The same answer, which shares the texts of its states. `AllocError` if there is no memory for its lists.
     pub fn copy(&self, alloc: Global) -> Result<Ack, AllocError>
         ensures { IfOk result (λ a. a ≡ self.now) }
     {

@@ -10,8 +10,8 @@ use crate::parts::show_all;
 use std::alloc::{AllocError, Global};
 use std::marker::Model;
 
-/// What the sender of an ACK is sent for its requests (Apache Cassandra's `GossipDigestAck2`). The deltas rise strictly
-/// by endpoint and are at most `MEMBER_LIMIT`.
+/// An answer to an ACK: the deltas for its sender's requests (Apache Cassandra's `GossipDigestAck2`). They rise
+/// strictly by endpoint and are at most `MEMBER_LIMIT`.
 #[derive(Debug, Drop)]
 pub struct Ack2 {
     deltas: Vec<OwnerDelta>,
@@ -38,7 +38,7 @@ impl PartialEq for Ack2 {
 
     ghost laws = { same_by-partial ack2_code };
 
-    /// Whether both send the same deltas.
+    /// Returns `true` if both have the same deltas.
     fn eq(&self, other: &Ack2) -> bool
         ensures { IsTrue result ↔ (self.now ≡ other.now) }
     {
@@ -54,7 +54,7 @@ impl Eq for Ack2 {
 }
 
 impl Ack2 {
-    /// `None` unless the deltas rise strictly by endpoint and are at most `MEMBER_LIMIT`.
+    /// Makes an ACK2 of its deltas. `None` unless they rise strictly by endpoint and are at most `MEMBER_LIMIT`.
     pub fn new(deltas: Vec<OwnerDelta>) -> Option<Ack2>
         ensures when { is_some result ≡ is_member_list (endpoints_of_deltas deltas.items) }
         ensures value { IfSome result (λ a. a ≡ record { deltas = deltas.items }) }
@@ -65,8 +65,8 @@ impl Ack2 {
         Some(Ack2::of_parts(deltas))
     }
 
-    /// An ACK2 of deltas that can stand in a message. It takes the list as it is, no memory, and refuses nothing: `new` is for
-    /// a list that may not be such.
+    /// Makes an ACK2 of deltas that can be in a message. It takes the list unchanged, no memory, and refuses nothing:
+    /// `new` is for a list that may not be such.
     pub fn of_parts(deltas: Vec<OwnerDelta>) -> Ack2
         requires { AreListed (endpoints_of_deltas deltas.items) }
         ensures { result ≡ record { deltas = deltas.items } }
@@ -75,7 +75,7 @@ impl Ack2 {
         Ack2 { deltas }
     }
 
-    /// The deltas, rising by endpoint.
+    /// The deltas for the sender of the ACK, rising by endpoint.
     pub fn deltas(&self) -> &[OwnerDelta]
         ensures value { result.now ≡ self.now.deltas }
         ensures listed { AreListed (endpoints_of_deltas self.now.deltas) }
@@ -84,7 +84,7 @@ impl Ack2 {
         &self.deltas
     }
 
-    /// The same answer, which shares the texts of its states. `AllocError` where there is no memory for its deltas.
+    /// The same answer, which shares the texts of its states. `AllocError` if there is no memory for its deltas.
     pub fn copy(&self, alloc: Global) -> Result<Ack2, AllocError>
         ensures { IfOk result (λ a. a ≡ self.now) }
     {

@@ -3,7 +3,7 @@
 ghost use Rattle.std.specs.Prelude.{◌≡◌};
 ghost use Rattle.cg_messages.specs.Kind.{kind_name};
 
-/// Which of the three messages of an exchange one is.
+/// The kind of a message: one of the three of an exchange.
 #[derive(Clone, Copy, Debug, PartialEq, Eq)]
 pub enum Kind {
     Syn,

@@ -1,4 +1,5 @@
-//! Messages that are lent, so that what holds one in another form, as a node's reply, can be written without a copy.
+//! Borrowed messages. With them a message that is held in another form, as a node's reply, can be written without a
+//! copy.
 
 ghost use Rattle.std.specs.Prelude.{◌≡◌, IfOk};
 ghost use Rattle.cg_messages.specs.Lent.{lent_message};
@@ -9,7 +10,7 @@ use crate::message::Message;
 use crate::opening::Syn;
 use std::alloc::{AllocError, Global};
 
-/// A message of which each kind is lent.
+/// A borrowed message of any kind.
 #[derive(Clone, Copy, Debug)]
 pub enum Lent<'a> {
     Syn(&'a Syn),
@@ -18,7 +19,7 @@ pub enum Lent<'a> {
 }
 
 impl Lent<'_> {
-    /// The message, which shares its texts. `AllocError` where there is no memory for its lists.
+    /// Copies the message, which shares its texts. `AllocError` if there is no memory for its lists.
     pub fn copy(self, alloc: Global) -> Result<Message, AllocError>
         ensures { IfOk result (λ m. m ≡ lent_message self.entry) }
     {
@@ -31,7 +32,7 @@ impl Lent<'_> {
 }
 
 impl Message {
-    /// The message, lent.
+    /// The message, borrowed.
     pub fn lent(&self) -> Lent<'_>
         ensures { lent_message result ≡ self.now }
     {

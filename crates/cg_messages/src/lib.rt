@@ -1,7 +1,7 @@
 //! The three messages of an exchange between two members.
 //!
-//! An exchange has the shape of Apache Cassandra's: a SYN of digests (`GossipDigestSyn`), an ACK of what is asked for
-//! and what is sent (`GossipDigestAck`), and an ACK2 of what was asked for (`GossipDigestAck2`). Each list of a message
+//! An exchange has the shape of Apache Cassandra's: a SYN of digests (`GossipDigestSyn`), an ACK of requests and deltas
+//! (`GossipDigestAck`), and an ACK2 of the deltas that were requested (`GossipDigestAck2`). Each list of a message
 //! rises strictly by endpoint and has at most `MEMBER_LIMIT` members.
 #![tactic(auto)]
 

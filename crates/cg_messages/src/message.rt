@@ -9,7 +9,7 @@ use crate::kind::Kind;
 use crate::opening::Syn;
 use std::alloc::{AllocError, Global};
 
-/// What one member sends another in an exchange.
+/// A message that one member sends another in an exchange.
 #[derive(Debug, Drop)]
 pub enum Message {
     Syn(Syn),
@@ -25,7 +25,7 @@ impl PartialEq for Message {
 
     ghost laws = { same_by-partial message_code };
 
-    /// Whether both are of one kind and the same.
+    /// Returns `true` if both are of one kind and the same.
     fn eq(&self, other: &Message) -> bool
         ensures { IsTrue result ↔ (self.now ≡ other.now) }
     {
@@ -46,7 +46,7 @@ impl Eq for Message {
 }
 
 impl Message {
-    /// Which of the three messages it is.
+    /// The message's kind: one of the three of an exchange.
     pub fn kind(&self) -> Kind
         ensures { result ≡ kind_of self.now }
     {
@@ -57,7 +57,7 @@ impl Message {
         }
     }
 
-    /// The same message, which shares its texts. `AllocError` where there is no memory for its lists.
+    /// The same message, which shares its texts. `AllocError` if there is no memory for its lists.
     pub fn copy(&self, alloc: Global) -> Result<Message, AllocError>
         ensures { IfOk result (λ m. m ≡ self.now) }
     {

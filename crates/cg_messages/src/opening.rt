@@ -11,7 +11,7 @@ use cg_types::Cluster;
 use std::alloc::{AllocError, Global};
 use std::marker::Model;
 
-/// The sender's cluster, and how far each entry that it holds has come (Apache Cassandra's `GossipDigestSyn`). The
+/// A SYN: the sender's cluster, and a digest of each entry that it holds (Apache Cassandra's `GossipDigestSyn`). The
 /// digests rise strictly by endpoint and are at most `MEMBER_LIMIT`.
 #[derive(Debug, Drop)]
 pub struct Syn {
@@ -38,7 +38,7 @@ impl PartialEq for Syn {
 
     ghost laws = { same_by-partial syn_code };
 
-    /// Whether both are of the same cluster and have the same digests.
+    /// Returns `true` if both are of the same cluster and have the same digests.
     fn eq(&self, other: &Syn) -> bool
         ensures { IsTrue result ↔ (self.now ≡ other.now) }
     {
@@ -54,7 +54,8 @@ impl Eq for Syn {
 }
 
 impl Syn {
-    /// `None` unless the digests rise strictly by endpoint and are at most `MEMBER_LIMIT`.
+    /// Makes a SYN of a cluster and digests. `None` unless the digests rise strictly by endpoint and are at most
+    /// `MEMBER_LIMIT`.
     pub fn new(cluster: Cluster, digests: Vec<Digest>) -> Option<Syn>
         ensures when { is_some result ≡ is_member_list (endpoints_of_digests digests.items) }
         ensures value { IfSome result (λ s. s ≡ record { cluster = cluster; digests = digests.items }) }
@@ -65,8 +66,8 @@ impl Syn {
         Some(Syn::of_parts(cluster, digests))
     }
 
-    /// A SYN of digests that can stand in a message. It takes the list as it is, no memory, and refuses nothing: `new` is for
-    /// a list that may not be such.
+    /// Makes a SYN of digests that can be in a message. It takes the list unchanged, no memory, and refuses nothing:
+    /// `new` is for a list that may not be such.
     pub fn of_parts(cluster: Cluster, digests: Vec<Digest>) -> Syn
         requires { AreListed (endpoints_of_digests digests.items) }
         ensures { result ≡ record { cluster = cluster; digests = digests.items } }
@@ -91,7 +92,7 @@ impl Syn {
         &self.digests
     }
 
-    /// The same message, which shares the cluster's name. `AllocError` where there is no memory for the digests.
+    /// The same message, which shares the cluster's name. `AllocError` if there is no memory for the digests.
     pub fn copy(&self, alloc: Global) -> Result<Syn, AllocError>
         ensures { IfOk result (λ s. s ≡ self.now) }
     {

@@ -1,9 +1,9 @@
-//! What became of deltas.
+//! Outcomes of a message's deltas, each with its endpoint.
 
 use cg_entry::Took;
 use cg_types::Endpoint;
 
-/// What became of a message's delta, and the endpoint that it was about.
+/// The outcome of a message's delta, and the endpoint that the delta was about.
 #[derive(Clone, Copy, Debug, PartialEq, Eq)]
 pub struct Outcome {
     pub endpoint: Endpoint,

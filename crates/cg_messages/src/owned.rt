@@ -1,4 +1,4 @@
-//! What the members of a message's lists have in common.
+//! Members of a message's lists: each has an owner, and a list of them rises and is short.
 
 ghost use Rattle.std.specs.Prelude.{◌≡◌, map};
 ghost use Rattle.cg_messages.specs.Members.{is_member_list};
@@ -23,7 +23,7 @@ impl Owned for OwnerDelta {
     }
 }
 
-/// Whether the members can stand in one list of a message.
+/// Tests whether the members can be in one list of a message.
 pub(crate) fn are_listed<M: Owned>(members: &[M]) -> bool
     ensures { result ≡ is_member_list (map M.owner_of members.now) }
 {

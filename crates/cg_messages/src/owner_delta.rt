@@ -22,7 +22,7 @@ impl PartialEq for OwnerDelta {
 
     ghost laws = { same_by-partial owner_delta_code };
 
-    /// Whether both are the same delta about the same endpoint.
+    /// Returns `true` if both are the same delta about the same endpoint.
     fn eq(&self, other: &OwnerDelta) -> bool
         ensures { IsTrue result ↔ (self.now ≡ other.now) }
     {
@@ -38,8 +38,8 @@ impl Eq for OwnerDelta {
 }
 
 impl OwnerDelta {
-    /// The same delta about the same endpoint, which shares the texts of its states. `AllocError` where there is no
-    /// memory for the list of the states.
+    /// The same delta about the same endpoint, which shares the texts of its states. `AllocError` if there is no memory
+    /// for the list of the states.
     pub fn copy(&self, alloc: Global) -> Result<OwnerDelta, AllocError>
         ensures { IfOk result (λ d. d ≡ self.now) }
     {

@@ -1,5 +1,5 @@
-//! The parts of messages: what is true of each is told where it is read, so a walk over the parts of a message shows
-//! what is true of the message. Such a walk takes no memory and changes nothing.
+//! The parts of messages. A read of a part shows that it is valid, so a walk over all parts shows that the message is
+//! valid. Such a walk takes no memory and changes nothing.
 
 ghost use Rattle.std.specs.List.{AllByRecursion};
 
@@ -11,7 +11,7 @@ use cg_entry::Digest;
 pub(crate) trait Part {
     ghost IsValid: { Self → Type 0 };
 
-    /// Reads it, which tells that it is valid.
+    /// Reads the part; the read shows that it is valid.
     fn show(&self)
         ensures { IsValid self.now };
 }

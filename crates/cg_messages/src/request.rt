@@ -6,8 +6,8 @@ ghost use Rattle.cg_types.specs.Numbers.{IsVersionHeld};
 use cg_types::{Endpoint, Generation, NUMBER_LIMIT};
 use std::marker::Model;
 
-/// Asks for what stands above a version in an endpoint's entry of a generation, or for the whole entry at version 0: a
-/// `GossipDigest` in the list of Apache Cassandra's `GossipDigestAck`.
+/// A request for the part of an endpoint's entry above a version of a generation, or for the whole entry at version 0:
+/// a `GossipDigest` in the list of Apache Cassandra's `GossipDigestAck`.
 #[derive(Clone, Copy, Debug, PartialEq, Eq)]
 pub struct Request {
     endpoint: Endpoint,
@@ -29,7 +29,7 @@ impl Model for Request {
 }
 
 impl Request {
-    /// `None` where `version` is neither a version nor 0.
+    /// Makes a request. `None` if `version` is neither a version nor 0.
     pub fn new(endpoint: Endpoint, generation: Generation, version: u32) -> Option<Request>
         ensures valid { IsSome result ↔ IsVersionHeld version }
         ensures value { IfSome result (λ r.
@@ -45,21 +45,21 @@ impl Request {
         })
     }
 
-    /// Whose entry is asked for.
+    /// The endpoint whose entry is requested.
     pub fn endpoint(self) -> Endpoint
         ensures { result ≡ self.endpoint }
     {
         self.endpoint
     }
 
-    /// The generation that is asked for.
+    /// The generation that is requested.
     pub fn generation(self) -> Generation
         ensures { result ≡ self.generation }
     {
         self.generation
     }
 
-    /// The greatest version of the generation that the asker holds, or 0 where it holds nothing of it.
+    /// The greatest version of the generation that the sender of the request holds, or 0 if it holds nothing of it.
     pub fn version(self) -> u32
         ensures value { result ≡ self.version }
         ensures range { IsVersionHeld result }

@@ -1,4 +1,4 @@
--- What a node of tests is set to.
+-- The settings of a node of tests.
 use Rattle.std.specs.Prelude.{[], codes}
 use Rattle.cg_types.specs.declared.limits.TheConstants.{PARTITIONER}
 use Rattle.cg_silence.specs.Values.{default_silence}

@@ -1,4 +1,4 @@
-//! States, deltas and entries.
+//! Sample states, deltas and entries.
 
 ghost use Rattle.std.specs.Prelude.{◌≡◌, IfOk};
 ghost use Rattle.std.specs.FinMap as map;
@@ -12,7 +12,7 @@ use cg_types::{Fault, StateText};
 use std::alloc::Global;
 use std::test::Fail;
 
-/// The state of a key at a version with this text. Refusals are those of `StateText::new`.
+/// Makes the state of a key at a version with this text. Refusals are those of `StateText::new`.
 pub fn state(alloc: Global, number: u8, at: u32, text: &str) -> Result<State, Fault>
     ensures { IfOk result (λ s. s ≡ record { key = nearest_key number; version = nearest_number at; text = text.now }) }
 {
@@ -23,7 +23,7 @@ pub fn state(alloc: Global, number: u8, at: u32, text: &str) -> Result<State, Fa
     })
 }
 
-/// The delta of a generation, the version that it stands above, and the heartbeat version.
+/// Makes the delta of a generation, the version that it is above, and the heartbeat version.
 pub fn delta(of: (u32, u32, u32), states: Vec<State>) -> Result<Delta, Fail>
     ensures numbers { IfOk result (λ d.
         (d.generation ≡ nearest_number of.0) × (d.above ≡ of.1) × (d.heartbeat ≡ nearest_number of.2)) }
@@ -34,7 +34,7 @@ pub fn delta(of: (u32, u32, u32), states: Vec<State>) -> Result<Delta, Fail>
     Ok(delta.ok_or("a delta")?)
 }
 
-/// As `delta`, with no states.
+/// Makes a delta as `delta` does, with no states.
 pub fn bare_delta(alloc: Global, of: (u32, u32, u32)) -> Result<Delta, Fail>
     ensures numbers { IfOk result (λ d.
         (d.generation ≡ nearest_number of.0) × (d.above ≡ of.1) × (d.heartbeat ≡ nearest_number of.2)) }
@@ -43,14 +43,14 @@ pub fn bare_delta(alloc: Global, of: (u32, u32, u32)) -> Result<Delta, Fail>
     delta(of, Vec::new(alloc))
 }
 
-/// The entry of an endpoint that has just started at a generation.
+/// Makes the entry of an endpoint that has just started at a generation.
 pub fn entry_at_start(alloc: Global, at: u32) -> Entry
     ensures { result ≡ starting_entry (nearest_number at) }
 {
     Entry::start(alloc, generation(at))
 }
 
-/// An entry of a generation and a heartbeat version, with no states.
+/// Makes an entry of a generation and a heartbeat version, with no states.
 pub fn bare_entry(alloc: Global, at: u32, heartbeat: u32) -> Result<Entry, Fail>
     ensures { IfOk result (λ e.
         e ≡ record { generation = nearest_number at; heartbeat = nearest_number heartbeat; states = map.empty }) }

@@ -1,6 +1,6 @@
 //! Sample values for tests, over the types that all crates share.
 //!
-//! A number that names no value stands for the nearest that does, so that samples of numbers cannot fail.
+//! A number that names no value gives the nearest value, so that samples of numbers cannot fail.
 #![tactic(auto)]
 
 mod entries;

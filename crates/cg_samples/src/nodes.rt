@@ -1,4 +1,4 @@
-//! What a node of tests is set to.
+//! Sample settings of a node.
 
 ghost use Rattle.std.specs.Prelude.{◌≡◌, IfOk};
 ghost use Rattle.cg_samples.specs.Settings.{sample_settings};
@@ -9,7 +9,7 @@ use cg_silence::Silence;
 use cg_types::Fault;
 use std::alloc::Global;
 
-/// Settings of the cluster `c1`, with no seeds and the default silence; at most `OutOfMemory`.
+/// Makes settings of the cluster `c1`, with no seeds and the default silence; at most `OutOfMemory`.
 pub fn settings(alloc: Global) -> Result<Settings, Fault>
     ensures { IfOk result (λ s. s ≡ sample_settings) }
 {

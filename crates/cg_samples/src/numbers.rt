@@ -1,4 +1,4 @@
-//! Endpoints, generations, versions and keys by their numbers.
+//! Sample endpoints, generations, versions and keys by their numbers.
 
 ghost use Rattle.std.specs.Prelude.{◌≡◌, ◌+◌};
 ghost use Rattle.cg_types.specs.Numbers.{endpoint_of};
@@ -6,16 +6,16 @@ ghost use Rattle.cg_samples.specs.Nearest.{nearest_number, nearest_key};
 
 use cg_types::{Endpoint, Generation, NUMBER_LIMIT, STATE_LIMIT, StateKey, Version};
 
-/// The endpoint of this number is 10.0.0.1:7000.
+/// The number of the endpoint 10.0.0.1:7000.
 pub const A: u16 = 1;
 
-/// The endpoint of this number is 10.0.0.2:7000.
+/// The number of the endpoint 10.0.0.2:7000.
 pub const B: u16 = 2;
 
-/// The endpoint of this number is 10.0.0.3:7000.
+/// The number of the endpoint 10.0.0.3:7000.
 pub const C: u16 = 3;
 
-/// 10.0.HIGH.LOW:7000, of the two bytes of the number: endpoints rise with their numbers.
+/// The endpoint 10.0.HIGH.LOW:7000, of the two bytes of the number: endpoints rise with their numbers.
 pub fn endpoint(number: u16) -> Endpoint
     ensures { result ≡ endpoint_of (167772160 + number) 7000 }
 {
@@ -26,7 +26,7 @@ pub fn endpoint(number: u16) -> Endpoint
     }
 }
 
-/// The generation that a number is, or the nearest one.
+/// The generation of a number, or the nearest one.
 pub fn generation(number: u32) -> Generation
     ensures { result ≡ nearest_number number }
 {
@@ -36,7 +36,7 @@ pub fn generation(number: u32) -> Generation
     }
 }
 
-/// The version that a number is, or the nearest one.
+/// The version of a number, or the nearest one.
 pub fn version(number: u32) -> Version
     ensures { result ≡ nearest_number number }
 {
@@ -46,7 +46,7 @@ pub fn version(number: u32) -> Version
     }
 }
 
-/// The key that a number is, or the nearest one.
+/// The key of a number, or the nearest one.
 pub fn key(number: u8) -> StateKey
     ensures { result ≡ nearest_key number }
 {

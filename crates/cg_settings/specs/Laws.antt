@@ -2,6 +2,6 @@
 use Rattle.std.specs.Prelude.{◌≡◌}
 use Rattle.cg_settings.specs.declared.limits.TheConstants.{SEED_LIMIT}
 
--- The seeds of a node.
+-- The most seeds of a node.
 abbrev pub LimitsAreThese : Type 0
 LimitsAreThese = SEED_LIMIT ≡ 16

@@ -1,4 +1,4 @@
--- Which settings of a node are refused, and why.
+-- Settings of a node that are refused, each with its fault.
 use Rattle.std.specs.Prelude.{◌==◌, not, nat_lt, length, None, Result, Ok, Err, if◌then◌else◌}
 use Rattle.cg_types.specs.declared.limits.TheConstants.{PARTITIONER}
 use Rattle.cg_types.specs.Rising.{rise_past}
@@ -7,7 +7,7 @@ use Rattle.cg_settings.specs.declared.fault.SettingsFault.{SettingsFault}
 use Rattle.cg_settings.specs.declared.fault.SettingsFault.TheVariants as fault
 use Rattle.cg_settings.specs.Values.{SettingsValue}
 
--- the settings where the partitioner is the one in use, and the seeds are few and rise; else the first fault
+-- the settings if the partitioner is the one in use, and the seeds are few and rise; else the first fault
 abbrev pub settings_or_fault : SettingsValue → Result SettingsValue SettingsFault
 settings_or_fault s =
     if not (s.cluster.partitioner == PARTITIONER) then Err fault.Partitioner

@@ -1,4 +1,4 @@
--- What contracts see of settings.
+-- Values of a node's settings, as contracts see them.
 use Rattle.std.specs.Prelude.{ℕ, ◌≡◌, ◌≤◌, List, length, refl}
 use Rattle.std.specs.Coded.{Coded, code_by, coded×, coded_ℕ, coded_list}
 use Rattle.cg_types.specs.declared.limits.TheConstants.{PARTITIONER}
@@ -7,7 +7,7 @@ use Rattle.cg_types.specs.Text.{ClusterValue, cluster_code}
 use Rattle.cg_silence.specs.Values.{SilenceValue, silence_code}
 use Rattle.cg_settings.specs.declared.limits.TheConstants.{SEED_LIMIT}
 
--- the cluster, the endpoints that a round falls back on, and how silence is judged
+-- the cluster, the endpoints that a round falls back on, and the settings of silence
 pub record SettingsValue : Type 0 where
   pub cluster : ClusterValue
   pub seeds : List ℕ
@@ -22,7 +22,7 @@ pub record IsSettings (s : SettingsValue) : Type 0 where
   pub rise : Rises s.seeds
   pub few : length s.seeds ≤ SEED_LIMIT
 
--- the code that models of such values ask for
+-- the code that models of such values require
 abbrev pub settings_code : Coded SettingsValue
 settings_code =
     code_by (ClusterValue × (List ℕ × SilenceValue))

@@ -1,10 +1,10 @@
-//! Why settings of a node are refused.
+//! Faults of settings of a node.
 
 use crate::limits::SEED_LIMIT;
 use cg_types::PARTITIONER;
 use thiserror::Error;
 
-/// What is wrong with settings.
+/// A fault of a node's settings.
 #[derive(Clone, Copy, Debug, PartialEq, Eq, Error)]
 pub enum SettingsFault {
     /// The cluster's partitioner is not the one in use.

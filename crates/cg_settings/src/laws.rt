@@ -2,7 +2,7 @@
 
 ghost use Rattle.cg_settings.specs.Laws.{LimitsAreThese};
 
-/// How many seeds a node may have, as a number.
+/// The most seeds of a node are this number.
 pub fn limits_are_these()
     ensures { LimitsAreThese }
 {}

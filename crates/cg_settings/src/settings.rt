@@ -1,4 +1,4 @@
-//! What a node is set to.
+//! A node's settings.
 
 ghost use Rattle.std.specs.Prelude.{◌≡◌, ◌↔◌, IsOk, IsSome, IfSome, IfOk};
 ghost use Rattle.cg_settings.specs.Settings.{settings_or_fault};
@@ -11,7 +11,7 @@ use cg_types::{Cluster, Endpoint, PARTITIONER, endpoints_rise};
 use std::alloc::{AllocError, Global};
 use std::marker::Model;
 
-/// A node's cluster, its seeds, and how it judges silence.
+/// Settings of a node: its cluster, its seeds, and those by which it judges silence.
 #[derive(Debug, Drop)]
 pub struct Settings {
     cluster: Cluster,
@@ -32,8 +32,8 @@ impl Model for Settings {
 }
 
 impl Settings {
-    /// The settings, or what is wrong with them, the first in this order: the cluster's partitioner is the one in use,
-    /// the seeds are at most `SEED_LIMIT`, and they rise strictly.
+    /// Makes the settings, or returns what is wrong with them, the first in this order: the cluster's partitioner is
+    /// the one in use, the seeds are at most `SEED_LIMIT`, and they rise strictly.
     pub fn try_new(
         cluster: Cluster,
         seeds: Vec<Endpoint>,
@@ -58,7 +58,7 @@ impl Settings {
         })
     }
 
-    /// As `try_new`, with `None` for each fault.
+    /// Makes the settings as `try_new` does, with `None` for each fault.
     pub fn new(cluster: Cluster, seeds: Vec<Endpoint>, silence: Silence) -> Option<Settings>
         ensures valid { IsSome result ↔ IsSettings (settings_of cluster seeds.items silence) }
         ensures value { IfSome result (λ s. s ≡ settings_of cluster seeds.items silence) }
@@ -82,7 +82,7 @@ impl Settings {
         &self.seeds
     }
 
-    /// How silence is judged.
+    /// The settings by which the node judges silence.
     pub fn silence(&self) -> Silence
         ensures { result ≡ self.now.silence }
     {

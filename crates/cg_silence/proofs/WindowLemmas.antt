@@ -1,4 +1,4 @@
--- What a window keeps, and what it shows after one more arrival.
+-- The gaps that a window keeps, and shows after one more arrival.
 use Rattle.std.proofs.Common.{◌≡◌, ℕ, ◌-◌, ◌*◌, ◌≤◌, Bool, true, false, cond, List, [], ◌∷◌, ◌++◌, length, drop, sum, Option, Some, None, refl, sym, ap, arith, length-append}
 use Rattle.std.specs.Prelude.{filter}
 use Rattle.std.proofs.lemmas.List.{append-nil, drop-append-le, drop-drop, length-drop}
@@ -10,7 +10,7 @@ use Rattle.cg_silence.specs.declared.limits.TheConstants.{WINDOW_LIMIT, GAP_LIMI
 use Rattle.cg_silence.specs.Values.{SilenceValue, Shown, WindowValue, IsWindow}
 use Rattle.cg_silence.specs.Silence.{gap, latest, greatest_arrival, gaps_of, is_recorded, window_of_all, after_arrival, Shows}
 
--- the last of a list's last, with one more behind
+-- the last of a list's last, with one more after them
 keep_last-push : (n : ℕ) (xs : List ℕ) (x : ℕ) → keep_last n (keep_last n xs ++ x ∷ []) ≡ keep_last n (xs ++ x ∷ [])
 keep_last-push n xs x =
     let k = length xs - n in
@@ -48,7 +48,7 @@ total-kept s gaps capacity total w =
     let within = mul-le (length gaps) s.max_gap WINDOW_LIMIT GAP_LIMIT (omega arith) w.settings.max_within in
     rw w.summed (omega (arith, small, within))
 
--- a ring with one more gap is what a window keeps
+-- a ring with one more gap is the one that a window keeps
 pub keeps_gap : (s : SilenceValue) (gaps : List ℕ) (capacity total : ℕ) (g : ℕ) → IsWindow s gaps capacity total → g ≤ s.max_gap → IsWindow s (keep_last capacity (gaps ++ g ∷ [])) capacity (sum (keep_last capacity (gaps ++ g ∷ [])))
 keeps_gap s gaps capacity total g w small = record {
   settings = w.settings;

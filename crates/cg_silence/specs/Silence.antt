@@ -1,4 +1,4 @@
--- What a window shows of a whole list of arrivals, and its verdict.
+-- Windows: the gaps that one shows of a whole list of arrivals, and its verdict.
 use Rattle.std.specs.Prelude.{ℕ, ◌≡◌, ◌-◌, ◌*◌, max, nat_le, nat_lt, Bool, List, [], ◌∷◌, ◌++◌, length, sum, filter, Option, Some, None, if◌then◌else◌}
 use Rattle.circular_buffer.specs.Buffer.{keep_last}
 use Rattle.cg_silence.specs.Values.{SilenceValue, Shown, WindowValue}
@@ -6,7 +6,7 @@ use Rattle.cg_silence.specs.declared.limits.TheConstants.{THRESHOLD_UNIT}
 use Rattle.cg_silence.specs.declared.verdict.Verdict.{Verdict}
 use Rattle.cg_silence.specs.declared.verdict.Verdict.TheVariants.{Alive, Silent, Unheard}
 
--- the gap of an arrival: the initial one, or what it is past the greatest arrival before it, at least 1
+-- the gap of an arrival: the initial one, or the time since the greatest arrival before it, at least 1
 abbrev pub gap : SilenceValue → Option ℕ → ℕ → ℕ
 gap s None now = s.initial_gap
 gap s (Some last) now = max 1 (now - last)
@@ -21,12 +21,12 @@ abbrev pub greatest_arrival : Option ℕ → List ℕ → Option ℕ
 greatest_arrival before [] = before
 greatest_arrival before (a ∷ arrivals) = greatest_arrival (Some (latest before a)) arrivals
 
--- the gaps of all arrivals, where before is the greatest one before them
+-- the gaps of all arrivals, given the greatest one before them
 abbrev pub gaps_of : SilenceValue → Option ℕ → List ℕ → List ℕ
 gaps_of s before [] = []
 gaps_of s before (a ∷ arrivals) = gap s before a ∷ gaps_of s (Some (latest before a)) arrivals
 
--- whether a gap is recorded
+-- a test that a gap is recorded
 abbrev pub is_recorded : SilenceValue → ℕ → Bool
 is_recorded s g = nat_le g s.max_gap
 
@@ -37,7 +37,7 @@ window_of_all s arrivals = record {
   last = greatest_arrival None arrivals;
 }
 
--- the window shows what is to be shown of these arrivals
+-- the window shows the gaps and the last of these arrivals
 abbrev pub Shows : WindowValue → List ℕ → Type 0
 Shows w arrivals = w.shown ≡ window_of_all w.silence arrivals
 
@@ -49,16 +49,16 @@ with_gap s gaps g = if is_recorded s g then keep_last s.window (gaps ++ g ∷ []
 abbrev pub heard_after : SilenceValue → Shown → ℕ → Shown
 heard_after s w now = record { gaps = with_gap s w.gaps (gap s w.last now); last = Some (latest w.last now) }
 
--- what a window shows after one more arrival; where there is none yet, a new one is taken
+-- the gaps and last arrival that a window shows after one more; if there is no window yet, after one at a new one
 abbrev pub after_arrival : SilenceValue → Option Shown → ℕ → Shown
 after_arrival s None now = heard_after s (window_of_all s []) now
 after_arrival s (Some w) now = heard_after s w now
 
--- whether the time without an arrival is more than threshold thousandths of the mean gap
+-- a test that the time without an arrival is more than threshold thousandths of the mean gap
 abbrev pub is_over : ℕ → ℕ → ℕ → ℕ → Bool
 is_over threshold elapsed count total = nat_lt (threshold * total) (elapsed * count * THRESHOLD_UNIT)
 
--- what is said of an endpoint whose window shows this
+-- the verdict on an endpoint whose window shows this
 abbrev pub verdict : SilenceValue → Shown → ℕ → Verdict
 verdict s w now = judged w.last
   where

@@ -1,9 +1,9 @@
--- What contracts see of settings and windows.
+-- Values of silence's settings and windows, as contracts see them.
 use Rattle.std.specs.Prelude.{ℕ, ◌≡◌, ◌<◌, ◌≤◌, List, length, sum, Option, All, refl}
 use Rattle.std.specs.Coded.{Coded, code_by, coded×, coded_ℕ, coded_list, coded_option}
 use Rattle.cg_silence.specs.declared.limits.TheConstants.{WINDOW_LIMIT, GAP_LIMIT, THRESHOLD_LIMIT, DEFAULT_WINDOW, DEFAULT_INITIAL_GAP, DEFAULT_MAX_GAP, DEFAULT_THRESHOLD}
 
--- how silence is judged: gaps kept, gaps in milliseconds, and thousandths of the mean gap
+-- the settings of silence: gaps kept, gaps in milliseconds, and thousandths of the mean gap
 pub record SilenceValue : Type 0 where
   pub window : ℕ
   pub initial_gap : ℕ
@@ -15,7 +15,7 @@ abbrev pub silence_of : ℕ → ℕ → ℕ → ℕ → SilenceValue
 silence_of window initial_gap max_gap threshold =
     record { window = window; initial_gap = initial_gap; max_gap = max_gap; threshold = threshold }
 
--- the settings where nothing else is set
+-- the settings if nothing else is set
 abbrev pub default_silence : SilenceValue
 default_silence = silence_of DEFAULT_WINDOW DEFAULT_INITIAL_GAP DEFAULT_MAX_GAP DEFAULT_THRESHOLD
 
@@ -34,12 +34,12 @@ pub record Shown : Type 0 where
   pub gaps : List ℕ
   pub last : Option ℕ
 
--- how a window judges, and what it shows
+-- the settings of a window, and what it shows
 pub record WindowValue : Type 0 where
   pub silence : SilenceValue
   pub shown : Shown
 
--- The ring has the settings' room, the gaps in it were due to be recorded, and the total is their sum.
+-- The ring has the settings' room, the gaps in it were to be recorded, and the total is their sum.
 pub record IsWindow (s : SilenceValue) (gaps : List ℕ) (capacity total : ℕ) : Type 0 where
   pub settings : IsSilence s
   pub room : capacity ≡ s.window
@@ -47,7 +47,7 @@ pub record IsWindow (s : SilenceValue) (gaps : List ℕ) (capacity total : ℕ) 
   pub small : All (λ g. g ≤ s.max_gap) gaps
   pub summed : total ≡ sum gaps
 
--- the codes that models of values with these ask for
+-- the codes that models of values with these require
 abbrev pub silence_code : Coded SilenceValue
 silence_code =
     code_by (ℕ × (ℕ × (ℕ × ℕ))) (coded× coded_ℕ (coded× coded_ℕ (coded× coded_ℕ coded_ℕ)))

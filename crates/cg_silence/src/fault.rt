@@ -1,9 +1,9 @@
-//! Why settings of silence are refused.
+//! Faults of settings of silence.
 
 use crate::limits::{GAP_LIMIT, THRESHOLD_LIMIT, WINDOW_LIMIT};
 use thiserror::Error;
 
-/// Which setting is out of its range.
+/// A setting of silence that is out of its range.
 #[derive(Clone, Copy, Debug, PartialEq, Eq, Error)]
 pub enum SilenceFault {
     /// The window is not 1 to `WINDOW_LIMIT` gaps.

@@ -2,7 +2,7 @@
 
 ghost use Rattle.cg_silence.specs.Laws.{LimitsAreThese};
 
-/// What each limit is, and the settings where nothing else is set, as numbers.
+/// The limits, and the settings if nothing else is set, have these numbers.
 pub fn limits_are_these()
     ensures { LimitsAreThese }
 {}

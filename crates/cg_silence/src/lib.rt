@@ -1,4 +1,4 @@
-//! Who has been silent for too long.
+//! Silence: windows of arrivals, and endpoints that are silent for too long.
 //!
 //! For each endpoint that is listened to, a window keeps the last gaps between its arrivals, as the `ArrivalWindow`
 //! of Apache Cassandra's failure detector does. Cassandra compares a floating-point phi; this crate compares whole
@@ -6,6 +6,7 @@
 #![tactic(auto)]
 
 mod fault;
+/// Laws of the limits and defaults.
 pub mod laws;
 mod limits;
 mod silence;

@@ -1,4 +1,4 @@
-//! How silence is judged.
+//! Settings by which silence is judged.
 
 ghost use Rattle.std.specs.Prelude.{◌≡◌, ◌↔◌, IsOk, IsSome, IfSome};
 ghost use Rattle.cg_silence.specs.Settings.{settings_or_fault};
@@ -11,7 +11,7 @@ use crate::limits::{
 };
 use std::marker::Model;
 
-/// How silence is judged. Gaps are in milliseconds, and the threshold is in thousandths of the mean gap.
+/// Settings by which silence is judged. Gaps are in milliseconds, and the threshold is in thousandths of the mean gap.
 #[derive(Clone, Copy, Debug, PartialEq, Eq)]
 pub struct Silence {
     window: usize,
@@ -34,8 +34,9 @@ impl Model for Silence {
 }
 
 impl Silence {
-    /// The settings, or which of them is out of its range, the first in this order: the window is 1 to `WINDOW_LIMIT`
-    /// gaps, `max_gap` 1 to `GAP_LIMIT`, the initial gap 1 to `max_gap`, and the threshold 1 to `THRESHOLD_LIMIT`.
+    /// Makes the settings, or returns the one that is out of its range, the first in this order: the window is 1 to
+    /// `WINDOW_LIMIT` gaps, `max_gap` 1 to `GAP_LIMIT`, the initial gap 1 to `max_gap`, and the threshold 1 to
+    /// `THRESHOLD_LIMIT`.
     pub fn try_new(
         window: usize,
         initial_gap: u32,
@@ -65,7 +66,7 @@ impl Silence {
         })
     }
 
-    /// As `try_new`, with `None` for each fault.
+    /// Makes the settings as `try_new` does, with `None` for each fault.
     pub fn new(window: usize, initial_gap: u32, max_gap: u32, threshold: u32) -> Option<Silence>
         ensures valid { IsSome result ↔ IsSilence (silence_of window initial_gap max_gap threshold) }
         ensures value { IfSome result (λ s. s ≡ silence_of window initial_gap max_gap threshold) }
@@ -73,7 +74,7 @@ impl Silence {
         Silence::try_new(window, initial_gap, max_gap, threshold).ok()
     }
 
-    /// How many gaps a window keeps.
+    /// The number of gaps that a window keeps.
     pub fn window(self) -> usize
         ensures value { result ≡ self.window }
         ensures valid { IsSilence self }
@@ -95,7 +96,7 @@ impl Silence {
         self.max_gap
     }
 
-    /// How many thousandths of the mean gap may pass without an arrival.
+    /// The time that may pass without an arrival, in thousandths of the mean gap.
     pub fn threshold(self) -> u32
         ensures { result ≡ self.threshold }
     {

@@ -3,14 +3,14 @@
 ghost use Rattle.std.specs.Prelude.{◌≡◌};
 ghost use Rattle.cg_silence.specs.Verdict.{verdict_name};
 
-/// What a window says of its endpoint at a moment.
+/// A window's verdict on its endpoint at a time.
 #[derive(Clone, Copy, Debug, PartialEq, Eq)]
 pub enum Verdict {
     /// The time since the last arrival is within the threshold.
     Alive,
     /// The time since the last arrival is over the threshold.
     Silent,
-    /// Nothing arrived so far.
+    /// Nothing arrived yet.
     Unheard,
 }
 

@@ -11,8 +11,8 @@ use circular_buffer::HeapCircularBuffer;
 use std::alloc::{AllocError, Global};
 use std::marker::Model;
 
-/// The last recorded gaps between the arrivals of one endpoint, and its last arrival. Moments are milliseconds of
-/// one clock. A gap takes 4 bytes, and their sum is kept beside them.
+/// A window: the last recorded gaps between the arrivals of one endpoint, and its last arrival. Times are milliseconds
+/// of one clock. A gap takes 4 bytes, and their sum is kept beside them.
 #[derive(Drop)]
 pub struct Window {
     silence: Silence,
@@ -21,7 +21,7 @@ pub struct Window {
     last: Option<u64>,
 }
 
-/// A contract sees the settings, and what is shown of the arrivals so far.
+/// A contract sees the settings, and the gaps and last arrival that the window shows.
 impl Model for Window {
     ghost use Rattle.cg_silence.specs.Values.{WindowValue, IsWindow};
 
@@ -52,7 +52,7 @@ fn latest(last: Option<u64>, now: u64) -> u64
     }
 }
 
-// Takes a gap in, in place of the oldest where there is no room, and gives the sum of what is kept.
+// Adds a gap, in place of the oldest if there is no room, and returns the sum of the gaps kept.
 fn replace_oldest(gaps: &mut HeapCircularBuffer<u32>, total: u64, gap: u32) -> u64
     requires total { total ≡ sum gaps.old.items }
     requires room { 0 < gaps.old.capacity }
@@ -68,7 +68,7 @@ fn replace_oldest(gaps: &mut HeapCircularBuffer<u32>, total: u64, gap: u32) -> u
     }
 }
 
-// Whether a time without an arrival is over the threshold.
+// Tests whether a time without an arrival is over the threshold.
 fn is_over(threshold: u32, elapsed: u64, count: usize, total: u64) -> bool
     requires few { count < 2 ^ 32 }
     ensures { result ≡ is_over_of threshold elapsed count total }
@@ -80,7 +80,7 @@ fn is_over(threshold: u32, elapsed: u64, count: usize, total: u64) -> bool
 }
 
 impl Window {
-    /// The window of an endpoint that was not heard yet. It takes all the memory that the window will ever need.
+    /// Makes the window of an endpoint that was not heard yet. It takes all the memory that the window will ever need.
     pub fn new(alloc: Global, silence: Silence) -> Result<Window, AllocError>
         ensures settings { IfOk result (λ w. w.silence ≡ silence) }
         ensures shows { IfOk result (λ w. Shows w []) }
@@ -93,11 +93,11 @@ impl Window {
         })
     }
 
-    /// Something of the endpoint arrived. A moment before the last arrival counts as no elapsed time. It takes no
-    /// memory.
+    /// Records an arrival of the endpoint at `now`, in milliseconds. A time before the last arrival counts as no
+    /// elapsed time. It takes no memory.
     pub fn arrived(&mut self, now: u64)
         ensures step { self.new ≡ record self.old { shown = after_arrival self.old.silence (Some self.old.shown) now } }
-        // Whatever the arrivals so far, it now shows what is to be shown of them and this one.
+        // For all arrivals before, the window now shows what a window shows of them and this one.
         ensures every { (arrivals : List ℕ) → Shows self.old arrivals → Shows self.new (arrivals ++ now ∷ []) }
     {
         let gap = gap(self.silence, self.last, now);
@@ -107,7 +107,7 @@ impl Window {
         self.last = Some(latest(self.last, now));
     }
 
-    // Takes a gap in, in place of the oldest where there is no room.
+    // Adds a gap, in place of the oldest if there is no room.
     fn keep_gap(&mut self, gap: u32)
         requires { gap ≤ self.old.silence.max_gap }
         ensures { self.new ≡ record self.old {
@@ -119,7 +119,8 @@ impl Window {
         self.total = replace_oldest(&mut self.gaps, self.total, gap);
     }
 
-    /// The verdict at a moment. A moment before the last arrival counts as no elapsed time. It takes no memory.
+    /// Returns the verdict at `now`, in milliseconds. A time before the last arrival counts as no elapsed time. It
+    /// takes no memory.
     pub fn verdict(&self, now: u64) -> Verdict
         ensures { result ≡ verdict self.now.silence self.now.shown now }
     {

@@ -1,4 +1,4 @@
--- What is put into a table is in range, where what it holds and what is put are.
+-- A table with entries put is in range, if the table and the entries are.
 use Rattle.std.proofs.Common.{◌≡◌, ℕ, Bool, true, false, cond, List, [], ◌∷◌, Some, None, ◌++◌, refl, sym, subst, ◌∙◌}
 use Rattle.std.specs.List.{AllByRecursion}
 use Rattle.std.specs.Ordering.{nat_cmp, eq_by_cmp}

@@ -1,4 +1,4 @@
--- What becomes of a spelled delta at a table that spells places.
+-- The outcome of a spelled delta at a table that spells places.
 use Rattle.std.proofs.Common.{◌≡◌, ◌==◌, ◌≤◌, ℕ, Bool, true, false, cond, List, length, Option, Some, None, Ok, Err, refl, sym, ap, subst, ◌∙◌, arith, eqb-true}
 use Rattle.std.specs.Option.{option_map, option_or}
 use Rattle.std.specs.Ordering.{nat_cmp, eq_by_cmp}
@@ -26,7 +26,7 @@ use Rattle.cg_table.specs.Laws.{IsPutAsItsSpan, PutDeltasMovePlaces}
 
 -- ---- one owner
 
--- what is held of an owner after a change of its row
+-- the entry held of an owner after a change of its row
 abbrev pub held_with : Option (ℕ × EntryValue) → Option EntryValue → Option EntryValue
 held_with row held = option_or (option_map (λ r. r.1) row) held
 
@@ -35,7 +35,8 @@ held_by q (absorbed.Taken e) held = refl
 held_by q absorbed.Old held = refl
 held_by q absorbed.Gap held = refl
 
--- What a spelled delta changes about the owner q, at a table that holds the entry at the place p of its history.
+-- The facts of a change by a spelled delta about the owner q, at a table that holds the entry at the place p of its
+-- history.
 pub record IsChangedAsItsSpan (t : TableValue) (q : ℕ) (h : List EntryValue) (p : ℕ) (span : Span) (d : DeltaValue) : Type 0 where
   pub held : held_with (change_of t q d).0 (get t.entries q) ≡ at_place h (place_with (q == t.own) p (Some span))
   pub outcome : (change_of t q d).1 ≡ took_for (q == t.own) p span
@@ -99,7 +100,7 @@ row_put owner m q (Some r) key =
 
 -- ---- the law
 
--- what is answered where there is room
+-- the answer if there is room
 given : {A : Type 0} (full : Bool) (x y : A) → cond full (Err TableFull) (Ok x) ≡ Ok y → x ≡ y
 given true x y e = absurd cc
 given false x y e = cc

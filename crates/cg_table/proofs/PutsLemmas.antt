@@ -36,7 +36,7 @@ keep_order-append t (x ∷ xs) qs p q =
     both (is_in_order t x) (keep_order (with_put t x) (xs ++ qs)) (first_of (is_in_order t x) (keep_order (with_put t x) xs) p)
     (keep_order-append (with_put t x) xs qs (second_of (is_in_order t x) (keep_order (with_put t x) xs) p) q)
 
--- what follows puts in order is in order where they lead
+-- puts that follow others in order are in order at the table that those lead to
 pub keep_order-rest : (t : TableValue) (ps qs : List Put) → keep_order t (ps ++ qs) ≡ true → keep_order (with_puts t ps) qs ≡ true
 keep_order-rest t [] qs order = order
 keep_order-rest t (x ∷ xs) qs order = keep_order-rest (with_put t x) xs qs (second_of (is_in_order t x) (keep_order (with_put t x) (xs ++ qs)) order)
@@ -64,7 +64,7 @@ put_by : (held row : Option EntryValue) → ((e : EntryValue) → row ≡ Some e
 put_by held None ahead = not_put held
 put_by held (Some e) ahead = rw (ahead e refl) refl
 
--- where rows that rise, each later than what is held, are put, they are what is later
+-- if rows that rise, each later than the entry held, are put, they are the later entries
 pub later_entries-put_each : (m : Entries) (rows : List Put) → Rises (keys_of rows) → ((q : ℕ) (e : EntryValue) → find nat_cmp q rows ≡ Some e → is_ahead (get m q) e ≡ true)
     → later_entries m (put_each rows m) ≡ rows
 later_entries-put_each m rows rise ahead =
@@ -93,6 +93,6 @@ held_past last (p ∷ ps) m rise =
       held_past (Some p.0) ps (insert m p.0 p.1) rest,
     )
 
--- what rises and is put is held
+-- rows that rise and are put are held
 pub put_each-held : (rows : List Put) (m : Entries) → Rises (keys_of rows) → AreHeld (put_each rows m) rows
 put_each-held rows m rise = held_past None rows m rise

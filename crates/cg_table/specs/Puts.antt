@@ -1,4 +1,4 @@
--- What leads from a table to a later one: puts of whole entries.
+-- Puts of whole entries, which lead from a table to a later one.
 use Rattle.std.specs.Prelude.{ℕ, ◌==◌, Bool, true, false, ◌&&◌, ◌||◌, not, nat_le, List, [], ◌∷◌, Option, Some, None}
 use Rattle.std.specs.Coded.{Coded, coded×, coded_ℕ, coded_list}
 use Rattle.std.specs.List.{list_all, filter_map}
@@ -14,7 +14,7 @@ use Rattle.cg_table.specs.Merge.{is_ahead, later_entries}
 abbrev pub Put : Type 0
 Put = ℕ × EntryValue
 
--- the code that a model of puts asks for
+-- the code that a model of puts requires
 abbrev pub puts_code : Coded (List Put)
 puts_code = coded_list (coded× coded_ℕ entry_code)
 
@@ -39,27 +39,27 @@ with_put t put = record { own = t.own; entries = map.insert t.entries put.0 put.
 abbrev pub with_puts : TableValue → List Put → TableValue
 with_puts t ps = record { own = t.own; entries = put_each ps t.entries }
 
--- whether something is held, and not at a smaller version
+-- a test that something is held, and not at a smaller version
 abbrev pub is_held_from : ℕ → Option Versioned → Bool
 is_held_from version None = false
 is_held_from version (Some s) = nat_le version s.version
 
--- whether each key of the old states is among the new ones, and not at a smaller version
+-- a test that each key of the old states is among the new ones, and not at a smaller version
 abbrev pub keeps_keys : States → States → Bool
 keeps_keys old new = list_all (λ s. is_held_from s.1.version (map.get new s.0)) (map.entries old)
 
--- whether an owner's entry goes on from what is held: in the same generation, and keeping its keys
+-- a test that an owner's entry goes on from what is held: in the same generation, and keeping its keys
 abbrev pub goes_on : Option EntryValue → EntryValue → Bool
 goes_on None new = false
 goes_on (Some old) new = (new.generation == old.generation) && keeps_keys old.states new.states
 
--- whether a put is later than what the table holds, and goes on from it where it is the table's own
+-- a test that a put is later than what the table holds, and goes on from it if it is the table's own
 abbrev pub is_in_order : TableValue → Put → Bool
 is_in_order t put =
     let held = map.get t.entries put.0 in
     is_ahead held put.1 && (not (put.0 == t.own) || goes_on held put.1)
 
--- whether puts keep the order, one after the other
+-- a test that puts keep the order, one after the other
 abbrev pub keep_order : TableValue → List Put → Bool
 keep_order t [] = true
 keep_order t (put ∷ ps) = is_in_order t put && keep_order (with_put t put) ps

@@ -13,7 +13,7 @@ use cg_types::Endpoint;
 use std::alloc::{AllocError, Global};
 use std::marker::Model;
 
-/// Owners, rising, each with a whole new entry, which tables may share.
+/// Puts of owners, rising, each with a whole new entry, which tables may share.
 #[derive(Drop)]
 pub struct Puts {
     rows: Vec<Row<Entry>>,
@@ -43,7 +43,7 @@ impl PartialEq for Puts {
 
     ghost laws = { same_by-partial puts_code };
 
-    /// Whether both put the same entries for the same owners, shared or not.
+    /// Returns `true` if both put the same entries for the same owners, shared or not.
     fn eq(&self, other: &Puts) -> bool
         ensures { IsTrue result ↔ (self.now ≡ other.now) }
     {
@@ -69,7 +69,7 @@ fn share_some(row: Option<&Row<Entry>>) -> Result<Option<Row<Entry>>, AllocError
 }
 
 impl Puts {
-    /// No puts. It takes no memory.
+    /// A list of no puts. It takes no memory.
     pub fn none(alloc: Global) -> Puts
         ensures { result ≡ [] }
     {
@@ -78,7 +78,7 @@ impl Puts {
         }
     }
 
-    /// One put. `AllocError` where its row finds no memory.
+    /// Makes a list of one put. `AllocError` if its row finds no memory.
     pub fn one(alloc: Global, owner: Endpoint, entry: Entry) -> Result<Puts, AllocError>
         ensures { IfOk result (λ p. p ≡ (owner, entry) ∷ []) }
     {
@@ -87,8 +87,9 @@ impl Puts {
         Ok(Puts { rows })
     }
 
-    /// What a table holds of some owners, which have to rise, as `endpoints_rise` tells. It shares the entries with the
-    /// table; an owner that the table does not hold is left out. `AllocError` where the list of rows finds no memory.
+    /// Makes puts of what a table holds of some owners, which have to rise, as `endpoints_rise` tests. It shares the
+    /// entries with the table; an owner that the table does not hold is left out. `AllocError` if the list of rows
+    /// finds no memory.
     pub fn of_owners(alloc: Global, table: &Table, owners: &[Endpoint]) -> Result<Puts, AllocError>
         requires { Rises owners.now }
         ensures { IfOk result (λ p. p ≡ rows_at table.now.entries owners.now) }
@@ -108,7 +109,7 @@ impl Puts {
         &self.rows
     }
 
-    /// The same puts, which share their entries. `AllocError` where the list of rows finds no memory.
+    /// The same puts, which share their entries. `AllocError` if the list of rows finds no memory.
     pub fn copy(&self, alloc: Global) -> Result<Puts, AllocError>
         ensures { IfOk result (λ p. p ≡ self.now) }
     {

@@ -20,7 +20,7 @@ use cg_types::{Endpoint, Fault, MEMBER_LIMIT};
 use std::alloc::{AllocError, Global};
 use std::marker::Model;
 
-/// What a member holds of each endpoint: at most `MEMBER_LIMIT` entries, of which one is the member's own.
+/// A table: the entries that a member holds, at most `MEMBER_LIMIT`, one of them the member's own.
 #[derive(Drop)]
 pub struct Table {
     own: Endpoint,
@@ -49,7 +49,7 @@ fn digest_of_row(row: &Row<Entry>) -> Digest
     }
 }
 
-// Whether an entry is later than what is held of its endpoint.
+// Tests whether an entry is later than what is held of its endpoint.
 fn is_ahead(held: Option<&Entry>, theirs: &Entry) -> bool
     ensures { result ≡ is_ahead_of (option_copied held.entry) theirs.now }
 {
@@ -59,7 +59,7 @@ fn is_ahead(held: Option<&Entry>, theirs: &Entry) -> bool
     }
 }
 
-// Whether both are the same rows.
+// Tests whether both are the same rows.
 pub(crate) fn are_same_rows(ours: &[Row<Entry>], theirs: &[Row<Entry>]) -> bool
     ensures { IsTrue result ↔ (ours.now ≡ theirs.now) }
 {
@@ -74,7 +74,7 @@ pub(crate) fn are_same_rows(ours: &[Row<Entry>], theirs: &[Row<Entry>]) -> bool
     true
 }
 
-// Reads a row, which tells that it is in range.
+// Reads a row; the read shows that it is in range.
 fn show(row: &Row<Entry>)
     ensures { IsOwnerRow row.now }
 {
@@ -98,7 +98,7 @@ fn is_same_row(ours: &Row<Entry>, theirs: &Row<Entry>) -> bool
 }
 
 impl Table {
-    /// A table that holds the own entry alone. `AllocError` where its one row finds no memory.
+    /// Makes a table that holds the own entry alone. `AllocError` if its one row finds no memory.
     pub fn new(alloc: Global, own: Endpoint, entry: Entry) -> Result<Table, AllocError>
         ensures { IfOk result (λ t. t ≡ lone_table own entry) }
     {
@@ -119,7 +119,7 @@ impl Table {
         self.own
     }
 
-    /// What is held of an endpoint, if anything is.
+    /// The entry of an endpoint, if it is held.
     pub fn get(&self, endpoint: Endpoint) -> Option<&Entry>
         ensures { option_copied result ≡ table.get self.now.entries endpoint }
     {
@@ -143,7 +143,7 @@ impl Table {
         }
     }
 
-    /// The endpoints that are held with their entries, rising by endpoint.
+    /// The rows of the endpoints that are held, each with its entry, rising by endpoint.
     pub fn owners(&self) -> &[Row<Entry>]
         ensures value { result.now ≡ table.entries self.now.entries }
         ensures rise { Rises (keys_of result.now) }
@@ -153,7 +153,7 @@ impl Table {
         self.entries.rows()
     }
 
-    /// A digest of each entry, rising by endpoint (Cassandra's list of `GossipDigest`). `AllocError` where the list
+    /// Makes a digest of each entry, rising by endpoint (Cassandra's list of `GossipDigest`). `AllocError` if the list
     /// finds no memory.
     pub fn digests(&self, alloc: Global) -> Result<Vec<Digest>, AllocError>
         ensures value { IfOk result (λ ds. ds.items ≡ digests_of self.now.entries) }
@@ -167,7 +167,7 @@ impl Table {
         Ok(digests)
     }
 
-    /// The same table, which shares its entries. `AllocError` where its list of rows finds no memory.
+    /// The same table, which shares its entries. `AllocError` if its list of rows finds no memory.
     pub fn copy(&self, alloc: Global) -> Result<Table, AllocError>
         ensures { IfOk result (λ t. t ≡ self.now) }
     {
@@ -177,7 +177,7 @@ impl Table {
         })
     }
 
-    // How many endpoints are held.
+    // Counts the endpoints that are held.
     fn len(&self) -> usize
         ensures value { result ≡ table.len self.now.entries }
         ensures few { result ≤ MEMBER_LIMIT }
@@ -186,14 +186,14 @@ impl Table {
         owners.len()
     }
 
-    /// Whether both tables hold the same entries. Their own endpoints may differ.
+    /// Tests whether both tables hold the same entries. Their own endpoints may differ.
     pub fn same_entries(&self, other: &Table) -> bool
         ensures { IsTrue result ↔ (self.now.entries ≡ other.now.entries) }
     {
         are_same_rows(self.owners(), other.owners())
     }
 
-    /// Whether a delta needs room for one more endpoint: it is whole, and about one that is not held.
+    /// Tests whether a delta needs room for one more endpoint: it is whole, and about one that is not held.
     pub fn needs_room(&self, endpoint: Endpoint, delta: &Delta) -> bool
         ensures { result ≡ needs_room_for self.now.entries endpoint delta.now }
     {
@@ -215,8 +215,8 @@ impl Table {
         })
     }
 
-    /// The table with another entry for its own endpoint. It shares all others. `AllocError` where the new row or the
-    /// list of rows finds no memory.
+    /// Returns the table with another entry for its own endpoint. It shares all others. `AllocError` if the new row or
+    /// the list of rows finds no memory.
     pub fn with_own(&self, alloc: Global, entry: Entry) -> Result<Table, AllocError>
         ensures { IfOk result (λ t. t ≡ with_own_of entry self.now) }
     {
@@ -224,9 +224,10 @@ impl Table {
         self.with_row(alloc, Some(row))
     }
 
-    /// What a delta about an endpoint changes, of which this is held: the row that it leads to, if it is taken, and
-    /// what becomes of it. None changes the own entry. The table itself stays as it is: `put_rows` puts such rows.
-    /// `AllocError` only where the delta is taken, and the new entry or its row finds no memory.
+    /// Returns the change that a delta about an endpoint makes, given what is held of the endpoint: the row that it
+    /// leads to, if it is taken, and its outcome. No delta changes the own entry. The table itself stays unchanged:
+    /// `put_rows` puts such rows. `AllocError` only if the delta is taken, and the new entry or its row finds no
+    /// memory.
     pub fn change_at(
         &self,
         alloc: Global,
@@ -235,7 +236,7 @@ impl Table {
         delta: &Delta,
     ) -> Result<(Option<Row<Entry>>, Took), AllocError>
         ensures value { IfOk result (λ x. x ≡ change_at_of self.now.own endpoint (option_copied held.entry) delta.now) }
-        // Memory is short only where the delta is taken.
+        // Memory is short only if the delta is taken.
         ensures refused { IfErr result (λ _.
             is_some (change_at_of self.now.own endpoint (option_copied held.entry) delta.now).0 ≡ true) }
     {
@@ -249,7 +250,7 @@ impl Table {
         })
     }
 
-    /// As `change_at`, with what the table holds of the endpoint.
+    /// Returns the change that a delta makes, as `change_at` does, given what the table holds of the endpoint.
     pub fn delta_change(
         &self,
         alloc: Global,
@@ -262,8 +263,8 @@ impl Table {
         self.change_at(alloc, endpoint, self.get(endpoint), delta)
     }
 
-    /// The table after a delta about an endpoint, and what became of the delta. No other owner's entry changes.
-    /// `TableFull` where a whole delta about an endpoint that is not held finds `MEMBER_LIMIT` held; `OutOfMemory` never
+    /// Returns the table after a delta about an endpoint, and the delta's outcome. No other owner's entry changes.
+    /// `TableFull` if a whole delta about an endpoint that is not held finds `MEMBER_LIMIT` held; `OutOfMemory` never
     /// comes in its place, and is else the only refusal.
     pub fn put_delta(
         &self,
@@ -281,7 +282,7 @@ impl Table {
         Ok((self.with_row(alloc, row)?, took))
     }
 
-    // How many of the rows are about endpoints that are not held.
+    // Counts the rows about endpoints that are not held.
     fn strangers(&self, rows: &[Row<Entry>]) -> usize
         ensures value { result ≡ strangers_of self.now.entries rows.now }
         ensures few { result ≤ length rows.now }
@@ -295,15 +296,15 @@ impl Table {
         count
     }
 
-    // How many endpoints both tables hold together.
+    // Counts the endpoints that both tables hold together.
     fn owners_together(&self, other: &Table) -> usize
         ensures { result ≡ owners_together_of self.now.entries other.now.entries }
     {
         self.len() + self.strangers(other.owners())
     }
 
-    /// Whether with the rows put at most `MEMBER_LIMIT` endpoints are held, as `with_rows` asks. The rows have to rise
-    /// by endpoint.
+    /// Tests whether at most `MEMBER_LIMIT` endpoints are held with the rows put, as `with_rows` requires. The rows
+    /// have to rise by endpoint.
     pub fn has_room_for(&self, rows: &[Row<Entry>]) -> bool
         requires { Rises (keys_of rows.now) }
         ensures { IsTrue result ↔ (table.len (put_each rows.now self.now.entries) ≤ MEMBER_LIMIT) }
@@ -325,9 +326,9 @@ impl Table {
         Ok(later)
     }
 
-    /// A table with each of the rows put, in one walk over both lists. All entries are shared, the new ones too. The
-    /// rows have to rise by endpoint, and with them at most `MEMBER_LIMIT` endpoints to be held: `owners_rise` of
-    /// `cg_types` and `has_room_for` tell. `AllocError` where the list of rows finds no memory.
+    /// Returns a table with each of the rows put, in one walk over both lists. All entries are shared, the new ones
+    /// too. The rows have to rise by endpoint, and with them at most `MEMBER_LIMIT` endpoints may be held:
+    /// `owners_rise` of `cg_types` and `has_room_for` test that. `AllocError` if the list of rows finds no memory.
     pub fn put_rows(&self, alloc: Global, changes: Vec<Row<Entry>>) -> Result<Table, AllocError>
         requires rise { Rises (keys_of changes.items) }
         requires room { table.len (put_each changes.items self.now.entries) ≤ MEMBER_LIMIT }
@@ -341,8 +342,8 @@ impl Table {
         })
     }
 
-    /// As `put_rows`, of rows that are lent: the table shares them. `AllocError` where one of the two lists finds no
-    /// memory.
+    /// Returns a table with each of the rows put, as `put_rows` does, of borrowed rows, which it shares. `AllocError`
+    /// if one of the two lists finds no memory.
     pub fn with_rows(&self, alloc: Global, changes: &[Row<Entry>]) -> Result<Table, AllocError>
         requires rise { Rises (keys_of changes.now) }
         requires room { table.len (put_each changes.now self.now.entries) ≤ MEMBER_LIMIT }
@@ -356,9 +357,9 @@ impl Table {
         })
     }
 
-    /// Owner by owner the later entry of the two tables, this table's where neither is later; `own` stays. Entries are
-    /// shared, not copied. `TableFull` where both together hold more than `MEMBER_LIMIT` endpoints; `OutOfMemory`
-    /// never comes in its place, and is else the only refusal.
+    /// Merges two tables: owner by owner the later entry, this table's if neither is later; `own` stays. Entries are
+    /// shared, not copied. `TableFull` if both together hold more than `MEMBER_LIMIT` endpoints; `OutOfMemory` never
+    /// comes in its place, and is else the only refusal.
     pub fn merge(&self, alloc: Global, other: &Table) -> Result<Table, Fault>
         ensures due { Answers (λ t. t) (merging self.now other.now) result }
         ensures each { IfOk result (λ t. (owner : ℕ) → table.get t.entries owner
