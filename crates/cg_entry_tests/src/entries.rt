@@ -1,4 +1,5 @@
-//! Entries and deltas: what is held after starts, beats and sets, what stands above a version, and what is taken.
+//! Entries and deltas: entries after starts, beats and sets, their parts above a version, and deltas that are taken or
+//! not.
 
 use cg_entry::{Absorbed, Delta, Entry, State, meet};
 use cg_expect::{expect, expect_eq};
@@ -36,8 +37,7 @@ fn delta_with_key_2(alloc: Global, above: u32, heartbeat: u32) -> Result<Delta, 
     delta((9, above, heartbeat), one_state(alloc, 2, 4)?)
 }
 
-// The generation, the version that it stands above, the heartbeat version, the newest version, and the number of
-// states.
+// The generation, the version that it is above, the heartbeat version, the newest version, and the number of states.
 type Parts = (u32, u32, u32, u32, usize);
 
 fn parts_of(delta: &Delta) -> Parts {
@@ -63,7 +63,7 @@ fn a_shared_delta_is_the_same(rt: HostRuntime) -> Result<(), Fail> {
     expect_eq!(parts_of(&shared), (9, 2, 5, 5, 1))
 }
 
-// Of two texts, with a letter of one byte and one of two.
+// The bytes of two texts, with a letter of one byte and one of two.
 fn bytes_of_two_texts(alloc: Global) -> Result<usize, Fail> {
     let mut states = one_state(alloc, 2, 4)?;
     states.push(state(alloc, 3, 6, "é")?)?;
@@ -76,7 +76,7 @@ fn texts_are_counted_in_bytes(rt: HostRuntime) -> Result<(), Fail> {
     expect_eq!(bytes_of_two_texts(rt.alloc())?, 3)
 }
 
-// Whether these states make a delta above version 2.
+// Tests whether these states make a delta above version 2.
 fn makes_a_delta(heartbeat: u32, states: Vec<State>) -> Result<bool, Fail> {
     Ok(Delta::new(generation(9), 2, version(heartbeat), states).is_some())
 }
@@ -95,7 +95,7 @@ fn states_of_a_delta_rise_and_are_newer(rt: HostRuntime) -> Result<(), Fail> {
     expect!(!two_make_a_delta(alloc, (1, 4), (2, 2))?)
 }
 
-// Why these states make no delta above version 2, if they make none.
+// The reason why these states make no delta above version 2, if they make none.
 fn cause_of(states: Vec<State>) -> Option<Cause> {
     Delta::try_new(generation(9), 2, version(1), states).err()
 }
@@ -148,13 +148,13 @@ fn a_bare_delta_has_its_parts(rt: HostRuntime) -> Result<(), Fail> {
     expect_eq!(parts_of_bare(rt.alloc(), 2), None)
 }
 
-// Whether a delta is the same as one with key 2 at 4.
+// Tests whether a delta is the same as one with key 2 at 4.
 fn is_same(alloc: Global, delta: &Delta) -> Result<bool, Fail> {
     let one = delta_with_key_2(alloc, 2, 5)?;
     Ok(delta.is_same(&one))
 }
 
-// Whether deltas at generation 9 above 2, with key 2 at this version and heartbeat 5, are the same as one at 4.
+// Tests whether deltas at generation 9 above 2, with key 2 at this version and heartbeat 5, are the same as one at 4.
 fn is_like_one_at_4(alloc: Global, at: u32) -> Result<bool, Fail> {
     let like = delta((9, 2, 5), one_state(alloc, 2, at)?)?;
     is_same(alloc, &like)
@@ -235,7 +235,7 @@ fn states_are_listed(rt: HostRuntime) -> Result<(), Fail> {
     expect_eq!(only_state(&entry), Some((1, 2, "NORMAL")))
 }
 
-// The parts of what is above a version.
+// The parts of an entry's delta above a version.
 fn above(alloc: Global, entry: &Entry, version: u32) -> Result<Option<Parts>, Fail> {
     match entry.above(alloc, version)? {
         Some(delta) => Ok(Some(parts_of(&delta))),
@@ -299,8 +299,8 @@ fn a_part_is_no_entry(rt: HostRuntime) -> Result<(), Fail> {
     expect!(carries_none(rt.alloc(), &part)?)
 }
 
-// Where no version is left: what refuses a set, what refuses a beat, the last version then, and whether the entry is
-// as before.
+// The answers if no version is left: the fault of a set, the fault of a beat, the last version then, and a test that
+// the entry is unchanged.
 type Refused = (Option<Fault>, Option<Fault>, u32, bool);
 
 fn refused(alloc: Global) -> Result<Refused, Fail> {
@@ -319,12 +319,12 @@ fn versions_spent(rt: HostRuntime) -> Result<(), Fail> {
     expect_eq!(refused(rt.alloc())?, (spent, spent, 2147483647, true))
 }
 
-// Of two entries: whether each is later than the other, and whether they are the same.
+// Compares two entries: tests whether each is later than the other, and whether they are the same.
 fn compared(one: &Entry, other: &Entry) -> (bool, bool, bool) {
     (one.is_later(other), other.is_later(one), one.is_same(other))
 }
 
-// Of an entry and the one that is held: how they compare, and whether the held one is the same as itself.
+// An entry beside the one that is held: how they compare, and whether the held one is the same as itself.
 type Beside = ((bool, bool, bool), bool);
 
 fn beside_held(alloc: Global, entry: &Entry) -> Result<Beside, Fail> {
@@ -339,7 +339,7 @@ fn entries_are_compared(rt: HostRuntime) -> Result<(), Fail> {
     expect_eq!(both, ((true, false, false), true))
 }
 
-// ---- what becomes of a delta
+// ---- outcomes of deltas
 
 fn name_of(what: &Absorbed) -> &'static str {
     match what {
@@ -349,12 +349,12 @@ fn name_of(what: &Absorbed) -> &'static str {
     }
 }
 
-// What becomes of a delta at an entry.
+// The outcome of a delta at an entry.
 fn outcome(alloc: Global, entry: &Entry, delta: &Delta) -> Result<&'static str, Fail> {
     Ok(name_of(&entry.absorb(alloc, delta)?))
 }
 
-// Where nothing is held, of a delta of generation 9 with no states.
+// The outcome of a delta of generation 9 with no states if nothing is held.
 fn met_by_nothing(alloc: Global, above: u32) -> Result<&'static str, Fail> {
     let delta = bare_delta(alloc, (9, above, 5))?;
     Ok(name_of(&meet(alloc, None, &delta)?))
@@ -374,12 +374,12 @@ fn taken(alloc: Global, entry: &Entry, delta: &Delta) -> Result<Entry, Fail> {
     }
 }
 
-// What an entry is after a part of generation 9 with key 2 at 4, heartbeat 5, above version 2.
+// The entry after a part of generation 9 with key 2 at 4, heartbeat 5, above version 2.
 fn after_a_part(alloc: Global, entry: &Entry) -> Result<Entry, Fail> {
     taken(alloc, entry, &delta_with_key_2(alloc, 2, 5)?)
 }
 
-// What is held after the part.
+// The entry held after the part.
 fn with_a_part(alloc: Global) -> Result<Entry, Fail> {
     let held = held_entry(alloc)?;
     after_a_part(alloc, &held)
@@ -393,7 +393,7 @@ fn partial_delta_taken(rt: HostRuntime) -> Result<(), Fail> {
     expect_eq!(shown, ((9, 5, 5), (Some(2), Some(4))))
 }
 
-// What becomes of the part at an entry.
+// The outcome of the part at an entry.
 fn outcome_of_a_part(alloc: Global, entry: &Entry) -> Result<&'static str, Fail> {
     outcome(alloc, entry, &delta_with_key_2(alloc, 2, 5)?)
 }
@@ -404,7 +404,7 @@ fn partial_delta_taken_again(rt: HostRuntime) -> Result<(), Fail> {
     expect_eq!(outcome_of_a_part(rt.alloc(), &after)?, "old")
 }
 
-// Of a delta with no states, where the entry is at generation 9, newest 2.
+// The outcome of a delta with no states at an entry of generation 9, newest 2.
 fn bare_outcome(alloc: Global, of: u32, above: u32, heartbeat: u32) -> Result<&'static str, Fail> {
     let held = held_entry(alloc)?;
     let bare = bare_delta(alloc, (of, above, heartbeat))?;
@@ -436,7 +436,7 @@ fn held_and_beaten(alloc: Global) -> Result<Entry, Fail> {
     Ok(held)
 }
 
-// A delta may carry a heartbeat at or below what it stands above, beside a newer state.
+// A delta may carry a heartbeat at or below the version that it is above, beside a newer state.
 #[test]
 fn a_heartbeat_may_fall(rt: HostRuntime) -> Result<(), Fail> {
     let held = held_and_beaten(rt.alloc())?;

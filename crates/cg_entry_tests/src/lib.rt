@@ -1,4 +1,4 @@
-//! Tests of the types that members share, of versions, and of entries and deltas: what no clause says, worked
+//! Tests of the types that members share, of versions, and of entries and deltas: rules that no clause states, worked
 //! examples, and each call once with ample memory.
 #![tactic(auto)]
 

@@ -14,7 +14,7 @@ fn is_endpoint(text: &str) -> bool {
     Endpoint::read(text).is_ok()
 }
 
-// The text that an endpoint is written as.
+// The text that `Display` writes of an endpoint.
 fn written(alloc: Global, endpoint: Endpoint) -> Result<String, AllocError> {
     format!(in alloc; "{endpoint}")
 }
@@ -227,7 +227,7 @@ fn cluster_equals_its_copy(cluster: &Cluster) -> Result<bool, AllocError> {
     Ok(cluster.copy()? == *cluster)
 }
 
-// Of the cluster of this name and partitioner: its partitioner, and whether it differs from another cluster.
+// A cluster of this name and partitioner beside another: its partitioner, and whether the two differ.
 fn other_than(
     alloc: Global,
     cluster: &Cluster,
@@ -249,7 +249,7 @@ fn clusters_are_copied(rt: HostRuntime) -> Result<(), Fail> {
     expect_eq!((by_name, by_partitioner), ((1, true), (2, true)))
 }
 
-// The line that a fault's number, name and details make, as people are shown them.
+// The line that a fault's number, name and details make, as people see them.
 fn shown(alloc: Global, fault: Fault) -> Result<String, AllocError> {
     format!(in alloc; "fault {fault}\n")
 }

@@ -1,4 +1,4 @@
-//! The worked examples, and each call once.
+//! Versions and generations of starts: the worked examples, and each call once.
 
 use cg_expect::{expect, expect_eq};
 use cg_types::{Fault, Generation, Version};
@@ -15,7 +15,7 @@ fn versions_rise() -> Result<(), Fail> {
     expect!(!versions.is_spent())
 }
 
-// Of the versions after this one: the last, the next, and then the last, whether they are spent, and what refuses one
+// The versions after this one: the last, the next, and then the last, whether they are spent, and the fault of one
 // more.
 type After = (u32, Option<Version>, u32, bool, Option<Fault>);
 

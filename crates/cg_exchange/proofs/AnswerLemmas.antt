@@ -36,7 +36,7 @@ module _ {X Y : Type 0} (f : X → Option Y) where
 
 -- ---- the two lists of an answer to a SYN
 
--- what holds of both items of a choice holds of the one that is chosen
+-- a fact of both items of a choice is one of the item that is chosen
 chosen : {A : Type 0} (P : A → Type 0) (b c : Bool) (x y z : A) → P x → P y → cond b (Some x) (cond c (Some y) None) ≡ Some z → P z
 chosen P true c x y z px py e = subst P (same_Some x z e) px
 chosen P false true x y z px py e = subst P (same_Some y z e) py

@@ -1,4 +1,4 @@
--- The deltas of a message are about owners that rise: each meets the table as it was.
+-- The deltas of a message are about owners that rise: each meets the table as it was before.
 use Rattle.std.proofs.Common.{◌≡◌, ◌+◌, ◌≤◌, ◌==◌, ℕ, Bool, true, false, cond, List, [], ◌∷◌, map, Option, Some, None, refl, ap, subst, arith}
 use Rattle.std.specs.Prelude.{not, is_some, count_by, ◌&&◌}
 use Rattle.std.specs.List.{filter_map, cons_option}
@@ -35,7 +35,7 @@ pub record AreTakenAtOnce (t : TableValue) (m : Entries) (ds : List OwnerDelta) 
   pub outcomes : outcomes_of (holding t m) ds ≡ map (outcome_of t) ds
 
 module _ (t : TableValue) where
-  -- the change of a delta, by whether it is about the own endpoint and by what it makes of what is held
+  -- the change of a delta, by whether it is about the own endpoint and by its outcome at the entry held
   abbrev changing : OwnerDelta → Bool → Absorbed → Change
   changing d own a = cond own (None, took.Own) (change_by d.endpoint a)
 
@@ -61,7 +61,7 @@ module _ (t : TableValue) where
       let s = step m d ds (d.endpoint == t.own) (meeting (get t.entries d.endpoint) d.delta) (agree_later t.entries m last d.endpoint here same) (λ n agree. taken_past n (Some d.endpoint) ds rest agree) in
       record { after = rw (same d.endpoint here) s.after; outcomes = rw (same d.endpoint here) s.outcomes }
 
-  -- deltas about owners that rise, taken one after the other, are taken against the table as it was
+  -- deltas about owners that rise, taken one after the other, are taken against the table as it was before
   pub taken_at_once : (ds : List OwnerDelta) → Rises (endpoints_of_deltas ds) → AreTakenAtOnce t t.entries ds
   taken_at_once ds rise = taken_past t.entries None ds rise (λ k p. refl)
 
@@ -110,11 +110,11 @@ strangers_few t (d ∷ ds) =
     rw (count_by-cons (λ (d : OwnerDelta). needs_room t.entries d.endpoint d.delta) d ds)
     (stranger_more t d (filter_map (row_changed t) ds) (row_changed t d) (count_by (λ (d : OwnerDelta). needs_room t.entries d.endpoint d.delta) ds) refl (strangers_few t ds))
 
--- what would be held bounds the table with the rows put
+-- the number that would be held bounds the table with the rows put
 pub rows_fit : (t : TableValue) (ds : List OwnerDelta) → held_after t ds ≤ MEMBER_LIMIT → len (put_each (filter_map (row_changed t) ds) t.entries) ≤ MEMBER_LIMIT
 rows_fit t ds room = omega (arith, room, len-put_each (filter_map (row_changed t) ds) t.entries, strangers_few t ds)
 
--- ---- whom the outcomes are about
+-- ---- the owners of the outcomes
 
 pub outcomes_about : (t : TableValue) (ds : List OwnerDelta) → endpoints_of_outcomes (outcomes_of t ds) ≡ endpoints_of_deltas ds
 outcomes_about t [] = refl

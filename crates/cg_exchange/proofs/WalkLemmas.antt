@@ -1,4 +1,4 @@
--- What a walk over two lists whose owners rise makes, and one step of it.
+-- The list that a walk over two lists whose owners rise makes, and one step of it.
 use Rattle.std.proofs.Common.{◌≡◌, ◌+◌, ◌<◌, ◌≤◌, ◌==◌, ℕ, zero, suc, ◌-◌, Bool, true, false, cond, List, [], ◌∷◌, ◌++◌, map, length, length-drop, take, drop, get_or, drop-cons, add-one, append_assoc, Option, Some, None, refl, sym, ap, ◌∙◌, arith, nat_lt}
 use Rattle.std.specs.Prelude.{find}
 use Rattle.std.specs.List.{filter_map, cons_option}
@@ -24,7 +24,7 @@ use Rattle.cg_exchange.specs.Changes.{changed_by, row_by, outcome_by, row_change
 use Rattle.cg_exchange.specs.Answering.{request_by, requests_for, deltas_for}
 use Rattle.cg_exchange.specs.Walking.{from_owner, first_about, begin_before, next_of, behind_next, of_member, row_request, row_delta}
 
--- the members from an owner on stand behind those before it
+-- the members from an owner on come after those before it
 pub from_point : {X : Type 0} (owner : X → ℕ) (k : ℕ) (xs : List X) (at : ℕ) → at ≤ length xs → IsPartitionPoint (λ x. nat_lt (owner x) k ≡ true) (λ x. nat_lt (owner x) k ≡ false) xs at → drop at xs ≡ from_owner owner k xs
 from_point owner k [] zero le point = refl
 from_point owner k [] (suc at) le point = refl
@@ -33,7 +33,7 @@ from_point owner k (x ∷ xs) (suc at) le point =
     let yes : nat_lt (owner x) k ≡ true = point.0 0 x (omega arith) (omega arith) in
     rw yes (from_point owner k xs at (omega (arith, le)) (λ j d lo lt. point.0 (suc j) d (omega arith) (omega arith), λ j d lo lt. point.1 (suc j) d (omega arith) (omega arith)))
 
--- what `&xs[n..]` is
+-- the value of `&xs[n..]`
 pub rest_from : {X : Type 0} (xs : List X) (n : ℕ) → take (length xs - n) (drop n xs) ≡ drop n xs
 rest_from xs n = take_all (length xs - n) (drop n xs) (omega (arith, length-drop n xs))
 
@@ -56,7 +56,7 @@ module _ {X : Type 0} (owner : X → ℕ) where
   owners_up last (x ∷ xs) h (suc i) (suc j) d le lt =
       owners_up (Some (owner x)) xs (second_of (is_past last (owner x)) (rise_past (Some (owner x)) (map owner xs)) h) i j d (omega (arith, le)) (omega (arith, lt))
 
-  -- those before an owner stand in front
+  -- those before an owner are a prefix
   pub parted_at : (k : ℕ) (xs : List X) → Rises (map owner xs) → IsPartitionedBy (λ x. nat_lt (owner x) k) xs
   parted_at k xs rise = IsPartitionedBy-ltb owner xs k (owners_up None xs rise)
 
@@ -91,7 +91,7 @@ module _ {X : Type 0} (owner : X → ℕ) where
   first_found_by k y ys rest found false le true same = rw same refl
   first_found_by k y ys rest found false le false same = rw same (sym (find_none k (owner y) ys (ltb-false (owner y) k le) rest))
 
-  -- what the walk finds of an owner is what a search finds
+  -- the walk finds the member of an owner that a search finds
   first_found : (last : Option ℕ) (k : ℕ) (ys : List X) → rise_past last (map owner ys) ≡ true → first_about owner k (from_owner owner k ys) ≡ find (λ y. owner y == k) ys
   first_found last k [] h = refl
   first_found last k (y ∷ ys) h =
@@ -105,7 +105,7 @@ module _ {X : Type 0} (owner : X → ℕ) where
   find_later_by k q y ys lt rest true less = rw (less_differs (owner y) q (omega (arith, lt, ltb-true (owner y) k less))) rest
   find_later_by k q y ys lt rest false less = refl
 
-  -- what is about a later owner is not walked past
+  -- the walk does not pass a member about a later owner
   find_later : (k q : ℕ) (ys : List X) → k < q → find (λ y. owner y == q) (from_owner owner k ys) ≡ find (λ y. owner y == q) ys
   find_later k q [] lt = refl
   find_later k q (y ∷ ys) lt = find_later_by k q y ys lt (find_later k q ys lt) (nat_lt (owner y) k) refl
@@ -119,7 +119,7 @@ module _ {X : Type 0} (owner : X → ℕ) where
       elim (nat_lt (owner y) k) as (λ b. rise_past last (map owner (cond b (from_owner owner k ys) (y ∷ ys))) ≡ true) [ true ↦ later | false ↦ h ]
 
 module _ {X Y Z : Type 0} (key : X → ℕ) (owner : Y → ℕ) (f : X → Option Y → Option Z) where
-  -- what f gives of each member of the first list and of the second list's member about its owner
+  -- the values that f gives of each member of the first list and the second list's member about its owner
   abbrev pub side_by_side : List X → List Y → List Z
   side_by_side [] ys = []
   side_by_side (x ∷ xs) ys = cons_option (f x (first_about owner (key x) (from_owner owner (key x) ys))) (side_by_side xs (from_owner owner (key x) ys))
@@ -157,7 +157,7 @@ module _ {X Y Z : Type 0} (key : X → ℕ) (owner : Y → ℕ) (f : X → Optio
   pub walk_end : (made all : List Z) (xs : List X) (rest : List Y) (i : ℕ) → length xs ≤ i → made ++ side_by_side key owner f (drop i xs) rest ≡ all → made ≡ all
   walk_end made all xs rest i le is = sym (append-nil made) ∙ sym (ap (λ its. made ++ side_by_side key owner f its rest) (drop_all i xs le)) ∙ is
 
--- ---- one walk over both lists, which takes what is about the least owner
+-- ---- one walk over both lists, which takes the members about the least owner
 
 same_passes : (x k : ℕ) → k ≤ x → x ≤ k → (x == k) ≡ true
 same_passes x k le ge = grind (arith, nat_tests)
@@ -248,7 +248,7 @@ rows_walked t ds rise =
     walked_is (λ d. d.endpoint) (λ r. r.0) (row_by t) ds (table.entries t.entries) rise (rise_sorted (table.entries t.entries) (table.entries_sorted t.entries))
     ∙ (λ i. filter_map (λ d. (changed_at t d i).0) ds)
 
--- what becomes of deltas, in one walk over deltas and rows
+-- the outcomes of deltas, in one walk over deltas and rows
 pub outcomes_walked : (t : TableValue) (ds : List OwnerDelta) → Rises (endpoints_of_deltas ds) → side_by_side (λ d. d.endpoint) (λ r. r.0) (outcome_by t) ds (table.entries t.entries) ≡ map (outcome_of t) ds
 outcomes_walked t ds rise =
     walked_is (λ d. d.endpoint) (λ r. r.0) (outcome_by t) ds (table.entries t.entries) rise (rise_sorted (table.entries t.entries) (table.entries_sorted t.entries))

@@ -1,4 +1,4 @@
--- The answers to messages, by what the receiver holds.
+-- The answers to messages, by the entries that the receiver holds.
 use Rattle.std.specs.Prelude.{ℕ, Bool, ◌&&◌, ◌==◌, nat_lt, List, Option, Some, None, Result, Ok, Err, if◌then◌else◌}
 use Rattle.std.specs.List.{filter_map}
 use Rattle.std.specs.Str.{bytes_eq}
@@ -20,7 +20,7 @@ use Rattle.cg_messages.specs.Members.{about, digest_about}
 abbrev pub same_cluster : ClusterValue → ClusterValue → Bool
 same_cluster c d = bytes_eq c.name d.name && (c.partitioner == d.partitioner)
 
--- what is asked of the sender of a digest, by what is held of its endpoint
+-- the request to the sender of a digest, by the entry held of its endpoint
 abbrev pub request_by : Digest → Option EntryValue → Option RequestValue
 request_by d None = Some (record { endpoint = d.endpoint; generation = d.generation; version = 0 })
 request_by d (Some e) =
@@ -30,11 +30,11 @@ request_by d (Some e) =
     then Some (record { endpoint = d.endpoint; generation = d.generation; version = newest e })
     else None
 
--- what is asked of the sender of these digests
+-- the requests to the sender of these digests
 abbrev pub requests_for : Entries → List Digest → List RequestValue
 requests_for entries digests = filter_map (λ d. request_by d (table.get entries d.endpoint)) digests
 
--- what is sent of an entry, by the digest that names its endpoint, if there is one
+-- the delta of an entry for the sender of the digest that names its endpoint, if there is one
 abbrev pub delta_by : EntryValue → Option Digest → Option DeltaValue
 delta_by e None = delta_above 0 e
 delta_by e (Some d) =
@@ -42,11 +42,11 @@ delta_by e (Some d) =
     else if e.generation == d.generation then delta_above d.newest e
     else None
 
--- what is sent of an endpoint's entry, by the sender's digests
+-- the delta of an endpoint's entry, by the sender's digests
 abbrev pub delta_for : List Digest → ℕ × EntryValue → Option OwnerDelta
 delta_for digests held = option_map (about held.0) (delta_by held.1 (digest_about held.0 digests))
 
--- what is sent of all entries; one that no digest names is sent whole
+-- the deltas of all entries; one that no digest names is sent whole
 abbrev pub deltas_for : Entries → List Digest → List OwnerDelta
 deltas_for entries digests = filter_map (delta_for digests) (table.entries entries)
 

@@ -1,4 +1,4 @@
--- What each delta of a message changes in a table, where each is about another owner.
+-- The changes that the deltas of a message make in a table, if each is about another owner.
 use Rattle.std.specs.Prelude.{ℕ, Option, Some}
 use Rattle.std.specs.Option.{option_map}
 use Rattle.cg_entry.specs.Values.{EntryValue}
@@ -11,7 +11,7 @@ use Rattle.cg_messages.specs.declared.outcome.Outcome.{Outcome}
 abbrev pub row_changed : TableValue → OwnerDelta → Option (ℕ × EntryValue)
 row_changed t d = (change_of t d.endpoint d.delta).0
 
--- what a delta changes, by the row of its endpoint
+-- the change that a delta makes, by the row of its endpoint
 abbrev pub changed_by : TableValue → OwnerDelta → Option (ℕ × EntryValue) → Change
 changed_by t d row = change_at t.own d.endpoint (option_map (λ r. r.1) row) d.delta
 
@@ -19,6 +19,6 @@ changed_by t d row = change_at t.own d.endpoint (option_map (λ r. r.1) row) d.d
 abbrev pub row_by : TableValue → OwnerDelta → Option (ℕ × EntryValue) → Option (ℕ × EntryValue)
 row_by t d row = (changed_by t d row).0
 
--- what becomes of a delta, by the row of its endpoint
+-- the outcome of a delta, by the row of its endpoint
 abbrev pub outcome_by : TableValue → OwnerDelta → Option (ℕ × EntryValue) → Option Outcome
 outcome_by t d row = Some (record { endpoint = d.endpoint; took = (changed_by t d row).1 })

@@ -20,21 +20,21 @@ abbrev pub table_after : TableValue → List OwnerDelta → TableValue
 table_after t [] = t
 table_after t (d ∷ ds) = table_after (take_one t d.endpoint d.delta).0 ds
 
--- what becomes of a delta
+-- the outcome of a delta
 abbrev pub outcome_of : TableValue → OwnerDelta → Outcome
 outcome_of t d = record { endpoint = d.endpoint; took = (take_one t d.endpoint d.delta).1 }
 
--- what became of each delta, in the order of the deltas
+-- the outcome of each delta, in the order of the deltas
 abbrev pub outcomes_of : TableValue → List OwnerDelta → List Outcome
 outcomes_of t [] = []
 outcomes_of t (d ∷ ds) = outcome_of t d ∷ outcomes_of (take_one t d.endpoint d.delta).0 ds
 
--- How many endpoints would be held: those that are, and those that whole deltas are about and that are not. The own
--- endpoint is always held.
+-- The number of endpoints that would be held: those that are, and those that are not held and that whole deltas are
+-- about. The own endpoint is always held.
 abbrev pub held_after : TableValue → List OwnerDelta → ℕ
 held_after t ds = table.len t.entries + count_by (λ d. needs_room t.entries d.endpoint d.delta) ds
 
--- what a request is sent of an entry, or of none
+-- the delta that answers a request, from an entry or from none
 abbrev pub grant_of : RequestValue → Option EntryValue → Option DeltaValue
 grant_of r None = None
 grant_of r (Some e) =
@@ -42,11 +42,11 @@ grant_of r (Some e) =
     else if e.generation == r.generation then delta_above r.version e
     else delta_above 0 e
 
--- what a request is sent of a table
+-- the delta that answers a request, from a table
 abbrev pub delta_granted : Entries → RequestValue → Option OwnerDelta
 delta_granted entries r = option_map (about r.endpoint) (grant_of r (table.get entries r.endpoint))
 
--- what requests are sent of a table
+-- the deltas that answer requests, from a table
 abbrev pub deltas_granted : Entries → List RequestValue → List OwnerDelta
 deltas_granted entries requests = filter_map (delta_granted entries) requests
 

@@ -14,12 +14,12 @@ module _ {X : Type 0} (owner : X → ℕ) where
   from_owner k [] = []
   from_owner k (x ∷ xs) = if nat_lt (owner x) k then from_owner k xs else x ∷ xs
 
-  -- the first member, where it is about this owner
+  -- the first member, if it is about this owner
   abbrev pub first_about : ℕ → List X → Option X
   first_about k [] = None
   first_about k (x ∷ xs) = if owner x == k then Some x else None
 
-  -- whether the first member is about an earlier owner
+  -- a test that the first member is about an earlier owner
   abbrev pub begin_before : ℕ → List X → Bool
   begin_before k [] = false
   begin_before k (x ∷ xs) = nat_lt (owner x) k
@@ -30,20 +30,20 @@ module _ {X Y : Type 0} (key : X → ℕ) (owner : Y → ℕ) where
   next_of [] ys = None
   next_of (x ∷ xs) ys = if begin_before owner (key x) ys then None else Some x
 
-  -- the members behind that one
+  -- the members after that one
   abbrev pub behind_next : List X → List Y → List X
   behind_next [] ys = []
   behind_next (x ∷ xs) ys = if begin_before owner (key x) ys then x ∷ xs else xs
 
--- what f gives of a member, if there is one
+-- the value that f gives of a member, if there is one
 abbrev pub of_member : {X Y Z : Type 0} → (X → Option Y → Option Z) → Option X → Option Y → Option Z
 of_member f None y = None
 of_member f (Some x) y = f x y
 
--- what is asked of the sender of a digest, by the row of its endpoint
+-- the request to the sender of a digest, by the row of its endpoint
 abbrev pub row_request : Digest → Option (ℕ × EntryValue) → Option RequestValue
 row_request d row = request_by d (option_map (λ r. r.1) row)
 
--- what is sent of a row, by the digest that names its endpoint
+-- the delta of a row for the sender of the digest that names its endpoint
 abbrev pub row_delta : ℕ × EntryValue → Option Digest → Option OwnerDelta
 row_delta row named = option_map (about row.0) (delta_by row.1 named)

@@ -16,7 +16,7 @@ use cg_table::Table;
 use cg_types::{Cluster, Fault};
 use std::alloc::{AllocError, Global};
 
-// What is asked of the sender of a digest, by what is held of its endpoint.
+// The request to the sender of a digest, by the entry held of its endpoint.
 fn request_of_digest(digest: &Digest, held: Option<&Entry>) -> Option<Request>
     ensures { result ≡ request_by digest.now (option_copied held.entry) }
 {
@@ -32,7 +32,7 @@ fn request_of_digest(digest: &Digest, held: Option<&Entry>) -> Option<Request>
     None
 }
 
-// What is sent of an entry, by the digest that names its endpoint, if there is one.
+// The delta of an entry for the sender of the digest that names its endpoint, if there is one.
 fn delta_of_entry(
     alloc: Global,
     entry: &Entry,
@@ -52,7 +52,7 @@ fn delta_of_entry(
     Ok(None)
 }
 
-// What is asked of the sender of a digest, by the row of its endpoint.
+// The request to the sender of a digest, by the row of its endpoint.
 fn request_of_row(digest: &Digest, row: Option<&Row<Entry>>) -> Option<Request>
     ensures { result ≡ row_request digest.now (option_copied row.entry) }
 {
@@ -62,7 +62,7 @@ fn request_of_row(digest: &Digest, row: Option<&Row<Entry>>) -> Option<Request>
     }
 }
 
-// What is sent of a row, by the digest that names its endpoint, if there is one.
+// The delta of a row for the sender of the digest that names its endpoint, if there is one.
 fn delta_of_row(
     alloc: Global,
     row: &Row<Entry>,
@@ -77,7 +77,7 @@ fn delta_of_row(
     }
 }
 
-// What is asked of the sender of a digest, if there is one.
+// The request to the sender of a digest, if there is a digest.
 fn request_of_next(digest: Option<&Digest>, row: Option<&Row<Entry>>) -> Option<Request>
     ensures { result ≡ of_member row_request (option_copied digest.entry) (option_copied row.entry) }
 {
@@ -87,7 +87,7 @@ fn request_of_next(digest: Option<&Digest>, row: Option<&Row<Entry>>) -> Option<
     }
 }
 
-// What is sent of a row, if there is one.
+// The delta of a row, if there is a row.
 fn delta_of_next(
     alloc: Global,
     row: Option<&Row<Entry>>,
@@ -101,7 +101,7 @@ fn delta_of_next(
     }
 }
 
-// What is asked for and what is sent, in one walk over digests and rows, since both rise.
+// The requests and the deltas, in one walk over digests and rows, since both rise.
 fn lists_for(
     alloc: Global,
     table: &Table,
@@ -129,8 +129,8 @@ fn lists_for(
     Ok((requests, deltas))
 }
 
-/// What the member that holds `table` and is in `cluster` opens an exchange with: a digest of each entry, rising by
-/// endpoint, and the cluster. `AllocError` where there is no memory for the digests.
+/// Makes the SYN with which the member that holds `table` and is in `cluster` opens an exchange: a digest of each
+/// entry, rising by endpoint, and the cluster. `AllocError` if there is no memory for the digests.
 pub fn syn(alloc: Global, table: &Table, cluster: &Cluster) -> Result<Syn, AllocError>
     ensures { IfOk result (λ s. s ≡ syn_of table.now cluster.now) }
 {
@@ -138,12 +138,12 @@ pub fn syn(alloc: Global, table: &Table, cluster: &Cluster) -> Result<Syn, Alloc
     Ok(Syn::of_parts(cluster.copy()?, digests))
 }
 
-/// The answer of the member that holds `table` and is in `cluster`. It asks for what the sender's digests are ahead
-/// in, and sends what they are behind in; an endpoint that is held and not named is sent whole, so that an empty SYN
-/// is answered with everything. The receiver's own endpoint is answered for like any other.
+/// Answers a SYN, as the member that holds `table` and is in `cluster`. The ACK requests all that the sender's digests
+/// are ahead in, and sends all that they are behind in. An endpoint that is held and not named is sent whole, so that
+/// an empty SYN is answered with everything. The receiver's own endpoint is answered for like any other.
 ///
-/// `OtherCluster` where the sender's cluster has another name or another partitioner; `OutOfMemory` never
-/// comes in its place. Else it comes where there is no memory for the two lists of the answer.
+/// `OtherCluster` if the sender's cluster has another name or another partitioner; `OutOfMemory` never comes in its
+/// place. Else `OutOfMemory` comes if there is no memory for the two lists of the answer.
 pub fn answer_syn(alloc: Global, table: &Table, cluster: &Cluster, syn: &Syn) -> Result<Ack, Fault>
     ensures { Answers (λ a. a) (answer_to_syn table.now cluster.now syn.now) result }
 {

@@ -1,4 +1,4 @@
-//! Taking what an ACK or an ACK2 sends.
+//! Rules of taking an ACK or an ACK2.
 
 ghost use Rattle.std.specs.Prelude.{◌≡◌, ◌≤◌, IfOk, length, map, option_copied};
 ghost use Rattle.std.specs.List.{filter_map};
@@ -17,7 +17,7 @@ use cg_table::Table;
 use cg_types::{Fault, MEMBER_LIMIT};
 use std::alloc::{AllocError, Global};
 
-// How many endpoints would be held after the deltas.
+// Counts the endpoints that would be held after the deltas.
 fn held_after(table: &Table, deltas: &[OwnerDelta]) -> usize
     requires { length deltas.now ≤ MEMBER_LIMIT }
     ensures { result ≡ held_after_of table.now deltas.now }
@@ -32,7 +32,7 @@ fn held_after(table: &Table, deltas: &[OwnerDelta]) -> usize
     count
 }
 
-// What a delta changes, by the row of its endpoint.
+// The change that a delta makes, by the row of its endpoint.
 fn changed_by(
     alloc: Global,
     table: &Table,
@@ -47,7 +47,7 @@ fn changed_by(
     }
 }
 
-// The rows that the deltas change, and what becomes of each delta: in one walk over deltas and rows, since both rise.
+// The rows that the deltas change, and the outcome of each delta: in one walk over deltas and rows, since both rise.
 fn changes(
     alloc: Global,
     table: &Table,
@@ -70,8 +70,8 @@ fn changes(
     Ok((rows, outcomes))
 }
 
-// The table after the deltas, for which there is room, and what became of each. Each delta is about another owner, so
-// that all of them meet the table as it was.
+// The table after the deltas, for which there is room, and the outcome of each. Each delta is about another owner, so
+// that all of them meet the table as it was before.
 fn take_deltas(
     alloc: Global,
     table: &Table,
@@ -86,7 +86,7 @@ fn take_deltas(
     Ok((table.put_rows(alloc, rows)?, outcomes))
 }
 
-// What a request is sent of an entry, or of none.
+// The delta that answers a request, from an entry or from none.
 fn grant(alloc: Global, request: Request, held: Option<&Entry>) -> Result<Option<Delta>, AllocError>
     ensures { IfOk result (λ d. d ≡ grant_of request (option_copied held.entry)) }
 {
@@ -131,13 +131,13 @@ fn deltas_granted(
     Ok(deltas)
 }
 
-/// The table after an ACK, what its sender is sent, and what became of each delta, in the order of the deltas. The
-/// deltas are taken first, and the requests are answered from the table that they make, by generation and by version.
-/// An answer is made even where nothing is sent. Entries that no delta changes are shared.
+/// Takes an ACK: returns the table after it, the answer to its requests, and the outcome of each delta, in the order of
+/// the deltas. The deltas are taken first, and the requests are answered from the table that they make, by generation
+/// and by version. An answer is made even if nothing is sent. Entries that no delta changes are shared.
 ///
-/// `TableFull` where the endpoints held with those that whole deltas are about and that are not held are more than
-/// `MEMBER_LIMIT`; `OutOfMemory` never comes in its place. Else it comes where there is no memory for the new table,
-/// the answer and the outcomes. `table` is as it was in each case.
+/// `TableFull` if the endpoints that are held, with those that are not held and that whole deltas are about, are more
+/// than `MEMBER_LIMIT`; `OutOfMemory` never comes in its place. Else `OutOfMemory` comes if there is no memory for the
+/// new table, the answer and the outcomes. `table` is unchanged in each case.
 pub fn take_ack(
     alloc: Global,
     table: &Table,
@@ -154,9 +154,9 @@ pub fn take_ack(
     Ok((after, Ack2::of_parts(deltas), outcomes))
 }
 
-/// The table after an ACK2, and what became of each delta, in the order of the deltas. Entries that no delta changes
-/// are shared. `TableFull` as for an ACK. Else `OutOfMemory` where there is no memory for the new table and the
-/// outcomes. `table` is as it was in each case.
+/// Takes an ACK2: returns the table after it, and the outcome of each delta, in the order of the deltas. Entries that
+/// no delta changes are shared. `TableFull` as for an ACK. Else `OutOfMemory` if there is no memory for the new table
+/// and the outcomes. `table` is unchanged in each case.
 pub fn take_ack2(alloc: Global, table: &Table, ack2: &Ack2) -> Result<(Table, Vec<Outcome>), Fault>
     ensures due { Answers (λ x. (x.0, x.1.items)) (taking_ack2 table.now ack2.now) result }
     ensures rise { IfOk result (λ x. Rises (endpoints_of_outcomes x.1.items)) }

@@ -18,7 +18,7 @@ fn from_owner<M: Owned>(members: &[M], owner: Endpoint) -> &[M]
     &members[members.len()..]
 }
 
-/// The members from an owner on, where owners rise. It looks at the first two, and then halves.
+/// The members from an owner on, if owners rise. It looks at the first two, and then halves.
 pub(crate) fn rising_from<M: Owned>(members: &[M], owner: Endpoint) -> &[M]
     requires { Rises (map M.owner_of members.now) }
     ensures { result.now ≡ from_owner_of M.owner_of owner members.now }
@@ -29,7 +29,7 @@ pub(crate) fn rising_from<M: Owned>(members: &[M], owner: Endpoint) -> &[M]
     &members[members.partition_point(|member| member.owner() < owner)..]
 }
 
-/// The first member, where it is about this owner.
+/// The first member, if it is about this owner.
 pub(crate) fn first_about<M: Owned>(members: &[M], owner: Endpoint) -> Option<&M>
     ensures { option_copied result ≡ first_about_of M.owner_of owner members.now }
 {
@@ -39,7 +39,7 @@ pub(crate) fn first_about<M: Owned>(members: &[M], owner: Endpoint) -> Option<&M
     }
 }
 
-// Whether the first of the members is about an earlier owner.
+// Tests whether the first of the members is about an earlier owner.
 fn begin_before<M: Owned>(members: &[M], owner: Endpoint) -> bool
     ensures { result ≡ begin_before_of M.owner_of owner members.now }
 {
@@ -49,7 +49,7 @@ fn begin_before<M: Owned>(members: &[M], owner: Endpoint) -> bool
     }
 }
 
-/// The first member and those behind it, unless the first of the others is about an earlier owner: then no member, and
+/// The first member and those after it, unless the first of the others is about an earlier owner: then no member, and
 /// all of them.
 pub(crate) fn next<'a, M: Owned, N: Owned>(
     members: &'a [M],

@@ -1,4 +1,4 @@
--- What is asked, sent and granted on spelled tables and messages.
+-- Requests, deltas and grants on spelled tables and messages.
 use Rattle.std.proofs.Common.{◌≡◌, ◌≢◌, ◌==◌, ◌<◌, ◌≤◌, ◌⊎◌, inl, inr, ℕ, true, false, cond, List, length, Option, Some, None, refl, sym, ap, ◌∙◌, arith}
 use Rattle.std.specs.Prelude.{find, nat_le}
 use Rattle.std.specs.Option.{option_map, option_and_then}
@@ -226,7 +226,7 @@ granted_about owner h is m p lp held None stand = refl
 granted_about owner h is m p lp held (Some ask) stand =
     ap (option_map (about owner)) (ap (grant_of (request_of owner h ask)) held ∙ grant_spells owner h is p lp ask (stand ask refl))
 
--- requests that spell asks are granted what spells the grants
+-- requests that spell asks are granted deltas that spell the grants
 pub grants_spell_spans : (hs : ℕ → List EntryValue) → ((owner : ℕ) → IsHistory (hs owner)) → (m : Entries) (requests : List RequestValue) (mine : ℕ → ℕ) (asks : ℕ → Option Ask)
     → Rises (endpoints_of_requests requests) → SpellsPlaces hs m mine → SpellsAsks hs requests asks → AreAsks hs asks → SpellsSpans hs (deltas_granted m requests) (grants_at hs mine asks)
 grants_spell_spans hs are m requests mine asks rise held spelled stand = record {

@@ -52,6 +52,6 @@ row_at q (r ∷ rows) =
     row_by q r (r.0 == q) refl (find (λ r. r.0 == q) rows) (entries.find nat_cmp q rows) (row_at q rows)
     ∙ ap (λ b. option_map (λ e. (q, e)) (cond b (Some r.1) (entries.find nat_cmp q rows))) (same_test r.0 q)
 
--- the row of an owner is what is held of it
+-- the row of an owner has the entry held of it
 pub row_held : (m : Entries) (q : ℕ) → find (λ r. r.0 == q) (table.entries m) ≡ option_map (λ e. (q, e)) (table.get m q)
 row_held m q = row_at q (table.entries m) ∙ ap (option_map (λ e. (q, e))) (sym (table.get-entries m q))

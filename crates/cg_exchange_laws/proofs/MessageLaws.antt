@@ -47,7 +47,7 @@ syn_is_answered hs are t cluster syn mine theirs at says same =
       };
     }
 
--- ---- what is granted
+-- ---- the spans granted
 
 granted_span : (h : List EntryValue) (p : ℕ) → p ≤ length h → (o : Option Ask) → ((ask : Ask) → o ≡ Some ask → IsAsk h ask) → (span : Span) → option_and_then (span_asked h p) o ≡ Some span → IsSpan h span
 granted_span h p l None are span e = absurd cc
@@ -56,9 +56,9 @@ granted_span h p l (Some ask) are span e = (rules_stand h p l).granted ask (are 
 grants_stand : (hs : ℕ → List EntryValue) (mine : ℕ → ℕ) (asks : ℕ → Option Ask) → Stand hs mine → AreAsks hs asks → AreSpans hs (grants_at hs mine asks)
 grants_stand hs mine asks l are owner span e = granted_span (hs owner) (mine owner) (l owner) (asks owner) (are owner) span e
 
--- ---- what is taken
+-- ---- the deltas taken
 
--- what is answered where there is room
+-- the answer if there is enough room
 answered : {A : Type 0} (full : Bool) (x y : A) → cond full (Err TableFull) (Ok x) ≡ Ok y → x ≡ y
 answered true x y e = absurd cc
 answered false x y e = cc

@@ -1,4 +1,4 @@
--- What the rules of messages give, by places, lies in the history.
+-- The spans and asks that the rules of messages give, by places, lie in the history.
 use Rattle.std.proofs.Common.{◌≡◌, ◌<◌, ◌≤◌, ◌⊎◌, inl, inr, ℕ, Bool, true, false, List, length, Some, None, refl, sym, ◌∙◌, subst, arith, nat_lt}
 use Rattle.std.proofs.lemmas.Bool.Decides.{nat_tests}
 use Rattle.cg_entry.specs.Values.{EntryValue}

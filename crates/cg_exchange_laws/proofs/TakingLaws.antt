@@ -1,4 +1,4 @@
--- What becomes of spelled deltas at a spelled table.
+-- Outcomes of spelled deltas at a spelled table.
 use Rattle.std.proofs.Common.{◌≡◌, ◌==◌, ◌≤◌, ℕ, List, length, Option, Some, None, refl, sym, ap, ◌∙◌, arith}
 use Rattle.std.specs.Prelude.{find}
 use Rattle.std.specs.Option.{option_map, option_and_then, option_or}
@@ -32,7 +32,7 @@ use Rattle.cg_exchange.proofs.WalkLemmas.{row_found}
 use Rattle.cg_exchange_laws.proofs.MemberLemmas.{found_mapped, found_map}
 use Rattle.cg_exchange.proofs.TakingLemmas.{taken_at_once, rows_rise}
 
--- what is held of an owner after deltas, by what they have about it
+-- the entry held of an owner after deltas, by the delta that they have about it
 left_of : TableValue → ℕ → Option OwnerDelta → Option EntryValue
 left_of t q o = held_with (option_and_then (row_changed t) o) (table.get t.entries q)
 

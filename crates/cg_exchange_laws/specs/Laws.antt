@@ -1,4 +1,4 @@
--- What messages do on tables and messages that spell places of one family of histories, message by message.
+-- The laws of messages on tables and messages that spell places of one family of histories, message by message.
 use Rattle.std.specs.Prelude.{◌≡◌, ℕ, ◌≤◌, ◌==◌, true, List, length, Option, Some, Ok}
 use Rattle.std.specs.Option.{option_map}
 use Rattle.cg_types.specs.Text.{ClusterValue}
@@ -17,7 +17,7 @@ use Rattle.cg_exchange_laws.specs.Places.{Ask, IsAsk, span_for, ask_for, span_as
 use Rattle.cg_exchange_laws.specs.Spelling.{SpellsMessage, outcome_about}
 use Rattle.cg_exchange_laws.specs.PlaceMessages.{PlaceMessage, IsPlaceMessage, Syn, Ack, Ack2, answer_at, places_after, grants_at}
 
--- What the rules give at the place mine lies in the history.
+-- The spans and asks that the rules give at the place mine lie in the history.
 pub record RulesGiveSpans (history : List EntryValue) (mine : ℕ) : Type 0 where
   pub spans : (theirs : ℕ) (span : Span) → span_for history mine theirs ≡ Some span → IsSpan history span
   pub asks : (theirs : ℕ) (ask : Ask) → ask_for history mine theirs ≡ Some ask → IsAsk history ask
@@ -33,7 +33,7 @@ pub record Says (histories : ℕ → List EntryValue) (message : Message) (said 
   pub spells : SpellsMessage histories said message
   pub stands : IsPlaceMessage histories said
 
--- What is held after spans came to the table t at the places mine, and what became of each.
+-- The table after spans came to the table t at the places mine, and the outcome of each.
 pub record IsMoved (histories : ℕ → List EntryValue) (t : TableValue) (mine : ℕ → ℕ) (spans : ℕ → Option Span)
     (after : TableValue) (outcomes : List Outcome) : Type 0 where
   pub own : after.own ≡ t.own
@@ -42,13 +42,13 @@ pub record IsMoved (histories : ℕ → List EntryValue) (t : TableValue) (mine 
       → let took = took_for (owner == t.own) (mine owner) in
       outcome_about owner outcomes ≡ option_map (λ span. record { endpoint = owner; took = took span }) (spans owner)
 
--- The SYN of a table says where the table is.
+-- The SYN of a table gives the places of the table.
 abbrev pub SynSaysPlaces : Type 0
 SynSaysPlaces =
     (histories : ℕ → List EntryValue) (t : TableValue) (cluster : ClusterValue) (places : ℕ → ℕ)
     → SpellsPlaces histories t.entries places → Says histories (kinds.Syn (syn_of t cluster)) (Syn places)
 
--- The answer to a SYN is an ACK that says what is asked for and what is sent.
+-- The answer to a SYN is an ACK that gives the asks and the spans that are sent.
 pub record IsAnswered (histories : ℕ → List EntryValue) (t : TableValue) (cluster : ClusterValue) (syn : SynValue)
     (mine theirs : ℕ → ℕ) : Type 0 where
   pub ack : AckValue
@@ -63,14 +63,14 @@ SynIsAnswered =
     → SpellsPlaces histories t.entries mine → Says histories (kinds.Syn syn) (Syn theirs)
     → same_cluster cluster syn.cluster ≡ true → IsAnswered histories t cluster syn mine theirs
 
--- What an ACK leaves, and what is sent for its asks at the places after it.
+-- The table that an ACK leaves, and the spans sent for its asks at the places after it.
 pub record AckMoves (histories : ℕ → List EntryValue) (t : TableValue) (mine : ℕ → ℕ)
     (asks : ℕ → Option Ask) (spans : ℕ → Option Span) (after : TableValue) (ack2 : Ack2Value) (outcomes : List Outcome)
     : Type 0 where
   pub moved : IsMoved histories t mine spans after outcomes
   pub says : Says histories (kinds.Ack2 ack2) (Ack2 (grants_at histories (places_after t.own mine spans) asks))
 
--- An ACK that is taken moves the holder as its spans do, and is granted what it asks for.
+-- An ACK that is taken moves the holder as its spans do, and is granted its asks.
 abbrev pub AckIsTaken : Type 0
 AckIsTaken =
     (histories : ℕ → List EntryValue) → ((owner : ℕ) → IsHistory (histories owner))

@@ -1,4 +1,4 @@
--- Messages by places, and what is answered to them.
+-- Messages by places, and the answers to them.
 use Rattle.std.specs.Prelude.{ℕ, ◌≡◌, ◌==◌, List, Option, Some}
 use Rattle.std.specs.Option.{option_and_then}
 use Rattle.cg_entry.specs.Values.{EntryValue}
@@ -6,24 +6,24 @@ use Rattle.cg_entry.specs.Place.{Span, IsSpan}
 pub use Rattle.cg_table.specs.Spelling.{Stand}
 use Rattle.cg_exchange_laws.specs.Places.{Ask, IsAsk, span_for, ask_for, span_asked, place_with}
 
--- A message by places, each a function of the owner: a SYN tells where its sender is, an ACK asks and sends, and an
+-- A message by places, each a function of the owner: a SYN gives its sender's places, an ACK asks and sends, and an
 -- ACK2 sends.
 pub data PlaceMessage : Type 0 where
   Syn : (places : ℕ → ℕ) → PlaceMessage
   Ack : (asks : ℕ → Option Ask) → (spans : ℕ → Option Span) → PlaceMessage
   Ack2 : (spans : ℕ → Option Span) → PlaceMessage
 
--- what one at the places mine answers to a SYN of the places theirs
+-- the answer of a holder at the places mine to a SYN of the places theirs
 abbrev pub answer_at : (ℕ → List EntryValue) → (ℕ → ℕ) → (ℕ → ℕ) → PlaceMessage
 answer_at histories mine theirs =
     Ack (λ owner. ask_for (histories owner) (mine owner) (theirs owner))
     (λ owner. span_for (histories owner) (mine owner) (theirs owner))
 
--- where the holder own is after spans
+-- the places of the holder own after spans
 abbrev pub places_after : ℕ → (ℕ → ℕ) → (ℕ → Option Span) → ℕ → ℕ
 places_after own mine spans owner = place_with (owner == own) (mine owner) (spans owner)
 
--- what one at the places mine sends for asks
+-- the spans that a holder at the places mine sends for asks
 abbrev pub grants_at : (ℕ → List EntryValue) → (ℕ → ℕ) → (ℕ → Option Ask) → ℕ → Option Span
 grants_at histories mine asks owner = option_and_then (span_asked (histories owner) (mine owner)) (asks owner)
 

@@ -1,33 +1,33 @@
--- The rules of messages, by places in owners' histories. A place is how many of an owner's entries were seen, and 0 is
--- none.
+-- The rules of messages, by places in owners' histories. A place is the number of an owner's entries that were seen,
+-- and 0 is none.
 use Rattle.std.specs.Prelude.{◌≡◌, ℕ, ◌≤◌, ◌⊎◌, ◌==◌, nat_lt, List, length, Option, Some, None, if◌then◌else◌}
 use Rattle.cg_entry.specs.Values.{EntryValue}
 use Rattle.cg_entry.specs.History.{generation_at}
 use Rattle.cg_entry.specs.Place.{Span}
 pub use Rattle.cg_table.specs.Places.{took_of_span, took_for, place_with}
 
--- asks for what lies after a place of a generation
+-- an ask for the span after a place of a generation
 pub record Ask : Type 0 where
   pub generation : ℕ
   pub from : ℕ
 
--- The place that is asked from lies in the history, and has the generation where it is not none.
+-- The place that is asked from lies in the history, and has the generation unless it is none.
 pub record IsAsk (history : List EntryValue) (ask : Ask) : Type 0 where
   pub stands : ask.from ≤ length history
   pub alike : (ask.from ≡ 0) ⊎ (generation_at history ask.from ≡ ask.generation)
 
--- the place, where it has that generation, and else none
+-- the place, if it has that generation, and else none
 abbrev pub within_generation : List EntryValue → ℕ → ℕ → ℕ
 within_generation history generation place = if generation_at history place == generation then place else 0
 
--- what one at the place mine sends one at the place theirs: what that one lacks
+-- the span that a holder at the place mine sends one at the place theirs: the entries that the other lacks
 abbrev pub span_for : List EntryValue → ℕ → ℕ → Option Span
 span_for history mine theirs =
     if nat_lt theirs mine
     then Some (record { from = within_generation history (generation_at history mine) theirs; to = mine })
     else None
 
--- what one at the place mine asks of one at the place theirs: what itself lacks
+-- the ask of a holder at the place mine to one at the place theirs: for the entries that itself lacks
 abbrev pub ask_for : List EntryValue → ℕ → ℕ → Option Ask
 ask_for history mine theirs =
     if nat_lt mine theirs
@@ -37,7 +37,7 @@ ask_for history mine theirs =
     })
     else None
 
--- what one at the place mine sends for an ask
+-- the span that a holder at the place mine sends for an ask
 abbrev pub span_asked : List EntryValue → ℕ → Ask → Option Span
 span_asked history mine ask =
     if mine == 0 then None

@@ -1,4 +1,4 @@
--- How messages spell places, asks and spans, owner by owner.
+-- Places, asks and spans, spelled by messages, owner by owner.
 use Rattle.std.specs.Prelude.{◌≡◌, ℕ, ◌==◌, List, find, Option}
 use Rattle.cg_types.specs.Rising.{Rises}
 use Rattle.std.specs.Option.{option_map, option_and_then}
@@ -18,7 +18,7 @@ use Rattle.cg_messages.specs.Members.{about, endpoints_of_digests, endpoints_of_
 use Rattle.cg_exchange_laws.specs.Places.{Ask}
 use Rattle.cg_exchange_laws.specs.PlaceMessages.{PlaceMessage, Syn, Ack, Ack2}
 
--- what a list has about an owner
+-- the member of a list about an owner
 abbrev pub request_about : ℕ → List RequestValue → Option RequestValue
 request_about owner requests = find (λ r. r.endpoint == owner) requests
 
@@ -28,7 +28,7 @@ delta_about owner deltas = find (λ d. d.endpoint == owner) deltas
 abbrev pub outcome_about : ℕ → List Outcome → Option Outcome
 outcome_about owner outcomes = find (λ o. o.endpoint == owner) outcomes
 
--- an ask is spelled by its generation and the version at its place
+-- the request that spells an ask: its generation, and the version at its place
 abbrev pub request_of : ℕ → List EntryValue → Ask → RequestValue
 request_of owner history ask =
     record { endpoint = owner; generation = ask.generation; version = version_at history ask.from }

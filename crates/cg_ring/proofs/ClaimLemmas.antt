@@ -97,7 +97,7 @@ heads_rise last (c ∷ cs) h le =
     heads_rise_by (is_last last c.token) last c (first_claims last cs) (first_claims (Some c.token) cs) refl (All-head (IsAtLeast last) c cs le)
     (heads_rise last cs rest (All-tail (IsAtLeast last) c cs le)) (heads_rise (Some c.token) cs rest (tokens_after c cs h))
 
--- ---- what the heads have at a token
+-- ---- the endpoint that the heads have at a token
 
 abbrev found : ℕ → List (ℕ × ℕ) → Option ℕ
 found t ps = find nat_cmp t ps
@@ -123,7 +123,7 @@ found-heads last t [] other = refl
 found-heads last t (c ∷ cs) other =
     found_by (is_last last c.token) last t c (first_claims last cs) (first_claims (Some c.token) cs) (map position cs) refl other (found-heads last t cs other) (found-heads (Some c.token) t cs)
 
--- ---- who wins
+-- ---- the claims that win
 
 none_some : (x : ℕ) → Some x ≡ None → ⊥
 none_some x e = cc
@@ -162,7 +162,7 @@ first_by false t e c cs h tie is rest =
     let other : c.token ≡ g.claim.token → ⊥ = λ same. eqb-false c.token t (untied t c.token tie) (same ∙ g.of_token) in
     gives_later t e c cs g (All-cons (λ d. d.token ≡ g.claim.token → beats d g.claim ≡ false) c cs (λ same. absurd (other same)) g.so)
 
--- what is found first is not beaten
+-- the claim found first is not beaten
 first_unbeaten : (t e : ℕ) (cs : List Claim) → InOrder cs → found t (map position cs) ≡ Some e → Gives cs t e (IsUnbeaten cs)
 first_unbeaten t e [] h is = absurd cc
 first_unbeaten t e (c ∷ cs) h is = first_by (eq_by_cmp nat_cmp t c.token) t e c cs h refl is (first_unbeaten t e cs (in_order-tail c cs h))
@@ -180,7 +180,7 @@ module _ (p : Claim → Bool) (t : ℕ) where
   kept_by true false e c cs passed tie is rest = let g = rest (rw tie at is) in gives_later t e c cs g g.so
   kept_by false b e c cs passed tie is rest = let g = rest is in gives_later t e c cs g g.so
 
-  -- what is found in a filter passed
+  -- a claim found in a filter passed it
   kept_found : (e : ℕ) (cs : List Claim) → found t (map position (filter p cs)) ≡ Some e → Gives cs t e (λ d. p d ≡ true)
   kept_found e [] is = absurd cc
   kept_found e (c ∷ cs) is = kept_by (p c) (eq_by_cmp nat_cmp t c.token) e c cs refl refl is (kept_found e cs)
@@ -191,7 +191,7 @@ module _ (p : Claim → Bool) (t : ℕ) where
   none_by true false c cs passed tie is rest = All-cons (λ d. p d ≡ true → d.token ≡ t → ⊥) c cs (λ _ same. eqb-false c.token t (untied t c.token tie) same) (rest (rw tie at is))
   none_by false b c cs failed tie is rest = All-cons (λ d. p d ≡ true → d.token ≡ t → ⊥) c cs (λ passed. absurd cc) (rest is)
 
-  -- what is not found in a filter did not pass
+  -- a claim not found in a filter did not pass it
   none_found : (cs : List Claim) → found t (map position (filter p cs)) ≡ None → All (λ d. p d ≡ true → d.token ≡ t → ⊥) cs
   none_found [] is = All-nil (λ d. p d ≡ true → d.token ≡ t → ⊥)
   none_found (c ∷ cs) is = none_by (p c) (eq_by_cmp nat_cmp t c.token) c cs refl refl is (none_found cs)
@@ -201,7 +201,7 @@ absent_by : (b : Bool) (t : ℕ) (c : Claim) (cs : List Claim) → eq_by_cmp nat
 absent_by true t c cs tie is rest = absurd (none_some c.endpoint is)
 absent_by false t c cs tie is rest = All-cons (λ d. d.token ≡ t → ⊥) c cs (eqb-false c.token t (untied t c.token tie)) (rest is)
 
--- what is not found is not claimed
+-- a token that is not found is not claimed
 absent : (t : ℕ) (cs : List Claim) → found t (map position cs) ≡ None → All (λ d. d.token ≡ t → ⊥) cs
 absent t [] is = All-nil (λ d. d.token ≡ t → ⊥)
 absent t (c ∷ cs) is = absent_by (eq_by_cmp nat_cmp t c.token) t c cs refl is (absent t cs)

@@ -1,4 +1,4 @@
--- Where an owner's claims stay, the ring stays.
+-- If an owner's claims stay, the ring stays.
 use Rattle.std.proofs.Common.{◌≡◌, ◌==◌, ℕ, ◌<◌, Bool, true, false, cond, List, [], ◌∷◌, ◌++◌, map, Option, Some, None, refl, sym, ap, ◌∙◌}
 use Rattle.std.specs.Prelude.{filter, not, ◌&&◌, unwrap_or}
 use Rattle.std.specs.List.{flat_map}
@@ -22,7 +22,7 @@ use Rattle.cg_ring.specs.Claims.{claims_of, claims, wins, position, is_member, t
 use Rattle.cg_tokens.specs.Text.{tokens_of}
 use Rattle.cg_ring.specs.Laws.{ClaimsAlike, KeptClaimsAreAlike, RingStays}
 
--- what an endpoint claims by what is held of it
+-- the claims of an endpoint by the entry held of it
 abbrev claims_by : ℕ → Option EntryValue → List Claim
 claims_by k None = []
 claims_by k (Some e) = claims_of (k, e)
@@ -69,7 +69,7 @@ ring_stays m k v same =
 
 -- ---- entries that show that they keep claims
 
--- who is no member claims nothing
+-- an endpoint that is no member claims nothing
 no_member : (b : Bool) (tokens : List ℕ) → not b ≡ true → cond b tokens [] ≡ []
 no_member true tokens h = absurd cc
 no_member false tokens h = refl

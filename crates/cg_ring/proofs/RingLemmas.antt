@@ -74,7 +74,7 @@ filter-all : (xs : List ℕ) → filter (λ x. true) xs ≡ xs
 filter-all [] = refl
 filter-all (x ∷ xs) = ap (λ (l : List ℕ). x ∷ l) (filter-all xs)
 
--- those that were not taken so far
+-- the endpoints that were not taken before
 abbrev is_new : List ℕ → ℕ → Bool
 is_new taken e = not (is_among taken e)
 
@@ -91,7 +91,7 @@ with_another false false = refl
 is_new-push : (taken : List ℕ) (e f : ℕ) → is_new (taken ++ e ∷ []) f ≡ (not (e == f) && is_new taken f)
 is_new-push taken e f = rw (list_any-append (λ g. g == f) taken (e ∷ [])) (with_another (is_among taken f) (e == f))
 
--- what is taken further
+-- the endpoints taken further
 abbrev further : ℕ → List ℕ → List ℕ → List ℕ
 further rf taken es = taken ++ take (rf - length taken) (filter (is_new taken) (firsts es))
 
@@ -122,11 +122,11 @@ taking-further : (rf : ℕ) (taken es : List ℕ) → firsts_until rf taken es �
 taking-further rf taken [] = rw (take-nil (rf - length taken)) (sym (append-nil taken))
 taking-further rf taken (e ∷ es) = taking_by (nat_le rf (length taken)) rf e taken es (firsts_until rf (with_one taken e) es) refl (taking-further rf (with_one taken e) es)
 
--- what is taken, from nothing on, is the first of each
+-- the endpoints taken, from nothing on, are the first of each
 pub taking-firsts : (rf : ℕ) (es : List ℕ) → firsts_until rf [] es ≡ take rf (firsts es)
 taking-firsts rf es = let whole : rf - 0 ≡ rf = omega arith in taking-further rf [] es ∙ rw (whole, filter-all) refl
 
--- what is taken from a token on, and then from before it
+-- the endpoints taken from a token on, and then from before it
 pub taken_around : (rf token : ℕ) (positions from before : List (ℕ × ℕ)) → from ≡ filter (λ p. nat_le token p.0) positions → before ≡ filter (λ p. nat_lt p.0 token) positions
     → firsts_until rf (firsts_until rf [] (endpoints from)) (endpoints before) ≡ replicas positions token rf
 taken_around rf token positions from before later earlier =

@@ -1,4 +1,4 @@
--- Who claims which token, and who wins it.
+-- Claims to tokens, and the claims that win.
 use Rattle.std.specs.Prelude.{ℕ, ◌==◌, Bool, false, ◌&&◌, ◌||◌, not, nat_lt, List, [], ◌∷◌, map, codes, Option, Some, None, unwrap_or, if◌then◌else◌}
 use Rattle.std.specs.List.{flat_map, list_all, before_first}
 use Rattle.std.specs.Ordering.{nat_cmp, ordering_then}
@@ -12,7 +12,7 @@ use Rattle.cg_table.specs.Values.{Entries}
 use Rattle.cg_ring.specs.declared.claims.Claim.{Claim}
 use Rattle.cg_tokens.specs.Text.{is_comma, tokens_of}
 
--- the text that is held, empty where none is
+-- the text that is held, empty if there is none
 abbrev pub text_of : Option Versioned → List ℕ
 text_of None = []
 text_of (Some v) = v.text
@@ -27,7 +27,7 @@ is_member states =
     let status = before_first is_comma (text_at states STATUS_KEY) in
     bytes_eq status (codes "NORMAL") || bytes_eq status (codes "LEAVING")
 
--- the tokens that an endpoint claims by its states; none where their text can't be read
+-- the tokens that an endpoint claims by its states; none if their text can't be read
 abbrev pub claimed_tokens : States → List ℕ
 claimed_tokens states = if is_member states then unwrap_or (tokens_of (text_at states TOKENS_KEY)) [] else []
 
@@ -51,7 +51,7 @@ beats c d = nat_lt d.generation c.generation || (d.generation == c.generation &&
 abbrev pub wins : List Claim → Claim → Bool
 wins cs c = list_all (λ d. not (d.token == c.token && beats d c)) cs
 
--- Whether an entry shows that it claims what was claimed by what was held of its owner: its generation, status and
+-- An entry shows that it claims the same tokens as the entry held of its owner before: its generation, status and
 -- tokens are the same, or nothing was held and it is no member.
 abbrev pub keeps_claims : Option EntryValue → EntryValue → Bool
 keeps_claims None e = not (is_member e.states)
@@ -63,15 +63,15 @@ keeps_claims (Some held) e =
 abbrev pub position : Claim → ℕ × ℕ
 position c = (c.token, c.endpoint)
 
--- ---- how claims are sorted
+-- ---- the order of sorted claims
 
--- by token, and for one token by who beats whom
+-- by token, and for one token the claim that beats the other comes first
 abbrev pub rank : Claim → Claim → Ordering
 rank c d =
     ordering_then (ordering_then (nat_cmp c.token d.token) (nat_cmp d.generation c.generation))
     (nat_cmp c.endpoint d.endpoint)
 
--- whether a token is the last one
+-- a test that a token is the last one
 abbrev pub is_last : Option ℕ → ℕ → Bool
 is_last None t = false
 is_last (Some u) t = u == t

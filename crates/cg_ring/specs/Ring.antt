@@ -1,4 +1,4 @@
--- The ring of what is held, and replicas on it.
+-- The ring of a table's entries, and replicas on it.
 use Rattle.std.specs.Prelude.{ℕ, ◌==◌, not, nat_lt, nat_le, List, [], ◌∷◌, ◌++◌, length, map as map_list, take, filter, if◌then◌else◌}
 use Rattle.std.specs.Ordering.{nat_cmp}
 use Rattle.std.specs.FinMap as map
@@ -23,7 +23,7 @@ abbrev pub walk : List (ℕ × ℕ) → ℕ → List ℕ
 walk positions token =
     endpoints (filter (λ p. nat_le token p.0) positions) ++ endpoints (filter (λ p. nat_lt p.0 token) positions)
 
--- each endpoint where it comes first
+-- each endpoint at its first place
 abbrev pub firsts : List ℕ → List ℕ
 firsts [] = []
 firsts (e ∷ es) = e ∷ filter (λ f. not (e == f)) (firsts es)
@@ -32,13 +32,13 @@ firsts (e ∷ es) = e ∷ filter (λ f. not (e == f)) (firsts es)
 abbrev pub replicas : List (ℕ × ℕ) → ℕ → ℕ → List ℕ
 replicas positions token rf = take rf (firsts (walk positions token))
 
--- ---- how they are taken
+-- ---- the taking of replicas
 
--- what is taken after one more endpoint
+-- the endpoints taken after one more
 abbrev pub with_one : List ℕ → ℕ → List ℕ
 with_one taken e = if is_among taken e then taken else taken ++ e ∷ []
 
--- what is taken after some more endpoints, where rf are enough
+-- the endpoints taken after some more, if rf are enough
 abbrev pub firsts_until : ℕ → List ℕ → List ℕ → List ℕ
 firsts_until rf taken [] = taken
 firsts_until rf taken (e ∷ es) = if nat_le rf (length taken) then taken else firsts_until rf (with_one taken e) es

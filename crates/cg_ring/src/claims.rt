@@ -1,4 +1,4 @@
-//! Who claims which token.
+//! Claims to tokens: who has which.
 
 ghost use Rattle.std.specs.Prelude.{◌≡◌, ◌++◌, IfOk, OnOk, map, codes, option_copied};
 ghost use Rattle.std.specs.List.{before_first};
@@ -24,7 +24,7 @@ pub(crate) struct Claim {
     pub(crate) generation: Generation,
 }
 
-// The text that an entry has at a key, empty where it has none.
+// The text that an entry has at a key, empty if it has none.
 fn text_at(entry: &Entry, key: u8) -> &[u8]
     requires { IsKey key }
     ensures { result.now ≡ text_at entry.now.states key }
@@ -38,7 +38,7 @@ fn text_at(entry: &Entry, key: u8) -> &[u8]
     }
 }
 
-// What stands before the first comma.
+// The part of a text before the first comma.
 fn first_word(text: &[u8]) -> &[u8]
     ensures { result.now ≡ before_first is_comma text.now }
 {
@@ -46,7 +46,7 @@ fn first_word(text: &[u8]) -> &[u8]
     word
 }
 
-// Whether an endpoint is a member of the ring by its status.
+// Tests whether an endpoint is a member of the ring by its status.
 fn is_member(entry: &Entry) -> bool
     ensures { result ≡ is_member_of entry.now.states }
 {
@@ -54,7 +54,7 @@ fn is_member(entry: &Entry) -> bool
     status == b"NORMAL".as_slice() || status == b"LEAVING".as_slice()
 }
 
-// Whether two entries have the same text at a key.
+// Tests whether two entries have the same text at a key.
 fn same_text(one: &Entry, other: &Entry, key: u8) -> bool
     requires { IsKey key }
     ensures { result ≡ bytes_eq (text_at one.now.states key) (text_at other.now.states key) }
@@ -62,9 +62,9 @@ fn same_text(one: &Entry, other: &Entry, key: u8) -> bool
     text_at(one, key) == text_at(other, key)
 }
 
-/// Whether an entry shows that it claims what was claimed by what was held of its owner: its generation and its texts
-/// of `STATUS` and `TOKENS` are the same, or nothing was held and its `STATUS` up to the first comma is neither `NORMAL`
-/// nor `LEAVING`. Both entries are of one owner. Then the ring stays
+/// Tests whether an entry shows that it claims the same tokens as the entry held of its owner before. It does if its
+/// generation and its texts of `STATUS` and `TOKENS` are the same, or if nothing was held and its `STATUS` up to the
+/// first comma is neither `NORMAL` nor `LEAVING`. Both entries are of one owner. Then the ring stays
 /// (`laws::ring_stays`). It reads no token and takes no memory, so it answers `false` of other texts that claim the
 /// same.
 pub fn keeps_claims(held: Option<&Entry>, entry: &Entry) -> bool
@@ -119,7 +119,7 @@ pub(crate) fn all_claims(alloc: Global, table: &Table) -> Result<Vec<Claim>, All
     Ok(all)
 }
 
-/// The same claims, by their tokens, and those of one token with the winner first.
+/// The same claims, sorted by their tokens, and those of one token with the winner first.
 pub(crate) fn sort_claims(mut claims: Vec<Claim>) -> Vec<Claim>
     ensures permutation { IsPermutation claims.items result.items }
     ensures sorted { IsSorted rank result.items }

@@ -2,13 +2,13 @@
 
 ghost use Rattle.cg_ring.specs.Laws.{KeptClaimsAreAlike, RingStays};
 
-/// An entry that keeps the claims of its owner (`keeps_claims`) claims what was claimed.
+/// An entry that keeps the claims of its owner (`keeps_claims`) claims the same tokens as the entry held before.
 pub fn kept_claims_are_alike()
     ensures { KeptClaimsAreAlike }
 {}
 
-/// An owner's new entry that claims what its old one did leaves the ring as it is: the same tokens in the same
-/// generation, or none where nothing was held.
+/// The ring stays the same if an owner's new entry claims the same tokens in the same generation as its old one, or
+/// none if nothing was held.
 pub fn ring_stays()
     ensures { RingStays }
 {}

@@ -14,8 +14,8 @@ use cg_types::Endpoint;
 use std::alloc::{AllocError, Global};
 use std::marker::Model;
 
-/// The tokens that are claimed in a table, each with the endpoint that has it. It holds nothing for a token that
-/// nobody claims.
+/// A ring: the tokens that are claimed in a table, each with the endpoint that has it. It holds nothing for a token
+/// that nobody claims.
 #[derive(Debug, Drop)]
 pub struct Ring {
     positions: Vec<(Token, Endpoint)>,
@@ -39,7 +39,7 @@ impl Model for Ring {
     ghost invariant = { λ r. Rises (keys_of r.positions.items) };
 }
 
-// The first claim of each token, where the claims are in the order of their tokens.
+// The first claim of each token, if the claims are in the order of their tokens.
 fn heads(alloc: Global, claims: &[Claim]) -> Result<Vec<(Token, Endpoint)>, AllocError>
     ensures { IfOk result (λ positions. positions.items ≡ first_claims None claims.now) }
 {
@@ -54,7 +54,7 @@ fn heads(alloc: Global, claims: &[Claim]) -> Result<Vec<(Token, Endpoint)>, Allo
     Ok(positions)
 }
 
-// Where the tokens from `token` on begin.
+// The place at which the tokens from `token` on begin.
 fn place_of(positions: &[(Token, Endpoint)], token: Token) -> usize
     requires { Rises (keys_of positions.now) }
     ensures within { result ≤ length positions.now }
@@ -64,7 +64,7 @@ fn place_of(positions: &[(Token, Endpoint)], token: Token) -> usize
     positions.partition_point(|(position, _)| *position < token)
 }
 
-// Takes an endpoint, if it was not taken so far.
+// Takes an endpoint, if it was not taken before.
 fn take_one(taken: &mut Vec<Endpoint>, endpoint: Endpoint) -> Result<(), AllocError>
     ensures { OnOk result (taken.new.items ≡ with_one taken.old.items endpoint) }
 {
@@ -74,7 +74,7 @@ fn take_one(taken: &mut Vec<Endpoint>, endpoint: Endpoint) -> Result<(), AllocEr
     Ok(())
 }
 
-// Takes the endpoints that were not taken so far, until there are `rf`.
+// Takes the endpoints that were not taken before, until there are `rf`.
 fn take_endpoints(
     taken: &mut Vec<Endpoint>,
     positions: &[(Token, Endpoint)],
@@ -92,9 +92,9 @@ fn take_endpoints(
 }
 
 impl Ring {
-    /// The ring of what a table holds. An endpoint claims the tokens of its state `TOKENS` where that can be read,
-    /// and the word before the first comma of its state `STATUS` is `NORMAL` or `LEAVING`. A token that several
-    /// claim belongs to the greatest generation, and then to the least endpoint.
+    /// Builds the ring of a table. An endpoint claims the tokens of its state `TOKENS` if that can be read, and the
+    /// word before the first comma of its state `STATUS` is `NORMAL` or `LEAVING`. A token that several claim belongs
+    /// to the greatest generation, and then to the least endpoint.
     pub fn of_table(alloc: Global, table: &Table) -> Result<Ring, AllocError>
         ensures { IfOk result (λ r. r ≡ ring table.now.entries) }
     {
@@ -112,9 +112,9 @@ impl Ring {
         &self.positions
     }
 
-    /// The endpoints that keep what has this token, at most `rf` of them: from the first token of the ring at or
-    /// after it, clockwise, each endpoint where it comes first. It asks for memory once, for `rf` endpoints, or for one a
-    /// token where there are fewer tokens; for none, where `rf` is 0 or the ring is empty, not at all.
+    /// Returns the endpoints that keep the keys of this token, at most `rf` of them: from the first token of the ring
+    /// at or after it, clockwise, each endpoint at its first token. It takes memory once, for `rf` endpoints, or for
+    /// one a token if there are fewer tokens. If `rf` is 0 or the ring is empty, it takes none.
     pub fn replicas(
         &self,
         alloc: Global,

@@ -39,7 +39,7 @@ hexadecimal-joined (suc n) k (suc m) high low e lt =
 abbrev onto : ℕ → ℕ → List ℕ → List ℕ
 onto i n acc = digits_onto i 16 false n acc
 
--- what stands before digits, where so many characters are due
+-- the digits, with characters before them up to the expected number
 abbrev filled : ℕ → List ℕ → List ℕ
 filled width ds = replicate (width - length ds) 48 ++ ds
 
@@ -74,7 +74,7 @@ padded_onto (suc k) n (suc i) acc lt le =
     let less : n / 16 < 16 ^ suc k = omega (arith, power) in
     padded_step (n / 16 == 0) (suc k) n acc (onto (suc i) (n / 16) (last_onto n acc)) refl (padded_onto k (n / 16) i (last_onto n acc) less (omega arith))
 
--- what `{:016x}` writes of digits
+-- the text that `{:016x}` writes of digits
 abbrev pub half_text : List ℕ → List ℕ
 half_text ds = padded_integral (format_spec 32 0 4 16 (2 ^ 64 - 1)) false [] ds
 
@@ -92,7 +92,7 @@ half_text-hexadecimal : (n : ℕ) → n < 2 ^ 64 → half_text (digits 16 false 
 half_text-hexadecimal n lt =
     half_text-filled (digits 16 false n) ∙ ap (filled 16) (sym (digits-onto n)) ∙ sym (padded_onto 15 n 63 [] (omega arith) (omega arith)) ∙ append-nil (hexadecimal 16 n)
 
--- the text of a token is what is written of its two halves
+-- the text of a token is that of its two halves
 pub token_text-halves : (t : ℕ) → t < 2 ^ 128 → half_text (digits 16 false (t / 2 ^ 64)) ++ half_text (digits 16 false (t % 2 ^ 64)) ≡ token_text t
 token_text-halves t lt =
     let whole : t / 2 ^ 64 * 16 ^ 16 + t % 2 ^ 64 ≡ t = omega arith in

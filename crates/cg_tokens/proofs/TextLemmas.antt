@@ -96,11 +96,11 @@ module _ (ds : List ℕ) (i number digit : ℕ) (lt : i < length ds) (so_far : n
 
 -- ---- tokens
 
--- what is left to be checked after some pieces
+-- the checks that are left after some pieces
 abbrev pub checks : Option ℕ → ℕ → List (List ℕ) → Bool
 checks last count ps = nat_le (count + length ps) TOKEN_COUNT_LIMIT && (list_all (λ p. is_some (token_in p)) ps && rise_past last (filter_map token_in ps))
 
--- the bytes that are left, and one for the piece
+-- the number of bytes that are left, and one for the piece
 abbrev pub left : Option (List ℕ) → ℕ
 left None = 0
 left (Some text) = length text + 1

@@ -1,4 +1,4 @@
--- A text is read as tokens exactly where it is the one that is written of them.
+-- A text is read as tokens exactly if it is the one that is written of them.
 use Rattle.std.proofs.Common.{◌≡◌, ◌≢◌, ℕ, zero, suc, ◌+◌, ◌*◌, ◌/◌, ◌%◌, ◌^◌, ◌<◌, ◌≤◌, Bool, true, false, cond, ◌==◌, List, [], ◌∷◌, ◌++◌, length, take, get_or, map, Option, Some, None, refl, sym, ap, ◌∙◌, arith, eq-eqb, eqb-true, add-one}
 use Rattle.std.specs.Prelude.{◌&&◌, nat_le, is_some, All}
 use Rattle.std.specs.List.{list_all, filter_map, join_with_byte}
@@ -75,7 +75,7 @@ guarded : (b : Bool) (x t : ℕ) → cond b (Some x) None ≡ Some t → (b ≡ 
 guarded true x t e = (refl, cc)
 guarded false x t e = absurd cc
 
--- what is read as a token is written so
+-- a text that is read as a token is the token's text
 token_in-some : (p : List ℕ) (t : ℕ) → token_in p ≡ Some t → p ≡ token_text t
 unfolding token_in
 token_in-some p t e =
@@ -86,7 +86,7 @@ token_in-some p t e =
     let whole = take_all TOKEN_DIGITS p (omega arith) in
     sym (ap (λ (n : ℕ). hexadecimal TOKEN_DIGITS n) (sym g.1) ∙ rw whole at (hexadecimal-value p TOKEN_DIGITS digits.0 (omega arith)))
 
--- and what is written of a token is read as it
+-- and a token's text is read as that token
 token_in-text : (t : ℕ) → IsToken t → token_in (token_text t) ≡ Some t
 unfolding token_in
 token_in-text t le =
@@ -133,13 +133,13 @@ read_again : (ts : List ℕ) → All IsToken ts → filter_map token_in (map tok
 read_again [] h = refl
 read_again (t ∷ ts) h = rw (token_in-text t (All-head IsToken t ts h)) (ap (λ (us : List ℕ). t ∷ us) (read_again ts (All-tail IsToken t ts h)))
 
--- what is written of tokens is read as them
+-- the text of tokens is read as them
 tokens_of-text : (tokens : List ℕ) → AreTokens tokens → tokens_of (tokens_text tokens) ≡ Some tokens
 tokens_of-text [] h = absurd (omega (arith, h.some))
 tokens_of-text (t ∷ ts) h =
     let few = le-leb (length (map token_text (t ∷ ts))) TOKEN_COUNT_LIMIT (omega (arith, h.few, length-map (t ∷ ts) token_text)) in
     rw (pieces-text t ts) (rw (few, all_read (t ∷ ts) h.in_range, read_again (t ∷ ts) h.in_range, h.rise) refl)
 
--- so a text that can't be read is not written of any
+-- so a text that can't be read is not the text of any tokens
 pub text_unread : (text : List ℕ) → None ≡ tokens_of text → (tokens : List ℕ) → AreTokens tokens → text ≢ tokens_text tokens
 text_unread text e tokens h is = let read = tokens_of-text tokens h in let lost : tokens_of (tokens_text tokens) ≡ None = rw (← is) (sym e) in absurd cc

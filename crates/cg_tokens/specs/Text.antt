@@ -13,13 +13,13 @@ use Rattle.cg_tokens.specs.declared.limits.TheConstants.{TOKEN_LIMIT, TOKEN_DIGI
 abbrev pub is_lower_digit : ℕ → Bool
 is_lower_digit c = is_in_range 48 57 c || is_in_range 97 102 c
 
--- the token that digits write, where there are as many as a token has, and it is not too great
+-- the token that digits write, if there are as many as a token has, and it is not too great
 unfoldable pub token_in : List ℕ → Option ℕ
 token_in digits =
     if length digits == TOKEN_DIGITS && (list_all is_lower_digit digits && nat_le (digits_value 16 digits) TOKEN_LIMIT)
     then Some (digits_value 16 digits) else None
 
--- what stands between tokens
+-- the byte between tokens
 abbrev pub is_comma : ℕ → Bool
 is_comma b = b == COMMA
 
@@ -27,7 +27,7 @@ is_comma b = b == COMMA
 abbrev pub pieces : List ℕ → List (List ℕ)
 pieces text = slice_split is_comma text
 
--- those of what is left, if anything is
+-- the parts of the rest, if there is a rest
 abbrev pub pieces_of : Option (List ℕ) → List (List ℕ)
 pieces_of None = []
 pieces_of (Some text) = pieces text
@@ -42,7 +42,7 @@ are_tokens ps =
 abbrev pub tokens_of : List ℕ → Option (List ℕ)
 tokens_of text = if are_tokens (pieces text) then Some (filter_map token_in (pieces text)) else None
 
--- the one text that is written of tokens
+-- the one text of a list of tokens
 abbrev pub tokens_text : List ℕ → List ℕ
 tokens_text tokens = join_with_byte COMMA (map token_text tokens)
 
@@ -53,7 +53,7 @@ pub record AreTokens (tokens : List ℕ) : Type 0 where
   pub in_range : All IsToken tokens
   pub rise : Rises tokens
 
--- what a text of tokens is due
+-- the expected answer to a text of tokens
 abbrev pub read_as : Option (List ℕ) → Result (List ℕ) Fault
 read_as None = Err BadText
 read_as (Some tokens) = Ok tokens

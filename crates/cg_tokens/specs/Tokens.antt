@@ -1,4 +1,4 @@
--- Tokens of bytes, and what is written of a token.
+-- Tokens of bytes, and the text of a token.
 use Rattle.std.specs.Prelude.{ℕ, zero, suc, ◌/◌, ◌%◌, ◌≤◌, List, [], ◌∷◌, ◌++◌, unsigned_abs}
 use Rattle.std.specs.Char.{digit_char}
 use Rattle.std.specs.Int.{w128, from_be_bytes, cast_signed}

@@ -2,7 +2,7 @@
 
 ghost use Rattle.cg_tokens.specs.Laws.{LimitsAreThese};
 
-/// The greatest token, the digits that a token is written with, and how many tokens an endpoint may have, as numbers.
+/// The greatest token, the digits of a token, and the most tokens of an endpoint are these numbers.
 pub fn limits_are_these()
     ensures { LimitsAreThese }
 {}

@@ -4,6 +4,7 @@
 //! other.
 #![tactic(auto)]
 
+/// A law of the limits.
 pub mod laws;
 mod limits;
 mod text;

@@ -14,7 +14,7 @@ use arrayvec::ArrayVec;
 use cg_types::{Fault, cut};
 use std::alloc::{AllocError, Global};
 
-// A digit, as hexadecimal texts of tokens have them: no capital letter.
+// Tests whether a byte is a digit, as hexadecimal texts of tokens have them: no capital letter.
 fn is_lower_digit(byte: u8) -> bool
     ensures { result ≡ is_lower_digit byte }
 {
@@ -27,7 +27,7 @@ fn are_lower_digits(text: &[u8]) -> bool
     text.iter().all(|byte| is_lower_digit(*byte))
 }
 
-// What a digit stands for.
+// The value of a digit.
 fn digit_of(byte: u8) -> u8
     requires { IsTrue (is_lower_digit byte) }
     ensures value { result ≡ digit_value byte }
@@ -64,7 +64,7 @@ fn token_in(digits: &[u8]) -> Option<Token>
     Token::new(number_of(digits))
 }
 
-/// What stands before the first comma, and what stands behind it, if there is one.
+/// Cuts a text at its first comma: returns the part before it, and the part after it if there is a comma.
 pub fn first_piece(text: &[u8]) -> (&[u8], Option<&[u8]>)
     ensures pieces { pieces text.now ≡ result.0.now ∷ pieces_of (option_copied result.1) }
     ensures shorter { IfSome result.1 (λ rest. length rest.now < length text.now) }
@@ -101,8 +101,8 @@ fn gather(text: &[u8]) -> Option<ArrayVec<Token, TOKEN_COUNT_LIMIT>>
     Some(tokens)
 }
 
-/// The tokens of a text, if it is one of tokens, as `read_tokens` reads it. Only then it takes memory; `AllocError` where
-/// there is none.
+/// Reads the tokens of a text, if it is one of tokens, as `read_tokens` does. It takes memory only for such a text;
+/// `AllocError` if there is none.
 pub fn tokens_in(alloc: Global, text: &[u8]) -> Result<Option<Vec<Token>>, AllocError>
     ensures ok { IfOk result (λ tokens. option_map (λ v. v.items) tokens ≡ tokens_of text.now) }
     ensures err { OnErr result (IsSome (tokens_of text.now)) }
@@ -113,14 +113,14 @@ pub fn tokens_in(alloc: Global, text: &[u8]) -> Result<Option<Vec<Token>>, Alloc
     }
 }
 
-/// The tokens of an endpoint, as its state `TOKENS` has them: 1 to `TOKEN_COUNT_LIMIT` tokens of 32 lower-case
+/// Reads the tokens of an endpoint, as its state `TOKENS` has them: 1 to `TOKEN_COUNT_LIMIT` tokens of 32 lower-case
 /// hexadecimal digits, each greater than the one before it, with one comma between them. Any other text is BadText,
-/// which is found before memory is taken; OutOfMemory comes only where the text is one of tokens.
+/// which is found before memory is taken; OutOfMemory comes only if the text is one of tokens.
 pub fn read_tokens(alloc: Global, text: &str) -> Result<Vec<Token>, Fault>
     ensures answer { Answers (λ tokens. tokens.items) (read_as (tokens_of text.now)) result }
-    // The text is the one that is written of the tokens.
+    // The text is the one that the tokens write.
     ensures ok { IfOk result (λ tokens. text.now ≡ tokens_text tokens.items) }
-    // A text that is refused is not written of any.
+    // A text that is refused is not the text of any tokens.
     ensures bad { result ≡ Err BadText → (tokens : List ℕ) → AreTokens tokens → text.now ≢ tokens_text tokens }
 {
     match tokens_in(alloc, text.as_bytes())? {

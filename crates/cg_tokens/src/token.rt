@@ -13,7 +13,7 @@ use std::cmp::Ordering;
 use std::fmt;
 use std::marker::Model;
 
-/// A place on the ring, 0 to `TOKEN_LIMIT`, by default 0. Tokens are ordered as their numbers.
+/// A token: a place on the ring, 0 to `TOKEN_LIMIT`, by default 0. Tokens are ordered as their numbers.
 #[derive(Clone, Copy, Debug, Default)]
 pub struct Token {
     number: u128,
@@ -71,7 +71,7 @@ impl Ord for Token {
     }
 }
 
-/// Written as 32 lower-case hexadecimal digits.
+/// Writes a token as 32 lower-case hexadecimal digits.
 impl fmt::Display for Token {
     ghost output = { λ t. Some (token_text t) };
 
@@ -83,7 +83,7 @@ impl fmt::Display for Token {
 }
 
 impl Token {
-    /// `None` where the number is over `TOKEN_LIMIT`.
+    /// Makes a token of its number; `None` if the number is over `TOKEN_LIMIT`.
     pub fn new(number: u128) -> Option<Token>
         ensures valid { IsSome result ↔ IsToken number }
         ensures value { IfSome result (λ t. t ≡ number) }
