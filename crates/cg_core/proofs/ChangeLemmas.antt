@@ -112,7 +112,7 @@ module _ (t : TableValue) where
 
 -- ---- each step
 
--- what a step left is what its owners' rows say
+-- the puts of a step are the new rows of the owners that it changed
 abbrev Shows : NodeValue → NodeValue × Reply → Type 0
 Shows n x = puts n.table x.0.table ≡ rows_at x.0.table.entries (changed_owners n.table.own x.1)
 

@@ -11,7 +11,7 @@ use Rattle.cg_table.specs.Merge.{is_ahead, later_entries}
 use Rattle.cg_table.proofs.PutsLemmas.{later_entries-put_each}
 use Rattle.cg_core.proofs.OrderLemmas.{ahead_on}
 
--- what is held of an owner is the same, or a later entry
+-- the entry held of an owner is the same, or a later one
 abbrev pub Moves : Option EntryValue → Option EntryValue → Type 0
 Moves before after = (after ≡ before) ⊎ ((e : EntryValue) × ((after ≡ Some e) × (is_ahead before e ≡ true)))
 
@@ -30,6 +30,6 @@ one_ahead : (m : Entries) (own : ℕ) (e : EntryValue) → is_ahead (get m own) 
 one_ahead m own e ahead q x true is found = (λ i. is_ahead (get m (same_tied q own is i)) (sym (same_Some e x found) i)) ∙ ahead
 one_ahead m own e ahead q x false is found = absurd cc
 
--- where one later entry is put, it is the only put
+-- if one later entry is put, it is the only put
 pub only_put : (m : Entries) (own : ℕ) (e : EntryValue) → is_ahead (get m own) e ≡ true → later_entries m (insert m own e) ≡ (own, e) ∷ []
 only_put m own e ahead = later_entries-put_each m ((own, e) ∷ []) refl (λ q x found. one_ahead m own e ahead q x (eq_by_cmp nat_cmp q own) refl found)

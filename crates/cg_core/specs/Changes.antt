@@ -1,4 +1,4 @@
--- Whose entries a step changes, and its puts.
+-- The owners whose entries a step changes, and its puts.
 use Rattle.std.specs.Prelude.{ℕ, List, [], ◌∷◌, map, Result}
 use Rattle.std.specs.List.{filter}
 use Rattle.cg_types.specs.declared.fault.Fault.{Fault}
@@ -15,12 +15,11 @@ use Rattle.cg_core.specs.Step.{node_step, then}
 abbrev pub step_with_puts : NodeValue → Event → Result (NodeValue × Reply × List Put) Fault
 step_with_puts n e = then (node_step n e) (λ x. (x.0, x.1, puts n.table x.0.table))
 
--- whom the deltas that were taken are about
+-- the owners of the deltas that were taken
 abbrev pub taken_owners : List Outcome → List ℕ
 taken_owners outcomes = map (λ o. o.endpoint) (filter (λ o. was_taken o.took) outcomes)
 
--- the owners whose entry a step changes, by what it answers: the own one, nobody, or those of the deltas that were
--- taken
+-- the owners whose entry a step changes, by its reply: the own one, nobody, or those of the deltas that were taken
 abbrev pub changed_owners : ℕ → Reply → List ℕ
 changed_owners own (reply.Done version) = own ∷ []
 changed_owners own (reply.Round peers syn) = own ∷ []

@@ -13,7 +13,7 @@ use cg_types::{Endpoint, Fault};
 use cg_windows::was_taken;
 use std::alloc::{AllocError, Global};
 
-// Whom the deltas that were taken are about.
+// The owners of the deltas that were taken.
 fn taken_owners(alloc: Global, outcomes: &Outcomes) -> Result<Vec<Endpoint>, AllocError>
     ensures { IfOk result (λ v. v.items ≡ taken_owners_of outcomes.now) }
 {
@@ -25,7 +25,7 @@ fn taken_owners(alloc: Global, outcomes: &Outcomes) -> Result<Vec<Endpoint>, All
         .collect(alloc)
 }
 
-// The owners whose entry a step changed, by what it answered.
+// The owners whose entry a step changed, by its reply.
 fn changed_owners(alloc: Global, own: Endpoint, reply: &Reply) -> Result<Vec<Endpoint>, AllocError>
     ensures { IfOk result (λ v. v.items ≡ changed_owners_of own reply.now) }
 {
@@ -53,8 +53,8 @@ fn changed_rows(
 }
 
 impl Node {
-    /// The node after an event, what it answers, and the puts of the step: the owners whose entry it changed, rising,
-    /// each with its whole new entry, which is the new table's. They are found by what is answered, not by a walk over
+    /// Returns the node after an event, its reply, and the puts of the step: the owners whose entry it changed, rising,
+    /// each with its whole new entry, which is the new table's. The call finds them by the reply, not by a walk over
     /// the tables. The refusals are those of `stepped`.
     pub fn stepped_with_puts(
         &self,

@@ -1,4 +1,4 @@
--- The code of what became of the deltas of a message, by which `==` tells it apart.
+-- The code of the outcomes of a message's deltas, by which `==` tells them apart.
 use Rattle.std.specs.Prelude.{List}
 use Rattle.std.specs.Coded.{Coded, coded_list}
 use Rattle.cg_messages.specs.declared.outcome.Outcome.{Outcome}

@@ -1,4 +1,4 @@
--- What an event hands a node.
+-- Deltas that come with an event.
 use Rattle.std.specs.Prelude.{List, []}
 use Rattle.cg_messages.specs.declared.owner_delta.OwnerDelta.{OwnerDelta}
 use Rattle.cg_events.specs.declared.event.Event.{Event}

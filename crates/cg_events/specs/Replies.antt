@@ -1,4 +1,4 @@
--- What replies tell of deltas, and which kind of reply each kind of event has.
+-- The outcomes in a reply, and the kind of reply that each kind of event has.
 use Rattle.std.specs.Prelude.{List, []}
 use Rattle.cg_messages.specs.declared.message.Message.TheVariants as messages
 use Rattle.cg_messages.specs.declared.outcome.Outcome.{Outcome}
@@ -7,7 +7,7 @@ use Rattle.cg_events.specs.declared.event.Event.TheVariants as event
 use Rattle.cg_events.specs.declared.reply.Reply.{Reply}
 use Rattle.cg_events.specs.declared.reply.Reply.TheVariants as reply
 
--- what a reply tells of deltas
+-- the outcomes that a reply reports of deltas
 abbrev pub outcomes_in : Reply → List Outcome
 outcomes_in (reply.Done version) = []
 outcomes_in (reply.Round peers syn) = []

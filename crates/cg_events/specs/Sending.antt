@@ -1,4 +1,4 @@
--- What a reply sends.
+-- Messages that replies send.
 use Rattle.std.specs.Prelude.{Option, Some, None}
 use Rattle.cg_messages.specs.declared.message.Message.{Message}
 use Rattle.cg_messages.specs.declared.message.Message.TheVariants as messages

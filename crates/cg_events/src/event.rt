@@ -1,4 +1,4 @@
-//! What a node is handed.
+//! Events: all that a node handles.
 
 ghost use Rattle.std.specs.Prelude.{◌≡◌, ◌↔◌, IsTrue, IfOk};
 
@@ -7,14 +7,14 @@ use cg_messages::{Ack, Ack2, Syn};
 use cg_types::{StateKey, StateText};
 use std::alloc::{AllocError, Global};
 
-/// What a node is handed. A moment `now` is in milliseconds, of one clock for all events of a node.
+/// An event that a node handles. The time `now` is in milliseconds, of one clock for all events of a node.
 #[derive(Debug, Drop)]
 pub enum Event {
     /// The node's heartbeat version is to rise.
     Beat,
     /// One of the node's own keys is to get a text.
     Set { key: StateKey, text: StateText },
-    /// A round is due: a beat, and a SYN for peers that are chosen with four random words.
+    /// It is time for a round: a beat, and a SYN for peers that are chosen with four random words.
     Tick { now: u64, words: [u64; 4] },
     /// A SYN is wanted, with no beat and for nobody in particular.
     Opening,
@@ -34,7 +34,7 @@ impl PartialEq for Event {
 
     ghost laws = { same_by-partial event_code };
 
-    /// Whether both are one event.
+    /// Returns `true` if both are one event.
     fn eq(&self, other: &Event) -> bool
         ensures { IsTrue result ↔ (self.now ≡ other.now) }
     {

@@ -1,4 +1,4 @@
-//! What an event hands a node.
+//! The deltas that an event brings a node.
 
 ghost use Rattle.std.specs.Prelude.{◌≡◌};
 ghost use Rattle.cg_types.specs.Rising.{Rises};
@@ -9,7 +9,7 @@ use crate::event::Event;
 use cg_messages::OwnerDelta;
 
 impl Event {
-    /// The deltas that the event hands a node, rising by owner: those of an ACK or an ACK2.
+    /// The deltas that the event brings a node, rising by owner: those of an ACK or an ACK2.
     pub fn deltas(&self) -> &[OwnerDelta]
         ensures value { result.now ≡ deltas_in self.now }
         ensures rise { Rises (endpoints_of_deltas (deltas_in self.now)) }

@@ -1,7 +1,7 @@
-//! What a node is handed and what it answers.
+//! The events of a node, and its replies.
 //!
-//! Events and replies are values: whoever drives a node hands it an event, and sends what the reply holds. Two are equal
-//! exactly where they are the same.
+//! Events and replies are values: a caller that drives a node passes it an event, and sends the message that the reply
+//! holds. Two are equal exactly if they are the same.
 #![tactic(auto)]
 
 mod event;

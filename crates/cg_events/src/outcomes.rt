@@ -1,4 +1,4 @@
-//! What became of the deltas of a message.
+//! Outcomes of the deltas of a message.
 
 ghost use Rattle.std.specs.Prelude.{◌≡◌, ◌↔◌, IsTrue, IfOk};
 
@@ -6,7 +6,7 @@ use cg_messages::Outcome;
 use std::alloc::{AllocError, Global};
 use std::marker::Model;
 
-/// What became of the deltas of a message, in the order of the deltas.
+/// The outcomes of the deltas of a message, in the order of the deltas.
 #[derive(Debug, Drop)]
 pub struct Outcomes {
     outcomes: Vec<Outcome>,
@@ -30,7 +30,7 @@ impl PartialEq for Outcomes {
 
     ghost laws = { same_by-partial outcomes_code };
 
-    /// Whether both are the same outcomes in the same order.
+    /// Returns `true` if both are the same outcomes in the same order.
     fn eq(&self, other: &Outcomes) -> bool
         ensures { IsTrue result ↔ (self.now ≡ other.now) }
     {
@@ -46,7 +46,7 @@ impl Eq for Outcomes {
 }
 
 impl Outcomes {
-    /// These outcomes.
+    /// Makes a list of these outcomes.
     pub fn of(outcomes: Vec<Outcome>) -> Outcomes
         ensures { result ≡ outcomes.items }
     {

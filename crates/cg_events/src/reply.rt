@@ -1,4 +1,4 @@
-//! What a node answers.
+//! Replies of a node.
 
 ghost use Rattle.std.specs.Prelude.{◌≡◌, ◌↔◌, IsTrue, IfOk};
 
@@ -9,18 +9,18 @@ use cg_peers::Peers;
 use cg_types::Version;
 use std::alloc::{AllocError, Global};
 
-/// What a node answers to an event that it did.
+/// The reply of a node to an event that it did.
 #[derive(Debug, Drop)]
 pub enum Reply {
     /// The version that the change of the own entry was given.
     Done(Version),
-    /// A SYN, and whom it is for.
+    /// A SYN, and the peers that it is for.
     Round { peers: Peers, syn: Syn },
     /// A SYN, or the answer to one.
     Sent(Message),
-    /// What became of the deltas of an ACK, and the answer to its requests.
+    /// The outcomes of the deltas of an ACK, and the answer to its requests.
     Both { outcomes: Outcomes, ack2: Ack2 },
-    /// What became of the deltas of an ACK2.
+    /// The outcomes of the deltas of an ACK2.
     Took(Outcomes),
 }
 
@@ -32,7 +32,7 @@ impl PartialEq for Reply {
 
     ghost laws = { same_by-partial reply_code };
 
-    /// Whether both are one reply.
+    /// Returns `true` if both are one reply.
     fn eq(&self, other: &Reply) -> bool
         ensures { IsTrue result ↔ (self.now ≡ other.now) }
     {

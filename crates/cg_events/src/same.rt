@@ -1,4 +1,4 @@
-//! Whether what events and replies hold is the same: `==`, with a clause at each type that a match on both can use.
+//! Equality of the parts of events and replies: `==`, with a clause at each type that a match on both can use.
 
 ghost use Rattle.std.specs.Prelude.{◌≡◌, ◌↔◌, IsTrue};
 

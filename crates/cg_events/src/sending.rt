@@ -1,4 +1,4 @@
-//! What a reply sends.
+//! The message that a reply sends.
 
 ghost use Rattle.std.specs.Prelude.{◌≡◌};
 ghost use Rattle.std.specs.Option.{option_map};
@@ -9,8 +9,8 @@ use crate::reply::Reply;
 use cg_messages::{Lent, Message};
 
 impl Reply {
-    /// The message that it sends, lent; `None` where it sends none, as after a change of the own entry and after an
-    /// ACK2.
+    /// The message that the reply sends, borrowed; `None` if it sends none, as after a change of the own entry and
+    /// after an ACK2.
     pub fn message(&self) -> Option<Lent<'_>>
         ensures { option_map lent_message result ≡ message_of self.now }
     {

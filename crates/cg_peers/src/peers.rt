@@ -1,4 +1,4 @@
-//! Whom a round is for.
+//! The list of a round's peers.
 
 ghost use Rattle.std.specs.Prelude.{◌≡◌, ◌↔◌, IsTrue, IfOk};
 
@@ -6,8 +6,7 @@ use cg_types::Endpoint;
 use std::alloc::{AllocError, Global};
 use std::marker::Model;
 
-/// The endpoints that a round is for, in the order in which they were chosen: at most a live one, a silent one and a
-/// seed.
+/// The peers of a round, in the order in which they were chosen: at most a live one, a silent one and a seed.
 #[derive(Debug, Drop)]
 pub struct Peers {
     endpoints: Vec<Endpoint>,
@@ -30,7 +29,7 @@ impl PartialEq for Peers {
 
     ghost laws = { same_by-partial peers_code };
 
-    /// Whether both are the same endpoints in the same order.
+    /// Returns `true` if both are the same endpoints in the same order.
     fn eq(&self, other: &Peers) -> bool
         ensures { IsTrue result ↔ (self.now ≡ other.now) }
     {
@@ -46,7 +45,7 @@ impl Eq for Peers {
 }
 
 impl Peers {
-    /// These endpoints.
+    /// Makes the peers of these endpoints.
     pub fn of(endpoints: Vec<Endpoint>) -> Peers
         ensures { result ≡ endpoints.items }
     {

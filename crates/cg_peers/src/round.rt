@@ -1,4 +1,4 @@
-//! How the peers of a round are chosen.
+//! The choice of a round's peers.
 
 ghost use Rattle.std.specs.Prelude.{◌≡◌, IfOk, length};
 ghost use Rattle.std.specs.List.{list_any};
@@ -31,14 +31,14 @@ fn silent_peer(live: &[Endpoint], silent: &[Endpoint], odds: u64, word: u64) -> 
     }
 }
 
-// Whether a seed was chosen.
+// Tests whether a seed was chosen.
 fn has_seed(chosen: &[Endpoint], seeds: &[Endpoint]) -> bool
     ensures { result ≡ list_any (is_among seeds.now) chosen.now }
 {
     chosen.iter().any(|peer| seeds.contains(peer))
 }
 
-// A seed, where none was chosen so far.
+// A seed, if none was chosen before.
 fn seed_peer(chosen: &[Endpoint], seeds: &[Endpoint], word: u64) -> Option<Endpoint>
     ensures { result ≡ seed_peer_of chosen.now seeds.now word }
 {
@@ -49,8 +49,8 @@ fn seed_peer(chosen: &[Endpoint], seeds: &[Endpoint], word: u64) -> Option<Endpo
     }
 }
 
-/// The peers of a round, chosen with four random words: a live endpoint by the first, perhaps a silent one by the
-/// second and the third, and a seed by the fourth where no seed was chosen.
+/// Chooses the peers of a round with four random words: a live endpoint by the first, perhaps a silent one by the
+/// second and the third, and a seed by the fourth if no seed was chosen.
 pub fn choose_peers(
     alloc: Global,
     live: &[Endpoint],

@@ -1,4 +1,4 @@
-//! What a SYN is answered with.
+//! Answers to a SYN, by the entry that is held.
 
 use crate::samples::{only, syn_of, table_alone};
 use cg_exchange::answer_syn;
@@ -9,7 +9,7 @@ use cg_types::{Endpoint, Fault};
 use std::alloc::Global;
 use std::test::Fail;
 
-// What an ACK asks for, where that is one thing: the owner, the generation and the version.
+// The request of an ACK, if it has one: the owner, the generation and the version.
 fn asked(ack: &Ack) -> Option<(Endpoint, u32, u32)> {
     match ack.requests() {
         [one] => Some((one.endpoint(), one.generation().get(), one.version())),
@@ -17,7 +17,7 @@ fn asked(ack: &Ack) -> Option<(Endpoint, u32, u32)> {
     }
 }
 
-// What it asks for, the only delta that it sends, and how many requests and deltas it has.
+// The only request of an ACK, the only delta that it sends, and the number of its requests and of its deltas.
 type Shown = (
     Option<(Endpoint, u32, u32)>,
     Option<(u32, u32, u32)>,
@@ -29,10 +29,10 @@ fn shown(ack: &Ack) -> Shown {
     (asked(ack), only(deltas), (requests.len(), deltas.len()))
 }
 
-// The same, or why there is none.
+// The same, or the fault that refuses the SYN.
 type Answered = Result<Shown, Fault>;
 
-// What B at generation 5, alone in its table and in the cluster c1, answers.
+// The answer of B at generation 5, alone in its table and in the cluster c1.
 fn answer_of_b(alloc: Global, syn: &Syn) -> Result<Answered, Fail> {
     let table = table_alone(alloc, B, 5)?;
     let cluster = cluster(alloc)?;
@@ -42,7 +42,7 @@ fn answer_of_b(alloc: Global, syn: &Syn) -> Result<Answered, Fail> {
     })
 }
 
-// The same, where the SYN is of this cluster and says this of these owners.
+// The answer to a SYN of this cluster with this digest of each of these owners.
 fn answered(
     alloc: Global,
     cluster: (&str, u8),
@@ -53,7 +53,7 @@ fn answered(
     answer_of_b(alloc, &syn)
 }
 
-// A SYN's cluster, whom it names, and of B the generation and the newest version that it says.
+// The cases: a SYN's cluster, the owners that it names, and the generation and the newest version that it states of B.
 #[test]
 fn what_is_held_is_answered_by_how_far_it_came(rt: HostRuntime) -> Result<(), Fail> {
     let (owner, ours) = (endpoint(B), ("c1", 1));

@@ -35,14 +35,14 @@ fn what_is_put_is_got(rt: HostRuntime) -> Result<(), Fail> {
     expect_eq!(got, (None, Some(20), Some(30)))
 }
 
-// What changes them: 21 at endpoint 2, and 40 at endpoint 4.
+// The changes of the values: 21 at endpoint 2, and 40 at endpoint 4.
 fn two_changes(alloc: Global) -> Result<Vec<Row<u32>>, Fail> {
     let first = Row::new(alloc, endpoint(2), 21)?;
     let second = Row::new(alloc, endpoint(4), 40)?;
     Ok(vec![in alloc; first.share()?, second]?)
 }
 
-// Whether a map has these rows and no others: the last part of an endpoint, and its value.
+// Tests whether a map has these rows and no others: the last part of an endpoint, and its value.
 fn has_rows(map: &SharedMap<u32>, wanted: [(u16, u32); 4]) -> bool {
     let rows = map.rows();
     for (row, (last, value)) in rows.iter().zip(wanted) {
@@ -53,7 +53,7 @@ fn has_rows(map: &SharedMap<u32>, wanted: [(u16, u32); 4]) -> bool {
     rows.len() == wanted.len()
 }
 
-// The three values with the changes put: as they are handed over, and as they are lent.
+// The three values with the changes put: as rows that are moved in, and as borrowed rows.
 fn changed(alloc: Global) -> Result<(SharedMap<u32>, SharedMap<u32>), Fail> {
     let map = three_values(alloc)?;
     let changes = two_changes(alloc)?;
@@ -82,7 +82,7 @@ fn an_item_is_put_at_the_end(rt: HostRuntime) -> Result<(), Fail> {
     expect_eq!(items.as_slice(), [1, 2].as_slice())
 }
 
-// Whether the rows of two endpoints rise in this order.
+// Tests whether the rows of two endpoints rise in this order.
 fn rise(alloc: Global, first: u16, second: u16) -> Result<bool, Fail> {
     let first = Row::new(alloc, endpoint(first), 1)?;
     let second = Row::new(alloc, endpoint(second), 1)?;

@@ -1,4 +1,4 @@
-//! Messages made, copied and compared, and lists that are none.
+//! Messages made, copied and compared, and lists that no message takes.
 
 use crate::samples::{ack_of, ack2_of, below, syn_of};
 use cg_expect::expect_eq;
@@ -26,9 +26,9 @@ fn messages_of_empty_lists(rt: HostRuntime) -> Result<(), Fail> {
     expect_eq!(Ack2::of_parts(Vec::new(rt.alloc())).deltas().len(), 0)
 }
 
-// ---- which lists a message takes
+// ---- the lists that a message takes
 
-// Whether digests of these owners may stand in a SYN, which then has them, and the cluster's name.
+// Tests whether digests of these owners may be in a SYN, which then has them, and the cluster's name.
 fn syn_takes(alloc: Global, owners: &[u16]) -> Result<bool, Fail> {
     Ok(match syn_of(alloc, ("c1", 1), owners, (9, 1))? {
         Some(syn) => syn.digests().len() == owners.len() && syn.cluster().name() == "c1",
@@ -36,13 +36,13 @@ fn syn_takes(alloc: Global, owners: &[u16]) -> Result<bool, Fail> {
     })
 }
 
-// Whether requests of these owners and deltas of those may stand in an ACK.
+// Tests whether requests of these owners and deltas of those may be in an ACK.
 fn ack_takes(alloc: Global, asked: &[u16], sent: &[u16]) -> Result<bool, Fail> {
     let ack = ack_of(alloc, (asked, (9, 0)), (sent, (9, 0, 1)))?;
     Ok(ack.is_some())
 }
 
-// Whether a list of these owners may stand in a SYN, in an ACK as requests, as deltas and as both, and in an ACK2.
+// Tests whether a list of these owners may be in a SYN, in an ACK as requests, as deltas and as both, and in an ACK2.
 fn takers(alloc: Global, owners: &[u16]) -> Result<[bool; 5], Fail> {
     let syn = syn_takes(alloc, owners)?;
     let asked = ack_takes(alloc, owners, &[])?;
@@ -72,7 +72,7 @@ fn lists_rise(rt: HostRuntime) -> Result<(), Fail> {
 // ---- equality and copies
 
 // A message's kind, a SYN's cluster, the owners in its first list and in its second, which is the only one of an ACK2,
-// and its deltas: the generation, the version that they stand above, and the heartbeat version.
+// and its deltas: the generation, the version that they are above, and the heartbeat version.
 type Told = (
     Kind,
     (&'static str, u8),
@@ -93,7 +93,7 @@ fn message(alloc: Global, told: Told) -> Result<Message, Fail> {
     })
 }
 
-// Messages of which no two are the same.
+// Messages, no two of them the same.
 fn all() -> [Told; 16] {
     let (none, whole) = (("", 0), (9, 0, 1));
     [
@@ -132,7 +132,7 @@ fn messages_differ_by_kind_and_what_they_carry(rt: HostRuntime) -> Result<(), Fa
     Ok(())
 }
 
-// Whether a message equals its copy, the copy of what it carries, and its copy where it is lent.
+// Tests whether a message equals its copy, the copy of its contents, and its copy if it is borrowed.
 fn copies_equal(alloc: Global, message: &Message) -> Result<[bool; 3], AllocError> {
     let part = match message {
         Message::Syn(syn) => syn.copy(alloc)? == *syn,

@@ -6,7 +6,7 @@ use cg_table::Puts;
 use std::alloc::Global;
 use std::test::Fail;
 
-// How many puts there are, and of the first the last number of its endpoint, its generation and its newest version.
+// The number of puts, and of the first the last number of its endpoint, its generation and its newest version.
 type Seen = (usize, Option<(u8, u32, u32)>);
 
 fn seen(puts: &Puts) -> Seen {
@@ -20,7 +20,7 @@ fn seen(puts: &Puts) -> Seen {
     (rows.len(), Some(put))
 }
 
-// What there is of one put, and of its copy, after the put itself is gone.
+// The contents of one put, and of its copy, after the put itself is gone.
 fn one_and_its_copy(alloc: Global) -> Result<(Seen, Seen), Fail> {
     let one = Puts::one(alloc, endpoint(1), bare_entry(alloc, 9, 3)?)?;
     let shown = seen(&one);
@@ -40,8 +40,8 @@ fn no_puts_have_no_rows(rt: HostRuntime) -> Result<(), Fail> {
     expect_eq!(seen(&Puts::none(rt.alloc())), (0, None))
 }
 
-// Whether two puts of one owner are the same, whose entries stand apart in memory: with these generations and
-// heartbeats, and for these owners.
+// Tests whether two puts are the same whose entries are apart in memory: with these generations and heartbeats, and for
+// these owners.
 fn are_same(alloc: Global, one: (u16, u32, u32), other: (u16, u32, u32)) -> Result<bool, Fail> {
     let ours = Puts::one(alloc, endpoint(one.0), bare_entry(alloc, one.1, one.2)?)?;
     let theirs = Puts::one(

@@ -1,4 +1,4 @@
-//! Worked rings, and who keeps its claims.
+//! Worked rings, and entries that keep their owner's claims or do not.
 
 use crate::tokens::token;
 use cg_entry::{Delta, Entry};
@@ -20,7 +20,7 @@ const AT_48: &str = "00000000000000000000000000000030";
 // A generation, a status and a text of tokens.
 type Claiming = (u32, &'static str, &'static str);
 
-// What an endpoint that claims so sends of itself.
+// The delta that an endpoint with these claims sends of itself.
 fn delta(alloc: Global, (at, status, tokens): Claiming) -> Result<Delta, Fail> {
     let states = vec![in alloc; state(alloc, 1, 1, status)?, state(alloc, 2, 1, tokens)?]?;
     cg_samples::delta((at, 0, 1), states)
@@ -70,7 +70,7 @@ fn lasts(endpoints: &[Endpoint]) -> [u8; 4] {
     lasts
 }
 
-// The last numbers of so many replicas from a token on.
+// The last numbers of `rf` replicas from a token on.
 fn replicas_from(alloc: Global, ring: &Ring, number: u128, rf: usize) -> Result<[u8; 4], Fail> {
     Ok(lasts(&ring.replicas(alloc, token(number)?, rf)?))
 }
@@ -101,7 +101,7 @@ fn an_empty_ring_has_no_replicas(rt: HostRuntime) -> Result<(), Fail> {
     expect!(ring.replicas(rt.alloc(), token(0)?, 3)?.is_empty())
 }
 
-// Who has a token that endpoints 2 and 3 claim in these generations.
+// The endpoint that has a token which endpoints 2 and 3 claim in these generations.
 fn winner(alloc: Global, second: u32, third: u32) -> Result<Option<Endpoint>, Fail> {
     let owners = [
         (3, (third, "NORMAL", AT_32)),
@@ -118,7 +118,7 @@ fn a_token_has_one_endpoint(rt: HostRuntime) -> Result<(), Fail> {
     expect_eq!(winner(rt.alloc(), 4, 5)?, Some(endpoint(3)))
 }
 
-// How many tokens an endpoint has that claims so.
+// The number of tokens of an endpoint with these claims.
 fn count_with(alloc: Global, status: &'static str, tokens: &'static str) -> Result<usize, Fail> {
     let ring = ring_of(alloc, &[(1, (5, status, tokens))])?;
     Ok(ring.positions().len())
@@ -155,26 +155,26 @@ fn tokens_that_cannot_be_read_are_not_claimed(rt: HostRuntime) -> Result<(), Fai
     Ok(())
 }
 
-// Whether endpoint 1 keeps its claims where this stood, and the table now holds it.
+// Tests whether endpoint 1 keeps its claims if this was held before, and the table's entry is held now.
 fn keeps_by(before: Option<&Entry>, table: &Table) -> bool {
     table
         .get(endpoint(1))
         .is_some_and(|entry| keeps_claims(before, entry))
 }
 
-// Whether endpoint 1 keeps its claims where the first stood and the second is held.
+// Tests whether endpoint 1 keeps its claims if the first was held before and the second is held now.
 fn keeps(alloc: Global, before: Claiming, after: Claiming) -> Result<bool, Fail> {
     let first = holding(alloc, before)?;
     let second = holding(alloc, after)?;
     Ok(keeps_by(first.get(endpoint(1)), &second))
 }
 
-// A table in which endpoint 1 has these.
+// A table in which endpoint 1 has these claims.
 fn holding(alloc: Global, claiming: Claiming) -> Result<Table, Fail> {
     table(alloc, &[(1, claiming)])
 }
 
-// Whether endpoint 1 keeps its claims where nothing of it was held.
+// Tests whether endpoint 1 keeps its claims if nothing of it was held before.
 fn begins(alloc: Global, after: Claiming) -> Result<bool, Fail> {
     let table = holding(alloc, after)?;
     Ok(keeps_by(None, &table))

@@ -1,4 +1,4 @@
-//! Parts of messages and messages that the tests of messages share.
+//! Sample messages, and parts of them, that the tests of messages share.
 
 use cg_entry::Digest;
 use cg_messages::{Ack, Ack2, OwnerDelta, Request, Syn};
@@ -32,7 +32,7 @@ fn requests(alloc: Global, owners: &[u16], (at, above): (u32, u32)) -> Result<Ve
     Ok(requests)
 }
 
-// A delta of each owner, with no states: the generation, the version that it stands above, and the heartbeat version.
+// A delta of each owner, with no states: the generation, the version that it is above, and the heartbeat version.
 fn deltas(alloc: Global, owners: &[u16], of: (u32, u32, u32)) -> Result<Vec<OwnerDelta>, Fail> {
     let mut deltas = Vec::new(alloc);
     for owner in owners {
@@ -45,7 +45,7 @@ fn deltas(alloc: Global, owners: &[u16], of: (u32, u32, u32)) -> Result<Vec<Owne
     Ok(deltas)
 }
 
-/// A SYN of a cluster, with a digest of each owner; `None` where these may not stand in one.
+/// A SYN of a cluster, with a digest of each owner; `None` if these may not be in one.
 pub(crate) fn syn_of(
     alloc: Global,
     (name, partitioner): (&str, u8),
@@ -57,8 +57,7 @@ pub(crate) fn syn_of(
     Ok(Syn::new(cluster, digests))
 }
 
-/// An ACK with a request of each of some owners, and a delta of each of others; `None` where these may not stand in
-/// one.
+/// An ACK with a request of each of some owners, and a delta of each of others; `None` if these may not be in one.
 pub(crate) fn ack_of(
     alloc: Global,
     (asked, above): (&[u16], (u32, u32)),
@@ -69,7 +68,7 @@ pub(crate) fn ack_of(
     Ok(Ack::new(requests, deltas))
 }
 
-/// An ACK2 with a delta of each owner; `None` where these may not stand in one.
+/// An ACK2 with a delta of each owner; `None` if these may not be in one.
 pub(crate) fn ack2_of(
     alloc: Global,
     owners: &[u16],
@@ -78,7 +77,7 @@ pub(crate) fn ack2_of(
     Ok(Ack2::new(deltas(alloc, owners, of)?))
 }
 
-/// The only delta: its generation, the version that it stands above, and the heartbeat version.
+/// The only delta: its generation, the version that it is above, and the heartbeat version.
 pub(crate) fn only(deltas: &[OwnerDelta]) -> Option<(u32, u32, u32)> {
     match deltas {
         [one] => {
@@ -99,7 +98,7 @@ pub(crate) fn below(alloc: Global, end: u16) -> Result<Vec<u16>, Fail> {
     Ok(owners)
 }
 
-/// What a member holds that started at a generation and met nobody.
+/// The table of a member that started at a generation and met nobody.
 pub(crate) fn table_alone(alloc: Global, owner: u16, at: u32) -> Result<Table, Fail> {
     Ok(Table::new(alloc, endpoint(owner), entry_at_start(alloc, at))?)
 }

@@ -26,7 +26,7 @@ fn table(alloc: Global) -> Result<Table, Fail> {
     alone(alloc, 2, entry_at_start(alloc, 5))
 }
 
-// The generation and the newest version that are held of an endpoint.
+// The generation and the newest version held of an endpoint.
 type Held = Option<(u32, u32)>;
 
 fn held(table: &Table, last: u16) -> Held {
@@ -36,12 +36,12 @@ fn held(table: &Table, last: u16) -> Held {
     }
 }
 
-// What is held of endpoints 1 and 2.
+// The entries held of endpoints 1 and 2.
 fn held_of_both(table: &Table) -> (Held, Held) {
     (held(table, 1), held(table, 2))
 }
 
-// The own endpoint, and what is held of endpoints 1 and 2.
+// The own endpoint, and the entries held of endpoints 1 and 2.
 fn own_and_held(table: &Table) -> (Endpoint, (Held, Held)) {
     (table.own(), held_of_both(table))
 }
@@ -86,9 +86,9 @@ fn the_digests_of_a_new_table(rt: HostRuntime) -> Result<(), Fail> {
     expect_eq!(only_digest(&digests), Some(wanted))
 }
 
-// ---- what becomes of a delta
+// ---- outcomes of deltas
 
-// The table after a delta about an endpoint, and what became of the delta: the generation, the version that it stands
+// The table after a delta about an endpoint, and the outcome of the delta: the generation, the version that it is
 // above, and the heartbeat version.
 fn put(
     alloc: Global,
@@ -121,7 +121,7 @@ fn a_delta_changes_its_owner_alone(rt: HostRuntime) -> Result<(), Fail> {
     )
 }
 
-// At the table of endpoint 2 with endpoint 1 at (9, 3).
+// The outcome of a delta at the table of endpoint 2 with endpoint 1 at (9, 3).
 fn took_of(alloc: Global, last: u16, delta_of: (u32, u32, u32)) -> Result<Took, Fail> {
     let (_after, took) = put(alloc, &table_with(alloc, 3)?, last, delta_of)?;
     Ok(took)
@@ -143,7 +143,7 @@ fn what_becomes_of_deltas(rt: HostRuntime) -> Result<(), Fail> {
     Ok(())
 }
 
-// A restarted holder lacks what a delta stands above.
+// A restarted holder lacks the version that a delta is above.
 #[test]
 fn gap_after_restart(rt: HostRuntime) -> Result<(), Fail> {
     let (after, took) = put(rt.alloc(), &table(rt.alloc())?, 1, (9, 2, 5))?;
@@ -174,7 +174,7 @@ fn crowded(alloc: Global) -> Result<Table, Fail> {
     Ok(table)
 }
 
-// What refuses a delta of generation 9 about endpoint 1.
+// The fault of a delta of generation 9 about endpoint 1.
 fn refusal(
     alloc: Global,
     table: &Table,
@@ -201,12 +201,12 @@ fn a_full_table_takes_what_needs_no_room(rt: HostRuntime) -> Result<(), Fail> {
     expect_eq!(took, Took::Gap)
 }
 
-// How many owners a merge holds.
+// The number of owners that a merge holds.
 fn owners_of_merge(alloc: Global, one: &Table, other: &Table) -> Result<usize, Fault> {
     Ok(one.merge(alloc, other)?.owners().len())
 }
 
-// How many owners a merge of the full table holds.
+// The number of owners that a merge of the full table holds.
 fn owners_merged(alloc: Global, other: &Table) -> Result<Result<usize, Fault>, Fail> {
     Ok(owners_of_merge(alloc, &crowded(alloc)?, other))
 }
@@ -250,7 +250,7 @@ fn merged(alloc: Global) -> Result<(Table, Table), Fail> {
     Ok((one.merge(alloc, &two)?, two.merge(alloc, &one)?))
 }
 
-// Of the two merges: the own endpoints, what the first holds of both, and whether the second holds the same.
+// The two merges: the own endpoints, the entries of both endpoints in the first, and whether the second holds the same.
 fn held_of_merges(alloc: Global) -> Result<((Endpoint, Endpoint), (Held, Held), bool), Fail> {
     let (here, there) = merged(alloc)?;
     let owns = (here.own(), there.own());
@@ -264,7 +264,7 @@ fn merged_tables_hold_the_later_entries(rt: HostRuntime) -> Result<(), Fail> {
     expect_eq!(held_of_merges(rt.alloc())?, (owns, later, true))
 }
 
-// The newest version of the own entry, and what is held of endpoint 1.
+// The newest version of the own entry, and the entry held of endpoint 1.
 fn own_newest(table: &Table) -> (u32, Held) {
     (table.own_entry().newest().get(), held(table, 1))
 }
@@ -289,7 +289,8 @@ fn newest_of_first(rows: &[Row<Entry>]) -> Option<u32> {
     Some(row.value().newest().get())
 }
 
-// The row that a delta about endpoint 1 changes at the table of endpoint 2, and whether there is room for it.
+// The row that a delta about endpoint 1 changes at the table of endpoint 2, its outcome, and whether there is room for
+// the row.
 fn change(alloc: Global, delta_of: (u32, u32, u32)) -> Result<(Option<u32>, Took, bool), Fail> {
     let table = table_with(alloc, 3)?;
     let delta = bare_delta(alloc, delta_of)?;
@@ -307,7 +308,7 @@ fn what_deltas_change(rt: HostRuntime) -> Result<(), Fail> {
     expect_eq!(change(alloc, (9, 3, 5))?, (Some(5), Took::Taken, true))
 }
 
-// What becomes of a delta about an endpoint, where this is held of the endpoint.
+// The outcome of a delta about an endpoint, if this is held of the endpoint.
 fn became(
     alloc: Global,
     table: &Table,
@@ -318,7 +319,7 @@ fn became(
     Ok(table.change_at(alloc, endpoint(last), held, delta)?.1)
 }
 
-// The same at the table of endpoint 2.
+// The same outcome at the table of endpoint 2.
 fn took_by(
     alloc: Global,
     last: u16,
@@ -330,7 +331,7 @@ fn took_by(
     became(alloc, &table, last, held, &delta)
 }
 
-// The same where an entry of generation 9 with this version is held, or nothing.
+// The same outcome if an entry of generation 9 with this version is held, or nothing.
 fn took_at(
     alloc: Global,
     last: u16,
@@ -344,7 +345,7 @@ fn took_at(
     took_by(alloc, last, Some(&entry), delta_of)
 }
 
-// What the caller holds decides, and not what the table does.
+// The entry that the caller passes decides, and not the one that the table holds.
 #[test]
 fn what_deltas_change_by_what_is_held(rt: HostRuntime) -> Result<(), Fail> {
     for (last, newest, delta_of, took) in [
@@ -359,7 +360,7 @@ fn what_deltas_change_by_what_is_held(rt: HostRuntime) -> Result<(), Fail> {
     Ok(())
 }
 
-// Adds what a delta about an endpoint changes where nothing of it is held.
+// Adds the row that a delta about an endpoint changes if nothing of the endpoint is held.
 fn push_change(
     alloc: Global,
     rows: &mut Vec<Row<Entry>>,
@@ -372,7 +373,7 @@ fn push_change(
     Ok(())
 }
 
-// What whole deltas about endpoints 1 and 3 change where nothing of these is held.
+// The rows that whole deltas about endpoints 1 and 3 change if nothing of these is held.
 fn changed_rows(alloc: Global, table: &Table) -> Result<Vec<Row<Entry>>, Fail> {
     let delta = bare_delta(alloc, (9, 0, 3))?;
     let mut rows = Vec::new(alloc);
@@ -381,7 +382,7 @@ fn changed_rows(alloc: Global, table: &Table) -> Result<Vec<Row<Entry>>, Fail> {
     Ok(rows)
 }
 
-// A table with rows put: as they are handed over, and as they are lent.
+// A table with rows put: as rows that are moved in, and as borrowed rows.
 fn with_rows(alloc: Global, table: &Table, rows: Vec<Row<Entry>>) -> Result<(Table, Table), Fail> {
     if !owners_rise(&rows) || !table.has_room_for(&rows) {
         return Err(Fail::from("the rows can't be put"));
@@ -405,7 +406,7 @@ fn rows_that_are_put_are_held(rt: HostRuntime) -> Result<(), Fail> {
     expect_eq!(shown, (whole, (whole, Some((5, 1))), true))
 }
 
-// Whether a whole delta about endpoint 1 needs room, and one about endpoint 3.
+// Tests whether a whole delta about endpoint 1 needs room, and one about endpoint 3.
 fn needs(alloc: Global, table: &Table) -> Result<(bool, bool), Fail> {
     let whole = bare_delta(alloc, (9, 0, 1))?;
     let known = table.needs_room(endpoint(1), &whole);

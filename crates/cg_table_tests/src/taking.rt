@@ -1,4 +1,4 @@
-//! What an ACK and an ACK2 make of a table.
+//! ACKs and ACK2s taken: the tables, outcomes and answers that they lead to.
 
 use crate::samples::{ack_of, ack2_of, below, only, table_alone};
 use cg_entry::Took;
@@ -11,7 +11,7 @@ use cg_types::{Cluster, Fault};
 use std::alloc::Global;
 use std::test::Fail;
 
-// The generation and the newest version that are held of an endpoint.
+// The generation and the newest version held of one owner.
 fn held(table: &Table, owner: u16) -> Option<(u32, u32)> {
     match table.get(endpoint(owner)) {
         Some(entry) => Some((entry.generation().get(), entry.newest().get())),
@@ -25,7 +25,8 @@ fn answer(alloc: Global, a: &Table, b: &Table, cluster: &Cluster) -> Result<Ack,
     answer_syn(alloc, b, cluster, &syn)
 }
 
-// Whether two tables hold the same after an exchange that the first opened, and what the second then holds of A and B.
+// A test whether two tables hold the same after an exchange that the first opened, and the second's entries of A and B
+// then.
 type Exchanged = (bool, Option<(u32, u32)>, Option<(u32, u32)>);
 
 fn ended(alloc: Global, a: &Table, b: &Table, ack: &Ack) -> Result<Exchanged, Fault> {
@@ -39,7 +40,7 @@ fn exchanged(alloc: Global, a: &Table, b: &Table) -> Result<Exchanged, Fault> {
     ended(alloc, a, b, &ack)
 }
 
-// The vectors have its messages byte by byte (`journals.txt`), and what becomes of their deltas
+// The vectors have its messages byte by byte (`journals.txt`), and the outcomes of their deltas
 // (`node_first_exchange`).
 #[test]
 fn first_exchange_equals_the_tables(rt: HostRuntime) -> Result<(), Fail> {
@@ -55,8 +56,8 @@ fn sent(alloc: Global, table: &Table, ack: &Ack) -> Result<Option<(u32, u32, u32
     Ok(only(ack2.deltas()))
 }
 
-// What B at generation 5 sends for a request of an owner, of a generation above a version, and a delta of A with
-// heartbeat version 4, or none.
+// The delta that B at generation 5 sends for a request of an owner, of a generation above a version, and a delta of A
+// with heartbeat version 4, or none.
 fn sent_by_b(
     alloc: Global,
     owner: u16,
@@ -83,7 +84,7 @@ fn requests_are_answered(rt: HostRuntime) -> Result<(), Fail> {
     Ok(())
 }
 
-// What becomes of the first two deltas of an ACK2, and what is then held of two owners.
+// The outcomes of the first two deltas of an ACK2, and the entries that are then held of two owners.
 type Taken = ([Option<Outcome>; 2], [Option<(u32, u32)>; 2]);
 
 fn taken_of(alloc: Global, table: &Table, ack2: &Ack2, owners: [u16; 2]) -> Result<Taken, Fault> {
@@ -95,7 +96,7 @@ fn taken_of(alloc: Global, table: &Table, ack2: &Ack2, owners: [u16; 2]) -> Resu
     ))
 }
 
-// The same of an ACK2 with a delta of each of some owners, or why it is refused.
+// The same of an ACK2 with a delta of each of some owners, or the fault that refuses it.
 fn taken(
     alloc: Global,
     table: &Table,
@@ -125,7 +126,8 @@ fn a_delta_about_the_receiver(rt: HostRuntime) -> Result<(), Fail> {
 
 // ---- a full table
 
-// The endpoint 0 with all of 1 to 255, of which A is one; a delta about itself, which it is sent too, it leaves.
+// The table of endpoint 0 with all of 1 to 255, of which A is one. A delta about endpoint 0 itself is among those sent,
+// and changes nothing.
 fn crowded(alloc: Global) -> Result<Table, Fail> {
     let owners = below(alloc, 256)?;
     let ack2 = ack2_of(alloc, &owners, (5, 0, 1))?.ok_or("an ACK2")?;
@@ -134,7 +136,7 @@ fn crowded(alloc: Global) -> Result<Table, Fail> {
     Ok(table)
 }
 
-// Why an ACK with a delta of each of some owners is refused.
+// The fault that refuses an ACK with a delta of each of some owners.
 fn refusal(
     alloc: Global,
     table: &Table,
@@ -178,7 +180,7 @@ fn part_and_whole(alloc: Global) -> Result<Vec<OwnerDelta>, Fail> {
     Ok(deltas)
 }
 
-// Why they are refused in an ACK, and in an ACK2.
+// The fault that refuses them in an ACK, and in an ACK2.
 fn ack_refusal(alloc: Global, table: &Table) -> Result<Option<Fault>, Fail> {
     let ack = Ack::new(Vec::new(alloc), part_and_whole(alloc)?).ok_or("an ACK")?;
     Ok(take_ack(alloc, table, &ack).err())

@@ -10,7 +10,7 @@ pub(crate) fn token(number: u128) -> Result<Token, Fail> {
     Ok(Token::new(number).ok_or("a token")?)
 }
 
-// The text that a key's token is written as.
+// The text of a key's token.
 fn text_of_key(alloc: Global, key: &str) -> Result<String, AllocError> {
     let token = token_of(key.as_bytes());
     format!(in alloc; "{token}")
@@ -57,7 +57,7 @@ fn fault_of(alloc: Global, text: &str) -> Option<Fault> {
     read_tokens(alloc, text).err()
 }
 
-// How many tokens a text has, and the first two.
+// The number of tokens of a text, and the first two.
 type FirstTwo = (usize, Option<Token>, Option<Token>);
 
 fn first_two(alloc: Global, text: &str) -> Result<FirstTwo, Fault> {
@@ -125,7 +125,7 @@ fn other_texts_are_bad(rt: HostRuntime) -> Result<(), Fail> {
     Ok(())
 }
 
-// A text with one more token, after a comma where it isn't the first.
+// A text with one more token, after a comma unless it is the first.
 fn with_token(alloc: Global, text: &str, number: u64) -> Result<String, Fail> {
     let comma = if number > 1 { "," } else { "" };
     let token = token(u128::from(number))?;

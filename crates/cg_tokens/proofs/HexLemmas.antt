@@ -39,7 +39,7 @@ hexadecimal-joined (suc n) k (suc m) high low e lt =
 abbrev onto : ℕ → ℕ → List ℕ → List ℕ
 onto i n acc = digits_onto i 16 false n acc
 
--- the digits, with characters before them up to the expected number
+-- the digits, with zeros before them up to a width
 abbrev filled : ℕ → List ℕ → List ℕ
 filled width ds = replicate (width - length ds) 48 ++ ds
 

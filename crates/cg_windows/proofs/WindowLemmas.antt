@@ -1,4 +1,4 @@
--- Windows, and what they show.
+-- Windows, and the gaps and arrivals that they show.
 use Rattle.std.proofs.Common.{◌≡◌, ℕ, ◌≤◌, Bool, true, false, cond, List, [], ◌∷◌, map, length, take, Option, Some, None, refl, sym, ap, subst, ◌∙◌}
 use Rattle.std.specs.List.{filter_map, cons_option}
 use Rattle.std.specs.Option.{option_map}
@@ -48,7 +48,7 @@ shown-insert m k w = same_heard (shown_in (insert m k w)) (insert (shown_in m) k
     get-shown_in (insert m k w) q ∙ ap (option_map (λ (w : WindowValue). w.shown)) (get-insert nat_cmp_total m k w q) ∙ shown_by (eq_by_cmp nat_cmp q k) w (get m q)
     ∙ ap (cond (eq_by_cmp nat_cmp q k) (Some w.shown)) (sym (get-shown_in m q)) ∙ sym (get-insert nat_cmp_total (shown_in m) k w.shown q))
 
--- ---- all judge alike
+-- ---- all judge by the same settings
 
 pub none_judge : (s : SilenceValue) → AllJudge s empty
 none_judge s = record { same = λ q w is. absurd (let none = get-empty {X = WindowValue} nat_cmp q in cc) }
@@ -70,7 +70,7 @@ record AreHeardAtOnce (w : WindowsValue) (now : ℕ) (m : Kept) (os : List Outco
   judge : AllJudge w.silence (put_each (filter_map (arrival w now) os) m)
 
 module _ (w : WindowsValue) (now : ℕ) where
-  -- what is shown past an endpoint is what w shows
+  -- past an endpoint the windows show what w shows
   abbrev ShownPast : Option ℕ → Kept → Type 0
   ShownPast last m = AgreePast w.shown last (shown_in m)
 
@@ -101,7 +101,8 @@ module _ (w : WindowsValue) (now : ℕ) where
       let s = step m o os (was_taken o.took) (agree_later w.shown (shown_in m) last o.endpoint here same) (same o.endpoint here) judge (λ n agree all. heard_past n (Some o.endpoint) os rest agree all) in
       record { shown = s.0; judge = s.1 }
 
-  -- the arrivals of endpoints that rise, heard one after the other, change the windows as they were
+  -- the arrivals of endpoints that rise, heard one after the other, change the windows as all of them change the first
+  -- ones
   pub heard_at_once : (m : Kept) (os : List Outcome) → shown_in m ≡ w.shown → AllJudge w.silence m → Rises (endpoints_of_outcomes os)
       → (shown_in (put_each (filter_map (arrival w now) os) m) ≡ arrivals w.silence now w.shown os) × AllJudge w.silence (put_each (filter_map (arrival w now) os) m)
   heard_at_once m os is judge rise =
@@ -133,7 +134,7 @@ module _ (w : WindowsValue) (s : SilenceValue) (m : Kept) (is : ◌≡◌ {A = W
       let shows : None ≡ get (shown_in m) endpoint = ap (option_map (λ (w : WindowValue). w.shown)) here ∙ sym (get-shown_in m endpoint) in
       subst (VerdictIs Unheard) is (ap (λ (o : Option Shown). verdict_by s o now) shows)
 
--- ---- as the code has them
+-- ---- windows in the form that the code has them
 
 module _ (w : WindowsValue) (s : SilenceValue) (m : Kept) (is : ◌≡◌ {A = WindowsValue} (record { silence = s; shown = shown_in m }) w) where
   judges : s ≡ w.silence

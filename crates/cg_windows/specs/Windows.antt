@@ -1,4 +1,4 @@
--- Windows of the endpoints that a node hears of.
+-- The windows of the endpoints that were heard, and their arrivals.
 use Rattle.std.specs.Prelude.{ℕ, ◌≡◌, ◌==◌, Bool, true, false, ◌&&◌, List, [], ◌∷◌, map as map_list, Option, Some, None, if◌then◌else◌, refl}
 use Rattle.std.specs.Coded.{Coded, code_by, coded×, coded_ℕ}
 use Rattle.std.specs.List.{list_any}
@@ -12,7 +12,7 @@ use Rattle.cg_silence.specs.declared.verdict.Verdict.TheVariants.{Unheard}
 use Rattle.cg_silence.specs.Values.{SilenceValue, Shown, WindowValue, silence_code, shown_code}
 use Rattle.cg_silence.specs.Silence.{after_arrival, verdict}
 
--- what windows show of the endpoints that were heard
+-- the gaps and last arrivals that windows show of the endpoints that were heard
 abbrev pub Heard : Type 0
 Heard = map.FinMap nat_cmp Shown
 
@@ -22,19 +22,19 @@ was_taken took.Old = false
 was_taken took.Gap = false
 was_taken took.Own = false
 
--- whether any delta was taken
+-- a test that any delta was taken
 abbrev pub any_taken : List Outcome → Bool
 any_taken outcomes = list_any (λ o. was_taken o.took) outcomes
 
--- whether an outcome tells that a delta of this endpoint was taken
+-- a test that an outcome reports a delta of this endpoint as taken
 abbrev pub tells_taken : ℕ → Outcome → Bool
 tells_taken endpoint o = (o.endpoint == endpoint) && was_taken o.took
 
--- whether any does
+-- a test that any of them does
 abbrev pub any_taken_of : ℕ → List Outcome → Bool
 any_taken_of endpoint outcomes = list_any (tells_taken endpoint) outcomes
 
--- what an endpoint's window shows after one more arrival
+-- the windows' values after one more arrival of an endpoint
 abbrev pub with_arrival : SilenceValue → ℕ → Heard → ℕ → Heard
 with_arrival s now windows endpoint = map.insert windows endpoint (after_arrival s (map.get windows endpoint) now)
 
@@ -51,7 +51,7 @@ verdict_by s (Some w) now = verdict s w now
 
 -- ---- as they are kept
 
--- how all windows judge, and what each shows
+-- the settings of all windows, and what each shows
 pub record WindowsValue : Type 0 where
   pub silence : SilenceValue
   pub shown : Heard
@@ -64,11 +64,11 @@ windows_code =
     code_by (SilenceValue × Heard) (coded× silence_code heard_code)
     (λ w. (w.silence, w.shown)) (λ p. record { silence = p.0; shown = p.1 }) (λ _. refl)
 
--- what windows show
+-- the values that windows show
 abbrev pub shown_in : map.FinMap nat_cmp WindowValue → Heard
 shown_in windows = map.from_sorted (map_list (λ w. (w.0, w.1.shown)) (map.entries windows))
 
--- Each window judges so.
+-- Each window judges by these settings.
 pub record AllJudge (silence : SilenceValue) (windows : map.FinMap nat_cmp WindowValue) : Type 0 where
   pub same : (endpoint : ℕ) (w : WindowValue) → map.get windows endpoint ≡ Some w → w.silence ≡ silence
 

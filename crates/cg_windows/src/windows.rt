@@ -1,4 +1,4 @@
-//! A window for each endpoint that was heard, and what counts as an arrival.
+//! A window for each endpoint that was heard, and the outcomes that count as arrivals.
 
 ghost use Rattle.std.specs.Prelude.{◌≡◌, IfOk, Some, option_copied};
 ghost use Rattle.std.specs.Option.{option_map};
@@ -26,7 +26,7 @@ pub struct Windows {
     windows: SharedMap<Window>,
 }
 
-/// A contract sees how the windows judge, and what each shows.
+/// A contract sees the settings of the windows, and what each shows.
 impl Model for Windows {
     ghost use Rattle.cg_windows.specs.Windows.{WindowsValue, windows_code, shown_in, AllJudge};
 
@@ -39,21 +39,21 @@ impl Model for Windows {
     ghost invariant = { λ w. AllJudge w.silence w.windows };
 }
 
-/// Whether a delta was taken.
+/// Tests whether a delta was taken.
 pub fn was_taken(outcome: &Outcome) -> bool
     ensures { result ≡ was_taken_of outcome.now.took }
 {
     matches!(outcome.took, Took::Taken)
 }
 
-/// Whether any delta was taken.
+/// Tests whether any delta was taken.
 pub fn any_taken(outcomes: &[Outcome]) -> bool
     ensures { result ≡ any_taken_of outcomes.now }
 {
     outcomes.iter().any(was_taken)
 }
 
-// The window of an endpoint after one more arrival; a new one where it had none.
+// The window of an endpoint after one more arrival; a new one if it had none.
 fn hear(
     alloc: Global,
     silence: Silence,
@@ -75,7 +75,7 @@ fn hear(
 }
 
 impl Windows {
-    /// No window. It takes no memory.
+    /// A set of no windows. It takes no memory.
     pub fn none(alloc: Global, silence: Silence) -> Windows
         ensures { result ≡ record { silence = silence; shown = map.empty } }
     {
@@ -85,7 +85,7 @@ impl Windows {
         }
     }
 
-    /// The verdict of an endpoint's window, `Unheard` where it has none. It takes no memory.
+    /// The verdict of an endpoint's window at `now`, in milliseconds; `Unheard` if it has none. It takes no memory.
     pub fn verdict(&self, endpoint: Endpoint, now: u64) -> Verdict
         ensures { result ≡ verdict_by self.now.silence (map.get self.now.shown endpoint) now }
     {
@@ -118,8 +118,8 @@ impl Windows {
         Ok(Some(Row::new(alloc, outcome.endpoint, window)?))
     }
 
-    /// The windows after the outcomes of a message: each delta that was taken is an arrival. It shares the windows of
-    /// all other endpoints.
+    /// Returns the windows after the outcomes of a message: each delta that was taken is an arrival. They share the
+    /// windows of all other endpoints.
     pub fn after(
         &self,
         alloc: Global,
