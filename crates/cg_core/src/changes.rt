@@ -53,9 +53,9 @@ fn changed_rows(
 }
 
 impl Node {
-    /// Returns the node after an event, its reply, and the puts of the step: the owners whose entry it changed, rising,
-    /// each with its whole new entry, which is the new table's. The call finds them by the reply, not by a walk over
-    /// the tables. The refusals are those of `stepped`.
+    /// Returns the node after an event, its reply, and the puts of the step. These are the owners whose entry it
+    /// changed, rising, each with its whole new entry, which is the new table's. The call finds them by the reply, not
+    /// by a walk over the tables. The refusals are those of `stepped`.
     pub fn stepped_with_puts(
         &self,
         alloc: Global,

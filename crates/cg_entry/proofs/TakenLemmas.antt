@@ -16,7 +16,7 @@ or_none : {X : Type 0} (o p : Option X) → p ≡ None → o ≡ option_or o p
 or_none None p e = sym e
 or_none (Some x) p e = refl
 
--- of a whole delta, with nothing under it
+-- a whole delta, with nothing under it
 whole_taken : (held : Option EntryValue) (d : DeltaValue) → states_under held d ≡ empty → IfTaken (taken_or_gap (whole_entry d)) (IsTakenEntry held d)
 whole_taken held d nothing = go (d.above == 0)
   where
@@ -32,7 +32,7 @@ module _ (e : EntryValue) (d : DeltaValue) where
   abbrev Fact : Absorbed → Type 0
   Fact a = IfTaken a (IsTakenEntry (Some e) d)
 
-  -- of a part, over what is held of its generation
+  -- a part, over the states held of its generation
   part_taken : e.generation ≡ d.generation → Fact (Taken (advanced_entry e d))
   part_taken same = record {
     generation = same;

@@ -47,7 +47,7 @@ fn all_newer(above: u32, items: &[State]) -> bool
 
 impl Delta {
     /// Makes a delta of its parts. `None` unless the keys rise strictly, each state's version is greater than `above`,
-    /// and there is a state or the heartbeat version is greater than `above`.
+    /// and a state is there or the heartbeat is newer than `above`.
     pub fn new(
         generation: Generation,
         above: u32,
@@ -60,9 +60,9 @@ impl Delta {
         Delta::try_new(generation, above, heartbeat, states).ok()
     }
 
-    /// Makes a delta, as `new` does, or returns what is wrong: `Version` if a state is not newer than `above`, else
-    /// `Order` if the keys do not rise strictly, else `Empty` if neither a state nor the heartbeat is newer than
-    /// `above`.
+    /// Makes a delta, as `new` does, or returns what is wrong with its parts. That is `Version` if a state is not newer
+    /// than `above`, else `Order` if the keys do not rise strictly. Else it is `Empty` if neither a state nor the
+    /// heartbeat is newer than `above`.
     pub fn try_new(
         generation: Generation,
         above: u32,
@@ -194,7 +194,7 @@ impl Delta {
             && self.states.list().is_same(other.states.list())
     }
 
-    /// The same delta, which shares its list of states. A list that was given to `new` or `try_new` is not shared: then
+    /// The same delta, which shares its list of states. A list that was given to `new` or `try_new` is not shared. Then
     /// the copy shares the texts alone, and `AllocError` comes if a new list finds no memory.
     pub fn copy(&self, alloc: Global) -> Result<Delta, AllocError>
         ensures { IfOk result (λ d. d ≡ self.now) }

@@ -18,7 +18,7 @@ use cg_version::Versions;
 use std::alloc::{AllocError, Global};
 use std::marker::Model;
 
-/// A generation, a heartbeat version and the states of one endpoint (Apache Cassandra's `EndpointState`). One
+/// An entry: a generation, a heartbeat version and the states of one endpoint (Apache Cassandra's `EndpointState`). One
 /// generator of versions serves the heartbeat and the states.
 #[derive(Debug, Drop)]
 pub struct Entry {
@@ -75,8 +75,8 @@ fn outcome_of(alloc: Global, held: Option<&Entry>, delta: &Delta) -> Result<Abso
 }
 
 /// Meets a delta with what is held of its endpoint, if anything is, and returns the outcome. Texts are shared. The
-/// whole list of states is the entry's if the delta brings no state, and the delta's if it brings each key that the
-/// entry has. `AllocError` only if the delta is to be taken and a new list of states finds no memory.
+/// whole list of states is the entry's if the delta brings no state. It is the delta's if the delta brings each key
+/// that the entry has. `AllocError` only if the delta is to be taken and a new list of states finds no memory.
 pub fn meet(alloc: Global, held: Option<&Entry>, delta: &Delta) -> Result<Absorbed, AllocError>
     ensures value { IfOk result (λ a. a ≡ met_of (option_copied held.entry) delta.now) }
     ensures each { IfOk result (λ a. IfTaken a (IsTakenEntry (option_copied held.entry) delta.now)) }
@@ -247,8 +247,8 @@ impl Entry {
             && self.states.list().is_same(other.states.list())
     }
 
-    /// Tests whether the entry is later than another entry of this endpoint: of a greater generation, or of the same
-    /// one with a greater newest version.
+    /// Tests whether the entry is later than another of this endpoint: of a greater generation, or of the same one with
+    /// a greater newest version.
     pub fn is_later(&self, other: &Entry) -> bool
         ensures { result ≡ is_later_of self.now other.now }
     {

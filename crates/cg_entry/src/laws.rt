@@ -28,7 +28,7 @@ pub fn spelled_deltas_are_taken()
     ensures { SpelledDeltasAreTaken }
 {}
 
-/// What an entry has above an earlier one of its generation, or above none, spells the span between them.
+/// The part of an entry above an earlier one of its generation, or above none, spells the span between them.
 pub fn deltas_spell_spans()
     ensures { DeltasSpellSpans }
 {}

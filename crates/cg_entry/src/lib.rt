@@ -1,8 +1,8 @@
 //! Entries and deltas: the state that a member holds of one endpoint, and the part of it in a message.
 //!
-//! An entry is what Apache Cassandra's gossip calls an `EndpointState`: the generation and the heartbeat version of
-//! its `HeartBeatState`, and application states, each with the version that set it. A delta is the part of an entry
-//! above a version, as in van Renesse et al., "Efficient Reconciliation and Flow Control for Anti-Entropy
+//! An entry is called `EndpointState` in Apache Cassandra's gossip. It has the generation and the heartbeat version of
+//! Cassandra's `HeartBeatState`, and application states, each with the version that set it. A delta is the part of an
+//! entry above a version, as in van Renesse et al., "Efficient Reconciliation and Flow Control for Anti-Entropy
 //! Protocols" (2008).
 #![tactic(auto)]
 

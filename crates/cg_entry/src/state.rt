@@ -5,7 +5,7 @@ ghost use Rattle.std.specs.Prelude.{◌≡◌, IfOk};
 use cg_types::{StateKey, StateText, Version};
 use std::alloc::AllocError;
 
-/// A key's text, and the version that set it (Apache Cassandra's `VersionedValue` at its `ApplicationState`).
+/// A state: a key's text, and the version that set it (Apache Cassandra's `VersionedValue` at its `ApplicationState`).
 #[derive(Debug, Drop, PartialEq, Eq)]
 pub struct State {
     pub key: StateKey,

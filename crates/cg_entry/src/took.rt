@@ -3,8 +3,8 @@
 ghost use Rattle.std.specs.Prelude.{◌≡◌};
 ghost use Rattle.cg_entry.specs.Took.{took_name};
 
-/// The outcome of a delta about an owner: taken, old (it brings nothing new), a gap (the holder lacks something below
-/// it), or about the holder's own endpoint, which no delta changes.
+/// The outcome of a delta about an owner: taken, old, a gap or own. An old delta brings nothing new, and at a gap the
+/// holder lacks something below the delta. An own delta is about the holder's own endpoint, which no delta changes.
 #[derive(Clone, Copy, Debug, PartialEq, Eq)]
 pub enum Took {
     Taken,

@@ -1,5 +1,5 @@
-//! Tests of the types that members share, of versions, and of entries and deltas: rules that no clause states, worked
-//! examples, and each call once with ample memory.
+//! Tests of the types that members share, of versions, and of entries and deltas. They show rules that no clause
+//! states, worked examples, and each call once with ample memory.
 #![tactic(auto)]
 
 #[cfg(test)]

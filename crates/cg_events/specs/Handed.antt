@@ -4,7 +4,7 @@ use Rattle.cg_messages.specs.declared.owner_delta.OwnerDelta.{OwnerDelta}
 use Rattle.cg_events.specs.declared.event.Event.{Event}
 use Rattle.cg_events.specs.declared.event.Event.TheVariants as event
 
--- the deltas that an event hands a node
+-- the deltas that an event brings a node
 abbrev pub deltas_in : Event → List OwnerDelta
 deltas_in event.Beat = []
 deltas_in (event.Set key text) = []

@@ -1,4 +1,4 @@
--- The deltas of a message are about owners that rise: each meets the table as it was before.
+-- The deltas of a message are about owners that rise: each meets the table before any of them.
 use Rattle.std.proofs.Common.{◌≡◌, ◌+◌, ◌≤◌, ◌==◌, ℕ, Bool, true, false, cond, List, [], ◌∷◌, map, Option, Some, None, refl, ap, subst, arith}
 use Rattle.std.specs.Prelude.{not, is_some, count_by, ◌&&◌}
 use Rattle.std.specs.List.{filter_map, cons_option}
@@ -29,7 +29,7 @@ use Rattle.cg_exchange.specs.Changes.{row_changed}
 abbrev pub holding : TableValue → Entries → TableValue
 holding t m = record { own = t.own; entries = m }
 
--- Deltas come to entries one after the other as they all come to the table t.
+-- Deltas put into entries one after the other change them as each delta changes the table t.
 pub record AreTakenAtOnce (t : TableValue) (m : Entries) (ds : List OwnerDelta) : Type 0 where
   pub after : table_after (holding t m) ds ≡ holding t (put_each (filter_map (row_changed t) ds) m)
   pub outcomes : outcomes_of (holding t m) ds ≡ map (outcome_of t) ds
@@ -61,7 +61,7 @@ module _ (t : TableValue) where
       let s = step m d ds (d.endpoint == t.own) (meeting (get t.entries d.endpoint) d.delta) (agree_later t.entries m last d.endpoint here same) (λ n agree. taken_past n (Some d.endpoint) ds rest agree) in
       record { after = rw (same d.endpoint here) s.after; outcomes = rw (same d.endpoint here) s.outcomes }
 
-  -- deltas about owners that rise, taken one after the other, are taken against the table as it was before
+  -- deltas about owners that rise, taken one after the other, are taken as if each met the first table
   pub taken_at_once : (ds : List OwnerDelta) → Rises (endpoints_of_deltas ds) → AreTakenAtOnce t t.entries ds
   taken_at_once ds rise = taken_past t.entries None ds rise (λ k p. refl)
 

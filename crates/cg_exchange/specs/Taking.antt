@@ -50,7 +50,7 @@ delta_granted entries r = option_map (about r.endpoint) (grant_of r (table.get e
 abbrev pub deltas_granted : Entries → List RequestValue → List OwnerDelta
 deltas_granted entries requests = filter_map (delta_granted entries) requests
 
--- The table, the answer and the outcomes after an ACK: its deltas are taken first, and its requests are answered from
+-- The table, the answer and the outcomes after an ACK. Its deltas are taken first, and its requests are answered from
 -- the table that they make.
 abbrev pub taking_ack : TableValue → AckValue → Result (TableValue × Ack2Value × List Outcome) Fault
 taking_ack t ack =

@@ -129,8 +129,8 @@ fn lists_for(
     Ok((requests, deltas))
 }
 
-/// Makes the SYN with which the member that holds `table` and is in `cluster` opens an exchange: a digest of each
-/// entry, rising by endpoint, and the cluster. `AllocError` if there is no memory for the digests.
+/// Makes the SYN with which the member that holds `table` and is in `cluster` opens an exchange. It has a digest of
+/// each entry, rising by endpoint, and the cluster. `AllocError` if there is no memory for the digests.
 pub fn syn(alloc: Global, table: &Table, cluster: &Cluster) -> Result<Syn, AllocError>
     ensures { IfOk result (λ s. s ≡ syn_of table.now cluster.now) }
 {

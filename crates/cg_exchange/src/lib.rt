@@ -1,7 +1,7 @@
 //! The rules of the messages of an exchange: the tables and answers that they lead to.
 //!
-//! Each rule is a function from tables and messages to tables and messages: the SYN of a table, the answer to a SYN, and
-//! the taking of an ACK and of an ACK2.
+//! Each rule is a function from tables and messages to tables and messages. The rules are the SYN of a table, the
+//! answer to a SYN, and the taking of an ACK and of an ACK2.
 #![tactic(auto)]
 
 mod answers;

@@ -71,7 +71,7 @@ fn changes(
 }
 
 // The table after the deltas, for which there is room, and the outcome of each. Each delta is about another owner, so
-// that all of them meet the table as it was before.
+// that all of them meet the same table.
 fn take_deltas(
     alloc: Global,
     table: &Table,
@@ -135,9 +135,9 @@ fn deltas_granted(
 /// the deltas. The deltas are taken first, and the requests are answered from the table that they make, by generation
 /// and by version. An answer is made even if nothing is sent. Entries that no delta changes are shared.
 ///
-/// `TableFull` if the endpoints that are held, with those that are not held and that whole deltas are about, are more
-/// than `MEMBER_LIMIT`; `OutOfMemory` never comes in its place. Else `OutOfMemory` comes if there is no memory for the
-/// new table, the answer and the outcomes. `table` is unchanged in each case.
+/// `TableFull` if more than `MEMBER_LIMIT` endpoints would be held: those that are, and those that are not and that
+/// whole deltas are about. `OutOfMemory` never comes in its place. Else `OutOfMemory` comes if there is no memory for
+/// the new table, the answer and the outcomes. `table` is unchanged in each case.
 pub fn take_ack(
     alloc: Global,
     table: &Table,

@@ -33,7 +33,7 @@ pub record Says (histories : ℕ → List EntryValue) (message : Message) (said 
   pub spells : SpellsMessage histories said message
   pub stands : IsPlaceMessage histories said
 
--- The table after spans came to the table t at the places mine, and the outcome of each.
+-- The table after spans at the table t with the places mine, and the outcome of each span.
 pub record IsMoved (histories : ℕ → List EntryValue) (t : TableValue) (mine : ℕ → ℕ) (spans : ℕ → Option Span)
     (after : TableValue) (outcomes : List Outcome) : Type 0 where
   pub own : after.own ≡ t.own

@@ -1,7 +1,7 @@
 //! Expectations of tests: a test that finds something else fails, and says what it found.
 //!
 //! `expect!(x < 5)?` and `expect_eq!(x, 5)?` are used in tests where `assert!` and `assert_eq!` could be. They return
-//! the failure instead of a panic, so that all that a test still holds is dropped in one place, and its proof is short.
+//! the failure and do not panic. So all that a test still holds is dropped in one place, and its proof is short.
 #![tactic(auto)]
 
 mod expected;

@@ -12,7 +12,7 @@ use cg_types::Endpoint;
 use std::alloc::{AllocError, Global};
 use std::marker::Model;
 
-/// Values by their endpoints, in the order of the endpoints. Maps that are made from one another share the values
+/// A map from endpoints to values, in the order of the endpoints. Maps that are made from one another share the values
 /// that did not change, so that a copy is a list of rows.
 #[derive(Drop)]
 pub struct SharedMap<T> {

@@ -10,7 +10,7 @@ use std::marker::Model;
 use std::ops::Deref;
 use std::sync::Arc;
 
-/// An endpoint with a value. Rows that are shared have one value in memory, which none of them changes.
+/// A row of a map: an endpoint with a value. Rows that are shared have one value in memory, which none of them changes.
 #[derive(Drop)]
 pub struct Row<T> {
     endpoint: Endpoint,
@@ -57,8 +57,8 @@ impl<T> Row<T> {
         self.value.deref()
     }
 
-    /// The same row. It copies nothing of the value and takes no memory; `AllocError` comes if the count of owners is
-    /// full, which takes more of them than memory can hold.
+    /// The same row. It copies nothing of the value and takes no memory. `AllocError` could come only if the count of
+    /// owners is full, with more owners than memory can hold.
     pub fn share(&self) -> Result<Row<T>, AllocError>
         ensures { IfOk result (λ r. r ≡ self.now) }
     {

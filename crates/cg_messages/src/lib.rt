@@ -1,8 +1,8 @@
 //! The three messages of an exchange between two members.
 //!
-//! An exchange has the shape of Apache Cassandra's: a SYN of digests (`GossipDigestSyn`), an ACK of requests and deltas
-//! (`GossipDigestAck`), and an ACK2 of the deltas that were requested (`GossipDigestAck2`). Each list of a message
-//! rises strictly by endpoint and has at most `MEMBER_LIMIT` members.
+//! An exchange has the shape of Apache Cassandra's. A SYN has digests (`GossipDigestSyn`), an ACK has requests and
+//! deltas (`GossipDigestAck`), and an ACK2 has the deltas that were requested (`GossipDigestAck2`). Each list of a
+//! message rises strictly by endpoint and has at most `MEMBER_LIMIT` members.
 #![tactic(auto)]
 
 mod ack;

@@ -6,8 +6,8 @@ use cg_entry::Delta;
 use cg_types::Endpoint;
 use std::alloc::{AllocError, Global};
 
-/// A delta, and the endpoint that it is about: a member of the map from endpoints to their `EndpointState` in Apache
-/// Cassandra's `GossipDigestAck` and `GossipDigestAck2`.
+/// A delta, and the endpoint that it is about. It is a member of the map from endpoints to their `EndpointState` in
+/// Apache Cassandra's `GossipDigestAck` and `GossipDigestAck2`.
 #[derive(Debug, Drop)]
 pub struct OwnerDelta {
     pub endpoint: Endpoint,

@@ -6,8 +6,8 @@ ghost use Rattle.cg_types.specs.Numbers.{IsVersionHeld};
 use cg_types::{Endpoint, Generation, NUMBER_LIMIT};
 use std::marker::Model;
 
-/// A request for the part of an endpoint's entry above a version of a generation, or for the whole entry at version 0:
-/// a `GossipDigest` in the list of Apache Cassandra's `GossipDigestAck`.
+/// A request for the part of an endpoint's entry above a version of a generation, or for the whole entry at version 0.
+/// It is a `GossipDigest` in the list of Apache Cassandra's `GossipDigestAck`.
 #[derive(Clone, Copy, Debug, PartialEq, Eq)]
 pub struct Request {
     endpoint: Endpoint,

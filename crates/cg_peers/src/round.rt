@@ -49,8 +49,8 @@ fn seed_peer(chosen: &[Endpoint], seeds: &[Endpoint], word: u64) -> Option<Endpo
     }
 }
 
-/// Chooses the peers of a round with four random words: a live endpoint by the first, perhaps a silent one by the
-/// second and the third, and a seed by the fourth if no seed was chosen.
+/// Chooses the peers of a round with four random words. The first picks a live endpoint, the second and the third
+/// perhaps a silent one, and the fourth a seed if no seed was chosen.
 pub fn choose_peers(
     alloc: Global,
     live: &[Endpoint],

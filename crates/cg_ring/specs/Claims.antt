@@ -51,7 +51,7 @@ beats c d = nat_lt d.generation c.generation || (d.generation == c.generation &&
 abbrev pub wins : List Claim → Claim → Bool
 wins cs c = list_all (λ d. not (d.token == c.token && beats d c)) cs
 
--- An entry shows that it claims the same tokens as the entry held of its owner before: its generation, status and
+-- An entry shows that it claims the same tokens as the entry held of its owner before. Its generation, status and
 -- tokens are the same, or nothing was held and it is no member.
 abbrev pub keeps_claims : Option EntryValue → EntryValue → Bool
 keeps_claims None e = not (is_member e.states)

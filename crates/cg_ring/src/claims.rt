@@ -63,8 +63,8 @@ fn same_text(one: &Entry, other: &Entry, key: u8) -> bool
 }
 
 /// Tests whether an entry shows that it claims the same tokens as the entry held of its owner before. It does if its
-/// generation and its texts of `STATUS` and `TOKENS` are the same, or if nothing was held and its `STATUS` up to the
-/// first comma is neither `NORMAL` nor `LEAVING`. Both entries are of one owner. Then the ring stays
+/// generation and its texts of `STATUS` and `TOKENS` are the same. It also does if nothing was held, and its `STATUS`
+/// up to the first comma is neither `NORMAL` nor `LEAVING`. Both entries are of one owner. Then the ring stays
 /// (`laws::ring_stays`). It reads no token and takes no memory, so it answers `false` of other texts that claim the
 /// same.
 pub fn keeps_claims(held: Option<&Entry>, entry: &Entry) -> bool

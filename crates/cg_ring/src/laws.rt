@@ -7,8 +7,8 @@ pub fn kept_claims_are_alike()
     ensures { KeptClaimsAreAlike }
 {}
 
-/// The ring stays the same if an owner's new entry claims the same tokens in the same generation as its old one, or
-/// none if nothing was held.
+/// The ring stays the same if an owner's new entry keeps the claims of its old one. It has to claim the same tokens in
+/// the same generation, or none if nothing was held.
 pub fn ring_stays()
     ensures { RingStays }
 {}

@@ -92,9 +92,9 @@ fn take_endpoints(
 }
 
 impl Ring {
-    /// Builds the ring of a table. An endpoint claims the tokens of its state `TOKENS` if that can be read, and the
-    /// word before the first comma of its state `STATUS` is `NORMAL` or `LEAVING`. A token that several claim belongs
-    /// to the greatest generation, and then to the least endpoint.
+    /// Builds the ring of a table. An endpoint claims the tokens of its state `TOKENS` if that can be read, and it is a
+    /// member. It is one if the word before the first comma of its state `STATUS` is `NORMAL` or `LEAVING`. A token
+    /// that several claim belongs to the greatest generation, and then to the least endpoint.
     pub fn of_table(alloc: Global, table: &Table) -> Result<Ring, AllocError>
         ensures { IfOk result (λ r. r ≡ ring table.now.entries) }
     {
@@ -112,9 +112,9 @@ impl Ring {
         &self.positions
     }
 
-    /// Returns the endpoints that keep the keys of this token, at most `rf` of them: from the first token of the ring
-    /// at or after it, clockwise, each endpoint at its first token. It takes memory once, for `rf` endpoints, or for
-    /// one a token if there are fewer tokens. If `rf` is 0 or the ring is empty, it takes none.
+    /// Returns the endpoints that keep the keys of this token, at most `rf` of them. They are those from the first
+    /// token of the ring at or after it, clockwise, each endpoint at its first token. The call takes memory once, for
+    /// `rf` endpoints, or for one a token if there are fewer tokens. If `rf` is 0 or the ring is empty, it takes none.
     pub fn replicas(
         &self,
         alloc: Global,

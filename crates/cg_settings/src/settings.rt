@@ -32,8 +32,8 @@ impl Model for Settings {
 }
 
 impl Settings {
-    /// Makes the settings, or returns what is wrong with them, the first in this order: the cluster's partitioner is
-    /// the one in use, the seeds are at most `SEED_LIMIT`, and they rise strictly.
+    /// Makes the settings, or returns the first fault of them. They are tested in this order: the cluster's partitioner
+    /// is the one in use, the seeds are at most `SEED_LIMIT`, and they rise strictly.
     pub fn try_new(
         cluster: Cluster,
         seeds: Vec<Endpoint>,

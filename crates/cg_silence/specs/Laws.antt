@@ -3,7 +3,7 @@ use Rattle.std.specs.Prelude.{◌≡◌}
 use Rattle.cg_silence.specs.declared.limits.TheConstants.{WINDOW_LIMIT, GAP_LIMIT, THRESHOLD_LIMIT, THRESHOLD_UNIT}
 use Rattle.cg_silence.specs.Values.{silence_of, default_silence}
 
--- The most gaps in a window, the greatest gap in milliseconds, the greatest threshold and the one of a mean gap, and
+-- The most gaps in a window, the greatest gap in milliseconds, the greatest threshold and the one of a mean gap. Then
 -- the settings if nothing else is set.
 pub record LimitsAreThese : Type 0 where
   pub window : WINDOW_LIMIT ≡ 1000

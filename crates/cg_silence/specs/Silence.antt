@@ -45,7 +45,7 @@ Shows w arrivals = w.shown ≡ window_of_all w.silence arrivals
 abbrev pub with_gap : SilenceValue → List ℕ → ℕ → List ℕ
 with_gap s gaps g = if is_recorded s g then keep_last s.window (gaps ++ g ∷ []) else gaps
 
--- what was shown, with one more arrival
+-- the gaps and the last arrival that are shown after one more arrival
 abbrev pub heard_after : SilenceValue → Shown → ℕ → Shown
 heard_after s w now = record { gaps = with_gap s w.gaps (gap s w.last now); last = Some (latest w.last now) }
 

@@ -34,8 +34,8 @@ impl Model for Silence {
 }
 
 impl Silence {
-    /// Makes the settings, or returns the one that is out of its range, the first in this order: the window is 1 to
-    /// `WINDOW_LIMIT` gaps, `max_gap` 1 to `GAP_LIMIT`, the initial gap 1 to `max_gap`, and the threshold 1 to
+    /// Makes the settings, or returns the first one that is out of its range. They are tested in this order: the window
+    /// is 1 to `WINDOW_LIMIT` gaps, `max_gap` 1 to `GAP_LIMIT`, the initial gap 1 to `max_gap`, and the threshold 1 to
     /// `THRESHOLD_LIMIT`.
     pub fn try_new(
         window: usize,

@@ -224,10 +224,10 @@ impl Table {
         self.with_row(alloc, Some(row))
     }
 
-    /// Returns the change that a delta about an endpoint makes, given what is held of the endpoint: the row that it
-    /// leads to, if it is taken, and its outcome. No delta changes the own entry. The table itself stays unchanged:
-    /// `put_rows` puts such rows. `AllocError` only if the delta is taken, and the new entry or its row finds no
-    /// memory.
+    /// Returns the change that a delta about an endpoint makes, given the entry held of the endpoint, if there is one.
+    /// The change is the row that the delta leads to, if it is taken, and the outcome. No delta changes the own entry.
+    /// The table itself stays unchanged: `put_rows` puts such rows. `AllocError` only if the delta is taken, and the
+    /// new entry or its row finds no memory.
     pub fn change_at(
         &self,
         alloc: Global,
@@ -264,8 +264,8 @@ impl Table {
     }
 
     /// Returns the table after a delta about an endpoint, and the delta's outcome. No other owner's entry changes.
-    /// `TableFull` if a whole delta about an endpoint that is not held finds `MEMBER_LIMIT` held; `OutOfMemory` never
-    /// comes in its place, and is else the only refusal.
+    /// `TableFull` if a whole delta is about an endpoint that is not held, and `MEMBER_LIMIT` are held. `OutOfMemory`
+    /// never comes in its place, and is else the only refusal.
     pub fn put_delta(
         &self,
         alloc: Global,

@@ -1,5 +1,5 @@
-//! Tests of maps and tables, of tokens and the ring of a table, and of messages and the tables that each leads to, over
-//! their public calls.
+//! Tests of maps and tables, of tokens and rings, and of messages and the tables that each leads to, over their public
+//! calls.
 #![tactic(auto)]
 
 #[cfg(test)]

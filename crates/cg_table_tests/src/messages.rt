@@ -71,8 +71,8 @@ fn lists_rise(rt: HostRuntime) -> Result<(), Fail> {
 
 // ---- equality and copies
 
-// A message's kind, a SYN's cluster, the owners in its first list and in its second, which is the only one of an ACK2,
-// and its deltas: the generation, the version that they are above, and the heartbeat version.
+// A message's kind, a SYN's cluster, the owners in its first list and in its second, and its deltas. The second list is
+// the only one of an ACK2. Of a delta: the generation, the version that it is above, and the heartbeat version.
 type Told = (
     Kind,
     (&'static str, u8),

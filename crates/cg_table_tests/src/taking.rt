@@ -56,8 +56,8 @@ fn sent(alloc: Global, table: &Table, ack: &Ack) -> Result<Option<(u32, u32, u32
     Ok(only(ack2.deltas()))
 }
 
-// The delta that B at generation 5 sends for a request of an owner, of a generation above a version, and a delta of A
-// with heartbeat version 4, or none.
+// The delta that B at generation 5 sends, if any. The ACK has a request of an owner, of a generation above a version,
+// and a delta of A with heartbeat version 4, or none.
 fn sent_by_b(
     alloc: Global,
     owner: u16,

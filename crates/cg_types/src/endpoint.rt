@@ -19,7 +19,7 @@ use std::fmt;
 use std::marker::Model;
 use std::str::from_utf8_unchecked;
 
-/// An IPv4 address and a port from 1 on. Endpoints are ordered by the address's four bytes, then the port.
+/// An endpoint: an IPv4 address and a port from 1 on. Endpoints are ordered by the address's four bytes, then the port.
 #[derive(Clone, Copy, Debug)]
 pub struct Endpoint {
     address: u32,

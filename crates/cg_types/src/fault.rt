@@ -80,7 +80,7 @@ pub enum Fault {
     Stranger,
     /// The histories are not of one run.
     Stuck,
-    /// The records asked for are folded into a base.
+    /// The requested records are folded into a base.
     Folded,
     /// No node runs at the endpoint.
     NoSuchNode,

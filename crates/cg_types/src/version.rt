@@ -8,7 +8,7 @@ use crate::limits::NUMBER_LIMIT;
 use crate::words::number_between;
 use std::marker::Model;
 
-/// The number of a change within a generation, 1 to 2,147,483,647.
+/// A version: the number of a change within a generation, 1 to 2,147,483,647.
 #[derive(Clone, Copy, Debug, PartialEq, Eq, PartialOrd, Ord)]
 pub struct Version {
     number: u32,

@@ -64,7 +64,7 @@ judge-insert s m k w all here = record {
 
 -- ---- the arrivals of a message
 
--- Outcomes that come to these windows one after the other change them as they all change w.
+-- Outcomes applied to these windows one after the other change them as each outcome changes w.
 record AreHeardAtOnce (w : WindowsValue) (now : ℕ) (m : Kept) (os : List Outcome) : Type 0 where
   shown : shown_in (put_each (filter_map (arrival w now) os) m) ≡ arrivals w.silence now (shown_in m) os
   judge : AllJudge w.silence (put_each (filter_map (arrival w now) os) m)

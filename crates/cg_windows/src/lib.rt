@@ -1,7 +1,7 @@
 //! The windows of the endpoints that a node hears of.
 //!
 //! Each delta that was taken is an arrival of its endpoint, as Apache Cassandra's `Gossiper` reports arrivals to its
-//! `FailureDetector`; an endpoint's window judges by its arrivals alone.
+//! `FailureDetector`. An endpoint's window judges by its arrivals alone.
 #![tactic(auto)]
 
 mod windows;

@@ -18,8 +18,8 @@ use cg_types::Endpoint;
 use std::alloc::{AllocError, Global};
 use std::marker::Model;
 
-/// A window for each endpoint that was heard, all with the same settings. Those that are made from one another share
-/// the windows that did not change.
+/// Windows of endpoints: one for each that was heard, all with the same settings. Those that are made from one another
+/// share the windows that did not change.
 #[derive(Drop)]
 pub struct Windows {
     silence: Silence,
