@@ -1,4 +1,5 @@
-//! The texts of faults and keys as a user reads them, and each call once with ample memory.
+//! Endpoints, numbers, texts, clusters and faults: their texts as a user reads them, and each call once with ample
+//! memory.
 
 use cg_expect::{expect, expect_eq};
 use cg_samples::long_text;

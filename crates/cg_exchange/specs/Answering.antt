@@ -34,7 +34,7 @@ request_by d (Some e) =
 abbrev pub requests_for : Entries → List Digest → List RequestValue
 requests_for entries digests = filter_map (λ d. request_by d (table.get entries d.endpoint)) digests
 
--- the delta of an entry for the sender of the digest that names its endpoint, if there is one
+-- the delta that is sent of an entry, by the digest that names its endpoint, if there is such a digest
 abbrev pub delta_by : EntryValue → Option Digest → Option DeltaValue
 delta_by e None = delta_above 0 e
 delta_by e (Some d) =

@@ -44,6 +44,6 @@ of_member f (Some x) y = f x y
 abbrev pub row_request : Digest → Option (ℕ × EntryValue) → Option RequestValue
 row_request d row = request_by d (option_map (λ r. r.1) row)
 
--- the delta of a row for the sender of the digest that names its endpoint
+-- the delta that is sent of a row, by the digest that names its endpoint
 abbrev pub row_delta : ℕ × EntryValue → Option Digest → Option OwnerDelta
 row_delta row named = option_map (about row.0) (delta_by row.1 named)

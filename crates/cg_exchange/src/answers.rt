@@ -32,7 +32,7 @@ fn request_of_digest(digest: &Digest, held: Option<&Entry>) -> Option<Request>
     None
 }
 
-// The delta of an entry for the sender of the digest that names its endpoint, if there is one.
+// The delta that is sent of an entry, by the digest that names its endpoint, if there is such a digest.
 fn delta_of_entry(
     alloc: Global,
     entry: &Entry,
@@ -62,7 +62,7 @@ fn request_of_row(digest: &Digest, row: Option<&Row<Entry>>) -> Option<Request>
     }
 }
 
-// The delta of a row for the sender of the digest that names its endpoint, if there is one.
+// The delta that is sent of a row, by the digest that names its endpoint, if there is such a digest.
 fn delta_of_row(
     alloc: Global,
     row: &Row<Entry>,

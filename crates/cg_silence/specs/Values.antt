@@ -39,7 +39,7 @@ pub record WindowValue : Type 0 where
   pub silence : SilenceValue
   pub shown : Shown
 
--- The ring has the settings' room, the gaps in it were to be recorded, and the total is their sum.
+-- The ring has the settings' room, no gap in it is over the settings' greatest, and the total is the sum of the gaps.
 pub record IsWindow (s : SilenceValue) (gaps : List ℕ) (capacity total : ℕ) : Type 0 where
   pub settings : IsSilence s
   pub room : capacity ≡ s.window

@@ -113,9 +113,9 @@ pub fn tokens_in(alloc: Global, text: &[u8]) -> Result<Option<Vec<Token>>, Alloc
     }
 }
 
-/// Reads the tokens of an endpoint from the text of its state `TOKENS`. That is 1 to `TOKEN_COUNT_LIMIT` tokens of 32
-/// lower-case hexadecimal digits, each greater than the one before it, with one comma between them. Any other text is
-/// BadText, which is found before memory is taken; OutOfMemory comes only if the text is one of tokens.
+/// Reads the tokens of an endpoint from a text, as its state `TOKENS` has it. That is 1 to `TOKEN_COUNT_LIMIT` tokens
+/// of 32 lower-case hexadecimal digits, each greater than the one before it, with one comma between them. Any other
+/// text is BadText, which is found before memory is taken; OutOfMemory comes only if the text is one of tokens.
 pub fn read_tokens(alloc: Global, text: &str) -> Result<Vec<Token>, Fault>
     ensures answer { Answers (λ tokens. tokens.items) (read_as (tokens_of text.now)) result }
     // The text is the one that the tokens write.

@@ -8,7 +8,7 @@ use crate::limits::NUMBER_LIMIT;
 use crate::words::number_between;
 use std::marker::Model;
 
-/// A generation: the number of a start of an endpoint, 1 to 2,147,483,647 (as of Cassandra's `HeartBeatState`).
+/// A generation: the number of a start of an endpoint, 1 to 2,147,483,647 (as in Cassandra's `HeartBeatState`).
 #[derive(Clone, Copy, Debug, PartialEq, Eq, PartialOrd, Ord)]
 pub struct Generation {
     number: u32,
