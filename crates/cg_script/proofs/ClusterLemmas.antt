@@ -1,4 +1,4 @@
--- What is no UTF-8 names no cluster.
+-- Bytes that are not UTF-8 name no cluster.
 use Rattle.std.proofs.Common.{◌≡◌, ℕ, Bool, true, false, cond, List, length, None, refl}
 use Rattle.std.specs.Prelude.{nat_lt, ◌==◌, Ok, Err}
 use Rattle.std.specs.Str.{IsUtf8}

@@ -10,11 +10,11 @@ use Rattle.cg_script.specs.declared.line.Line.TheVariants.{Seeds}
 use Rattle.cg_script.specs.Words.{endpoints_by, endpoints_in, seeds_in}
 use Rattle.cg_script.specs.Script.{settings_with, seeds_line}
 
--- behind those that were read
+-- all endpoints: those already read, then the others
 abbrev pub behind : List ℕ → Option (List ℕ) → Option (List ℕ)
 behind read others = option_map (λ es. read ++ es) others
 
--- so many may still come
+-- the endpoints that may still come after `count` of them
 abbrev pub left : ℕ → ℕ → List ℕ → Option (List ℕ)
 left at count rest = endpoints_in at (SEED_LIMIT - count) rest
 
@@ -76,7 +76,7 @@ too_many at count all read rest over e =
     let none : SEED_LIMIT - count ≡ 0 = omega arith in
     sym (e ∙ ap (λ (n : ℕ). behind read (endpoints_in at n rest)) none)
 
--- ---- at most as many as there may be
+-- ---- the list has at most `SEED_LIMIT` endpoints
 
 few_behind : (n : ℕ) (text : List ℕ) (parts : Option (List ℕ × List ℕ)) (others : List ℕ → Option (List ℕ)) (es : List ℕ)
     → ((rest fs : List ℕ) → others rest ≡ Some fs → length fs ≤ n) → endpoints_by others text parts ≡ Some es → length es ≤ n + 1

@@ -1,4 +1,4 @@
--- What a line of a script asks for.
+-- The lines of a script: the action or the view that each requests.
 use Rattle.std.specs.Prelude.{ℕ, List, [], ◌∷◌, Option, Some, None, Result, Ok, Err, codes}
 use Rattle.cg_types.specs.declared.fault.Fault.{Fault}
 use Rattle.cg_types.specs.declared.fault.Fault.TheVariants.{BadText}
@@ -18,7 +18,7 @@ use Rattle.cg_script.specs.declared.word.Word.{Word}
 use Rattle.cg_script.specs.declared.word.Word.TheVariants as word
 use Rattle.cg_script.specs.Words.{word_named, count_in, endpoint_before, count_before, key_before, text_in, state_text_in, seeds_in}
 
--- ---- what each word is followed by
+-- ---- the words after each first word
 
 abbrev pub settings_with : List ℕ → SettingsValue
 settings_with seeds = record {
@@ -107,12 +107,12 @@ abbrev pub or_unreadable : Option Line → Result Line Fault
 or_unreadable None = Err BadText
 or_unreadable (Some line) = Ok line
 
--- the action that sets a key, or why its text is refused
+-- the action that sets a key, or the fault of its text
 abbrev pub setting : ℕ → ℕ → Result (List ℕ) Fault → Result Line Fault
 setting node key (Ok text) = Ok (Act (Local node (Set key text)))
 setting node key (Err f) = Err f
 
--- `set EP KEY TEXT`, behind its endpoint
+-- `set EP KEY TEXT`, after its endpoint
 abbrev pub key_set : ℕ → Option (ℕ × List ℕ) → Result Line Fault
 key_set node None = Err BadText
 key_set node (Some key) = setting node key.0 (state_text_in key.1)
@@ -125,7 +125,7 @@ node_set (Some node) = key_set node.0 (key_before node.1)
 unfoldable pub set_line : List ℕ → Result Line Fault
 set_line words = node_set (endpoint_before words)
 
--- what the words behind the first one say
+-- the line that the words after the first one spell
 abbrev pub line_of_word : Word → List ℕ → Result Line Fault
 line_of_word word.Seeds words = or_unreadable (seeds_line words)
 line_of_word word.Start words = or_unreadable (start_line words)
@@ -147,6 +147,6 @@ abbrev pub line_of_parts : Option (List ℕ × List ℕ) → Result Line Fault
 line_of_parts None = Err BadText
 line_of_parts (Some parts) = line_behind (word_named parts.0) parts.1
 
--- what a line asks for, or why it is refused
+-- the line that a text spells, or the fault for which it is refused
 unfoldable pub line_in : List ℕ → Result Line Fault
 line_in line = line_of_parts (cut_at 32 line)

@@ -1,4 +1,4 @@
--- The words of a script's line, which are parted by single spaces.
+-- The words of a script's line, which single spaces separate.
 use Rattle.std.specs.Prelude.{ℕ, suc, zero, List, [], ◌∷◌, Option, Some, None, bytes_eq, codes, if◌then◌else◌, Result, Err}
 use Rattle.std.specs.Str.{is_utf8}
 use Rattle.cg_types.specs.declared.fault.Fault.{Fault}
@@ -29,25 +29,25 @@ word_named name =
     else if bytes_eq name (codes "replicas") then Some word.Replicas
     else None
 
--- a moment, a random word, a number of replicas or of a message: 0 to 2^64 - 1
+-- a time in milliseconds, a random word, a number of replicas or of a message: 0 to 2^64 - 1
 unfoldable pub count_in : List ℕ → Option ℕ
 count_in text = number_of GREATEST text
 
--- an endpoint, and what stands behind the space after it
+-- an endpoint, and the text after the space that follows it
 unfoldable pub endpoint_before : List ℕ → Option (ℕ × List ℕ)
 endpoint_before words = do
   parts ← cut_at 32 words
   endpoint ← endpoint_in parts.0
   Some (endpoint, parts.1)
 
--- a number of at most 2^64 - 1, and what stands behind the space after it
+-- a number of at most 2^64 - 1, and the text after the space that follows it
 unfoldable pub count_before : List ℕ → Option (ℕ × List ℕ)
 count_before words = do
   parts ← cut_at 32 words
   n ← count_in parts.0
   Some (n, parts.1)
 
--- a key, and what stands behind the space after it
+-- a key, and the text after the space that follows it
 unfoldable pub key_before : List ℕ → Option (ℕ × List ℕ)
 key_before words = do
   parts ← cut_at 32 words
@@ -66,7 +66,7 @@ state_text_of_utf8 (Some text) = state_text_of text
 unfoldable pub state_text_in : List ℕ → Result (List ℕ) Fault
 state_text_in text = state_text_of_utf8 (text_in text)
 
--- the endpoint that a text is alone, or the one before its first separator and the others
+-- the endpoint that is the whole text, or the one before its first separator and the others
 abbrev pub endpoints_by : (List ℕ → Option (List ℕ)) → List ℕ → Option (List ℕ × List ℕ) → Option (List ℕ)
 endpoints_by others text None = do
   endpoint ← endpoint_in text
@@ -76,12 +76,12 @@ endpoints_by others text (Some parts) = do
   endpoints ← others parts.1
   Some (endpoint ∷ endpoints)
 
--- endpoints with this byte between them, at least one and at most so many
+-- endpoints with this byte between them, at least one and at most this number
 unfoldable pub endpoints_in : ℕ → ℕ → List ℕ → Option (List ℕ)
 endpoints_in at zero text = None
 endpoints_in at (suc most) text = endpoints_by (endpoints_in at most) text (cut_at at text)
 
--- seeds: endpoints that rise strictly, at most as many as there may be
+-- seeds: endpoints that rise strictly, at most `SEED_LIMIT` of them
 unfoldable pub seeds_in : List ℕ → Option (List ℕ)
 seeds_in text = do
   seeds ← endpoints_in 32 SEED_LIMIT text

@@ -1,4 +1,4 @@
-//! The greatest number in a line, as a number.
+//! The law of the greatest number in a line.
 
 ghost use Rattle.cg_script.specs.Limits.{LimitValues};
 

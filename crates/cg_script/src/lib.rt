@@ -1,9 +1,9 @@
-//! The lines of a script: what each asks for, or why it can't be read; and the readers of words that the lines of other
-//! texts share.
+//! The lines of a script: the request of each, or the fault if it can't be read. Readers of words are here too: the
+//! lines of other texts share them.
 //!
-//! Words are parted by single spaces. An endpoint is as `10.0.0.1:7000`; numbers are decimal with no leading zeros:
-//! generations 1 to 2,147,483,647, keys 1 to 16, moments in milliseconds, random words, numbers of replicas and of
-//! messages 0 to 2^64 - 1. A text is the rest of the line behind one space, may be empty, and is UTF-8.
+//! Single spaces separate words. An endpoint is as `10.0.0.1:7000`, and numbers are decimal with no leading zeros.
+//! Generations are 1 to 2,147,483,647, keys 1 to 16. Times in milliseconds, random words, numbers of replicas and of
+//! messages are 0 to 2^64 - 1. A text is the rest of the line after one space. It may be empty, and is UTF-8.
 #![tactic(auto)]
 
 pub mod laws;

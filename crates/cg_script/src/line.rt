@@ -1,33 +1,33 @@
-//! What a line of a script asks for.
+//! A line of a script, as a value: settings, an action or a view.
 
 use cg_settings::Settings;
 use cg_tokens::Token;
 use cg_types::Endpoint;
 use cg_world::Action;
 
-/// The greatest moment, random word, number of replicas or of a message.
+/// The greatest time in milliseconds, random word, number of replicas or of a message.
 pub const GREATEST: u64 = u64::MAX;
 
-/// What is shown of a node.
+/// A view of a node, which a script's line shows.
 #[derive(Clone, Copy, Debug, PartialEq, Eq)]
 pub enum View {
-    /// What it holds of each endpoint.
+    /// The states that the node holds of each endpoint.
     Gossipinfo,
     /// The positions of its ring.
     Ring,
-    /// How far what it holds of each endpoint has come.
+    /// The generation and the newest version that the node holds of each endpoint.
     Digests,
-    /// The endpoints that keep what has this token, at most `rf` of them.
+    /// The endpoints that keep the data of this token, at most `rf` of them.
     Replicas { token: Token, rf: u64 },
 }
 
-/// What a line of a script asks for.
+/// A line of a script.
 #[derive(Debug, Drop)]
 pub enum Line {
-    /// `seeds EP ..`: what all nodes are set to, with these seeds.
+    /// `seeds EP ..`: the settings of all nodes, with these seeds.
     Seeds(Settings),
-    /// `start`, `beat`, `set`, `open`, `tick` or `deliver`: something is done.
+    /// `start`, `beat`, `set`, `open`, `tick` or `deliver`: an action.
     Act(Action),
-    /// `gossipinfo`, `ring`, `digests` or `replicas`: something is shown of a node.
+    /// `gossipinfo`, `ring`, `digests` or `replicas`: a view of a node.
     Show(Endpoint, View),
 }

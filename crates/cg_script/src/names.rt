@@ -10,7 +10,7 @@ use cg_types::{Cluster, Fault};
 use hex::FromHexError;
 use std::alloc::Global;
 
-/// The cluster that a name names, of 1 to 48 bytes.
+/// Reads a cluster's name, of 1 to 48 bytes, and returns the cluster with it.
 pub fn cluster_named(alloc: Global, name: &[u8]) -> Result<Cluster, Fault>
     ensures { Finds (λ c. c) result (readable (cluster_of name.now PARTITIONER)) }
 {
@@ -24,7 +24,7 @@ pub fn cluster_named(alloc: Global, name: &[u8]) -> Result<Cluster, Fault>
     }
 }
 
-/// The bytes of an even number of hexadecimal digits, upper-case ones too.
+/// Decodes an even number of hexadecimal digits to bytes; upper-case digits count too.
 pub fn bytes_in(alloc: Global, digits: &[u8]) -> Result<Vec<u8>, Fault>
     ensures { Finds (λ v. v.items) result (readable (decode_of digits.now)) }
 {

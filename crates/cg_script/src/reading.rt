@@ -19,7 +19,7 @@ use cg_types::{Endpoint, Fault, Generation, StateKey, StateText, cut, number};
 use cg_world::{Action, LocalEvent};
 use std::alloc::Global;
 
-/// A moment, a random word, or a number of replicas or of a message.
+/// Reads a time in milliseconds, a random word, or a number of replicas or of a message.
 #[tactic(auto, unfolding(crate::specs::Words::count_in))]
 pub fn count_in(text: &[u8]) -> Option<u64>
     ensures { result ≡ text_count_in text.now }
@@ -27,7 +27,7 @@ pub fn count_in(text: &[u8]) -> Option<u64>
     number(text, GREATEST)
 }
 
-/// An endpoint, and what stands behind the space after it.
+/// Reads an endpoint, and returns the text after the space that follows it too.
 #[tactic(auto, unfolding(crate::specs::Words::endpoint_before))]
 pub fn endpoint_before(words: &[u8]) -> Option<(Endpoint, &[u8])>
     ensures { option_map (λ p. (p.0, p.1.now)) result ≡ text_endpoint_before words.now }
@@ -39,7 +39,7 @@ pub fn endpoint_before(words: &[u8]) -> Option<(Endpoint, &[u8])>
     Some((endpoint, rest))
 }
 
-/// A number of at most `GREATEST`, and what stands behind the space after it.
+/// Reads a number of at most `GREATEST`, and returns the text after the space that follows it too.
 #[tactic(auto, unfolding(crate::specs::Words::count_before))]
 pub fn count_before(words: &[u8]) -> Option<(u64, &[u8])>
     ensures { option_map (λ p. (p.0, p.1.now)) result ≡ text_count_before words.now }
@@ -51,7 +51,7 @@ pub fn count_before(words: &[u8]) -> Option<(u64, &[u8])>
     Some((count, rest))
 }
 
-/// A key, and what stands behind the space after it.
+/// Reads a key, and returns the text after the space that follows it too.
 #[tactic(auto, unfolding(crate::specs::Words::key_before))]
 pub fn key_before(words: &[u8]) -> Option<(StateKey, &[u8])>
     ensures { option_map (λ p. (p.0, p.1.now)) result ≡ text_key_before words.now }
@@ -73,7 +73,7 @@ fn text_in(text: &[u8]) -> Option<&str>
     }
 }
 
-/// The text of a state: UTF-8 first of all, then not too long, then with no control characters.
+/// Reads the text of a state: it has to be UTF-8 first of all, then not too long, then with no control characters.
 #[tactic(auto, unfolding(crate::specs::Words::state_text_in))]
 pub fn state_text_in(alloc: Global, text: &[u8]) -> Result<StateText, Fault>
     ensures { Gives (λ t. t) result (text_state_text_in text.now) }
@@ -111,7 +111,7 @@ fn open_line(words: &[u8]) -> Option<Line>
     Some(Line::Act(Action::Local(node, LocalEvent::Opening)))
 }
 
-/// Four numbers.
+/// Reads four numbers.
 #[tactic(auto, unfolding(crate::specs::Script::four_in))]
 pub fn four_in(words: &[u8]) -> Option<[u64; 4]>
     ensures { result ≡ four_of words.now }
@@ -212,7 +212,7 @@ fn seeds_line(alloc: Global, words: &[u8]) -> Result<Line, Fault>
     }
 }
 
-// What a line that takes no memory asks for.
+// Returns the line that was read without memory, or BadText if there is none.
 fn or_unreadable(line: Option<Line>) -> Result<Line, Fault>
     ensures { result ≡ read_or_refused line }
 {
@@ -222,7 +222,7 @@ fn or_unreadable(line: Option<Line>) -> Result<Line, Fault>
     }
 }
 
-// What the words behind the first one say.
+// Reads the words after the first one.
 fn line_of_word(alloc: Global, word: Word, words: &[u8]) -> Result<Line, Fault>
     ensures { Gives (λ l. l) result (line_of_word_of word words.now) }
 {
@@ -241,12 +241,12 @@ fn line_of_word(alloc: Global, word: Word, words: &[u8]) -> Result<Line, Fault>
     }
 }
 
-/// What a line of a script, without its line feed, asks for.
+/// Reads a line of a script, without its line feed.
 ///
-/// `TooLong` and `BadText` where only the text of a `set` is refused: over 1,024 bytes, or with control characters.
-/// `BadText` where anything else can't be read: another first word, a word too few or too many, a number of another form
-/// or out of its range, a text that is not UTF-8; seeds that don't rise strictly, or more than 16. `OutOfMemory` where
-/// memory runs out on the way.
+/// `TooLong` and `BadText` come if only the text of a `set` is refused: over 1,024 bytes, or with control characters.
+/// `BadText` comes if anything else can't be read: another first word, a word too few or too many, a number of another
+/// form or out of its range, a text that is not UTF-8; seeds that don't rise strictly, or more than 16. `OutOfMemory`
+/// comes if memory runs out on the way.
 #[tactic(auto, unfolding(crate::specs::Script::line_in))]
 pub fn read_line(alloc: Global, line: &[u8]) -> Result<Line, Fault>
     ensures { Gives (λ l. l) result (line_in line.now) }

@@ -1,4 +1,4 @@
-//! The endpoints that a line names.
+//! The endpoints of a line.
 
 ghost use Rattle.std.specs.Prelude.{◌≡◌, IfOk, option_map};
 ghost use Rattle.cg_settings.specs.declared.limits.TheConstants.{SEED_LIMIT};
@@ -8,8 +8,8 @@ use cg_settings::SEED_LIMIT;
 use cg_types::{Endpoint, cut};
 use std::alloc::{AllocError, Global};
 
-/// The endpoints that the words are, if each is one: at least one, and at most `SEED_LIMIT`, with the byte `at` between
-/// them.
+/// Reads endpoints with the byte `at` between them: at least one, and at most `SEED_LIMIT`. `None` if a word is not an
+/// endpoint, or if there are more.
 pub fn endpoints_in(alloc: Global, at: u8, text: &[u8]) -> Result<Option<Vec<Endpoint>>, AllocError>
     ensures { IfOk result (λ endpoints. option_map (λ v. v.items) endpoints ≡ endpoints_of at SEED_LIMIT text.now) }
 {

@@ -1,4 +1,4 @@
-//! What the nodes of a script are set to.
+//! The settings of a script's nodes.
 
 ghost use Rattle.std.specs.Prelude.{◌≡◌, ◌↔◌, IfOk, IsSome, IfSome, codes};
 ghost use Rattle.cg_types.specs.declared.limits.TheConstants.{PARTITIONER};
@@ -20,8 +20,8 @@ fn cluster(alloc: Global) -> Result<Cluster, AllocError>
     }
 }
 
-/// What the nodes of a script are set to: the cluster `sim`, these seeds, and silence as it is judged where nothing else
-/// is set. `None` where the seeds don't rise strictly or are more than there may be.
+/// Returns the settings of a script's nodes: the cluster `sim`, these seeds, and the default limits of silence. `None`
+/// if the seeds don't rise strictly, or are more than `SEED_LIMIT`.
 pub fn settings_with(alloc: Global, seeds: Vec<Endpoint>) -> Result<Option<Settings>, AllocError>
     ensures valid { IfOk result (λ s. IsSome s ↔ IsSettings (settings_of_seeds seeds.items)) }
     ensures value { IfOk result (λ s. IfSome s (λ s. s ≡ settings_of_seeds seeds.items)) }

@@ -19,14 +19,14 @@ pub(crate) enum Word {
     Replicas,
 }
 
-/// Whether the letters are those of a word.
+/// Returns `true` if these bytes are that word.
 pub fn is_word(name: &[u8], word: &str) -> bool
     ensures { result ≡ bytes_eq name.now word.now }
 {
     name == word.as_bytes()
 }
 
-/// The word that these letters are.
+/// Returns the word that these letters spell.
 #[tactic(auto, unfolding(crate::specs::Words::word_named))]
 pub(crate) fn word_named(name: &[u8]) -> Option<Word>
     ensures { result ≡ named name.now }

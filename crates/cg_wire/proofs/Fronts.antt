@@ -1,4 +1,4 @@
--- What writing some bytes and flushing sends of them.
+-- Lemmas: the bytes that a write and a flush send.
 use Rattle.std.proofs.Common.{◌≡◌, ℕ, ◌<◌, ◌⊎◌, List, length, take, Option, Result, Ok, Err, inr, arith, length-append}
 use Rattle.std.specs.Result.{OnOk, OnErr, IfErr}
 use Rattle.std.specs.Io.KnownBytes.{Appends}

@@ -1,4 +1,4 @@
--- Pieces of one message.
+-- Chunks of one message.
 use Rattle.std.proofs.Common.{◌≡◌, ℕ, ◌+◌, ◌<◌, ◌≤◌, List, [], ◌∷◌, ◌++◌, length, take, drop, Option, None, Some, Result, Ok, Err, refl, sym, ap, ◌∙◌, subst, inl, inr, arith, append-nil, length-append, length-drop}
 use Rattle.std.specs.Prelude.{◌⊎◌, IsOk, IsErr, IfSome, map}
 use Rattle.std.specs.Option.{option_to_list}
@@ -24,14 +24,14 @@ use Rattle.cg_links.specs.Counted.{KeepsCounts}
 use Rattle.cg_links.proofs.Counts.{KeepsCounts-trans}
 use Rattle.cg_wire.specs.Received.{IsSpelledBy, IsNextPiece, held_of, FailsToReceive}
 
--- ---- what a piece gives
+-- ---- the results of a chunk
 
--- Nothing stands before the rest.
+-- If no message is whole, the rest is all bytes.
 whole_of_none : (bytes rest : List ℕ) (spelled : List (Layout × Message)) → [] ≡ map (λ s. s.1) spelled → bytes ≡ flat_map spelling spelled ++ rest → bytes ≡ rest
 whole_of_none bytes rest [] none whole = whole
 whole_of_none bytes rest (s ∷ ss) none whole = absurd cc
 
--- Nothing was whole and no fault stood: all is held.
+-- If no message was whole and there was no fault, all bytes are held.
 pub all_held : (s t : Standing) (piece : List ℕ) → IsOk s → SplitsFrom LAYOUTS s piece (record { messages = []; rest = t }) → fault_standing t ≡ None
     → (t ≡ Ok (held_of s ++ piece)) × NeedsMore LAYOUTS (held_of s ++ piece)
 all_held (Err f) t piece sound splits none = absurd cc
@@ -52,7 +52,7 @@ one_of bytes rest m (s ∷ []) one whole none fit =
     })
 one_of bytes rest m (s ∷ t ∷ ss) one whole none fit = absurd cc
 
--- One message was whole, and nothing is held behind it.
+-- One message was whole, and nothing is held after it.
 pub one_whole : (s t : Standing) (piece : List ℕ) (m : Message) → IsOk s → SplitsFrom LAYOUTS s piece (record { messages = m ∷ []; rest = t }) → t ≡ Ok []
     → IsSpelledBy (held_of s ++ piece) m
 one_whole (Err f) t piece m sound splits none = absurd cc
@@ -61,7 +61,7 @@ one_whole (Ok held) (Ok now) piece m sound splits none =
     let nothing : now ≡ [] = cc in
     one_of _ _ m _ splits.messages splits.whole (splits.stands.0 ∙ nothing) splits.fit
 
--- What is taken off the end of the messages is the one that was whole.
+-- The message taken off the end of the list is the one that was whole.
 pub popped : (s t : Standing) (piece : List ℕ) (ms rest : List Message) (o : Option Message) → IsOk s → SplitsFrom LAYOUTS s piece (record { messages = ms; rest = t }) → HasAtMostOne ms t
     → ms ≡ rest ++ option_to_list o → IfSome o (IsSpelledBy (held_of s ++ piece))
 popped s t piece ms rest None sound splits few is = tt
@@ -74,7 +74,7 @@ popped s t piece (x ∷ []) (r ∷ []) (Some m) sound splits few is = absurd cc
 popped s t piece (x ∷ []) (r ∷ q ∷ rs) (Some m) sound splits few is = absurd cc
 popped s t piece (x ∷ (y ∷ ms)) rest (Some m) sound splits few is = absurd few
 
--- A fault stands behind no message.
+-- A fault with no message before it is the fault of the bytes.
 pub fault_found : (s t : Standing) (piece : List ℕ) (f : Fault) → IsOk s → SplitsFrom LAYOUTS s piece (record { messages = []; rest = t }) → fault_standing t ≡ Some f
     → frame_among LAYOUTS (held_of s ++ piece) ≡ Err f
 fault_found (Err f) t piece g sound splits is = absurd cc
@@ -83,14 +83,14 @@ fault_found (Ok held) (Err f) piece g sound splits is =
     let same : f ≡ g = cc in
     ap (frame_among LAYOUTS) (whole_of_none _ _ _ splits.messages splits.whole) ∙ splits.stands ∙ ap Err same
 
--- No message stands before a fault where there is one at most.
+-- No message comes before a fault if there is at most one.
 pub none_before : (ms : List Message) (t : Standing) (f : Fault) → HasAtMostOne ms t → fault_standing t ≡ Some f → ms ≡ []
 none_before [] t f few is = refl
 none_before (m ∷ []) (Ok held) f few is = absurd cc
 none_before (m ∷ []) (Err g) f few is = absurd cc
 none_before (m ∷ (n ∷ ms)) t f few is = absurd few
 
--- ---- how many bytes come before a message is whole
+-- ---- the number of bytes before a message is whole
 
 with_size_none : (n : ℕ) (r : Result Message Fault) → with_size n r ≡ Ok None → ⊥
 with_size_none n (Ok x) e = cc
@@ -117,7 +117,7 @@ due_is_short bytes = due_all (λ l. l.length ≤ LAYOUT_1.length) LAYOUTS bytes 
 pub partial_is_short : (bytes : List ℕ) → NeedsMore LAYOUTS bytes → length bytes < MOST_TURNS
 partial_is_short bytes partial = omega (arith, partial_in (due LAYOUTS bytes) bytes partial, due_is_short bytes)
 
--- what a read gave is the next piece
+-- the bytes that a read gave are the next chunk
 pub next_piece : (s : Standing) (n : ℕ) (came rest : List ℕ) → s ≡ Ok (held_of s) → NeedsMore LAYOUTS (held_of s) → 0 < n → n ≤ length came → length came ≤ wants_of s → length came ≤ PIECE_LIMIT
     → IsNextPiece (held_of s) (take n (came ++ rest))
 next_piece s n came rest sound partial some within fits few =
@@ -130,7 +130,7 @@ next_piece s n came rest sound partial some within fits few =
       few = omega (arith, long, within, few);
     }
 
--- A piece was not taken, for want of memory or for a fault that it completes.
+-- A chunk was not taken, because memory ran out or because it completes a fault.
 pub piece_refused : {L : Type 0} (a b c : Option (List ℕ)) (x y z : Counted L) (held piece : List ℕ) (f : Fault) → Consumes a b held → Consumes b c piece → KeepsCounts x y → KeepsCounts y z
     → IsNextPiece held piece → ((f ≡ fault.OutOfMemory) × (held ≡ [] → IsErr (frame_among LAYOUTS piece) → ⊥)) ⊎ (IsBadFrame f × (frame_among LAYOUTS (held ++ piece) ≡ Err f))
     → FailsToReceive a c x z f

@@ -1,4 +1,4 @@
--- The kind of message that is due: the message itself, or the fault of another kind.
+-- The expected kind of message: the message itself, or the fault of another kind.
 use Rattle.std.specs.Prelude.{Result, Ok, Err}
 use Rattle.cg_types.specs.declared.fault.Fault.{Fault}
 use Rattle.cg_messages.specs.declared.message.Message.{Message}

@@ -7,8 +7,8 @@ use Rattle.cg_frames.specs.Choosing.{widest}
 use Rattle.cg_wire.specs.declared.due.TheConstants.{UNEXPECTED}
 use Rattle.cg_wire.specs.declared.receiving.TheConstants.{PIECE_LIMIT, MOST_TURNS}
 
--- Bytes of one read; reads of one message, ten more than the longest frame that is read has behind its length; the
--- fault of a message of another kind.
+-- The bytes of one read; the reads of one message, ten more than the longest frame that is read has after its length;
+-- the fault of a message of another kind.
 pub record LimitsAreThese : Type 0 where
   pub piece : PIECE_LIMIT ≡ 4096
   pub turns : MOST_TURNS ≡ 5000010

@@ -1,4 +1,4 @@
--- What is read of one message.
+-- Reading one message: its results, and the bytes read.
 use Rattle.std.specs.Prelude.{◌≡◌, ℕ, ◌<◌, ◌≤◌, ◌⊎◌, List, [], ◌++◌, length, Option, Result, Ok, Err, IsErr, MatchResult, MatchOption}
 use Rattle.std.specs.Io.KnownBytes.{Consumes, IsAtEnd}
 use Rattle.cg_types.specs.declared.fault.Fault.{Fault}
@@ -25,15 +25,15 @@ abbrev pub held_of : Standing → List ℕ
 held_of (Ok held) = held
 held_of (Err f) = []
 
--- A piece came behind what was held of a message. It has no more bytes than the present length or the present frame
--- lacks, and no more than one read asks for.
+-- A chunk came after the held bytes of a message. It has no more bytes than the present length or the present frame
+-- lacks, and no more than one read requests.
 pub record IsNextPiece (held piece : List ℕ) : Type 0 where
   pub partial : NeedsMore LAYOUTS held
   pub some : 0 < length piece
   pub fits : length piece ≤ lack_of held
   pub few : length piece ≤ PIECE_LIMIT
 
--- ---- how reading a message ends, by what is left of the reader before and after, and its counts
+-- ---- the ends of reading a message, by the reader's rest before and after, and its counts
 
 module _ {L : Type 0} (before after : Option (List ℕ)) (old new : Counted L) where
   -- the message was read, and no byte behind it
@@ -49,8 +49,8 @@ module _ {L : Type 0} (before after : Option (List ℕ)) (old new : Counted L) w
     pub end : IsAtEnd after
     pub kept : KeepsCounts old new
 
-  -- Memory ran out for the next piece of a message, and no read failed. Where nothing was held, the piece does not
-  -- begin with a fault; a fault that needs what was held may be hidden by that.
+  -- Memory ran out for the next chunk of a message, and no read failed. If nothing was held, the chunk does not begin
+  -- with a fault. A fault that needs the held bytes may be hidden by that.
   pub record LacksMemory (f : Fault) : Type 0 where
     pub fault : f ≡ fault.OutOfMemory
     pub held : List ℕ
@@ -78,7 +78,7 @@ module _ {L : Type 0} (before after : Option (List ℕ)) (old new : Counted L) w
     pub end : IsAtEnd after
     pub kept : KeepsCounts old new
 
-  -- the bytes begin with a fault, which the next piece of a message completed
+  -- the bytes begin with a fault, which the next chunk of a message completed
   pub record BeginsBadly (f : Fault) : Type 0 where
     pub held : List ℕ
     pub piece : List ℕ
@@ -88,10 +88,10 @@ module _ {L : Type 0} (before after : Option (List ℕ)) (old new : Counted L) w
     pub found : frame_among LAYOUTS (held ++ piece) ≡ Err f
     pub kept : KeepsCounts old new
 
-  -- why no message was read
+  -- the faults of reading a message
   abbrev pub FailsToReceive : Fault → Type 0
   FailsToReceive f = LacksMemory f ⊎ (ReadFails f ⊎ (EndsInside f ⊎ BeginsBadly f))
 
-  -- what reading a message came to
+  -- the results of reading a message
   abbrev pub Receives : Result (Option Message) Fault → Type 0
   Receives result = MatchResult result (λ o. MatchOption o MeetsEnd ReceivesMessage) FailsToReceive

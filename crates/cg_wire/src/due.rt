@@ -1,4 +1,4 @@
-//! The kind of message that is due.
+//! The expected kind of message.
 
 ghost use Rattle.std.specs.Prelude.{◌≡◌};
 ghost use Rattle.cg_wire.specs.Due as spec;
@@ -6,14 +6,14 @@ ghost use Rattle.cg_wire.specs.Due as spec;
 use cg_messages::{Ack, Ack2, Message, Syn};
 use cg_types::{Cause, Fault};
 
-/// The fault of a message of another kind than the one that is due: the place is that of the kind, behind the length
-/// and the layout.
+/// The fault of a message of another kind than the expected one: its offset is that of the kind, after the length and
+/// the layout.
 pub const UNEXPECTED: Fault = Fault::BadFrame {
     place: 5,
     cause: Cause::Unexpected,
 };
 
-/// The SYN, where one is due; `UNEXPECTED` of another message.
+/// Returns the SYN of a message; the fault `UNEXPECTED` if it is of another kind.
 pub fn syn_due(message: Message) -> Result<Syn, Fault>
     ensures { result ≡ spec.syn_due message }
 {
@@ -23,7 +23,7 @@ pub fn syn_due(message: Message) -> Result<Syn, Fault>
     }
 }
 
-/// The ACK, where one is due; `UNEXPECTED` of another message.
+/// Returns the ACK of a message; the fault `UNEXPECTED` if it is of another kind.
 pub fn ack_due(message: Message) -> Result<Ack, Fault>
     ensures { result ≡ spec.ack_due message }
 {
@@ -33,7 +33,7 @@ pub fn ack_due(message: Message) -> Result<Ack, Fault>
     }
 }
 
-/// The ACK2, where one is due; `UNEXPECTED` of another message.
+/// Returns the ACK2 of a message; the fault `UNEXPECTED` if it is of another kind.
 pub fn ack2_due(message: Message) -> Result<Ack2, Fault>
     ensures { result ≡ spec.ack2_due message }
 {

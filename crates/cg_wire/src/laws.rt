@@ -1,8 +1,8 @@
-//! The bounds of a message's reads, and the fault of a message of another kind, as numbers.
+//! The law of a message's reads and of the fault of another kind.
 
 ghost use Rattle.cg_wire.specs.Laws.{LimitsAreThese};
 
-/// How much is read at most, and what the fault of a message of another kind is, as numbers.
+/// The limits of reading, and the fault of a message of another kind, are these numbers.
 pub fn limits_are_these()
     ensures { LimitsAreThese }
 {}

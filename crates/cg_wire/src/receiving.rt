@@ -1,4 +1,4 @@
-//! One message from a link.
+//! Reading one message from a link.
 
 ghost use Rattle.std.specs.Prelude.{◌≡◌, ◌⊎◌, ◌+◌, ◌≤◌, [], ◌++◌, length, Ok, Err, None, IsOk, IsErr, IfOk, IfErr, IfNone, IfSome};
 ghost use Rattle.cg_types.specs.declared.fault.Fault.TheVariants as faults;
@@ -16,15 +16,17 @@ use cg_types::Fault;
 use std::alloc::Global;
 use std::io::Read;
 
-/// The most bytes that one read asks for.
+/// The most bytes that one read requests.
 pub const PIECE_LIMIT: usize = 4096;
 
-/// How many reads are made at most for one message. Each but the last gives a byte or more, so that the longest frame
-/// is whole before as many were made.
+/// The most reads of one message. Each but the last gives a byte or more, so the longest frame is whole before that
+/// many
+/// reads are made.
 pub const MOST_TURNS: usize = LAYOUT_1.length + 10;
 
-// Takes a piece that passes neither the present length nor the present frame: the message that is whole with it, or
-// nothing.
+// Takes a chunk that passes neither the present length nor the present frame. Returns the message that is whole with
+// it,
+// or nothing.
 fn take_piece(feed: &mut Feed, piece: &[u8]) -> Result<Option<Message>, Fault>
     requires sound { IsOk feed.old }
     requires fits { length piece.now ≤ wants_of feed.old }
@@ -45,11 +47,11 @@ fn take_piece(feed: &mut Feed, piece: &[u8]) -> Result<Option<Message>, Fault>
     }
 }
 
-/// Reads one message in whichever layout it comes, and no byte behind it; None where the input ends before it.
+/// Reads one message in any layout, and no byte after it; `None` if the input ends before it.
 ///
-/// Each read asks for what the present length or frame lacks, and for 4,096 bytes at most. `BadFrame` where the bytes
-/// begin with that fault, `Truncated` where the input ends inside the message, `ReadFault` where a read failed, and
-/// `OutOfMemory`.
+/// Each read requests the bytes that the present length or frame lacks, and at most 4,096. `BadFrame` if the bytes
+/// begin
+/// with that fault, `Truncated` if the input ends inside the message, `ReadFault` if a read failed, and `OutOfMemory`.
 pub fn receive<R: Read>(alloc: Global, reader: &mut Counted<R>) -> Result<Option<Message>, Fault>
     ensures came { Receives (R.remaining (link_of reader.old)) (R.remaining (link_of reader.new))
         reader.old reader.new result }

@@ -1,4 +1,4 @@
-//! One message to a link.
+//! Writing one message to a link.
 
 ghost use Rattle.std.specs.Prelude.{◌≡◌, ◌<◌, length};
 ghost use Rattle.cg_messages.specs.Lent.{lent_message};
@@ -25,8 +25,8 @@ fn send_bytes<W: Write>(writer: &mut Counted<W>, bytes: &[u8]) -> Result<(), Fau
 
 /// Writes the frame of a message, and flushes the writer.
 ///
-/// `WriteFault` where the writer failed or took none of what was left: then a front of the frame was written.
-/// `OutOfMemory` where the frame finds no room, and then the writer was not called.
+/// `WriteFault` if the writer failed or took none of the rest: then a prefix of the frame was written. `OutOfMemory` if
+/// there is no memory for the frame, and then the writer was not called.
 pub fn send<W: Write>(
     alloc: Global,
     writer: &mut Counted<W>,

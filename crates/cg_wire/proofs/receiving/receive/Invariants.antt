@@ -1,4 +1,4 @@
--- What was read is held, at least one byte for each turn, each turn made one read, and none failed.
+-- All bytes read are held, at least one for each turn; each turn made one read, and none failed.
 use Rattle.std.proofs.Common.{◌≡◌, ◌+◌, ◌≤◌, length, Ok}
 use Rattle.std.specs.Io.KnownBytes.{Consumes}
 use Rattle.cg_frames.specs.declared.layout.TheConstants.{LAYOUTS}
