@@ -1,4 +1,4 @@
--- Lines that are taken are read, one after the other.
+-- Taken lines are read, one after the other.
 use Rattle.std.proofs.Common.{◌≡◌, ℕ, ◌+◌, ◌≤◌, ◌⊎◌, inl, inr, suc, List, [], ◌∷◌, ◌++◌, length, Option, Some, None, Result, Ok, Err, refl, sym, ap, ◌∙◌, append_assoc, append-nil, arith}
 use Rattle.std.specs.Prelude.{◌-◌, ◌^◌, min, MatchResult}
 use Rattle.std.specs.Io.KnownBytes.{Consumes}
@@ -16,7 +16,7 @@ use Rattle.cg_journal.specs.declared.unread.Unread.{Unread}
 use Rattle.cg_journal.specs.Reading.{event_in, history_after, begun_or, after_line, on_line, after_lines, journal_in, told_number}
 use Rattle.cg_journal.specs.Read.{TakesLine, RefusesLine, NoneBefore, ReadsHistory, LacksMemory, MeetsReadFault, FailsToRead}
 
--- a line behind the first
+-- a line after the first
 pub read_behind : {T : Type 0} (o : Option HistoryValue) (h k : HistoryValue) (line : List ℕ) (r : Result T Fault) → o ≡ Some h
     → MatchResult r (λ _. history_after h (event_in line) ≡ Some k) (λ f. (f ≡ OutOfMemory) ⊎ ((f ≡ BadText) × (history_after h (event_in line) ≡ None)))
     → MatchResult r (λ _. (x : HistoryValue) × (after_line o line ≡ Some x) × (Some k ≡ Some x)) (λ f. (f ≡ OutOfMemory) ⊎ ((f ≡ BadText) × (after_line o line ≡ None)))
@@ -28,11 +28,11 @@ read_behind o h k line (Err f) is (inr bad) = inr (bad.0, ap (λ (p : Option His
 abbrev pub nothing : Progress
 nothing = record { history = None; lines = 0 }
 
--- lines are taken from here to there
+-- lines are taken, from one progress to another
 abbrev Taken : Progress → List (List ℕ) → Progress → Type 0
 Taken = Takes TakesLine RefusesLine
 
--- ---- what lines that are taken read as
+-- ---- the history of lines that are taken
 
 lines_taken : (n : ℕ) (p q : Progress) (xs ys : List (List ℕ)) → Taken p xs q → after_lines n p.history (xs ++ ys) ≡ after_lines (n + length xs) q.history ys
 lines_taken n p q [] ys e =
@@ -57,7 +57,7 @@ lines_counted n p q (x ∷ xs) t is =
     let same : suc n + length xs ≡ n + length (x ∷ xs) = omega arith in
     lines_counted (suc n) m q xs more next ∙ ap (λ (k : ℕ). min k (2 ^ 64 - 1)) same
 
--- how a line that follows is told
+-- the reported number of the line that follows
 line_told : (q : Progress) (xs : List (List ℕ)) (line : ℕ) → Taken nothing xs q → line ≡ one_more q.lines → line ≡ told_number (1 + length xs)
 line_told q xs line taken is =
     let none : 0 ≡ min 0 (2 ^ 64 - 1) = refl in
@@ -76,7 +76,7 @@ not_before n k o (x ∷ xs) e = behind n k xs (after_line o x) (λ h. not_before
 
 -- ---- the lines of a text
 
--- a line behind some that are taken can't be read
+-- a line after some that are taken can't be read
 unreadable_at : (lines front rest : List (List ℕ)) (line : List ℕ) (m : Progress) → lines ≡ front ++ line ∷ rest → Taken nothing front m
     → after_line m.history line ≡ None → after_lines 1 None lines ≡ Err (1 + length front)
 unreadable_at lines front rest line m are taken none =
@@ -90,12 +90,12 @@ unfolding journal_in
 none_before text front rest m are taken n e =
     not_before (1 + length front) n m.history rest (sym (ap (after_lines 1 None) are ∙ lines_taken 1 nothing m front rest taken) ∙ e)
 
--- what ends in a text is what its lines begin with
+-- the lines of a text begin with those that end in it
 more_lines : (text : List ℕ) (front rest : List (List ℕ)) → ended_lines [] text ≡ front ++ rest
     → lines_of text ≡ front ++ (rest ++ last_line (open_line [] text))
 more_lines text front rest are = ap (λ (ls : List (List ℕ)). ls ++ last_line (open_line [] text)) are ∙ append_assoc front rest (last_line (open_line [] text))
 
--- and so whatever follows
+-- and the same with more text after it
 later_lines : (text more : List ℕ) (front rest : List (List ℕ)) → ended_lines [] text ≡ front ++ rest
     → lines_of (text ++ more) ≡ front ++ (rest ++ (ended_lines (open_line [] text) more ++ last_line (open_line [] (text ++ more))))
 later_lines text more front rest are =
@@ -104,7 +104,7 @@ later_lines text more front rest are =
     ap (λ (ls : List (List ℕ)). ls ++ last) (ended_lines-append [] text more ∙ ap (λ (ls : List (List ℕ)). ls ++ ended) are)
     ∙ append_assoc (front ++ rest) ended last ∙ append_assoc front rest (ended ++ last)
 
--- ---- how reading ends
+-- ---- ends of reading
 
 module _ {R : Type 0} (before after : Option (List ℕ)) (old new : Counted R) (q : Progress) where
   pub history_read : (h : HistoryValue) → TakesAll TakesLine RefusesLine before after old new nothing q → q.history ≡ Some h → ReadsHistory before after old new h

@@ -1,4 +1,4 @@
--- Lines that are written, and then some more.
+-- Writing some lines, and then some more.
 use Rattle.std.proofs.Common.{◌≡◌, ℕ, ◌+◌, ◌≤◌, ◌⊎◌, inl, inr, suc, zero, List, [], ◌∷◌, ◌++◌, length, take, drop, take-append-drop, Option, Result, Ok, Err, refl, sym, ap, ◌∙◌, subst, append_assoc, append-nil}
 use Rattle.std.specs.Prelude.{OnOk, OnErr, IfErr}
 use Rattle.std.specs.Io.KnownBytes.{Appends, Keeps}
@@ -32,7 +32,7 @@ caused_later : {L : Type 0} (a b c : Counted L) → KeepsCounts a b → CountsFa
 caused_later a b c kept (inl f) = inl (record { failed = f.failed ∙ ap one_more kept.failed; idle = f.idle ∙ kept.idle })
 caused_later a b c kept (inr i) = inr (record { failed = i.failed ∙ kept.failed; idle = i.idle ∙ ap one_more kept.idle })
 
--- a front of the first part is one of both
+-- a prefix of the first part is a prefix of both
 take_front : {A : Type 0} → (n : ℕ) (xs ys : List A) → (k : ℕ) × (take n xs ≡ take k (xs ++ ys))
 take_front zero xs ys = (0, refl)
 take_front (suc n) [] ys = (0, refl)
@@ -67,7 +67,7 @@ module _ {L : Type 0} where
     caused = caused_later u v w one.kept two.caused;
   })
 
-  -- all that a call wrote stands behind what was written before
+  -- all that a call wrote follows the bytes written before
   pub all_on : {T : Type 0} (a b c : Option (List ℕ)) (u v w : Counted L) (xs ys : List (List ℕ)) (r : Result T Fault) → WritesAll a b u v xs
       → Writes b c v w ys r → Writes a c u w (xs ++ ys) r
   all_on a b c u v w xs ys (Ok x) one two = writes_on a b c u v w xs ys one two
@@ -95,13 +95,13 @@ module _ {L : Type 0} where
 
   -- ---- one line
 
-  -- nothing was written for want of memory
+  -- nothing was written because memory ran out
   pub nothing_written : (a : Option (List ℕ)) (u : Counted L) (lines : List (List ℕ)) (f : Fault) → f ≡ OutOfMemory
       → WritesFirst a a u u lines f ⊎ BreaksOff a a u u lines f
   nothing_written a u lines f short =
       inl (record { fault = short; front = []; rest = lines; are = refl; written = Appends-nil a; kept = record { failed = refl; idle = refl } })
 
-  -- what writing the bytes of a line came to
+  -- the result of writing the bytes of a line
   pub line_writes : {T : Type 0} (a b : Option (List ℕ)) (u v : Counted L) (line : List ℕ) (r : Result T Fault)
       → OnOk r (Appends a b line) → OnOk r (KeepsCounts u v) → OnErr r ((n : ℕ) × Appends a b (take n line)) → IfErr r (λ f. f ≡ WriteFault)
       → OnErr r (CountsFailed u v ⊎ CountsIdle u v) → Writes a b u v (line ∷ []) r

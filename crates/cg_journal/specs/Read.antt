@@ -1,4 +1,4 @@
--- How reading a journal ends.
+-- Reading a journal: the history, or the line that ends reading and its fault.
 use Rattle.std.specs.Prelude.{◌≡◌, ℕ, ◌≤◌, ◌⊎◌, List, ◌++◌, Option, Some, None, Result, Ok, Err, MatchResult}
 use Rattle.std.specs.Io.KnownBytes.{Consumes, IsAtEnd}
 use Rattle.cg_types.specs.declared.fault.Fault.{Fault}
@@ -14,17 +14,17 @@ use Rattle.cg_journal.specs.Reading.{after_line, journal_in, told_number}
 
 -- ---- a line
 
--- It was read, and is counted.
+-- The line was read, and is counted.
 abbrev pub TakesLine : Progress → List ℕ → Progress → Type 0
 TakesLine p line q =
     (h : HistoryValue) × (after_line p.history line ≡ Some h) × (q.history ≡ Some h) × (q.lines ≡ one_more p.lines)
 
--- It can't be read, or memory ran out on the way; it is not counted.
+-- The line can't be read, or memory ran out on the way; it is not counted.
 abbrev pub RefusesLine : Progress → List ℕ → Progress → Fault → Type 0
 RefusesLine p line q f =
     ((f ≡ OutOfMemory) ⊎ ((f ≡ BadText) × (after_line p.history line ≡ None))) × (q.lines ≡ p.lines)
 
--- ---- a journal, by what is left of the reader before and after, and its counts
+-- ---- a journal, by the reader's rest before and after, and its counts
 
 -- No line of the text before the one of this number is unreadable.
 abbrev pub NoneBefore : List ℕ → ℕ → Type 0
@@ -39,7 +39,7 @@ module _ {R : Type 0} (before after : Option (List ℕ)) (old new : Counted R) w
     pub kept : KeepsCounts old new
     pub history : journal_in text ≡ Ok h
 
-  -- The line of this number is the first that can't be read, whatever follows what was read; or that was all.
+  -- The line of this number is the first that can't be read, whatever text follows; or the text was all there is.
   pub record MeetsUnreadable (u : Unread) : Type 0 where
     pub fault : u.fault ≡ BadText
     pub text : List ℕ
@@ -60,7 +60,8 @@ module _ {R : Type 0} (before after : Option (List ℕ)) (old new : Counted R) w
     pub told : u.line ≡ told_number number
     pub unhidden : NoneBefore text number
 
-  -- A read failed, or as many were made as may be, in the line of this number, and no line before is unreadable.
+  -- A read failed, or all reads that are allowed were made, in the line of this number, and no line before is
+  -- unreadable.
   pub record MeetsReadFault (u : Unread) : Type 0 where
     pub fault : u.fault ≡ ReadFault
     pub text : List ℕ

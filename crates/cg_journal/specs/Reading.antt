@@ -1,4 +1,4 @@
--- What a journal reads as: a history, or the number of the first line that can't be read.
+-- The history that the text of a journal spells, or the number of the first line that can't be read.
 use Rattle.std.specs.Prelude.{ℕ, ◌-◌, ◌^◌, suc, ◌==◌, if◌then◌else◌, List, [], ◌∷◌, length, Option, Some, None, Result, Ok, Err, bytes_eq, codes, option_map, min}
 use Rattle.hex.specs.Hex.{decode_of}
 use Rattle.cg_types.specs.declared.fault.Fault.{Fault}
@@ -26,21 +26,21 @@ use Rattle.cg_journal.specs.declared.life.TheConstants.{GREATEST_SETTING}
 
 -- ---- the first line
 
--- a generation, and what stands behind the space after it
+-- a generation, and the text after the space that follows it
 unfoldable pub generation_before : List ℕ → Option (ℕ × List ℕ)
 generation_before words = do
   parts ← cut_at 32 words
   generation ← generation_in parts.0
   Some (generation, parts.1)
 
--- a number among the settings, and what stands behind the space after it
+-- a number among the settings, and the text after the space that follows it
 unfoldable pub setting_before : List ℕ → Option (ℕ × List ℕ)
 setting_before words = do
   parts ← cut_at 32 words
   n ← number_of GREATEST_SETTING parts.0
   Some (n, parts.1)
 
--- how silence is judged, and what stands behind the space after that
+-- the limits of silence, and the text after the space that follows them
 unfoldable pub silence_before : List ℕ → Option (SilenceValue × List ℕ)
 silence_before words = do
   window ← setting_before words
@@ -63,7 +63,7 @@ settings_in words = do
   cluster ← readable (cluster_of parts.1 PARTITIONER)
   readable (settings_or_fault (settings_of cluster seeds silence.0))
 
--- what stands behind `life`
+-- the history that the words after `life` begin
 unfoldable pub life_behind : List ℕ → Option HistoryValue
 life_behind words = do
   own ← endpoint_before words
@@ -75,7 +75,7 @@ abbrev pub life_of_parts : Option (List ℕ × List ℕ) → Option HistoryValue
 life_of_parts None = None
 life_of_parts (Some parts) = if bytes_eq parts.0 (codes "life") then life_behind parts.1 else None
 
--- the history that begins by a first line
+-- the history that a first line begins
 unfoldable pub life_in : List ℕ → Option HistoryValue
 life_in line = life_of_parts (cut_at 32 line)
 
@@ -144,7 +144,7 @@ bare_event word =
     else if bytes_eq word (codes "open") then Some event.Opening
     else None
 
--- a line of more words, behind the first one
+-- a line of more words, after the first one
 unfoldable pub event_behind : List ℕ → List ℕ → Option Event
 event_behind word words =
     if bytes_eq word (codes "set") then set_in words
@@ -169,30 +169,30 @@ abbrev pub history_after : HistoryValue → Option Event → Option HistoryValue
 history_after h None = None
 history_after h (Some e) = option_map (λ x. x.0) (readable (apply h 0 e))
 
--- the history after a line: the first one begins it
+-- the history after a line: the first line begins it
 abbrev pub after_line : Option HistoryValue → List ℕ → Option HistoryValue
 after_line None line = life_in line
 after_line (Some h) line = history_after h (event_in line)
 
--- the history, where a line began one; else the number of the line that should
+-- the history if a line began one; else the number of the line that should
 abbrev pub begun_or : ℕ → Option HistoryValue → Result HistoryValue ℕ
 begun_or number None = Err number
 begun_or number (Some h) = Ok h
 
--- what follows a line of this number that can be read
+-- the result of the lines from this one on, if this one can be read
 abbrev pub on_line : ℕ → Option HistoryValue → (HistoryValue → Result HistoryValue ℕ) → Result HistoryValue ℕ
 on_line number None go = Err number
 on_line number (Some h) go = go h
 
--- the history after lines, or the number of the first that can't be read; the next line has this number
+-- the history after lines, or the number of the first that can't be read; the first of these lines has this number
 abbrev pub after_lines : ℕ → Option HistoryValue → List (List ℕ) → Result HistoryValue ℕ
 after_lines number o [] = begun_or number o
 after_lines number o (line ∷ lines) = on_line number (after_line o line) (λ h. after_lines (suc number) (Some h) lines)
 
--- what a journal reads as
+-- the history of a journal
 unfoldable pub journal_in : List ℕ → Result HistoryValue ℕ
 journal_in text = after_lines 1 None (lines_of text)
 
--- the number of a line as it is told: it stays at the greatest that there is
+-- the number of a line as it is reported: at most 2^64 - 1
 abbrev pub told_number : ℕ → ℕ
 told_number n = min n (2 ^ 64 - 1)

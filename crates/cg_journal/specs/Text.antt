@@ -1,4 +1,4 @@
--- The text of a history: the life that it is of, and a line for each record.
+-- The text of a history: the line of its life, and a line for each record.
 use Rattle.std.specs.Prelude.{ℕ, List, [], ◌∷◌, ◌++◌, map, codes, decimal}
 use Rattle.std.specs.List.{flat_map}
 use Rattle.hex.specs.Hex.{encode_lower}
@@ -24,16 +24,16 @@ silence_text s =
     decimal s.window ++ (codes " " ++ (decimal s.initial_gap ++ (codes " " ++ (decimal s.max_gap
     ++ (codes " " ++ decimal s.threshold)))))
 
--- a seed behind a comma
+-- a seed after a comma
 unfoldable pub further_seed : ℕ → List ℕ
 further_seed seed = codes "," ++ endpoint_text seed
 
--- the seeds with commas between them, or `-` where there are none
+-- the seeds with commas between them, or `-` if there are none
 abbrev pub seeds_text : List ℕ → List ℕ
 seeds_text [] = codes "-"
 seeds_text (seed ∷ seeds) = endpoint_text seed ++ flat_map further_seed seeds
 
--- the settings: how silence is judged, the seeds, and the cluster's name
+-- the settings: the limits of silence, the seeds, and the cluster's name
 unfoldable pub settings_text : SettingsValue → List ℕ
 settings_text s =
     silence_text s.silence ++ (codes " " ++ (seeds_text s.seeds ++ (codes " " ++ s.cluster.name)))
@@ -46,7 +46,7 @@ life_line n =
 
 -- ---- the events
 
--- a text's bytes in hexadecimal digits, or `-` where there are none
+-- a text's bytes in hexadecimal digits, or `-` if there are none
 abbrev pub text_digits : List ℕ → List ℕ
 text_digits [] = codes "-"
 text_digits (b ∷ bs) = encode_lower (b ∷ bs)
@@ -55,7 +55,7 @@ text_digits (b ∷ bs) = encode_lower (b ∷ bs)
 abbrev pub frame_digits : Message → List ℕ
 frame_digits m = encode_lower (frame WRITTEN m)
 
--- a word behind a space
+-- a word after a space
 unfoldable pub further_word : ℕ → List ℕ
 further_word word = codes " " ++ decimal word
 

@@ -1,4 +1,4 @@
--- What is written of some lines.
+-- Writing some lines: the results.
 use Rattle.std.specs.Prelude.{◌≡◌, ℕ, ◌⊎◌, List, ◌++◌, take, Option, Result, MatchResult}
 use Rattle.std.specs.Io.KnownBytes.{Appends}
 use Rattle.cg_types.specs.declared.fault.Fault.{Fault}
@@ -22,7 +22,7 @@ module _ {L : Type 0} (held holds : Option (List ℕ)) (old new : Counted L) (li
     pub written : Appends held holds (joined front)
     pub kept : KeepsCounts old new
 
-  -- the writer failed or took nothing: a front of the text was written
+  -- the writer failed or took nothing: a prefix of the text was written
   pub record BreaksOff (f : Fault) : Type 0 where
     pub fault : f ≡ WriteFault
     pub count : ℕ

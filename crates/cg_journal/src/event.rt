@@ -1,4 +1,4 @@
-//! The lines of a journal behind the first.
+//! The lines of a journal after the first.
 
 ghost use Rattle.std.specs.Prelude.{◌≡◌};
 ghost use Rattle.cg_frames.specs.declared.layout.TheConstants.{LAYOUTS};
@@ -14,7 +14,7 @@ use cg_types::{Fault, StateText, cut};
 use cg_wire::{ack_due, ack2_due, syn_due};
 use std::alloc::Global;
 
-// The message whose frame is all of the bytes.
+// Reads the message whose frame is all of the bytes.
 fn whole_message(alloc: Global, bytes: &[u8]) -> Result<Message, Fault>
     ensures { Finds (λ m. m) result (spec.whole_message bytes.now (frame_among LAYOUTS bytes.now)) }
 {
@@ -32,7 +32,7 @@ fn whole_message(alloc: Global, bytes: &[u8]) -> Result<Message, Fault>
     }
 }
 
-// The message of a frame in hexadecimal digits.
+// Reads the message of a frame in hexadecimal digits.
 #[tactic(auto, unfolding(crate::specs::Reading::message_in))]
 fn message_in(alloc: Global, digits: &[u8]) -> Result<Message, Fault>
     ensures { Finds (λ m. m) result (spec.message_in digits.now) }
@@ -41,7 +41,7 @@ fn message_in(alloc: Global, digits: &[u8]) -> Result<Message, Fault>
     whole_message(alloc, &bytes)
 }
 
-// The bytes of a text in hexadecimal digits; the empty one is `-`.
+// Reads the bytes of a text in hexadecimal digits; the empty one is `-`.
 #[tactic(auto, unfolding(crate::specs::Reading::text_bytes_in))]
 fn text_bytes_in(alloc: Global, digits: &[u8]) -> Result<Vec<u8>, Fault>
     ensures { Finds (λ v. v.items) result (spec.text_bytes_in digits.now) }
@@ -55,7 +55,7 @@ fn text_bytes_in(alloc: Global, digits: &[u8]) -> Result<Vec<u8>, Fault>
     bytes_in(alloc, digits)
 }
 
-// The text of a state.
+// Reads the text of a state.
 fn state_text(alloc: Global, bytes: &[u8]) -> Result<StateText, Fault>
     ensures { Finds (λ t. t) result (readable (text_state_text_in bytes.now)) }
 {
@@ -130,7 +130,7 @@ fn ack2_in(alloc: Global, words: &[u8]) -> Result<Event, Fault>
     }
 }
 
-// A line of one word.
+// Reads a line of one word.
 #[tactic(auto, unfolding(crate::specs::Reading::bare_event))]
 fn bare_event(word: &[u8]) -> Result<Event, Fault>
     ensures { Finds (λ e. e) result (spec.bare_event word.now) }
@@ -144,7 +144,7 @@ fn bare_event(word: &[u8]) -> Result<Event, Fault>
     Err(Fault::BadText)
 }
 
-// A line of more words, behind the first one.
+// Reads a line of more words, after the first one.
 #[tactic(auto, unfolding(crate::specs::Reading::event_behind))]
 fn event_behind(alloc: Global, word: &[u8], words: &[u8]) -> Result<Event, Fault>
     ensures { Finds (λ e. e) result (spec.event_behind word.now words.now) }
@@ -167,7 +167,7 @@ fn event_behind(alloc: Global, word: &[u8], words: &[u8]) -> Result<Event, Fault
     Err(Fault::BadText)
 }
 
-/// The event of a line.
+/// Reads the event of a line.
 #[tactic(auto, unfolding(crate::specs::Reading::event_in))]
 pub(crate) fn event_in(alloc: Global, line: &[u8]) -> Result<Event, Fault>
     ensures { Finds (λ e. e) result (spec.event_in line.now) }

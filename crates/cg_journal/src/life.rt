@@ -11,11 +11,10 @@ use cg_silence::Silence;
 use cg_types::{Endpoint, Fault, Generation, cut, number};
 use std::alloc::Global;
 
-/// The greatest number among the settings of a line. What silence is judged by has lesser limits, and they are found
-/// later.
+/// The greatest number among the settings of a line. The limits of silence have lesser bounds, which are checked later.
 const GREATEST_SETTING: u64 = 4294967295;
 
-// A generation, and what stands behind the space after it.
+// Reads a generation, and returns the text after the space that follows it too.
 #[tactic(auto, unfolding(crate::specs::Reading::generation_before))]
 fn generation_before(words: &[u8]) -> Option<(Generation, &[u8])>
     ensures { option_map (λ p. (p.0, p.1.now)) result ≡ spec.generation_before words.now }
@@ -27,7 +26,7 @@ fn generation_before(words: &[u8]) -> Option<(Generation, &[u8])>
     Some((generation, rest))
 }
 
-// A number among the settings, and what stands behind the space after it.
+// Reads a number among the settings, and returns the text after the space that follows it too.
 #[tactic(auto, unfolding(crate::specs::Reading::setting_before))]
 fn setting_before(words: &[u8]) -> Option<(u32, &[u8])>
     ensures { option_map (λ p. (p.0, p.1.now)) result ≡ spec.setting_before words.now }
@@ -39,7 +38,7 @@ fn setting_before(words: &[u8]) -> Option<(u32, &[u8])>
     Some((setting as u32, rest))
 }
 
-// How silence is judged, and what stands behind the space after that.
+// Reads the limits of silence, and returns the text after the space that follows them too.
 #[tactic(auto, unfolding(crate::specs::Reading::silence_before))]
 fn silence_before(words: &[u8]) -> Option<(Silence, &[u8])>
     ensures { option_map (λ p. (p.0, p.1.now)) result ≡ spec.silence_before words.now }
@@ -54,7 +53,7 @@ fn silence_before(words: &[u8]) -> Option<(Silence, &[u8])>
     Some((silence, rest))
 }
 
-// Seeds with commas between them, or `-`.
+// Reads seeds with commas between them, or `-`.
 #[tactic(auto, unfolding(crate::specs::Reading::seeds_in))]
 fn seeds_in(alloc: Global, word: &[u8]) -> Result<Vec<Endpoint>, Fault>
     ensures { Finds (λ v. v.items) result (spec.seeds_in word.now) }
@@ -68,7 +67,7 @@ fn seeds_in(alloc: Global, word: &[u8]) -> Result<Vec<Endpoint>, Fault>
     }
 }
 
-// Settings, to the end of the line.
+// Reads settings, to the end of the line.
 #[tactic(auto, unfolding(crate::specs::Reading::settings_in))]
 fn settings_in(alloc: Global, words: &[u8]) -> Result<Settings, Fault>
     ensures { Finds (λ s. s) result (spec.settings_in words.now) }
@@ -87,7 +86,7 @@ fn settings_in(alloc: Global, words: &[u8]) -> Result<Settings, Fault>
     }
 }
 
-// What stands behind `life`.
+// Reads the words after `life`.
 #[tactic(auto, unfolding(crate::specs::Reading::life_behind))]
 fn life_behind(alloc: Global, words: &[u8]) -> Result<History, Fault>
     ensures { Finds (λ h. h) result (spec.life_behind words.now) }
@@ -102,7 +101,7 @@ fn life_behind(alloc: Global, words: &[u8]) -> Result<History, Fault>
     Ok(History::begin(alloc, own, generation, settings)?)
 }
 
-/// The history that begins by a first line.
+/// Reads a first line, and returns the history that it begins.
 #[tactic(auto, unfolding(crate::specs::Reading::life_in))]
 pub(crate) fn life_in(alloc: Global, line: &[u8]) -> Result<History, Fault>
     ensures { Finds (λ h. h) result (spec.life_in line.now) }

@@ -1,4 +1,4 @@
-//! A journal, read line by line.
+//! Reading a journal, line by line.
 
 ghost use Rattle.std.specs.Prelude.{◌≡◌, ◌⊎◌, List, ℕ, MatchResult, None, Some};
 ghost use Rattle.cg_types.specs.declared.fault.Fault.TheVariants as faults;
@@ -18,7 +18,7 @@ use cg_types::Fault;
 use std::alloc::Global;
 use std::io::Read;
 
-/// A journal as far as it was read: the history, once its first line was, and how many lines were, up to 2^64 - 1.
+/// The part of a journal that was read: the history, once its first line was read, and the lines read, up to 2^64 - 1.
 #[derive(Drop)]
 pub(crate) struct Progress {
     pub history: Option<History>,
@@ -58,7 +58,7 @@ impl Progress {
     }
 }
 
-// The fault of the line behind so many that were read.
+// Returns the fault of the line that comes after these.
 fn unread_behind(lines: u64, fault: Fault) -> Unread
     ensures line { result.line ≡ one_more lines }
     ensures fault { result.fault ≡ fault }
@@ -87,13 +87,13 @@ impl TakeLine for Progress {
     }
 }
 
-/// Reads a journal: the history that its first line begins, after the events of the other lines, which the node does
-/// one after the other for caller 0. So a history that was written is read with its settings and its records.
+/// Reads a journal: the history that its first line begins, after the events of the other lines. The node does these
+/// one after the other for caller 0, so a history that was written is read with its settings and its records.
 ///
-/// The fault has the line in which reading ended. `BadText` where that line can't be read, its frame is bad, incomplete,
-/// of another kind or not all of the line, or the node refuses its event; also where there is no line. `ReadFault` where
-/// a read fails or 4,294,967,295 reads were made, `OutOfMemory` where memory runs out in the line; no line before it is
-/// unreadable then. Memory is that of the history and of the longest line.
+/// The fault has the line in which reading ended. `BadText` if that line can't be read: its frame is bad, incomplete,
+/// of another kind or not all of the line, or the node refuses its event; also if there is no line. `ReadFault` if a
+/// read fails or 4,294,967,295 reads were made, `OutOfMemory` if memory runs out in the line; then no line before it is
+/// unreadable. The memory is that of the history and of the longest line.
 pub fn read_journal<R: Read>(alloc: Global, reader: &mut Counted<R>) -> Result<History, Unread>
     ensures { Reads (R.remaining (link_of reader.old)) (R.remaining (link_of reader.new))
         reader.old reader.new result }

@@ -1,4 +1,4 @@
-//! The lines of a journal.
+//! The lines of a journal, as text.
 
 ghost use Rattle.std.specs.Prelude.{◌≡◌, ◌++◌, List, ℕ, OnOk, IfOk, string_bytes};
 ghost use Rattle.std.specs.List.{flat_map};
@@ -69,14 +69,14 @@ fn add_settings(text: &mut String, settings: &Settings) -> Result<(), AllocError
     text.push_str(settings.cluster().name())
 }
 
-// The generation of a node's own entry.
+// Returns the generation of a node's own entry.
 fn generation(node: &Node) -> u32
     ensures { result ≡ (own_entry node.now.table).generation }
 {
     node.table().own_entry().generation().get()
 }
 
-/// The line of a life that began with a node.
+/// Writes the line of a life that began with a node.
 #[tactic(auto, unfolding(crate::specs::Text::life_line))]
 pub(crate) fn life_text(alloc: Global, node: &Node) -> Result<String, AllocError>
     ensures { IfOk result (λ text. string_bytes text ≡ life_line node.now) }
@@ -200,7 +200,7 @@ fn add_event(alloc: Global, text: &mut String, event: &Event) -> Result<(), Allo
     }
 }
 
-/// The line of an event.
+/// Writes the line of an event.
 pub(crate) fn event_text(alloc: Global, event: &Event) -> Result<String, AllocError>
     ensures { IfOk result (λ text. string_bytes text ≡ event_line event.now) }
 {

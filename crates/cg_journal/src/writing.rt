@@ -1,4 +1,4 @@
-//! A journal, written line by line.
+//! Writing a journal, line by line.
 
 ghost use Rattle.std.specs.Prelude.{◌∷◌, [], OnOk};
 ghost use Rattle.cg_links.specs.Counted.{link_of, IsFlushed};
@@ -76,9 +76,9 @@ fn write_lines<W: Write>(
 
 /// Writes the text of a history, and flushes the writer.
 ///
-/// A line is made and written at a time, so memory is that of the longest line. `OutOfMemory` where a line finds no room:
-/// then those before it were written, each whole. `WriteFault` where the writer fails or takes no byte: then a front of
-/// the text was written.
+/// It makes and writes one line at a time, so the memory is that of the longest line. `OutOfMemory` if there is no
+/// memory for a line: then those before it were written, each whole. `WriteFault` if the writer fails or takes no byte:
+/// then a prefix of the text was written.
 pub fn write_journal<W: Write>(
     alloc: Global,
     history: &History,

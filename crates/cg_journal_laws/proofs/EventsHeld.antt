@@ -1,4 +1,4 @@
--- What is read of a line is an event, with values that its types allow.
+-- A line is read as an event with values that its types allow.
 use Rattle.std.proofs.Common.{◌≡◌, ℕ, ◌≤◌, ◌^◌, Bool, true, false, cond, List, [], ◌∷◌, length, Option, Some, None, Ok, Err, Result, IfSome, refl, arith, decimal, ◌-◌}
 use Rattle.std.specs.Prelude.{◌==◌, nat_lt, bytes_eq, codes}
 use Rattle.std.specs.Str.{is_utf8}
@@ -29,7 +29,7 @@ use Rattle.cg_script.specs.Script.{four_in}
 use Rattle.cg_journal.specs.Reading.{whole_message, message_in, text_bytes_in, set_in, tick_in, syn_in, ack_in, ack2_in, bare_event, event_behind, event_of_parts, event_in}
 use Rattle.cg_journal_laws.specs.Contents.{IsCount, AreWords, IsEvent}
 
--- ---- what holds of each value of a step holds of what is made of it
+-- ---- a property of each value of a step holds of the step's result
 
 pub held_bind : {A B : Type 0} (P : A → Type 0) (Q : B → Type 0) (o : Option A) (f : A → Option B) → IfSome o P → ((a : A) → P a → IfSome (f a) Q) → IfSome (o >>= f) Q
 held_bind P Q None f is go = tt

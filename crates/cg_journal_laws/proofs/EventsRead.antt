@@ -1,4 +1,4 @@
--- Each line that is written of an event is read as that event.
+-- The line written of an event is read as that event.
 use Rattle.std.proofs.Common.{◌≡◌, ℕ, Bool, true, false, cond, not, List, [], ◌∷◌, ◌++◌, length, Option, Some, None, Ok, Err, Result, refl, sym, ap, ◌∙◌, append_assoc, append-nil, arith, decimal, eq-eqb, ne_eqb}
 use Rattle.std.specs.Prelude.{◌==◌, nat_lt, bytes_eq, codes}
 use Rattle.std.specs.List.{flat_map, AllByRecursion}
@@ -182,7 +182,7 @@ event_again (event.Ack2 now m) is =
     behind_word (codes "ack2") (decimal now ++ 32 ∷ frame_digits (messages.Ack2 m)) refl
     ∙ rw (count_before-word now (frame_digits (messages.Ack2 m)) is.0, message_again (messages.Ack2 m) is.1) refl
 
--- ---- no line feed stands in them
+-- ---- no line feed is in them
 
 words-lack : (words : List ℕ) → AllByRecursion IsCount words → lacks 10 (flat_map further_word words) ≡ true
 unfolding further_word

@@ -1,4 +1,4 @@
--- A journal that is cut behind a line feed.
+-- A journal that is cut after a line feed.
 use Rattle.std.proofs.Common.{◌≡◌, ℕ, suc, List, [], ◌∷◌, ◌++◌, Option, Some, None, Ok, refl, sym, ap, ◌∙◌, append_assoc, append-nil}
 use Rattle.cg_history.specs.History.{HistoryValue}
 use Rattle.cg_lines.specs.Lines.{ended_lines, open_line, last_line, lines_of}
@@ -7,7 +7,7 @@ use Rattle.cg_journal.specs.Reading.{life_in, after_line, on_line, after_lines, 
 use Rattle.cg_journal_laws.specs.Laws.{FrontsAreRead}
 use Rattle.cg_journal_laws.proofs.OfLines.{AreOf, of_lines}
 
--- lines that end, the one that the line feed ends, and those behind it
+-- lines that end, the one that the line feed ends, and those after it
 lines_cut : (front rest : List ℕ) → lines_of (front ++ 10 ∷ rest) ≡ (ended_lines [] front ++ open_line [] front ∷ []) ++ lines_of rest
 lines_cut front rest =
     let E = ended_lines [] front in
@@ -17,7 +17,7 @@ lines_cut front rest =
     ∙ append_assoc E (o ∷ ended_lines [] rest) (last_line (open_line [] rest))
     ∙ sym (append_assoc E (o ∷ []) (lines_of rest))
 
--- the history after the first of some lines, from which that after all goes on
+-- the history after the first of some lines, which the history after all of them continues
 abbrev Cut : HistoryValue → List (List ℕ) → (HistoryValue → Type 0) → Type 0
 Cut k ys is = (g : HistoryValue) × is g × AreOf g k ys
 

@@ -1,4 +1,4 @@
--- What is read of a first line is the start of a life.
+-- A first line is read as the start of a life.
 use Rattle.std.proofs.Common.{◌≡◌, ℕ, ◌≤◌, zero, suc, Bool, true, false, cond, not, List, [], ◌∷◌, length, Option, Some, None, Ok, Err, Result, IfSome, refl, arith, leb-true, eqb-true, decimal, ◌-◌}
 use Rattle.std.specs.Prelude.{◌==◌, nat_le, nat_lt, bytes_eq, codes}
 use Rattle.std.specs.Int.{is_in_range}
@@ -64,7 +64,7 @@ generation_before-held words =
     held_bind (λ (_ : Parts). Unit) Q (cut_at 32 words) (λ parts. generation_in parts.0 >>= λ generation. Some (generation, parts.1)) (held_any (cut_at 32 words))
     (λ parts _. held_bind IsGeneration Q (generation_in parts.0) (λ generation. Some (generation, parts.1)) (generation_held parts.0) (λ n is. is))
 
--- ---- how silence is judged
+-- ---- limits of silence
 
 record IsWithin (low high n : ℕ) : Type 0 where
   above : low ≤ n
@@ -146,7 +146,7 @@ cluster_by name false false true p q r =
 cluster_held : (name : List ℕ) → IfSome (readable (cluster_of name PARTITIONER)) IsCluster
 cluster_held name = cluster_by name (nat_lt NAME_LIMIT (length name)) (length name == 0) (plain name) refl refl refl
 
--- what settings that are read hold
+-- properties of settings that are read
 record AreAllowed (s : SettingsValue) : Type 0 where
   settings : IsSettings s
   cluster : IsCluster s.cluster

@@ -1,4 +1,4 @@
--- The first line that is written of a history is read as its start.
+-- The first line written of a history is read as its start.
 use Rattle.std.proofs.Common.{◌≡◌, ℕ, ◌≤◌, zero, suc, Bool, true, false, cond, not, List, [], ◌∷◌, ◌++◌, length, Option, Some, None, Ok, Err, Result, refl, sym, ap, ◌∙◌, append_assoc, append-nil, arith, decimal, le-leb, ne_eqb, eq-eqb}
 use Rattle.std.specs.Prelude.{◌==◌, nat_le, nat_lt, codes}
 use Rattle.std.specs.Char.{is_ascii_digit}
@@ -64,7 +64,7 @@ unfolding setting_before
 setting_before-word n rest le =
     rw (cut_at-word 32 (decimal n) rest (lacks-decimal 32 n refl (omega arith)), number_of-decimal MOST n (omega arith) le) refl
 
--- ---- how silence is judged
+-- ---- limits of silence
 
 in_range : (low high n : ℕ) → low ≤ n → n ≤ high → is_in_range low high n ≡ true
 in_range low high n p q = both (nat_le low n) (nat_le n high) (le-leb low n p) (le-leb n high q)
@@ -117,7 +117,7 @@ further_lack c none comma dot colon (e ∷ seeds) all =
     both (not (44 == c)) (lacks c (endpoint_text e ++ flat_map further_seed seeds)) comma
     (lacks-append c (endpoint_text e) (flat_map further_seed seeds) (lacks-endpoint c e none dot colon all.0) (further_lack c none comma dot colon seeds all.1))
 
--- some seeds have no dash
+-- the text of one or more seeds lacks each byte other than digits, commas, dots and colons
 some_lack : (c e : ℕ) (seeds : List ℕ) → is_ascii_digit c ≡ false → not (44 == c) ≡ true → not (46 == c) ≡ true → not (58 == c) ≡ true
     → IsEndpoint e → AllByRecursion IsEndpoint seeds → lacks c (endpoint_text e ++ flat_map further_seed seeds) ≡ true
 some_lack c e seeds none comma dot colon is all =
@@ -218,7 +218,7 @@ life_again own generation s is =
     ∙ ap (λ (o : Option (ℕ × List ℕ)). o >>= λ generation. settings_in generation.1 >>= λ settings. Some (new_history own generation.0 settings)) (generation_before-word generation (settings_text s) is.first)
     ∙ ap (λ (o : Option SettingsValue). o >>= λ settings. Some (new_history own generation settings)) (settings_again own generation s is)
 
--- ---- no line feed stands in it
+-- ---- no line feed is in it
 
 silence_lack : (s : SilenceValue) → IsSilence s → lacks 10 (silence_text s) ≡ true
 unfolding silence_text

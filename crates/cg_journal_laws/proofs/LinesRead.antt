@@ -1,4 +1,4 @@
--- Lines that are written one after the other are read as those lines.
+-- Lines written one after the other are read as those lines.
 use Rattle.std.proofs.Common.{◌≡◌, ℕ, true, List, [], ◌∷◌, ◌++◌, ap, ◌∙◌, append_assoc}
 use Rattle.cg_lines.specs.Lines.{ended_lines, open_line, last_line, lines_of}
 use Rattle.cg_lines.proofs.LineLemmas.{ended_some, open_some}
@@ -8,7 +8,7 @@ use Rattle.cg_journal_laws.proofs.WordsRead.{lacks, cut_at-word}
 abbrev pub ended : List ℕ → List ℕ
 ended line = line ++ 10 ∷ []
 
--- a line and what follows its line feed
+-- a line, and the lines after its line feed
 lines_of-first : (line rest : List ℕ) → lacks 10 line ≡ true → lines_of (line ++ 10 ∷ rest) ≡ line ∷ lines_of rest
 lines_of-first line rest h =
     let cut = cut_at-word 10 line rest h in

@@ -17,7 +17,7 @@ use Rattle.cg_lines.specs.Lines.{lines_of}
 use Rattle.cg_journal.specs.Reading.{generation_before, settings_in, life_in, life_behind, life_of_parts, event_in, history_after, after_line, on_line, after_lines, journal_in}
 use Rattle.cg_journal_laws.specs.Laws.{IsOfItsLines}
 
--- a record is of an event, for caller 0, and stands behind those before
+-- a record is of an event, for caller 0, and comes after those before
 pub record IsNext (h k : HistoryValue) (o : Option Event) : Type 0 where
   pub item : Item
   pub event : o ≡ Some item.event
@@ -42,7 +42,7 @@ next : (h k : HistoryValue) (o : Option Event) → history_after h o ≡ Some k 
 next h k None is = absurd cc
 next h k (Some e) is = stepped h k e (length h.records == LAST_NUMBER) (node_step h.node e) is
 
--- records of the events of some lines, behind those of a history
+-- records of the events of some lines, after those of a history
 pub record AreOf (h k : HistoryValue) (lines : List (List ℕ)) : Type 0 where
   pub items : List Item
   pub events : map event_in lines ≡ map Some (events_of items)

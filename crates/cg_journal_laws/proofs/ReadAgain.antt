@@ -1,4 +1,4 @@
--- Whatever the text of a journal that is read, what was read is a life, and its text is read as it.
+-- The history read from any journal is a life, and its text is read as the same history.
 use Rattle.std.proofs.Common.{◌≡◌, ℕ, suc, List, [], ◌∷◌, map, Option, Some, None, option_map, Ok, Err, Result, IfSome, refl, sym, ap, subst, ◌∙◌}
 use Rattle.std.specs.List.{AllByRecursion}
 use Rattle.cg_types.specs.declared.fault.Fault.{Fault}

@@ -1,4 +1,4 @@
--- What is written between two separators is read again.
+-- A word written between two separators is read again.
 use Rattle.std.proofs.Common.{◌≡◌, ℕ, ◌/◌, ◌%◌, ◌<◌, ◌≤◌, ◌^◌, zero, suc, Bool, true, false, not, List, [], ◌∷◌, ◌++◌, Some, None, refl, sym, ap, ◌∙◌, arith, decimal, eq-eqb, eqb-true}
 use Rattle.std.specs.Prelude.{◌==◌, nat_lt, slice_index, bytes_eq, codes}
 use Rattle.std.specs.List.{list_all}
@@ -17,7 +17,7 @@ use Rattle.cg_types.proofs.WordLemmas.{number_of-decimal, digits_of_decimal}
 
 -- ---- a word that lacks a byte
 
--- whether none of the bytes is this one
+-- `true` if none of the bytes is this one
 abbrev pub lacks : ℕ → List ℕ → Bool
 lacks c word = list_all (λ b. not (b == c)) word
 
@@ -40,7 +40,7 @@ cut_at-none c (b ∷ word) h =
 pub lacks-append : (c : ℕ) (xs ys : List ℕ) → lacks c xs ≡ true → lacks c ys ≡ true → lacks c (xs ++ ys) ≡ true
 lacks-append c xs ys p q = list_all-append (λ (b : ℕ). not (b == c)) xs ys ∙ both (lacks c xs) (lacks c ys) p q
 
--- A byte that a test tells from others is none of those.
+-- A byte that a test separates from others is none of those.
 other_by : (p : ℕ → Bool) (t : Bool) (c d : ℕ) → (d == c) ≡ t → p c ≡ false → p d ≡ true → not t ≡ true
 other_by p false c d is none some = refl
 other_by p true c d is none some = let same : p d ≡ p c = ap p (eqb-true d c is) in absurd cc
@@ -54,7 +54,7 @@ lacks-where p c none (d ∷ word) h =
 pub lacks-decimal : (c n : ℕ) → is_ascii_digit c ≡ false → n < 2 ^ 64 → lacks c (decimal n) ≡ true
 lacks-decimal c n none lt = lacks-where is_ascii_digit c none (decimal n) (digits_of_decimal n lt)
 
--- a number and what follows the byte behind it
+-- a number, and the text after the byte that follows it
 pub lacks-number : (c n at : ℕ) (rest : List ℕ) → is_ascii_digit c ≡ false → not (at == c) ≡ true → n < 2 ^ 64 → lacks c rest ≡ true
     → lacks c (decimal n ++ (at ∷ rest)) ≡ true
 lacks-number c n at rest none other lt h =

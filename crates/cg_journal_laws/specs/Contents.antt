@@ -1,5 +1,5 @@
--- What histories hold whose text is read again: they began with a start, and their numbers and texts are such as the
--- types of events and settings allow.
+-- Histories whose text is read again: they began with a start, and their numbers and texts are such as the types of
+-- events and settings allow.
 use Rattle.std.specs.Prelude.{ℕ, ◌≡◌, ◌<◌, ◌≤◌, ◌^◌, List, length}
 use Rattle.std.specs.List.{AllByRecursion}
 use Rattle.cg_types.specs.Numbers.{IsEndpoint, IsGeneration, IsKey}
@@ -12,7 +12,7 @@ use Rattle.cg_settings.specs.Values.{SettingsValue, IsSettings}
 use Rattle.cg_core.specs.Step.{starting_node}
 use Rattle.cg_history.specs.History.{HistoryValue, IsReplayed, LAST_NUMBER}
 
--- a moment or a random word
+-- a time in milliseconds or a random word
 abbrev pub IsCount : ℕ → Type 0
 IsCount n = n < 2 ^ 64
 
@@ -21,7 +21,7 @@ pub record AreWords (words : List ℕ) : Type 0 where
   pub four : length words ≡ 4
   pub counts : AllByRecursion IsCount words
 
--- What is true of every event.
+-- A property of every event: its values are in their ranges.
 abbrev pub IsEvent : Event → Type 0
 IsEvent event.Beat = Unit
 IsEvent (event.Set key text) = IsKey key × IsStateText text
@@ -31,7 +31,7 @@ IsEvent (event.Syn m) = IsSyn m
 IsEvent (event.Ack now m) = IsCount now × IsAck m
 IsEvent (event.Ack2 now m) = IsCount now × IsAck2 m
 
--- What a node may start with.
+-- An endpoint, a generation and settings that a node may start with.
 pub record IsStart (own generation : ℕ) (s : SettingsValue) : Type 0 where
   pub endpoint : IsEndpoint own
   pub first : IsGeneration generation
@@ -40,7 +40,7 @@ pub record IsStart (own generation : ℕ) (s : SettingsValue) : Type 0 where
   pub seeds : AllByRecursion IsEndpoint s.seeds
   pub silence : IsSilence s.silence
 
--- The history began with a node that started, and its records are events, no more than can be numbered.
+-- The history began with a node that started, and its records are events, at most `LAST_NUMBER` of them.
 pub record IsLife (h : HistoryValue) : Type 0 where
   pub own : ℕ
   pub generation : ℕ

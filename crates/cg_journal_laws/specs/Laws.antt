@@ -1,4 +1,4 @@
--- What is said of journals that are read.
+-- Statements about journals that are read or written.
 use Rattle.std.specs.Prelude.{◌≡◌, ℕ, List, [], ◌∷◌, ◌++◌, map, Some, Ok}
 use Rattle.std.specs.List.{AllByRecursion}
 use Rattle.cg_records.specs.declared.item.Item.{Item}
@@ -12,7 +12,7 @@ use Rattle.cg_journal.specs.Text.{event_line, journal_of}
 use Rattle.cg_journal.specs.Reading.{life_in, event_in, journal_in}
 use Rattle.cg_journal_laws.specs.Contents.{IsEvent, IsStart, IsLife}
 
--- The history began as the first of the lines says, and has a record for each other line, with the line's event, for
+-- The history began as the first of the lines says. It has a record for each other line, with the line's event, for
 -- caller 0.
 pub record IsOfItsLines (lines : List (List ℕ)) (h : HistoryValue) : Type 0 where
   pub first : List ℕ
@@ -28,21 +28,21 @@ abbrev pub ReadHistoriesAreOfTheirLines : Type 0
 ReadHistoriesAreOfTheirLines =
     (text : List ℕ) (h : HistoryValue) → journal_in text ≡ Ok h → IsOfItsLines (lines_of text) h
 
--- The history goes on from another one: it began alike, and has its records first.
+-- The history continues another one: it began with the same node, and has the other's records first.
 pub record Continues (g h : HistoryValue) : Type 0 where
   pub base : h.base ≡ g.base
   pub more : List Item
   pub records : h.records ≡ g.records ++ more
 
--- What stands before a line feed, with it, is read as a history that the whole one goes on from.
+-- The text up to a line feed, with it, is read as a history that the whole journal's history continues.
 abbrev pub FrontsAreRead : Type 0
 FrontsAreRead =
     (front rest : List ℕ) (h : HistoryValue) → journal_in (front ++ 10 ∷ rest) ≡ Ok h
     → (g : HistoryValue) × (journal_in (front ++ 10 ∷ []) ≡ Ok g) × Continues g h
 
--- ---- of what is written
+-- ---- written texts
 
--- What is written of an event is one line, which is read as that event.
+-- The text of an event is one line, which is read as that event.
 pub record IsItsLine (e : Event) : Type 0 where
   pub line : List ℕ
   pub only : lines_of (event_line e) ≡ line ∷ []
@@ -59,7 +59,7 @@ for_caller_0 i = record { caller = 0; event = i.event; reply = i.reply; puts = i
 abbrev pub uncalled : HistoryValue → HistoryValue
 uncalled h = record { base = h.base; records = map for_caller_0 h.records; node = h.node }
 
--- The text of the history is read as that history, for caller 0, and what was read is written as the same text.
+-- The text of the history is read as that history, for caller 0, and that one is written as the same text.
 pub record IsReadAsWritten (h : HistoryValue) : Type 0 where
   pub read : journal_in (journal_of h) ≡ Ok (uncalled h)
   pub again : journal_of (uncalled h) ≡ journal_of h
@@ -75,7 +75,7 @@ pub record LivesGoOn : Type 0 where
       (h : HistoryValue) (caller : ℕ) (e : Event) (after : HistoryValue) (q : Receipt) → IsLife h → IsEvent e
       → apply h caller e ≡ Ok (after, q) → IsLife after
 
--- What was read is a life, and its text is read as it.
+-- The history is a life, and its text is read as it.
 pub record IsReadAgain (h : HistoryValue) : Type 0 where
   pub life : IsLife h
   pub again : journal_in (journal_of h) ≡ Ok h

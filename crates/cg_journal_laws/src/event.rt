@@ -1,4 +1,4 @@
-//! Events in hand.
+//! The law of all events in hand.
 
 ghost use Rattle.std.specs.List.{AllByRecursion};
 ghost use Rattle.cg_journal_laws.specs.Contents.{IsCount, AreWords, IsEvent};
@@ -19,7 +19,7 @@ fn show_words(words: &[u64; 4])
     show_counts(words);
 }
 
-/// Each event is one that there can be, so the laws of written events hold of the event in hand. It takes no memory, and
+/// Each event in hand is one that there can be, so the laws of written events hold of it. The call takes no memory, and
 /// walks nothing.
 pub fn every_event_fits(event: &Event)
     ensures { IsEvent event.now }

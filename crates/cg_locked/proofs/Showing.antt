@@ -1,4 +1,4 @@
--- What is appended, and what is told.
+-- The puts that are appended to the views, and those that are published.
 use Rattle.std.proofs.Common.{arith, length-append, zero, suc, ◌≤◌, ◌≡◌, ℕ, ◌+◌, List, [], ◌∷◌, ◌++◌, length, take, refl, sym, ap, ◌∙◌, subst}
 use Rattle.std.specs.Prelude.{Result, Ok, Err, IfOk, IfSome, Option, Some, None}
 use Rattle.std.specs.FinMap as map
@@ -26,7 +26,7 @@ use Rattle.cg_views.specs.Lists.{MayFollow}
 use Rattle.cg_views.specs.Reading.{Has}
 use Rattle.cg_locked.specs.Entry.{Answer, ShowsSet, IsEntry}
 
--- ---- what may be appended
+-- ---- puts that may be appended
 
 -- the puts of the next record may follow those of the records before it
 pub next_may_follow : (h : HistoryValue) (k : ℕ) (all ps : List Put) → IsReplayed h → all ≡ puts_of (take k h.records) → puts_of (take (k + 1) h.records) ≡ puts_of (take k h.records) ++ ps → MayFollow (with_puts h.base.table all) ps
@@ -38,9 +38,9 @@ next_may_follow h k all ps i is next =
       room = subst (λ (t : TableValue). map.len t.entries ≤ MEMBER_LIMIT) (ap (with_puts h.base.table) both ∙ with_puts-append h.base.table all ps) fits.room;
     }
 
--- ---- what a record more keeps
+-- ---- properties that one more record keeps
 
--- the base, and the front of the records that was appended; there is one record more
+-- the base, and the prefix of the records that was appended; there is one record more
 pub record IsKept (h after : HistoryValue) (appended : ℕ) : Type 0 where
   pub base : after.base ≡ h.base
   pub long : length after.records ≡ length h.records + 1
@@ -60,13 +60,13 @@ kept h caller e after q appended few is =
       front = ap (take appended) one.records ∙ take_front h.records (r ∷ []) appended few;
     }
 
--- ---- what is told of a Set
+-- ---- the puts that are published of a Set
 
--- the puts of the last record stand among those of all
+-- the puts of the last record are among those of all
 last_stands : (rs : List Item) (r : Item) (p : Put) → r.puts ≡ p ∷ [] → Has (puts_of (rs ++ r ∷ [])) p
 last_stands rs r p is = (puts_of rs, [], puts_of-append rs (r ∷ []) ∙ ap (λ ps. puts_of rs ++ ps) (append-nil r.puts ∙ is))
 
--- where the last record is of a Set, all puts show it
+-- if the last record is of a Set, all puts show it
 set_shown : (n : NodeValue) (e : Event) (x : NodeValue × Reply) (rs : List Item) (r : Item) → IsSmall n → node_step n e ≡ Ok x → r.puts ≡ puts n.table x.0.table → ShowsSet (puts_of (rs ++ r ∷ [])) n.table.own e x.1
 set_shown n (event.Set key text) x rs r small step is =
     let its : PutsIts key text n x.0 x.1 = sets_put_their_text n key text x.0 x.1 small step in
@@ -91,7 +91,7 @@ puts_show h caller e after q i is =
 -- ---- entries
 
 module _ (start : NodeValue) (count caller : ℕ) (e : Event) (h : HistoryValue) (starts : h.base ≡ start) (replayed : IsReplayed h) (long : count ≤ length h.records) where
-  -- an event that was entered, with what is told of it
+  -- an event that was entered, with the puts that were published
   pub entry_done : (after : HistoryValue) (q : Receipt) (told : Option (List Put)) → apply h caller e ≡ Ok (after, q) → IfSome told (λ t. t ≡ puts_of after.records) → IsEntry start count caller e (Ok (q, told))
   entry_done after q told is all = record { before = h; after = after; starts = starts; replayed = replayed; long = long; entered = is; told = all }
 
@@ -99,7 +99,7 @@ module _ (start : NodeValue) (count caller : ℕ) (e : Event) (h : HistoryValue)
   pub entry_refused : (fault : Fault) → IsRefusal fault (apply h caller e) → IsEntry start count caller e (Err fault)
   entry_refused fault is = record { before = h; after = h; starts = starts; replayed = replayed; long = long; entered = is; told = tt }
 
--- what is told of an entry shows its Set
+-- the puts published with an entry show its Set
 pub entry_shows : (start : NodeValue) (count caller : ℕ) (e : Event) (result : Result Answer Fault) → IsEntry start count caller e result → IfOk result (λ r. IfSome r.1 (λ t. ShowsSet t start.table.own e r.0.reply))
 entry_shows start count caller e (Err fault) entry = tt
 entry_shows start count caller e (Ok (q, None)) entry = tt

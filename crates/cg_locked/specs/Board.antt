@@ -1,4 +1,4 @@
--- What a publisher shows of a board.
+-- A board's publisher, and what it shows.
 use Rattle.std.specs.Prelude.{List, []}
 use Rattle.cg_table.specs.Values.{TableValue}
 use Rattle.cg_table.specs.Puts.{Put}

@@ -1,4 +1,4 @@
-//! What lies under the lock.
+//! The board: the data under the lock.
 
 ghost use Rattle.std.specs.Prelude.{◌≡◌, ◌+◌, ◌++◌, ◌<◌, ◌≤◌, [], length, take, IfOk, IfSome, OnOk, OnErr};
 ghost use Rattle.std.specs.Coded.{Coded-set};
@@ -24,9 +24,11 @@ use std::alloc::{AllocError, Global};
 use std::sync::Wait;
 use std::sync::ledger::Book;
 
-/// What lies under the lock. The records replay from the node that the name's history began with (`History` keeps
-/// that). The first `appended` of them are with the publisher, and the first `published` were there when all was
-/// published last. The book counts the records.
+/// The data under the lock: a node's history, and the publisher of its table.
+///
+/// The records replay from the node that the name's history began with (`History` keeps that). The publisher has the
+/// first `appended` of them, and the first `published` were there at the last publication of all. The book counts the
+/// records.
 pub struct Board<N: Name> {
     pub(crate) history: History,
     pub(crate) publisher: Publisher<N>,
@@ -63,15 +65,15 @@ impl<N: Name> Board<N> {
         &self.history
     }
 
-    /// How many records were kept since `catch_up` last published all. It takes no memory.
+    /// Returns the number of records kept since `catch_up` last published all. It takes no memory.
     pub fn unpublished(&self) -> u64
         ensures { result + self.now.published ≡ length self.now.history.records }
     {
         (self.history.records().len() - self.published) as u64
     }
 
-    /// Has an event done for the seat's caller, and keeps its record: `History::apply`, which adds one to the seat's
-    /// share. Refused, it changes nothing.
+    /// Applies an event for the seat's caller, and keeps its record, by `History::apply`. The seat's share counts one
+    /// more. Nothing changes if the event is refused.
     pub fn enter(
         &mut self,
         alloc: Global,
@@ -93,7 +95,7 @@ impl<N: Name> Board<N> {
         Ok(receipt)
     }
 
-    // The puts of the next record that is not appended.
+    // Returns the puts of the next record that is not appended.
     fn next_puts(&self, alloc: Global) -> Result<Puts, AllocError>
         requires { self.now.appended < length self.now.history.records }
         ensures { IfOk result (λ ps. puts_of (take (self.now.appended + 1) self.now.history.records)
@@ -104,7 +106,7 @@ impl<N: Name> Board<N> {
         Ok(puts)
     }
 
-    // Appends the puts of the next record. Refused, it changes nothing.
+    // Appends the puts of the next record. Nothing changes if memory is refused.
     fn append_next(&mut self, alloc: Global) -> Result<(), AllocError>
         requires { self.old.appended < length self.old.history.records }
         ensures same { (self.new.history ≡ self.old.history) × (self.new.book ≡ self.old.book)
@@ -125,8 +127,9 @@ impl<N: Name> Board<N> {
         Ok(())
     }
 
-    /// Appends the puts of all records that are not appended, record by record, and publishes them. Where memory is
-    /// refused, the records appended so far stay appended, and the next call goes on there.
+    /// Appends the puts of all records that are not appended, record by record, and publishes them.
+    ///
+    /// If memory is refused, the records appended so far stay appended, and the next call goes on there.
     pub fn catch_up<R: Wait>(&mut self, rt: &R, alloc: Global) -> Result<Told<N>, AllocError>
         ensures same { (self.new.history ≡ self.old.history) × (self.new.book ≡ self.old.book) }
         ensures told { IfOk result (λ t. t ≡ puts_of self.new.history.records) }
@@ -144,8 +147,10 @@ impl<N: Name> Board<N> {
         Ok(self.publisher.tell())
     }
 
-    /// Enters, and then catches up; no `Told` where catching up found no memory, and the record stands. Refused, as
-    /// `enter` is.
+    /// Enters an event, and then publishes all records by `catch_up`.
+    ///
+    /// There is no `Told` if catching up found no memory: the record is kept all the same. The event is refused as by
+    /// `enter`.
     pub fn enter_and_tell<R: Wait>(
         &mut self,
         rt: &R,
@@ -172,7 +177,7 @@ impl<N: Name> Board<N> {
         }
     }
 
-    /// The history, the publisher and the book.
+    /// Takes the board apart: the history, the publisher and the book.
     pub(crate) fn apart(self) -> (History, Publisher<N>, Book<N>)
         ensures { (result.0.base ≡ N.start) × (result.2.total ≡ length result.0.records) }
     {

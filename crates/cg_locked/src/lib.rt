@@ -1,8 +1,7 @@
 //! One node's history behind a lock, with the views of its table.
 //!
-//! What lies under the lock is a `Board`: the history, the publisher, how many records were appended to the views, and
-//! the book of a ledger that counts the records. What holds of it whenever the lock is free stands in the types that
-//! hold it together.
+//! The data under the lock is a `Board`: the history, the publisher, the number of records appended to the views, and
+//! the book of a ledger that counts the records. The types of these state what is true whenever the lock is free.
 #![tactic(auto)]
 
 mod board;

@@ -1,10 +1,10 @@
-//! What a board, its seats and its passes have in common.
+//! The name that a board, its seats and its passes have in common.
 
 use cg_views::Naming;
 use std::marker::Brand;
 use std::sync::ledger::Ledger;
 
-/// The ledger that the seats share, the views, and the node that the history began with. A caller passes `Brand`.
+/// A common name of the seats' ledger, the views, and the node that the history began with. A caller passes `Brand`.
 pub trait Name: Ledger + Naming {
     ghost use Rattle.cg_core.specs.Values.{NodeValue};
 

@@ -20,10 +20,10 @@ use std::alloc::{AllocError, Global};
 use std::sync::ledger::{Blank, Share};
 use std::sync::{Mutex, MutexGuard, Wait};
 
-/// The board, lent. It is ended by `MutexGuard::unlock`.
+/// The locked board, borrowed until `MutexGuard::unlock` ends the guard.
 pub type BoardGuard<'a, N> = MutexGuard<'a, Board<N>>;
 
-/// A history that does not confirm all receipts: the place of the first that it does not, counted from 0, and why.
+/// A history with the first receipt that it does not confirm: its place in the list, counted from 0, and the fault.
 #[derive(Drop)]
 pub struct Unconfirmed {
     pub history: History,
@@ -37,7 +37,7 @@ pub struct Shared<N: Name> {
 }
 
 impl<N: Name> Shared<N> {
-    /// Puts a new history and its publisher behind a lock, with so many seats, 1 to 16, of callers 1, 2, and so on.
+    /// Puts a new history and its publisher behind a lock, and makes the seats: 1 to 16, of callers 1, 2, and so on.
     pub fn begin<R: Wait>(
         rt: &R,
         alloc: Global,
@@ -67,17 +67,19 @@ impl<N: Name> Shared<N> {
         Ok((Shared { board }, made))
     }
 
-    /// Lends the board, once it is free. No clause says what it holds; its type says what always holds of it.
+    /// Locks the board, once it is free, and returns its guard.
     ///
-    /// The guard is no value that can be let go: it is ended by `MutexGuard::unlock`, on every path. So no `?` may stand
-    /// between the two.
+    /// No clause says what the board holds; its type says what is always true of it. The guard can't be dropped:
+    /// `MutexGuard::unlock` has to end it, on every path. So no `?` may come between the two calls.
     pub fn lend<R: Wait>(&self, rt: &R) -> BoardGuard<'_, N> {
         self.board.lock(rt)
     }
 
-    /// Has an event done for the seat's caller, and tells what is then published: `Board::enter_and_tell`, with the
-    /// board locked meanwhile. No `Told` where no memory was found to publish; the record stands, and what is published
-    /// next has it. Refused, nothing changes.
+    /// Applies an event for the seat's caller, and publishes it: `Board::enter_and_tell`, with the board locked
+    /// meanwhile.
+    ///
+    /// There is no `Told` if there was no memory to publish: the record is kept, and the next publication has it.
+    /// Nothing changes if the event is refused.
     pub fn submit<R: Wait>(
         &self,
         rt: &R,
@@ -97,8 +99,10 @@ impl<N: Name> Shared<N> {
         result
     }
 
-    /// Takes the board apart, with all seats. The history has as many records as the seats counted, and confirms the
-    /// receipts; else it is answered with the first that it does not confirm. Passes read nothing from then on.
+    /// Ends the board with all its seats, and returns the history if it confirms the receipts.
+    ///
+    /// Else it returns the history with the first receipt that it does not confirm. The history has as many records as
+    /// the seats counted. Passes read nothing from then on.
     pub fn finish<R: Wait>(
         self,
         rt: &R,
@@ -147,7 +151,7 @@ fn cut<N: Name>(mut made: Vec<Seat<N>>, mut rest: Share<N>, seats: usize) -> Vec
     made
 }
 
-// Puts the shares together.
+// Puts the shares of all seats together.
 fn gathered<N: Name>(mut seats: Vec<Seat<N>>) -> Share<N>
     requires { 0 < vec_len seats }
     ensures parts { result.parts ≡ sum_by (λ s. s.share.parts) seats.items }

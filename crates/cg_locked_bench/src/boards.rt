@@ -17,7 +17,7 @@ use std::sync::ledger::Blank;
 use std::thread::{Threads, join};
 use std::time::Instant;
 
-// Has an event done. It answers whether it was.
+// Applies an event. Returns `true` if it was done.
 fn submit_one<N: Name, R: Wait>(
     rt: &R,
     alloc: Global,
@@ -34,7 +34,7 @@ fn submit_one<N: Name, R: Wait>(
     }
 }
 
-// Has the work's event done again and again.
+// Applies the work's event again and again.
 fn submit_all<N: Name, R: Wait>(
     rt: &R,
     alloc: Global,
@@ -54,7 +54,7 @@ fn submit_all<N: Name, R: Wait>(
     seat
 }
 
-// The same in two threads, one a seat.
+// Does the same in two threads, one a seat.
 fn submit_by_two<N: Name + Send + Sync, R: Threads + Wait + Sync>(
     rt: &R,
     alloc: Global,
@@ -77,7 +77,7 @@ fn submit_by_two<N: Name + Send + Sync, R: Threads + Wait + Sync>(
     )
 }
 
-// The same in four threads.
+// Does the same in four threads.
 fn submit_by_four<N: Name + Send + Sync, R: Threads + Wait + Sync>(
     rt: &R,
     alloc: Global,
@@ -107,7 +107,7 @@ fn submit_by_four<N: Name + Send + Sync, R: Threads + Wait + Sync>(
     )
 }
 
-/// How many threads have events done.
+/// The number of threads that have events done.
 #[derive(Clone, Copy)]
 pub(crate) enum Workers {
     One,
@@ -125,7 +125,7 @@ impl Workers {
     }
 }
 
-// Has the work done by so many threads. The other seats do nothing.
+// Does the work in this number of threads. The other seats do nothing.
 fn submit_by<N: Name + Send + Sync, R: Threads + Wait + Sync>(
     rt: &R,
     alloc: Global,
@@ -154,7 +154,7 @@ fn submit_by<N: Name + Send + Sync, R: Threads + Wait + Sync>(
     }
 }
 
-// Fills the table. It answers whether that was done.
+// Fills the table. Returns `true` if that was done.
 fn fill<N: Name, R: Wait>(
     rt: &R,
     alloc: Global,
@@ -170,7 +170,7 @@ fn fill<N: Name, R: Wait>(
     }
 }
 
-// Fills a board, has the work done on it, and answers how many records there are and when the work began.
+// Fills a board, does the work on it, and returns the number of records and the time at which the work began.
 fn records_by<N: Name + Send + Sync, R: Threads + Wait + Sync + Clock>(
     rt: &R,
     alloc: Global,

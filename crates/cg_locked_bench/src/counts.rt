@@ -1,12 +1,12 @@
-//! How much is done, and what is printed of it.
+//! The amounts of work, and the lines printed of it.
 
 use anyhow::Result;
 use std::env::Env;
 use std::rt::Clock;
 use std::time::Instant;
 
-/// How many owners the table has, how many states each of them, how long a state's text is, how many events are done,
-/// and whether times are printed.
+/// The number of owners of the table, the states of each, the bytes of a state's text, the number of events, and
+/// whether times are printed.
 #[derive(Clone, Copy)]
 pub(crate) struct Counts {
     pub(crate) owners: u16,
@@ -40,7 +40,7 @@ const SOME: Counts = Counts {
     is_timed: false,
 };
 
-/// The counts that the first word behind the program's name asks for.
+/// Reads the counts that the first word after the program's name selects.
 pub(crate) fn counts_by_word(rt: &impl Env) -> Counts {
     let mut word = [0u8; 4];
     match rt.arg(1, &mut word) {
@@ -50,7 +50,7 @@ pub(crate) fn counts_by_word(rt: &impl Env) -> Counts {
     }
 }
 
-/// Prints how many records there are, or how many nanoseconds each of them took.
+/// Prints the number of records, or the nanoseconds that each of them took.
 pub(crate) fn print_line(
     rt: &(impl Clock + Print),
     name: &str,

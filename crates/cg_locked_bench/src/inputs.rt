@@ -12,7 +12,7 @@ use cg_samples::{endpoint, generation, key, long_text, settings, version};
 use cg_types::StateText;
 use std::alloc::Global;
 
-/// What a thread does again and again.
+/// The event that a thread does again and again.
 #[derive(Clone, Copy)]
 pub(crate) enum Work {
     Beat,
@@ -24,7 +24,7 @@ fn text(alloc: Global, counts: Counts) -> Result<StateText> {
     Ok(StateText::new(alloc, &text)?)
 }
 
-/// The event of the work; what is set is as long as each text of the table.
+/// Returns the event of the work; the text of a Set is as long as each text of the table.
 pub(crate) fn event(alloc: Global, work: Work, counts: Counts) -> Result<Event> {
     Ok(match work {
         Work::Beat => Event::Beat,
@@ -55,7 +55,7 @@ fn delta(alloc: Global, owner: u16, counts: Counts) -> Result<OwnerDelta> {
     })
 }
 
-/// The message that fills the table up to so many owners.
+/// Returns the message that fills the table up to this number of owners.
 pub(crate) fn filling(alloc: Global, counts: Counts) -> Result<Event> {
     let mut deltas = Vec::new(alloc);
     for owner in 2..=counts.owners {
@@ -67,7 +67,7 @@ pub(crate) fn filling(alloc: Global, counts: Counts) -> Result<Event> {
     })
 }
 
-/// The history of a node at its start.
+/// Returns the history of a node at its start.
 pub(crate) fn new_history(alloc: Global) -> Result<History>
     ensures { IfOk result (λ h. h.records ≡ []) }
 {

@@ -1,6 +1,8 @@
 //! Measures a board: events that threads have done on a node whose table is full, beside the same events on a history
-//! alone. With no words it does each a hundred times and prints how many records there are; with the word `time` it
-//! measures each, and with the word `few` it does each twice, with a table of three.
+//! alone.
+//!
+//! With no words it does each event a hundred times and prints the number of records. With the word `time` it measures
+//! each, and with the word `few` it does each twice, with a table of three.
 #![tactic(auto)]
 
 mod alone;

@@ -1,4 +1,4 @@
--- What was told is read.
+-- A Set that was told is read.
 use Rattle.std.proofs.Common.{◌≡◌, ℕ, true, List, ◌++◌, ◌∙◌, sym, ap, subst, append_assoc}
 use Rattle.cg_table.specs.Values.{TableValue}
 use Rattle.cg_table.specs.Puts.{Put, with_puts, keep_order}

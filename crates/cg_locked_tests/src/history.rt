@@ -7,7 +7,7 @@ use cg_samples::{A, endpoint, generation, settings};
 use std::alloc::Global;
 use std::test::Fail;
 
-/// A's history at its start.
+/// Returns A's history at its start.
 pub(crate) fn new_history(alloc: Global) -> Result<History, Fail>
     ensures { IfOk result (λ h. h.records ≡ []) }
 {

@@ -1,4 +1,4 @@
-//! A Set that is told, and read back.
+//! A Set that is published, and read back.
 
 ghost use Rattle.std.specs.Prelude.{◌≡◌, IfOk, IfSome};
 ghost use Rattle.cg_views.specs.Reading.{OwnHasFrom};
@@ -11,7 +11,7 @@ use cg_views::{Pass, Snapshot};
 use std::alloc::Global;
 use std::sync::Wait;
 
-/// What was read after a Set that was told.
+/// The results of a Set that was published and read back.
 #[derive(Drop)]
 pub(crate) struct Read {
     pub(crate) receipt: Receipt,
@@ -19,8 +19,8 @@ pub(crate) struct Read {
     pub(crate) snapshot: Snapshot,
 }
 
-/// Sets a key, learns what is told, and reads: the own entry then has the key at the version of the reply or a later
-/// one. `None` where no memory was found to publish.
+/// Sets a key, learns what was published, and reads: the own entry then has the key at the version of the reply or a
+/// later one. `None` if there was no memory to publish.
 pub(crate) fn set_and_read<N: Name, R: Wait>(
     rt: &R,
     alloc: Global,

@@ -1,4 +1,4 @@
-//! One thread's work on all seats of a board, one after the other, and what is confirmed in the end.
+//! Seats of a board, used in turn: Sets read back and confirmed, a forged receipt refused, publications caught up.
 
 ghost use Rattle.std.specs.Prelude.{◌≡◌, ◌<◌, ◌≤◌, [], vec_len, vec_capacity};
 ghost use Rattle.std.specs.List.{sum_by};
@@ -20,24 +20,24 @@ use std::sync::ledger::Blank;
 use std::sync::{MutexGuard, Wait};
 use std::test::Fail;
 
-// What is done on each seat.
+// The work that is done on each seat.
 #[derive(Clone, Copy)]
 enum Work {
     // Sets key 3 to `x`, and reads it back.
     Set,
     // The same, and the receipt's number is raised by one.
     SetAndForge,
-    // Reads while the board is lent.
+    // Reads while the board is locked.
     ReadLent,
     // Enters two Sets, reads, catches up and reads again.
     EnterTwo,
-    // Sets twice, each at the second try where memory is refused, and catches up.
+    // Sets twice, each at the second try if memory is refused, and catches up.
     SetAnyway,
     // Beats.
     Beat,
 }
 
-// What came of it: numbers in their order, the receipts, and the last fault.
+// Results of the work: numbers in their order, the receipts, and the last fault.
 #[derive(Drop)]
 struct Notes {
     numbers: Vec<u64>,
@@ -46,7 +46,7 @@ struct Notes {
 }
 
 impl Notes {
-    // With room for all that is noted, so that no note is refused.
+    // Returns empty notes with room for all that is noted, so that no note is refused.
     fn with_room(alloc: Global) -> Result<Notes, Fail> {
         let numbers = Vec::with_capacity(alloc, 32)?;
         let receipts = Vec::with_capacity(alloc, 32)?;
@@ -76,7 +76,7 @@ impl Notes {
 
 // ---- on one seat
 
-// The version of A's key 3, 0 for none.
+// Reads the version of A's key 3, 0 if there is none.
 fn read<N: Name>(pass: &mut Pass<N>) -> Result<u64, Fault> {
     let snapshot = pass.read()?;
     Ok(match snapshot.table().own_entry().get(key(3)) {
@@ -99,7 +99,7 @@ fn set_of_three(alloc: Global) -> Result<Event, Fault> {
     })
 }
 
-// Number, version of the reply, and version that was read.
+// Notes the record's number, the version of the reply, and the version that was read.
 fn note_set(told: Read, notes: &mut Notes, forged: u64) {
     let Read {
         mut receipt,
@@ -144,7 +144,7 @@ fn enter<N: Name>(alloc: Global, board: &mut Board<N>, seat: &mut Seat<N>) -> Re
     board.enter(alloc, seat, set_of_three(alloc)?)
 }
 
-// Enters a Set; what is unpublished and read then.
+// Enters a Set; notes the unpublished records and the version read then.
 fn note_entered<N: Name>(
     alloc: Global,
     board: &mut Board<N>,
@@ -162,7 +162,7 @@ fn note_entered<N: Name>(
     note_read(pass, notes);
 }
 
-// Catches up, at the second try where memory is refused; what is unpublished and read then, and all records.
+// Catches up, at the second try if memory is refused; notes the unpublished records, the version read, and all records.
 fn note_caught_up<N: Name, R: Wait>(
     rt: &R,
     alloc: Global,
@@ -194,7 +194,7 @@ fn submit<N: Name, R: Wait>(
     shared.submit(rt, alloc, seat, set_of_three(alloc)?)
 }
 
-// Sets, at the second try where memory is refused. A Set that was not told is unpublished: one of both is 1.
+// Sets, at the second try if memory is refused. A Set that was not published is unpublished: one of both is 1.
 fn note_set_anyway<N: Name, R: Wait>(
     rt: &R,
     alloc: Global,
@@ -320,11 +320,10 @@ fn done_on_all<N: Name, R: Wait>(
 
 // ---- the end
 
-// What was noted, how many records are left, and the first receipt that is not confirmed: its place, and the number of
-// its fault.
+// The notes, the number of records left, and the first unconfirmed receipt: its place, and the number of its fault.
 type Left = (Vec<u64>, usize, Option<(usize, u8)>);
 
-// How many records are left, and the first receipt that is not confirmed.
+// Returns the number of records left, and the first unconfirmed receipt.
 fn ended(finished: Result<History, Unconfirmed>) -> (usize, Option<(usize, u8)>) {
     match finished {
         Ok(history) => (history.records().len(), None),
@@ -412,8 +411,8 @@ fn records_that_were_not_published_are_caught_up(rt: HostRuntime) -> Result<(), 
     expect_eq!((records, stray), (2, None))
 }
 
-// Run with each request for memory refused in turn (`rt try --test --fail-alloc N`), it ends so too, or finds no memory
-// to begin: a record whose publication was refused stands, and the next one publishes both.
+// Run with each request for memory refused in turn (`rt try --test --fail-alloc N`), it ends in the same way, or finds
+// no memory to begin: a record whose publication was refused is kept, and the next publication has both.
 #[test]
 fn refused_publications_are_caught_up(rt: HostRuntime) -> Result<(), Fail> {
     let (numbers, records, stray) = left(&rt, rt.alloc(), 1, Work::SetAnyway)?;

@@ -1,4 +1,4 @@
-//! Two threads that set a key on seats of their own.
+//! Two threads that set a key on seats of their own: each Set is read back, and each receipt confirmed.
 
 ghost use Rattle.std.specs.Prelude.{◌≡◌, []};
 
@@ -19,14 +19,14 @@ use std::sync::ledger::Blank;
 use std::test::Fail;
 use std::thread::{Threads, join};
 
-// What a worker leaves: its seat, its receipts, and how often it read what it had set.
+// Results of a worker: its seat, its receipts, and the number of its Sets that it read back.
 struct Worked<N: Name> {
     seat: Seat<N>,
     receipts: Vec<Receipt>,
     reads: u64,
 }
 
-// Sets key 3 so many times, and reads it back each time.
+// Sets key 3 this number of times, and reads it back each time.
 fn set_all<N: Name, R: Wait>(
     rt: &R,
     alloc: Global,
@@ -63,8 +63,8 @@ fn set_all<N: Name, R: Wait>(
     }
 }
 
-// How many records are left, how many receipts were confirmed or the place of the first that was not, and how often
-// what was set was read.
+// The number of records left, the number of receipts confirmed or the place of the first that was not, and the number
+// of Sets that were read back.
 #[derive(Clone, Copy, Debug, PartialEq, Eq)]
 struct Left {
     records: usize,
@@ -99,7 +99,7 @@ fn work_by_two<N: Name + Send + Sync, R: Threads + Wait + Sync>(
     )
 }
 
-// The receipts of both, as far as there is memory for them.
+// Joins the receipts of both, as far as there is memory for them.
 fn together(one: Vec<Receipt>, other: Vec<Receipt>) -> Vec<Receipt> {
     let mut receipts = one;
     for receipt in other {
@@ -110,7 +110,7 @@ fn together(one: Vec<Receipt>, other: Vec<Receipt>) -> Vec<Receipt> {
     receipts
 }
 
-// How many records are left, and how many receipts were confirmed or the place of the first that was not.
+// Returns the number of records left, and the number of receipts confirmed or the place of the first that was not.
 fn confirmed(
     finished: Result<History, Unconfirmed>,
     count: usize,

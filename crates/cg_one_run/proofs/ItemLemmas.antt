@@ -1,4 +1,4 @@
--- What items are of, and who is among them.
+-- The items of endpoints, and the endpoints that have items.
 use Rattle.std.proofs.Common.{◌≡◌, ◌⊎◌, ℕ, suc, Bool, true, false, cond, List, [], ◌∷◌, ◌++◌, Option, Some, None, refl, sym, subst, eqb-true, inl, inr, arith}
 use Rattle.std.specs.Prelude.{◌==◌, ◌||◌}
 use Rattle.std.specs.List.{AllByRecursion, Contains}
@@ -107,7 +107,7 @@ messages_both xs ys = filter_map-append (λ (i : RunItem). i.sent) xs ys
 pub items_both : (e : ℕ) (xs ys : List RunItem) → items_by e (xs ++ ys) ≡ items_by e xs ++ items_by e ys
 items_both e xs ys = filter-append (λ (i : RunItem). i.endpoint == e) xs ys
 
--- one more that was sent what it handles
+-- one more item, which handles a message that was sent
 pub sent_more : (before xs : List RunItem) (i : RunItem) → EachWasSent before xs → WasSent (before ++ xs) i.handled → EachWasSent before (xs ++ i ∷ [])
 sent_more before [] i all one = (subst (λ l. WasSent l i.handled) (append-nil before) one, tt)
 sent_more before (x ∷ xs) i all one =

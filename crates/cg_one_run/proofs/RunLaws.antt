@@ -1,4 +1,4 @@
--- What turns find is one run exactly where there is one.
+-- Turns find one run exactly if there is one.
 use Rattle.std.proofs.Common.{◌≡◌, ◌⊎◌, ℕ, zero, suc, ◌≤◌, Bool, true, false, cond, List, [], ◌∷◌, ◌++◌, Option, Some, None, refl, sym, ap, ◌∙◌, subst, eqb-true, eq-eqb, inl, inr, arith}
 use Rattle.std.specs.Prelude.{◌==◌}
 use Rattle.std.specs.List.{AllByRecursion, Contains}
@@ -16,7 +16,7 @@ abbrev in_order : Found → List RunItem
 in_order (Order order) = order
 in_order (Stuck left) = left
 
--- ---- an order that is found
+-- ---- an order that turns find
 
 end_is : (hs gone order : List RunItem) → found hs gone ≡ Order order → (hs ≡ []) × (gone ≡ order)
 end_is [] gone order e = (refl, ap in_order e)
@@ -34,7 +34,7 @@ module _ (lives : List LivesValue) where
   abbrev es : List ℕ
   es = endpoints_of lives
 
-  -- where no item is left of any endpoint that has lives, none is left at all
+  -- if no item is left of any endpoint that has lives, none is left at all
   all_gone : (left : ℕ → List RunItem) (gone : List RunItem) → IsAtTurn lives left gone → heads es left ≡ [] → (e : ℕ) → left e ≡ []
   all_gone left gone at none e = by (lives_or_none lives e)
     where
@@ -101,10 +101,10 @@ module _ (lives : List LivesValue) where
           let few_then : count_left es (without_next left i.endpoint) ≤ n = omega (arith, few, less) in
           onward (without_next left i.endpoint) (gone ++ i ∷ []) (after_one lives left gone at es i nx) few_then e
 
--- ---- then no order is one run
+-- ---- if turns are stuck, no order is one run
 
 module _ (t : RunItem) where
-  -- an item of an endpoint among these sent what it sent
+  -- an item of an endpoint among these sent its message
   among_sent : (xs : List RunItem) (e : ℕ) (ys zs : List RunItem) → items_by e xs ≡ ys ++ t ∷ zs → (m : Message) → Contains (messages_of (t ∷ [])) m → Contains (messages_of xs) m
   among_sent [] e [] zs is m c = absurd cc
   among_sent [] e (y ∷ ys) zs is m c = absurd cc
@@ -123,7 +123,7 @@ module _ (t : RunItem) where
       by false us is onward = more (onward us is m c)
 
 module _ (lives : List LivesValue) (stuck : List RunItem) (s : AreStuck lives stuck) where
-  -- what is behind these items in a run is still among those gone, and they sent no more than those
+  -- all items of these are among those gone, and they sent no more than those
   record Within (front : List RunItem) : Type 0 where
     behind : (e : ℕ) → (more : List RunItem) × (items_by e s.gone ≡ items_by e front ++ more)
     heard : (m : Message) → Contains (messages_of front) m → Contains (messages_of s.gone) m

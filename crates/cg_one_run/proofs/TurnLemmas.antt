@@ -9,7 +9,7 @@ use Rattle.cg_one_run.specs.OneRun.{items_by, EachWasSent}
 use Rattle.cg_one_run.specs.Turns.{can_go, ready, lesser, next, rest, without_next, first, heads, count_left}
 use Rattle.cg_one_run.proofs.ItemLemmas.{IsIn, IsOf, all_last, named_at, going_was_sent, items_both, sent_more}
 
--- ---- who goes next
+-- ---- the item that goes next
 
 -- the item is the next one left of an endpoint, and can go
 pub record IsNext (es : List ℕ) (left : ℕ → List RunItem) (gone : List RunItem) (i : RunItem) : Type 0 where
@@ -69,7 +69,7 @@ module _ (left : ℕ → List RunItem) (gone : List RunItem) where
   before [] others a b = b
   before (i ∷ is) others a b = (a.0, b)
 
-  -- where nobody goes, no next item can
+  -- if no item goes, no next item can
   pub heads_stay : (es : List ℕ) → next es left gone ≡ None → AllByRecursion CanNotGo (heads es left)
   heads_stay [] e = tt
   heads_stay (x ∷ es) e = let n = neither (ready gone (left x)) (next es left gone) e in before (left x) (heads es left) (stays (left x) n.0) (heads_stay es n.1)
@@ -119,7 +119,7 @@ module _ (left : ℕ → List RunItem) where
       omega (arith, long, was, there)
   count_less (x ∷ es) e i more is (inr in_es) = let here = rest_shorter (x == e) (left x) in let there = count_less es e i more is in_es in omega (arith, here, there)
 
--- ---- what stays true at each turn
+-- ---- the invariant of the turns
 
 -- these items have gone, in an order as a run has it, and the others are left
 pub record IsAtTurn (lives : List LivesValue) (left : ℕ → List RunItem) (gone : List RunItem) : Type 0 where
@@ -127,7 +127,7 @@ pub record IsAtTurn (lives : List LivesValue) (left : ℕ → List RunItem) (gon
   pub sent : EachWasSent [] gone
 
 module _ (lives : List LivesValue) (left : ℕ → List RunItem) (gone : List RunItem) (at : IsAtTurn lives left gone) where
-  -- what is left of an endpoint is of it
+  -- the items left of an endpoint are of it
   pub left_named : (e : ℕ) → AllByRecursion (IsOf e) (left e)
   left_named e = all_last (IsOf e) (items_by e gone) (left e) (subst (AllByRecursion (IsOf e)) (sym (at.parted e)) (named_at lives e))
 

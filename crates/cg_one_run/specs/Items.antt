@@ -1,4 +1,4 @@
--- What nodes did, one item at a time.
+-- Items: the starts and the records of nodes' lives.
 use Rattle.std.specs.Prelude.{ℕ, suc, ◌==◌, List, [], ◌∷◌, ◌++◌, Option, None, if◌then◌else◌}
 use Rattle.cg_table.specs.Own.{own_entry}
 use Rattle.cg_messages.specs.declared.message.Message.{Message}

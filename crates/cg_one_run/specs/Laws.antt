@@ -1,4 +1,4 @@
--- The order that is found by turns is one run exactly where there is one.
+-- Turns find an order that is one run exactly if there is one.
 use Rattle.std.specs.Prelude.{ℕ, ◌≡◌, ◌++◌, false, List, []}
 use Rattle.std.specs.List.{AllByRecursion}
 use Rattle.cg_one_run.specs.Items.{RunItem, LivesValue, items_at}
@@ -14,8 +14,8 @@ abbrev pub StuckLivesAreNoRun : Type 0
 StuckLivesAreNoRun =
     (lives : List LivesValue) (left order : List RunItem) → order_of lives ≡ Stuck left → IsOneRun lives order → ⊥
 
--- Some items have gone, in an order as a run has it; of each endpoint some are left; the next of each that has
--- any are the heads, of which there are some; and none of these was sent what it handles by the items gone.
+-- Some items have gone, in an order as a run has it, and the others of each endpoint are left. The heads are the next
+-- item of each endpoint that has any left, and there are some. No item gone sent what one of the heads handles.
 pub record AreStuck (lives : List LivesValue) (stuck : List RunItem) : Type 0 where
   pub gone : List RunItem
   pub left : ℕ → List RunItem

@@ -1,11 +1,11 @@
--- In which orders the items of all lives can have been one run.
+-- One run: an order that the items of all lives can have had.
 use Rattle.std.specs.Prelude.{ℕ, ◌≡◌, ◌==◌, ⊤, List, [], ◌∷◌, ◌++◌, Option, Some, None, map}
 use Rattle.std.specs.List.{AllByRecursion, Contains, filter, filter_map}
 use Rattle.cg_types.specs.Rising.{Rises}
 use Rattle.cg_messages.specs.declared.message.Message.{Message}
 use Rattle.cg_one_run.specs.Items.{RunItem, LivesValue, generation_of, items_at}
 
--- what these items sent
+-- the messages that these items sent
 abbrev pub messages_of : List RunItem → List Message
 messages_of items = filter_map (λ (i : RunItem). i.sent) items
 
@@ -14,7 +14,7 @@ abbrev pub WasSent : List RunItem → Option Message → Type 0
 WasSent before None = ⊤
 WasSent before (Some m) = Contains (messages_of before) m
 
--- Each item handles only what those before it had sent.
+-- Each item handles only messages that those before it had sent.
 abbrev pub EachWasSent : List RunItem → List RunItem → Type 0
 EachWasSent before [] = ⊤
 EachWasSent before (i ∷ is) = WasSent before i.handled × EachWasSent (before ++ i ∷ []) is

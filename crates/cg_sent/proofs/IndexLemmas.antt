@@ -1,4 +1,4 @@
--- A message is looked for down its bucket.
+-- A search for a message walks down its bucket.
 use Rattle.std.proofs.Common.{◌≡◌, ◌⊎◌, ℕ, suc, ◌+◌, ◌≤◌, ◌<◌, ◌%◌, List, [], ◌∷◌, ◌++◌, length, map, get_or, Option, Some, None, refl, sym, ap, ◌∙◌, subst, inl, inr, arith}
 use Rattle.std.specs.List.{Contains, slice_get}
 use Rattle.std.specs.Option.{option_map}
@@ -22,7 +22,7 @@ contains_at xs place x at = (place, slice_get_within xs place x at, get_or_from_
 pub at_contained : {X : Type 0} (xs : List X) (x : X) → Contains xs x → (place : ℕ) × (slice_get xs place ≡ Some x)
 at_contained xs x c = (c.0, slice_get-get_or xs c.0 x c.1 ∙ ap Some c.2)
 
--- The message stands nowhere from this number on, and the one of this number is in its bucket.
+-- The message is at no place from this number on, and the one of this number is in its bucket.
 pub record IsPassed (messages : List Message) (hashes : List ℕ) (buckets : ℕ) (m : Message) (number : ℕ) : Type 0 where
   pub within : number ≤ length hashes
   pub here : (place : ℕ) → number ≡ suc place → get_or hashes place 0 % buckets ≡ hash_of m % buckets

@@ -22,7 +22,7 @@ module _ (hashes : List ℕ) (hash buckets : ℕ) where
   at_end : get_or longer (length hashes) 0 ≡ hash
   at_end = get_or_push hashes hash 0 (length hashes) refl
 
-  -- what holds of the first ones stays
+  -- the last of a bucket among the first ones stays the last
   still_last : (bucket first number : ℕ) → first ≤ length hashes → IsLast hashes buckets bucket first number → IsLast longer buckets bucket first number
   still_last bucket first number few l = record {
     within = l.within;
@@ -105,7 +105,7 @@ module _ (messages : List Message) (hashes last before : List ℕ) (ix : IsIndex
             (step_of place (cases_lt place (length hashes)) less);
       }
 
--- what is among them already makes no difference
+-- a message that is among them already makes no difference
 pub same_with : (xs : List Message) (x : Message) → Contains xs x → HaveTheSame xs (xs ++ x ∷ [])
 same_with xs x there m = (Contains-append_left xs (x ∷ []) m, λ c. by (Contains-append_cases xs (x ∷ []) m c))
   where

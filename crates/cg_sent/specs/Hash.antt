@@ -27,7 +27,7 @@ with_request hash r = mixed (mixed hash (endpoint_number r.endpoint)) r.version
 abbrev pub with_delta : ℕ → OwnerDelta → ℕ
 with_delta hash d = mixed (mixed hash (endpoint_number d.endpoint)) (greatest d.delta.heartbeat d.delta.states)
 
--- the hash of what a message says
+-- the hash of a message's content
 abbrev pub hash_of : Message → ℕ
 hash_of (Syn syn) = fold with_digest 1 syn.digests
 hash_of (Ack ack) = fold with_delta (fold with_request 2 ack.requests) ack.deltas

@@ -3,7 +3,7 @@ use Rattle.std.specs.Prelude.{ℕ, suc, ◌≡◌, ◌<◌, ◌≤◌, ◌%◌, 
 use Rattle.cg_messages.specs.declared.message.Message.{Message}
 use Rattle.cg_sent.specs.Hash.{hash_of}
 
--- Of the first ones, so many, the greatest number of a bucket, or 0 where the bucket has none of them.
+-- The greatest number of a bucket among this many first messages, or 0 if the bucket has none of them.
 pub record IsLast (hashes : List ℕ) (buckets bucket first number : ℕ) : Type 0 where
   pub within : number ≤ first
   pub here : (place : ℕ) → number ≡ suc place → slice_index hashes place % buckets ≡ bucket
@@ -19,6 +19,6 @@ pub record IsIndex (messages : List Message) (hashes last before : List ℕ) : T
   pub steps : (place : ℕ) → place < length hashes
       → IsLast hashes (length last) (slice_index hashes place % length last) place (slice_index before place)
 
--- The same messages are among both.
+-- The same messages are in both lists.
 abbrev pub HaveTheSame : List Message → List Message → Type 0
 HaveTheSame xs ys = (m : Message) → Contains xs m ↔ Contains ys m

@@ -8,7 +8,7 @@ use cg_entry::Digest;
 use cg_messages::{Ack, Ack2, Lent, OwnerDelta, Request, Syn};
 use cg_types::Endpoint;
 
-/// What a hash is multiplied by before a number is added: odd, and with its bits spread out.
+/// The factor of a hash before a number is added: odd, and with its bits spread out.
 const FACTOR: u64 = 0x9e37_79b9_7f4a_7c15;
 
 fn mixed(hash: u64, number: u32) -> u64
@@ -59,7 +59,7 @@ fn deltas_in(mut hash: u64, deltas: &[OwnerDelta]) -> u64
     hash
 }
 
-/// The hash of what a message says.
+/// Returns the hash of a message's content.
 pub(crate) fn hash_of(message: Lent<'_>) -> u64
     ensures { result ≡ hash_of_lem (lent_message message.entry) }
 {

@@ -11,8 +11,8 @@ use cg_messages::Lent;
 use std::alloc::{AllocError, Global};
 use std::marker::Model;
 
-/// Messages that were sent. Each stands in the bucket of its hash, and knows the one before it there, so that a message
-/// is looked for among those of its bucket alone. Messages are numbered from 1, and 0 is none.
+/// Messages that were sent. Each is in the bucket of its hash, and knows the one before it there, so a search walks
+/// that bucket alone. Messages are numbered from 1; 0 is no message.
 #[derive(Drop)]
 pub struct Sent<'a> {
     messages: Vec<Lent<'a>>,
@@ -42,7 +42,7 @@ impl<'a> Model for Sent<'a> {
         IsIndex (map lent_message s.messages.items) s.hashes.items s.last.items s.before.items };
 }
 
-// The bucket of a hash.
+// Returns the bucket of a hash.
 fn bucket_of(hash: u64, last: &[usize]) -> usize
     requires { 0 < length last.now }
     ensures { result ≡ hash % length last.now }
@@ -56,7 +56,7 @@ fn count_of(hashes: &[u64]) -> usize
     hashes.len()
 }
 
-// Whether a message stands at a place.
+// Returns `true` if this message is at a place.
 fn is_at(messages: &[Lent<'_>], hashes: &[u64], place: usize, wanted: Lent<'_>, hash: u64) -> bool
     requires place { place < length hashes.now }
     requires wanted { hash ≡ hash_of_lem (lent_message wanted) }
@@ -67,7 +67,7 @@ fn is_at(messages: &[Lent<'_>], hashes: &[u64], place: usize, wanted: Lent<'_>, 
     hashes[place] == hash && is_same(messages[place], wanted)
 }
 
-// Whether a message is among these, which is to say, in its bucket.
+// Returns `true` if a message is among these, which is to say, in its bucket.
 fn is_among(
     messages: &[Lent<'_>],
     hashes: &[u64],
@@ -92,7 +92,7 @@ fn is_among(
 }
 
 impl<'a> Sent<'a> {
-    /// No messages, with room for so many. More find room as well, in fuller buckets.
+    /// Returns no messages, with room for this number. More than these can be added too, in fuller buckets.
     pub fn none(alloc: Global, room: usize) -> Result<Sent<'a>, AllocError>
         ensures { IfOk result (λ s. s ≡ []) }
     {
@@ -104,7 +104,7 @@ impl<'a> Sent<'a> {
         })
     }
 
-    /// Whether a message is among them.
+    /// Returns `true` if an equal message is among these.
     pub fn contains(&self, message: Lent<'_>) -> bool
         ensures { IsTrue result ↔ Contains self.now (lent_message message.entry) }
     {
@@ -117,7 +117,7 @@ impl<'a> Sent<'a> {
         )
     }
 
-    // These and one more, at the end.
+    // Returns these and one more, at the end.
     fn pushed(self, message: Lent<'a>) -> Result<Sent<'a>, AllocError>
         ensures { IfOk result (λ s. s ≡ self.entry ++ lent_message message.entry ∷ []) }
     {
@@ -141,7 +141,7 @@ impl<'a> Sent<'a> {
         })
     }
 
-    /// These and one more. One that is among them already is not kept again.
+    /// Returns these messages and one more. One that is among them already is not kept again.
     pub fn with(self, message: Lent<'a>) -> Result<Sent<'a>, AllocError>
         ensures { IfOk result (λ s.
             HaveTheSame s (self.entry ++ lent_message message.entry ∷ [])) }

@@ -1,7 +1,7 @@
-//! Messages that were sent, found by what they say.
+//! Messages that were sent, found by their content.
 //!
-//! `Sent` keeps messages in buckets by a hash of what they say, so that whether a message is among them is answered
-//! in a few steps, and exactly: messages of one hash are compared.
+//! `Sent` keeps messages in buckets by a hash of their content. So a search for a message takes a few steps, and its
+//! answer is exact: messages of one hash are compared.
 #![tactic(auto)]
 
 mod hash;

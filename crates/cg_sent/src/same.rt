@@ -1,4 +1,4 @@
-//! Whether two messages that are lent are the same.
+//! Comparison of two messages that are passed by reference.
 
 ghost use Rattle.std.specs.Prelude.{◌≡◌, ◌↔◌, IsTrue};
 ghost use Rattle.cg_messages.specs.Lent.{lent_message};
@@ -23,7 +23,7 @@ fn same_ack2(one: &Ack2, other: &Ack2) -> bool
     *one == *other
 }
 
-/// Whether both are of one kind and the same.
+/// Returns `true` if both messages are of one kind and equal.
 pub(crate) fn is_same(one: Lent<'_>, other: Lent<'_>) -> bool
     ensures { IsTrue result ↔ (lent_message one.entry ≡ lent_message other.entry) }
 {

@@ -20,13 +20,11 @@ use std::io::Read;
 pub const PIECE_LIMIT: usize = 4096;
 
 /// The most reads of one message. Each but the last gives a byte or more, so the longest frame is whole before that
-/// many
-/// reads are made.
+/// many reads are made.
 pub const MOST_TURNS: usize = LAYOUT_1.length + 10;
 
 // Takes a chunk that passes neither the present length nor the present frame. Returns the message that is whole with
-// it,
-// or nothing.
+// it, or nothing.
 fn take_piece(feed: &mut Feed, piece: &[u8]) -> Result<Option<Message>, Fault>
     requires sound { IsOk feed.old }
     requires fits { length piece.now ≤ wants_of feed.old }
@@ -50,8 +48,8 @@ fn take_piece(feed: &mut Feed, piece: &[u8]) -> Result<Option<Message>, Fault>
 /// Reads one message in any layout, and no byte after it; `None` if the input ends before it.
 ///
 /// Each read requests the bytes that the present length or frame lacks, and at most 4,096. `BadFrame` if the bytes
-/// begin
-/// with that fault, `Truncated` if the input ends inside the message, `ReadFault` if a read failed, and `OutOfMemory`.
+/// begin with that fault, `Truncated` if the input ends inside the message, `ReadFault` if a read failed, and
+/// `OutOfMemory`.
 pub fn receive<R: Read>(alloc: Global, reader: &mut Counted<R>) -> Result<Option<Message>, Fault>
     ensures came { Receives (R.remaining (link_of reader.old)) (R.remaining (link_of reader.new))
         reader.old reader.new result }
