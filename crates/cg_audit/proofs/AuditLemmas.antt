@@ -1,4 +1,4 @@
--- From what turns find to what an audit answers.
+-- Steps from the result of the turns to the answer of an audit.
 use Rattle.std.proofs.Common.{◌≡◌, ℕ, Bool, true, false, cond, List, [], ◌∷◌, map, refl, sym, ap, ◌∙◌, subst, eqb-true}
 use Rattle.std.specs.Prelude.{◌==◌, ◌&&◌, Result, Ok, Err, None}
 use Rattle.cg_types.specs.Rising.{rise_past}
@@ -37,7 +37,7 @@ found_is_order ls =
     ap (λ f. turns.turns (turns.count_left (endpoints_in (map track_of ls)) f) (endpoints_in (map track_of ls)) f []) left
     ∙ ap (λ es. turns.turns (turns.count_left es (items_at ls)) es (items_at ls) []) (endpoints_same ls)
 
--- ---- whether generations rise
+-- ---- tests that generations rise
 
 pub they_rise : (ls : List LivesValue) → all_rise ls ≡ true → GenerationsRise ls
 they_rise [] e = tt
@@ -51,7 +51,7 @@ pub they_fall : (ls : List LivesValue) → all_rise ls ≡ false → Generations
 they_fall [] e rise = absurd cc
 they_fall (l ∷ ls) e rise = they_fall ls (ap (λ b. b && all_rise ls) (sym rise.0) ∙ e) rise.1
 
--- ---- what is answered
+-- ---- the answer
 
 module _ (ls : List LivesValue) (rise : GenerationsRise ls) (orders : OrdersAreRuns) (stuck : StuckLivesAreNoRun) (heads : HeadsCanNotGo) where
   memory : (fault : Fault) → fault ≡ OutOfMemory → IsAudited ls (Err (Other fault))

@@ -1,4 +1,4 @@
--- What is left of lives from a cursor on.
+-- Items left of lives, from a cursor on.
 use Rattle.std.proofs.Common.{◌≡◌, ℕ, zero, suc, ◌+◌, ◌-◌, ◌≤◌, ◌<◌, List, [], ◌∷◌, ◌++◌, length, map, drop, take, get_or, Option, Some, None, refl, sym, ap, ◌∙◌, subst, arith, slice_get}
 use Rattle.std.specs.Option.{option_map, option_to_list, option_and_then}
 use Rattle.std.proofs.lemmas.Option.{slice_get-get_or, slice_get_past}
@@ -32,7 +32,7 @@ item_in_life e h (suc k) some =
     ∙ ap (λ m. option_map (item_of e (generation_of h) m) (slice_get h.records k)) number
     ∙ ap (λ j. option_map (item_of e (generation_of h) (suc k)) (slice_get h.records j)) place
 
--- ---- what is left
+-- ---- items left
 
 left_zero : (e : ℕ) (hs : List HistoryValue) → left_from e hs 0 ≡ items_of_lives e hs
 left_zero e [] = refl
@@ -41,7 +41,7 @@ left_zero e (h ∷ hs) = refl
 pub left_none : (e : ℕ) (hs : List HistoryValue) (c : Cursor) → slice_get hs c.life ≡ None → left_at e hs c ≡ []
 left_none e hs c none = ap (λ l. left_from e l c.number) (drop_past hs c.life none)
 
--- where a life has no item of the number, the next one begins
+-- if a life has no item of the number, the next life begins
 pub left_past : (e : ℕ) (hs : List HistoryValue) (c : Cursor) (h : HistoryValue) → slice_get hs c.life ≡ Some h → length h.records < c.number
     → left_at e hs (record { life = c.life + 1; number = 0 }) ≡ left_at e hs c
 left_past e hs c h at past =
@@ -51,7 +51,7 @@ left_past e hs c h at past =
     ∙ ap (λ l. l ++ items_of_lives e (drop (suc c.life) hs)) (sym (drop_past (items_of_life e h) c.number (slice_get_past (items_of_life e h) c.number long)))
     ∙ ap (λ l. left_from e l c.number) (sym (drop_at hs c.life h at))
 
--- the item of the number is the next one
+-- the life has an item of the number, which is the next one
 pub record HasItem (e : ℕ) (hs : List HistoryValue) (c : Cursor) (h : HistoryValue) : Type 0 where
   pub item : RunItem
   pub at : slice_get (items_of_life e h) c.number ≡ Some item

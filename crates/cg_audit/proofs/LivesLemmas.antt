@@ -47,7 +47,7 @@ start_over_lives ls distinct =
 
 module _ (ls : List LivesValue) (cs : List Cursor) (same : length cs ≡ length ls) (start : List Track) (sent : List Message) (order : List LifeItem) (at : IsAtTurn start (tracks ls cs) sent order)
     (place : ℕ) (n : IsNext sent (tracks ls cs) (Some place)) (l : LivesValue) (c : Cursor) (here : slice_get ls place ≡ Some l) (there : slice_get cs place ≡ Some c) where
-  -- the item that goes is the next one of these lives
+  -- the next item to go is the next one of these lives
   pub record Goes (i : RunItem) : Type 0 where
     pub next : next_item sent (tracks ls cs) ≡ Some i
     pub first : turns.first (track_at l c).left ≡ i ∷ []

@@ -1,4 +1,4 @@
--- The item that goes next is found place by place.
+-- A search, place by place, finds the item that goes next.
 use Rattle.std.proofs.Common.{◌≡◌, ◌⊎◌, ℕ, zero, suc, ◌+◌, ◌≤◌, ◌<◌, Bool, true, false, cond, List, [], ◌∷◌, ◌++◌, length, map, drop, get_or, Option, Some, None, refl, sym, ap, ◌∙◌, subst, eq-eqb, inl, inr, arith, slice_get}
 use Rattle.std.specs.Prelude.{◌==◌, ◌||◌, ◌&&◌, not, nat_le, nat_lt, slice_index, is_some}
 use Rattle.std.specs.Option.{option_and_then, IfSome}
@@ -74,7 +74,7 @@ named_tracks [] cs = tt
 named_tracks (l ∷ ls) [] = tt
 named_tracks (l ∷ ls) (c ∷ cs) = (named_from l.endpoint (drop c.life l.histories) c.number, named_tracks ls cs)
 
--- ---- what can go
+-- ---- items that can go
 
 pub ready_none : (sent : List Message) (is : List RunItem) → [] ≡ turns.first is → is_some (ready_item sent is) ≡ false
 ready_none sent [] e = refl
@@ -144,7 +144,7 @@ endpoint_there [] place t at = absurd cc
 endpoint_there (x ∷ ts) zero t at = let same : x ≡ t = cc in ap (λ (y : Track). y.endpoint) same
 endpoint_there (x ∷ ts) (suc place) t at = endpoint_there ts place t at
 
--- The best of the items before a place was chosen.
+-- The chosen place is that of the best item before this place.
 pub record IsNextSoFar (sent : List Message) (ts : List Track) (place : ℕ) (chosen : Option ℕ) : Type 0 where
   pub best : Option RunItem
   pub so_far : next_item sent ts ≡ turns.lesser best (next_item sent (drop place ts))

@@ -1,4 +1,4 @@
--- What stands at a place of a list.
+-- Lemmas: the element at a place of a list.
 use Rattle.std.proofs.Common.{◌≡◌, ℕ, zero, suc, ◌<◌, ◌≤◌, arith, length, take, List, [], ◌∷◌, drop, Option, Some, None, refl, sym, ap, ◌∙◌, slice_get}
 
 pub drop_nothing : {X : Type 0} (k : ℕ) → drop k (let none : List X = [] in none) ≡ []

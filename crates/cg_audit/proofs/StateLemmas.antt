@@ -1,4 +1,4 @@
--- Where turns have come to.
+-- The state of the turns, after some items have gone.
 use Rattle.std.proofs.Common.{◌≡◌, ◌⊎◌, ℕ, true, zero, suc, ◌+◌, ◌≤◌, List, [], ◌∷◌, ◌++◌, length, map, Option, Some, None, refl, sym, ap, ◌∙◌, subst, inl, inr, arith, slice_get}
 use Rattle.std.specs.List.{Contains}
 use Rattle.std.proofs.Math.ListN.{set}
@@ -16,8 +16,8 @@ use Rattle.cg_audit.specs.Track.{Track}
 use Rattle.cg_audit.specs.Tracks.{advanced, are_distinct, endpoints_in, left_in, found_of, next_item, heads_left}
 use Rattle.cg_audit.proofs.TrackLemmas.{Agrees, next_agrees, heads_agree, count_in, count_agrees, agrees_at_start, endpoints_stay, agrees_after, count_after}
 
--- From these tracks on, some items have gone, in this order, sent these messages, and left these tracks; what turns find
--- from here is what they find from the start.
+-- From the start, some items have gone, in this order, sent these messages, and left these tracks. Turns find from here
+-- the same as from the start.
 pub record IsAtTurn (start ts : List Track) (sent : List Message) (order : List LifeItem) : Type 0 where
   pub fuel : ℕ
   pub left : ℕ → List RunItem
@@ -44,7 +44,7 @@ at_start ts distinct =
       ordered = refl;
     }
 
--- more of the same on both sides
+-- the same messages with more of them on both sides
 same_more : (xs ys zs ws : List Message) → HaveTheSame zs (xs ++ ws) → HaveTheSame xs ys → HaveTheSame zs (ys ++ ws)
 same_more xs ys zs ws one two m = (λ c. to (Contains-append_cases xs ws m ((one m).0 c)), λ c. (one m).1 (back (Contains-append_cases ys ws m c)))
   where
@@ -86,7 +86,7 @@ module _ (start ts : List Track) (sent : List Message) (order : List LifeItem) (
             ordered = ap (λ l. l ++ life_item i ∷ []) at.ordered ∙ sym (map-append life_item at.gone (i ∷ []));
           }
 
-  -- nobody can go
+  -- no item can go
   pub at_end : next_item sent ts ≡ None → found_of start ≡ turns.found (heads_left ts) at.gone
   at_end next = by at.fuel at.found ∙ ap (λ hs. turns.found hs at.gone) (heads_agree at.left ts at.agrees)
     where
@@ -94,7 +94,7 @@ module _ (start ts : List Track) (sent : List Message) (order : List LifeItem) (
       by zero found = found
       by (suc fuel) found = found ∙ ap (λ o. turns.after_turn o (turns.found (turns.heads (endpoints_in ts) at.left) at.gone) (λ (j : RunItem). turns.turns fuel (endpoints_in ts) (turns.without_next at.left j.endpoint) (at.gone ++ j ∷ []))) (next_here ∙ next)
 
--- where no head is left, all have gone; else they are stuck
+-- if no head is left, all items have gone; else they are stuck
 pub no_heads : (hs gone : List RunItem) → map life_item hs ≡ [] → turns.found hs gone ≡ turns.Order gone
 no_heads [] gone e = refl
 no_heads (h ∷ hs) gone e = absurd cc

@@ -14,9 +14,9 @@ use Rattle.cg_one_run.proofs.ItemLemmas.{among_is_in, in_is_among}
 use Rattle.cg_audit.specs.Track.{Track}
 use Rattle.cg_audit.specs.Tracks.{advanced, are_distinct, endpoints_in, left_in, goes, ready_item, next_item, heads_left}
 
--- ---- what can go
+-- ---- items that can go
 
--- only which messages are among them counts
+-- the result depends only on the set of the messages
 among_same : (xs ys : List Message) → HaveTheSame xs ys → (m : Message) → turns.is_among xs m ≡ turns.is_among ys m
 among_same xs ys same m =
     both_ways (turns.is_among xs m) (turns.is_among ys m)
@@ -31,9 +31,9 @@ ready_same : (sent : List Message) (gone : List RunItem) → HaveTheSame sent (m
 ready_same sent gone same [] = refl
 ready_same sent gone same (i ∷ is) = ap (λ b. cond b (Some i) None) (goes_same sent gone same i.handled)
 
--- ---- what is left
+-- ---- items left
 
--- the tracks have what is left of their endpoints
+-- the tracks have the items left of their endpoints
 abbrev pub Agrees : (ℕ → List RunItem) → List Track → Type 0
 Agrees left ts = AllByRecursion (λ (t : Track). left t.endpoint ≡ t.left) ts
 
@@ -49,7 +49,7 @@ heads_agree left [] agrees = refl
 heads_agree left (t ∷ ts) agrees =
     ap (λ is. turns.first is ++ turns.heads (endpoints_in ts) left) agrees.0 ∙ ap (λ is. turns.first t.left ++ is) (heads_agree left ts agrees.1)
 
--- how many items are left
+-- the number of items left
 abbrev pub count_in : List Track → ℕ
 count_in [] = 0
 count_in (t ∷ ts) = length t.left + count_in ts
@@ -59,7 +59,7 @@ count_agrees left [] agrees = refl
 count_agrees left (t ∷ ts) agrees =
     ap (λ is. length is + turns.count_left (endpoints_in ts) left) agrees.0 ∙ ap (λ n. length t.left + n) (count_agrees left ts agrees.1)
 
--- where two functions differ at one endpoint alone, tracks of others agree with both
+-- if two functions differ at one endpoint alone, tracks of others agree with both
 agrees_elsewhere : (f g : ℕ → List RunItem) (e : ℕ) → ((y : ℕ) → (y == e) ≡ false → g y ≡ f y) → (ts : List Track) → is_among (endpoints_in ts) e ≡ false → Agrees f ts → Agrees g ts
 agrees_elsewhere f g e same [] other agrees = tt
 agrees_elsewhere f g e same (t ∷ ts) other agrees =
@@ -74,7 +74,7 @@ distinct_parts : (a b : Bool) → (not a && b) ≡ true → (a ≡ false) × (b 
 distinct_parts true b e = absurd cc
 distinct_parts false b e = (refl, e)
 
--- all that is left is in the tracks
+-- all items left are in the tracks
 pub agrees_at_start : (ts : List Track) → are_distinct (endpoints_in ts) ≡ true → Agrees (left_in ts) ts
 agrees_at_start [] distinct = tt
 agrees_at_start (t ∷ ts) distinct =
@@ -153,6 +153,6 @@ named_first (x ∷ ts) named zero t i at first = let same : x ≡ t = cc in one 
     one (j ∷ js) all e = let same_item : j ≡ i = cc in subst (λ (k : RunItem). k.endpoint ≡ t.endpoint) same_item all.0
 named_first (x ∷ ts) named (suc place) t i at first = named_first ts named.1 place t i at first
 
--- a test that tells whether a message is among these
+-- a test that decides if a message is among these
 pub among_decides : (r : Bool) (xs : List Message) (m : Message) → (r ≡ true → Contains xs m) × (Contains xs m → r ≡ true) → r ≡ turns.is_among xs m
 among_decides r xs m tells = both_ways r (turns.is_among xs m) (λ e. in_is_among xs m (tells.0 e)) (λ e. tells.1 (among_is_in xs m e))

@@ -1,4 +1,4 @@
--- What an audit answers.
+-- The answers of an audit.
 use Rattle.std.specs.Prelude.{◌≡◌, List, map, Result, Ok, Err}
 use Rattle.cg_types.specs.declared.fault.Fault.{Fault}
 use Rattle.cg_types.specs.declared.fault.Fault.TheVariants.{NotRising, OutOfMemory}
@@ -15,16 +15,16 @@ use Rattle.cg_audit.specs.declared.item.AuditFault.TheVariants.{Other, Stuck}
 abbrev pub life_item : RunItem → LifeItem
 life_item i = record { endpoint = i.endpoint; generation = i.generation; number = i.number }
 
--- These are all items of all lives, in an order in which they can have been one run, and it is the one by turns: at
--- each the least endpoint goes whose next item can go.
+-- These are all items of all lives, in an order in which they can have been one run. It is the order by turns: at each
+-- turn the least endpoint goes whose next item can go.
 pub record IsOrder (lives : List LivesValue) (order : List LifeItem) : Type 0 where
   pub items : List RunItem
   pub named : order ≡ map life_item items
   pub is_run : IsOneRun lives items
   pub by_turns : turns.order_of lives ≡ turns.Order items
 
--- No order of all items is one run, though the generations rise, and these are the heads that turns leave: each handles
--- what no item gone sent.
+-- No order of all items is one run, though the generations rise. These are the heads that turns leave: each handles a
+-- message that no item gone sent.
 pub record IsStuck (lives : List LivesValue) (heads : List LifeItem) : Type 0 where
   pub items : List RunItem
   pub named : heads ≡ map life_item items
@@ -33,8 +33,8 @@ pub record IsStuck (lives : List LivesValue) (heads : List LifeItem) : Type 0 wh
   pub are_stuck : AreStuck lives items
   pub by_turns : turns.order_of lives ≡ turns.Stuck items
 
--- NotRising comes first, exactly where the generations of an endpoint do not rise, and memory is short only where an
--- order or the heads were due.
+-- NotRising comes first, exactly if the generations of an endpoint do not rise. OutOfMemory comes only in place of an
+-- order or of heads.
 abbrev pub IsAudited : List LivesValue → Result Order AuditFault → Type 0
 IsAudited lives (Ok order) = IsOrder lives order.items.items
 IsAudited lives (Err (Stuck heads)) = IsStuck lives heads.items

@@ -1,14 +1,14 @@
--- Which lives can be audited.
+-- Tests of lives that are to be audited.
 use Rattle.std.specs.Prelude.{Bool, true, ◌==◌, ◌&&◌, not, map, List, [], ◌∷◌, None}
 use Rattle.std.specs.List.{list_all, list_any}
 use Rattle.cg_types.specs.Rising.{rise_past}
 use Rattle.cg_one_run.specs.Items.{LivesValue, generation_of}
 
--- whether no two of these are of one endpoint
+-- `true` if no two of these are of one endpoint
 abbrev pub differ : List LivesValue → Bool
 differ [] = true
 differ (l ∷ ls) = not (list_any (λ (k : LivesValue). k.endpoint == l.endpoint) ls) && differ ls
 
--- whether the generations of each endpoint rise
+-- `true` if the generations of each endpoint rise
 abbrev pub all_rise : List LivesValue → Bool
 all_rise lives = list_all (λ (l : LivesValue). rise_past None (map generation_of l.histories)) lives

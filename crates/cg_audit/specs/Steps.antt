@@ -1,10 +1,10 @@
--- Items as they are kept.
+-- Steps as items.
 use Rattle.std.specs.Option.{option_map}
 use Rattle.cg_messages.specs.Lent.{lent_message}
 use Rattle.cg_one_run.specs.Items.{RunItem}
 use Rattle.cg_audit.specs.declared.step.Step.{Step}
 
--- the item that a step is
+-- the item of a step
 abbrev pub run_item : Step → RunItem
 run_item s = record {
   endpoint = s.item.endpoint;

@@ -1,4 +1,4 @@
--- What is left of an endpoint's items.
+-- The items left of an endpoint.
 use Rattle.std.specs.Prelude.{ℕ, List}
 use Rattle.cg_one_run.specs.Items.{RunItem}
 

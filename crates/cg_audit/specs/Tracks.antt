@@ -1,4 +1,4 @@
--- Turns over what is left of each endpoint's items.
+-- Turns over the items left of each endpoint.
 use Rattle.std.specs.Prelude.{ℕ, ◌≡◌, ◌≤◌, ◌==◌, ◌&&◌, is_some, nat_lt, slice_index, Bool, true, not, if◌then◌else◌, ⊤, List, [], ◌∷◌, ◌++◌, length, drop, map, Option, Some, None, Result, Ok, Err, slice_get}
 use Rattle.std.specs.Option.{option_and_then}
 use Rattle.cg_types.specs.Rising.{is_among}
@@ -18,7 +18,7 @@ use Rattle.cg_audit.specs.Audit.{life_item}
 abbrev pub track_of : LivesValue → Track
 track_of l = record { endpoint = l.endpoint; left = items_of_lives l.endpoint l.histories }
 
--- whether no number comes twice
+-- `true` if no number comes twice
 abbrev pub are_distinct : List ℕ → Bool
 are_distinct [] = true
 are_distinct (x ∷ xs) = not (is_among xs x) && are_distinct xs
@@ -26,14 +26,14 @@ are_distinct (x ∷ xs) = not (is_among xs x) && are_distinct xs
 abbrev pub endpoints_in : List Track → List ℕ
 endpoints_in ts = map (λ (t : Track). t.endpoint) ts
 
--- what is left of an endpoint
+-- the items left of an endpoint
 abbrev pub left_in : List Track → ℕ → List RunItem
 left_in [] e = []
 left_in (t ∷ ts) e = if t.endpoint == e then t.left else left_in ts e
 
 -- ---- cursors
 
--- from an item of the first of these lives on
+-- the items of these lives, from this item of the first life on
 abbrev pub left_from : ℕ → List HistoryValue → ℕ → List RunItem
 left_from e [] number = []
 left_from e (h ∷ hs) number = drop number (items_of_life e h) ++ items_of_lives e hs
@@ -58,27 +58,27 @@ tracks [] cs = []
 tracks (l ∷ ls) [] = []
 tracks (l ∷ ls) (c ∷ cs) = track_at l c ∷ tracks ls cs
 
--- no item has gone
+-- cursors before the first item of each endpoint
 abbrev pub first_cursors : List LivesValue → List Cursor
 first_cursors lives = map (λ (l : LivesValue). record { life = 0; number = 0 }) lives
 
--- the next item has gone
+-- the track after its next item has gone
 abbrev pub advanced : Track → Track
 advanced t = record { endpoint = t.endpoint; left = turns.rest t.left }
 
--- what turns find
+-- the result of the turns
 abbrev pub found_of : List Track → turns.Found
 found_of ts =
     turns.turns (turns.count_left (endpoints_in ts) (left_in ts)) (endpoints_in ts) (left_in ts) []
 
 -- ---- one turn
 
--- whether the message that an item handles, if any, was sent
+-- `true` if the message that an item handles, if any, was sent
 abbrev pub goes : List Message → Option Message → Bool
 goes sent None = true
 goes sent (Some m) = turns.is_among sent m
 
--- the next of these items, where it can go
+-- the next of these items, if it can go
 abbrev pub ready_item : List Message → List RunItem → Option RunItem
 ready_item sent [] = None
 ready_item sent (i ∷ is) = if goes sent i.handled then Some i else None
@@ -93,7 +93,7 @@ abbrev pub heads_left : List Track → List RunItem
 heads_left [] = []
 heads_left (t ∷ ts) = turns.first t.left ++ heads_left ts
 
--- ---- what is chosen at a turn
+-- ---- the choice of a turn
 
 -- The item is the next one of the track at this place.
 pub record IsFirstAt (ts : List Track) (place : ℕ) (i : RunItem) : Type 0 where
@@ -114,24 +114,24 @@ pub record IsNext (sent : List Message) (ts : List Track) (place : Option ℕ) :
   pub next : next_item sent ts ≡ item
   pub first : AreFirst ts place item
 
--- whether the number at a place is lesser than the one at another, if there is one
+-- `true` if the number at a place is less than the one at another, or if there is no other
 abbrev pub is_before : List ℕ → ℕ → Option ℕ → Bool
 is_before es place None = true
 is_before es place (Some other) = nat_lt (slice_index es place) (slice_index es other)
 
--- whether the next item at a place can go
+-- `true` if the next item at a place can go
 abbrev pub is_ready : List Message → List Track → ℕ → Bool
 is_ready sent ts place =
     is_some (option_and_then (λ (t : Track). ready_item sent t.left) (slice_get ts place))
 
--- of the place that was chosen and another, the one that goes
+-- the place that goes, of the chosen one and another
 abbrev pub better_place : List Message → List ℕ → List Track → ℕ → Option ℕ → Option ℕ
 better_place sent es ts place chosen =
     if is_before es place chosen && is_ready sent ts place then Some place else chosen
 
--- ---- what is answered
+-- ---- the answer
 
--- The order, or the heads, are what was found; only memory may be short.
+-- The order, or the heads, are those that turns found; the only other answer is that memory ran out.
 abbrev pub IsFound : turns.Found → Result Order AuditFault → Type 0
 IsFound (turns.Order items) (Ok order) = order.items.items ≡ map life_item items
 IsFound (turns.Order items) (Err (Stuck heads)) = ⊥

@@ -1,4 +1,4 @@
-//! How far the lives of an endpoint have come.
+//! Cursors: the next item of each endpoint's lives.
 
 ghost use Rattle.std.specs.Prelude.{◌≡◌, ◌+◌, ◌≤◌, ℕ, IfOk, length, option_copied, slice_get};
 ghost use Rattle.std.specs.Option.{option_map, option_to_list};
@@ -13,8 +13,8 @@ use cg_records::Item;
 use cg_types::Endpoint;
 use std::alloc::{AllocError, Global};
 
-/// The life whose turn it is, counted from 0, and the number of its next item, which stands in the life after it where
-/// it has none of this number.
+/// The life whose turn it is, counted from 0, and the number of its next item. If the life has no item of this number,
+/// the next item is the first of the life after it.
 #[derive(Clone, Copy, Debug)]
 pub(crate) struct Cursor {
     life: usize,
@@ -27,7 +27,7 @@ fn history_at(histories: &[History], place: usize) -> Option<&History>
     histories.get(place)
 }
 
-// The same with a life that has an item of the number, if any item is left.
+// Returns the same cursor, in a life that has an item of the number, if any item is left.
 fn settled(histories: &[History], cursor: Cursor) -> Cursor
     ensures same { (e : ℕ) → left_at e histories.now result ≡ left_at e histories.now cursor }
     ensures here { IsHere histories.now result }
@@ -57,7 +57,7 @@ fn first_in(endpoint: Endpoint, histories: &[History], cursor: Cursor) -> Option
     item_at(endpoint, histories, at)
 }
 
-/// The next item of some lives, if one is left.
+/// Returns the next item of some lives, if one is left.
 pub(crate) fn first(lives: &Lives, cursor: Cursor) -> Option<Step<'_>>
     ensures { option_to_list (option_map run_item result) ≡ first_of (track_at lives.now cursor).left }
 {
@@ -72,7 +72,7 @@ fn past(records: &[Item], number: usize) -> usize
     number + 1
 }
 
-// One item further, if the life has an item of the number.
+// Returns the cursor one item further, if the life has an item of the number.
 fn after(histories: &[History], cursor: Cursor) -> Cursor
     requires { IsHere histories.now cursor }
     ensures { (e : ℕ) → left_at e histories.now result ≡ rest (left_at e histories.now cursor) }
@@ -93,14 +93,14 @@ fn advanced_in(histories: &[History], cursor: Cursor) -> Cursor
     after(histories, at)
 }
 
-/// The next item of some lives goes, if one is left.
+/// Returns the cursor after the next item of some lives has gone, if one is left.
 pub(crate) fn advanced(lives: &Lives, cursor: Cursor) -> Cursor
     ensures { track_at lives.now result ≡ advanced_of (track_at lives.now cursor) }
 {
     advanced_in(lives.histories(), cursor)
 }
 
-/// No item of any lives has gone.
+/// Returns the cursors before any item has gone.
 pub(crate) fn cursors(alloc: Global, lives: &[Lives]) -> Result<Vec<Cursor>, AllocError>
     ensures { IfOk result (λ v. v.items ≡ first_cursors lives.now) }
 {

@@ -1,4 +1,4 @@
-//! Items of lives, orders of them, and why there is none.
+//! Items of lives, orders of them, and the faults of an audit.
 
 ghost use Rattle.std.specs.Prelude.{◌≡◌};
 ghost use Rattle.cg_types.specs.declared.fault.Fault.TheVariants.{OutOfMemory};
@@ -22,7 +22,7 @@ pub struct Order {
     pub items: Vec<LifeItem>,
 }
 
-/// Why an audit answers no order.
+/// The fault of an audit that returns no order.
 #[derive(Debug, Drop, Error)]
 pub enum AuditFault {
     /// The generations of an endpoint do not rise, or the memory that an answer needs was refused.

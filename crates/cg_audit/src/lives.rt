@@ -45,35 +45,35 @@ fn are_of(endpoint: Endpoint, histories: &[History]) -> bool
     histories.iter().all(|history| is_of(endpoint, history))
 }
 
-/// The generation of a life.
+/// Returns the generation of a life.
 pub(crate) fn generation(history: &History) -> Generation
     ensures { result ≡ generation_of history.now }
 {
     history.base().table().own_entry().generation()
 }
 
-// Whether each life has a greater generation than the one before it.
+// Returns `true` if each life has a greater generation than the one before it.
 fn rise(histories: &[History]) -> bool
     ensures { result ≡ rise_past None (map generation_of histories.now) }
 {
     histories.is_sorted_by(|one, next| generation(one).get() < generation(next).get())
 }
 
-/// Whether the generations of each endpoint rise.
+/// Returns `true` if the generations of each endpoint rise.
 pub(crate) fn all_rise(lives: &[Lives]) -> bool
     ensures { result ≡ all_rise_lem lives.now }
 {
     lives.iter().all(|one| rise(one.histories()))
 }
 
-// Whether some lives are of an endpoint.
+// Returns `true` if some lives are of an endpoint.
 fn is_here(endpoint: Endpoint, lives: &[Lives]) -> bool
     ensures { result ≡ list_any (λ (l : LivesValue). l.endpoint == endpoint) lives.now }
 {
     lives.iter().any(|one| one.endpoint() == endpoint)
 }
 
-/// Whether no two of these are of one endpoint.
+/// Returns `true` if no two of these are of one endpoint.
 pub fn endpoints_differ(lives: &[Lives]) -> bool
     ensures { result ≡ differ lives.now }
 {
@@ -88,7 +88,7 @@ pub fn endpoints_differ(lives: &[Lives]) -> bool
 }
 
 impl Lives {
-    /// `None` where a history did not begin with a node of the endpoint.
+    /// Makes the lives of an endpoint; `None` if a history did not begin with a node of the endpoint.
     pub fn new(endpoint: Endpoint, histories: Vec<History>) -> Option<Lives>
         ensures when { IsSome result ↔ IsTrue (are_of_lem endpoint histories.items) }
         ensures value { IfSome result (λ l. l ≡ record { endpoint = endpoint; histories = histories.items }) }
@@ -102,7 +102,7 @@ impl Lives {
         })
     }
 
-    /// Whose lives these are.
+    /// The endpoint whose lives these are.
     pub fn endpoint(&self) -> Endpoint
         ensures { result ≡ self.now.endpoint }
     {

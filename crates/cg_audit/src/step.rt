@@ -1,4 +1,4 @@
-//! Items with what they handle and send.
+//! Items with the messages that they handle and send.
 
 ghost use Rattle.std.specs.Prelude.{◌≡◌, option_copied, slice_get};
 ghost use Rattle.std.specs.Option.{option_map};
@@ -23,7 +23,7 @@ pub(crate) struct Step<'a> {
     pub(crate) sent: Option<Lent<'a>>,
 }
 
-// The message that an event hands over, if it hands one over.
+// Returns the message that an event hands over, if there is one.
 fn handled(event: &Event) -> Option<Lent<'_>>
     ensures { option_map lent_message result ≡ message_in event.now }
 {
@@ -69,7 +69,7 @@ fn step_of(endpoint: Endpoint, generation: Generation, number: u64, kept: &Item)
     }
 }
 
-/// The item of a life of this number, if it has one.
+/// Returns the item of a life with this number, if it has one.
 pub(crate) fn item_in(endpoint: Endpoint, history: &History, number: usize) -> Option<Step<'_>>
     ensures { option_map run_item result ≡ slice_get (items_of_life endpoint history.now) number }
 {

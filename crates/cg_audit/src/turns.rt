@@ -1,4 +1,4 @@
-//! Turns: at each the least endpoint goes whose next item can go.
+//! The search for an order by turns: at each turn the least endpoint goes whose next item can go.
 
 ghost use Rattle.std.specs.Prelude.{◌≡◌, ◌<◌, ◌==◌, ◌++◌, ◌&&◌, IsTrue, IfOk, IfSome, Some, length, map, is_some, nat_lt, slice_get, slice_index};
 ghost use Rattle.std.specs.Option.{option_map, option_to_list};
@@ -18,7 +18,7 @@ use cg_sent::Sent;
 use cg_types::Endpoint;
 use std::alloc::{AllocError, Global};
 
-// Whether a message, if there is one, was sent.
+// Returns `true` if a message, if there is one, was sent.
 fn can_go(handled: Option<Lent<'_>>, sent: &Sent<'_>) -> bool
     ensures { result ≡ goes sent.now (option_map lent_message handled.entry) }
 {
@@ -28,7 +28,7 @@ fn can_go(handled: Option<Lent<'_>>, sent: &Sent<'_>) -> bool
     }
 }
 
-// Whether the next item of some lives can go.
+// Returns `true` if the next item of some lives can go.
 fn is_ready(lives: &Lives, cursor: Cursor, sent: &Sent<'_>) -> bool
     ensures { result ≡ is_some (ready_item sent.now (track_at lives.now cursor).left) }
 {
@@ -51,7 +51,7 @@ fn is_less(one: Endpoint, other: Endpoint) -> bool
     one < other
 }
 
-// Whether the endpoint at a place is lesser than the one that was chosen, if one was.
+// Returns `true` if the endpoint at a place is less than the one that was chosen, or if none was.
 fn is_before(lives: &[Lives], place: usize, chosen: Option<usize>) -> bool
     requires place { place < length lives.now }
     requires chosen { IfSome chosen (λ c. c < length lives.now) }
@@ -77,7 +77,7 @@ fn cursor_at(cursors: &[Cursor], place: usize) -> Cursor
     cursors[place]
 }
 
-// Whether the next item of the lives at a place can go.
+// Returns `true` if the next item of the lives at a place can go.
 fn is_ready_at(lives: &[Lives], cursors: &[Cursor], sent: &Sent<'_>, place: usize) -> bool
     requires count { length cursors.now ≡ length lives.now }
     requires place { place < length lives.now }
@@ -88,7 +88,7 @@ fn is_ready_at(lives: &[Lives], cursors: &[Cursor], sent: &Sent<'_>, place: usiz
     is_ready(one, cursor, sent)
 }
 
-// Whether the item at a place goes before the one that was chosen.
+// Returns `true` if the item at a place goes before the one that was chosen.
 fn is_better(
     lives: &[Lives],
     cursors: &[Cursor],
@@ -106,7 +106,7 @@ fn is_better(
     is_before(lives, place, chosen) && is_ready_at(lives, cursors, sent, place)
 }
 
-// Of the place that was chosen and another, the one that goes.
+// Returns the place that goes, of the chosen one and another.
 fn better(
     lives: &[Lives],
     cursors: &[Cursor],
@@ -127,7 +127,7 @@ fn better(
     }
 }
 
-// The place of the least endpoint whose next item can go, if one can.
+// Returns the place of the least endpoint whose next item can go, if one can.
 fn next(lives: &[Lives], cursors: &[Cursor], sent: &Sent<'_>) -> Option<usize>
     requires { length cursors.now ≡ length lives.now }
     ensures { IsNext sent.now (tracks lives.now cursors.now) result }
@@ -139,7 +139,7 @@ fn next(lives: &[Lives], cursors: &[Cursor], sent: &Sent<'_>) -> Option<usize>
     chosen
 }
 
-// How many items there are, or the greatest number if there are more.
+// Returns the number of items, or the greatest number if there are more.
 fn count_of(lives: &[Lives]) -> usize {
     let mut count: usize = 0;
     for one in lives {
@@ -150,7 +150,7 @@ fn count_of(lives: &[Lives]) -> usize {
     count
 }
 
-// What was sent, with one more message, if there is one.
+// Returns the messages sent, with one more message, if there is one.
 fn with_message<'a>(sent: Sent<'a>, message: Option<Lent<'a>>) -> Result<Sent<'a>, AllocError>
     ensures { IfOk result (λ s.
         HaveTheSame s (sent.entry ++ option_to_list (option_map lent_message message.entry))) }
@@ -161,7 +161,7 @@ fn with_message<'a>(sent: Sent<'a>, message: Option<Lent<'a>>) -> Result<Sent<'a
     }
 }
 
-// The next item of each endpoint that has one.
+// Returns the next item of each endpoint that has one.
 fn heads(alloc: Global, lives: &[Lives], cursors: &[Cursor]) -> Result<Vec<LifeItem>, AllocError>
     requires { length cursors.now ≡ length lives.now }
     ensures { IfOk result (λ v. v.items ≡ map life_item (heads_left (tracks lives.now cursors.now))) }
@@ -184,7 +184,7 @@ fn is_empty(heads: &[LifeItem]) -> bool
     heads.is_empty()
 }
 
-/// The order of all items by turns, or the heads that are left where no item can go.
+/// Returns the order of all items by turns, or the heads that are left if no item can go.
 pub(crate) fn by_turns(alloc: Global, lives: &[Lives]) -> Result<Order, AuditFault>
     requires { IsTrue (differ lives.now) }
     ensures { IsFound (found_of (map track_of lives.now)) result }

@@ -9,24 +9,24 @@ use cg_samples::{endpoint, generation, settings};
 use std::alloc::{AllocError, Global};
 use std::hint::black_box;
 
-/// About how many items there are, and of how many endpoints.
+/// The approximate number of items, and the number of endpoints.
 #[derive(Clone, Copy)]
 pub(crate) struct Size {
     pub(crate) items: u32,
     pub(crate) endpoints: u16,
 }
 
-// The moment of each arrival.
+// The time of each arrival, in milliseconds.
 const NOW: u64 = 2000;
 
-// A beat, and the four events of an exchange.
+// The number of events of a beat and an exchange.
 const EXCHANGE: u32 = 5;
 
 fn begun(alloc: Global, number: u16) -> Result<History> {
     Ok(History::begin(alloc, endpoint(number), generation(5), settings(alloc)?)?)
 }
 
-// The event that hands a message over.
+// Returns the event that hands a message over.
 fn arrival(alloc: Global, message: Lent<'_>) -> Result<Event, AllocError> {
     Ok(match message {
         Lent::Syn(m) => Event::Syn { m: m.copy(alloc)? },
@@ -41,7 +41,7 @@ fn arrival(alloc: Global, message: Lent<'_>) -> Result<Event, AllocError> {
     })
 }
 
-// The event that hands over what was sent last.
+// Returns the event that hands over the message sent last.
 fn handed(alloc: Global, from: &History) -> Result<Event> {
     let last = from.records().last().context("a record")?;
     let message = last.reply.message().context("a message")?;
@@ -53,7 +53,7 @@ fn done(alloc: Global, history: &mut History, event: Event) -> Result<()> {
     Ok(())
 }
 
-// The opener beats, and the two exchange what they hold.
+// Beats the opener, and has the two exchange what they hold.
 fn exchange(alloc: Global, opener: &mut History, answerer: &mut History) -> Result<()> {
     done(alloc, opener, Event::Beat)?;
     done(alloc, opener, Event::Opening)?;
@@ -71,7 +71,7 @@ fn life(alloc: Global, number: u16, history: History) -> Result<Lives> {
     Lives::new(endpoint(number), histories).context("lives")
 }
 
-// The lives of two endpoints after so many exchanges.
+// Adds the lives of two endpoints after this number of exchanges.
 fn add_pair(alloc: Global, all: &mut Vec<Lives>, first: u16, exchanges: u32) -> Result<()> {
     let second = first.wrapping_add(1);
     let mut opener = begun(alloc, first)?;
@@ -84,7 +84,7 @@ fn add_pair(alloc: Global, all: &mut Vec<Lives>, first: u16, exchanges: u32) -> 
     Ok(())
 }
 
-/// The lives of so many endpoints, two by two, with about so many items in all.
+/// Returns the lives of this number of endpoints, two by two, with about this number of items in all.
 pub(crate) fn all_lives(alloc: Global, size: Size) -> Result<Vec<Lives>> {
     let pairs = size.endpoints / 2;
     let each = size.items.checked_div(u32::from(pairs)).unwrap_or(0);

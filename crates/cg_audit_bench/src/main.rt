@@ -1,6 +1,8 @@
-//! Measures the audit of lives. With no words it audits a thousand items over eight and over 64 endpoints, and prints a
-//! digest of each order, which no clock and no machine changes; with the word `time` it measures lives of a thousand, ten
-//! thousand and a hundred thousand items.
+//! Measures the audit of lives.
+//!
+//! With no words it audits a thousand items over eight and over 64 endpoints, and prints a digest of each order, which
+//! no clock and no machine changes. With the word `time` it measures lives of a thousand, ten thousand and a hundred
+//! thousand items.
 #![tactic(auto)]
 
 mod lives;
@@ -14,12 +16,12 @@ use std::alloc::Global;
 use std::env::Env;
 use std::rt::Clock;
 
-// How many endpoints there are.
+// The number of endpoints.
 const FEW: u16 = 8;
 
 const MANY: u16 = 64;
 
-// The order of lives that are one run.
+// Returns the order of lives that are one run.
 fn order(alloc: Global, lives: &[Lives]) -> Result<Order> {
     if !endpoints_differ(lives) {
         return None.context("one endpoint twice");
@@ -67,7 +69,7 @@ fn timed(rt: &(impl Clock + Print + Alloc<A = Global>)) -> Result<()> {
     Ok(())
 }
 
-// Whether the first word behind the program's name is `time`.
+// Returns `true` if the first word after the program's name is `time`.
 fn is_timed(rt: &impl Env) -> bool {
     let mut word = [0u8; 4];
     matches!(rt.arg(1, &mut word), Ok(4)) && word == *b"time"

@@ -1,4 +1,4 @@
-//! What an audit answers, as one number, and how long it takes.
+//! Digests of orders, and times of audits.
 
 use crate::order;
 use anyhow::Result;
@@ -8,10 +8,10 @@ use std::hint::black_box;
 use std::rt::Clock;
 use std::time::Instant;
 
-// How often each audit is done.
+// The number of audits in each measurement.
 const SAMPLES: u32 = 8;
 
-// One number more in a digest (FNV-1a, by whole numbers).
+// Adds one number to a digest (FNV-1a, by whole numbers).
 fn mixed(digest: u64, number: u64) -> u64 {
     (digest ^ number).wrapping_mul(0x0000_0100_0000_01b3)
 }
@@ -23,7 +23,7 @@ fn with_item(digest: u64, item: &LifeItem) -> u64 {
     mixed(mixed(mixed(digest, endpoint), generation), item.number)
 }
 
-/// A number that the whole order goes into.
+/// Returns a digest of the whole order.
 pub(crate) fn digest(items: &[LifeItem]) -> u64 {
     let mut digest = 0xcbf2_9ce4_8422_2325;
     for item in items {
@@ -32,7 +32,7 @@ pub(crate) fn digest(items: &[LifeItem]) -> u64 {
     digest
 }
 
-// Nanoseconds for each item of an audit.
+// Measures the nanoseconds for each item of an audit.
 fn sample(rt: &(impl Clock + Alloc<A = Global>), lives: &[Lives]) -> Result<u128> {
     let start = Instant::now(rt)?;
     let order = order(rt.alloc(), lives)?;
@@ -41,7 +41,7 @@ fn sample(rt: &(impl Clock + Alloc<A = Global>), lives: &[Lives]) -> Result<u128
     Ok(spent.checked_div(count as u128).unwrap_or(0))
 }
 
-/// The least nanoseconds for each item of several audits of these lives.
+/// Returns the least nanoseconds for each item, of several audits of these lives.
 pub(crate) fn least(rt: &(impl Clock + Alloc<A = Global>), lives: &[Lives]) -> Result<u128> {
     let mut least = u128::MAX;
     for _ in 0..SAMPLES {

@@ -1,4 +1,4 @@
--- What items sent, said in a world by places.
+-- The messages that items sent, in a world by places.
 use Rattle.std.proofs.Common.{◌≡◌, ◌⊎◌, inl, inr, ℕ, List, [], ◌∷◌, ◌++◌, refl, ◌∙◌, ap, subst, arith, Option, Some, None}
 use Rattle.std.specs.List.{Contains}
 use Rattle.std.specs.Option.{option_to_list}
@@ -16,7 +16,7 @@ use Rattle.cg_one_run.specs.Items.{RunItem}
 use Rattle.cg_one_run.specs.OneRun.{messages_of, WasSent}
 use Rattle.cg_one_run.proofs.ItemLemmas.{messages_both}
 
--- what a reply sends
+-- the message that a reply sends
 pub same_sent : (r : Reply) → sending.message_of r ≡ message_of r
 same_sent (replies.Done version) = refl
 same_sent (replies.Round peers syn) = refl

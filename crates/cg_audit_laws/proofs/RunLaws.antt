@@ -108,7 +108,7 @@ module _ (lives : List LivesValue) (order : List RunItem) (are : AreLives lives)
   is_world : IsWorld w
   is_world = world_is w ends.sound ends.knows
 
-  -- what stands in a history was its owner's own
+  -- an entry of a history was its owner's own
   was_own : (owner place : ℕ) (entry : EntryValue) → at_place (w.histories owner) place ≡ Some entry → Was lives owner entry
   unfolding nobody
   was_own owner place entry there = elim (ends.old owner place entry there) [ inl before ↦ absurd (nowhere place before) | inr was ↦ was ]

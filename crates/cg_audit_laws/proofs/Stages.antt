@@ -1,4 +1,4 @@
--- How far the lives of an endpoint have come, and what is true of them then in a world by places.
+-- Stages of an endpoint's lives, and what is true at each in a world by places.
 use Rattle.std.proofs.Common.{◌≡◌, ◌⊎◌, inl, inr, ℕ, List, [], ◌∷◌, ◌++◌, map, refl, sym, ◌∙◌, ap, subst, true, false, Option, Some, None, Result, Ok}
 use Rattle.std.specs.List.{AllByRecursion}
 use Rattle.cg_types.specs.Rising.{rise_past}
@@ -50,18 +50,18 @@ abbrev pub OwnIn : Stage → EntryValue → Type 0
 OwnIn (Idle ahead) entry = WasOwnIn ahead entry
 OwnIn (Going k back ahead) entry = WasOwnFrom k.node back entry ⊎ WasOwnIn ahead entry
 
--- Its gaps from now on are those that lie past what is held.
+-- Its deltas from now on are gaps exactly if they lie past what is held.
 abbrev pub GapsIn : Stage → Type 0
 GapsIn (Idle ahead) = AllGapsLiePast ahead
 GapsIn (Going k back ahead) = GapsLiePast k.node back × AllGapsLiePast ahead
 
--- what is true before the first life
+-- the invariant before the first life
 pub record IsIdle (w : PlaceWorld) (e : ℕ) (ahead : List HistoryValue) : Type 0 where
   pub idle : runs w e ≡ false
   pub rise : rise_past (Some 0) (map generation_of ahead) ≡ true
   pub lives : AllByRecursion (IsLife e) ahead
 
--- and of a life that goes on
+-- and the invariant of a life that goes on
 pub record IsGoing (w : PlaceWorld) (e : ℕ) (k : Now) (back : List Item) (ahead : List HistoryValue) : Type 0 where
   pub placed : IsPlaced w e k.node
   pub replays : Replays k.node back k.life.node
@@ -74,8 +74,8 @@ abbrev pub IsStage : PlaceWorld → ℕ → Stage → Type 0
 IsStage w e (Idle ahead) = IsIdle w e ahead
 IsStage w e (Going k back ahead) = IsGoing w e k back ahead
 
--- From one stage of an endpoint to the next: the same life is the last, and the own entries are that of now and those
--- of the next stage.
+-- From one stage of an endpoint to the next: the same life is the last, and the own entries are the present one and
+-- those of the next stage.
 pub record Goes (w : PlaceWorld) (e : ℕ) (now then : Stage) : Type 0 where
   pub lasts : last_of now ≡ last_of then
   pub before : (entry : EntryValue) → OwnIn then entry → OwnIn now entry
@@ -120,7 +120,7 @@ module _ (n : NodeValue) (r : Item) (back : List Item) (x : NodeValue × Reply) 
             own = was.own;
           })
 
--- what is left of no records
+-- with no records left, there is only the present own entry
 pub own_at_end : (n : NodeValue) (entry : EntryValue) → WasOwnFrom n [] entry → own_entry n.table ≡ entry
 own_at_end n entry was = go was.earlier was.in_order was.leads
   where
@@ -136,7 +136,7 @@ no_gaps n (q ∷ qs) r later m order = absurd cc
 
 -- ---- stages
 
--- the last entry of an owner's history is its own of now
+-- the last entry of an owner's history is its present own entry
 pub own_here : (w : PlaceWorld) → IsWorld w → (e : ℕ) (t : Stage) → IsStage w e t → (entry : EntryValue) → last_entry (w.histories e) ≡ Some entry → OwnIn t entry
 own_here w is e (Idle ahead) st entry last = absurd (let there : runs w e ≡ true = last_entry_runs w e entry last in let idle = st.idle in cc)
 own_here w is e (Going k back ahead) st entry last =
@@ -144,7 +144,7 @@ own_here w is e (Going k back ahead) st entry last =
     let same : Some (own_entry k.node.table) ≡ Some entry = sym held ∙ last in
     inl (own_now k.node back entry cc)
 
--- where another node changes, a stage stays
+-- a stage stays the same if another node changes
 pub stage_stays : (w v : PlaceWorld) → AllContinue w.histories v.histories → (e : ℕ) → runs v e ≡ runs w e → v.places e ≡ w.places e → v.taken e ≡ w.taken e → (t : Stage) → IsStage w e t → IsStage v e t
 stage_stays w v on e runs_so places_so taken_so (Idle ahead) st = record { idle = runs_so ∙ st.idle; rise = st.rise; lives = st.lives }
 stage_stays w v on e runs_so places_so taken_so (Going k back ahead) st =

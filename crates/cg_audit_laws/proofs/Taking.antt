@@ -1,4 +1,4 @@
--- What a step of a node takes, by marks.
+-- The deltas that a step of a node takes, by marks.
 use Rattle.std.proofs.Common.{arith, ◌≡◌, ◌≢◌, ℕ, List, [], ◌∷◌, ◌++◌, refl, sym, ◌∙◌, ap, subst, Option, Some, None, true}
 use Rattle.std.specs.Prelude.{◌==◌, ◌↔◌, IsTrue, ◌<◌, ◌≤◌, length}
 use Rattle.std.specs.FinMap as map
@@ -41,9 +41,9 @@ use Rattle.cg_world.proofs.TakenLaws.{outcome_at, spans_counted, message_takes_n
 use Rattle.cg_world.proofs.HeadlineLaws.{Marked, marked_still, marked_more}
 use Rattle.cg_audit_laws.specs.RunHeadline.{delta_handed}
 
--- ---- what other nodes took
+-- ---- deltas that other nodes took
 
--- the action of a world that an event is
+-- the action of a world for an event
 abbrev world_action : ℕ → ℕ → Event → Action
 world_action node number event.Beat = Local node Beat
 world_action node number (event.Set key text) = Local node (Set key text)
@@ -76,7 +76,7 @@ others_take_nothing w node number e other apart =
     subst (λ action. (after_action w action).taken other ≡ w.taken other) (is_plain node number e)
     (action_leaves w (world_action node number e) other (not_taker node number e other apart))
 
--- ---- what the node took
+-- ---- deltas that the node took
 
 no_delta : (marks : List Mark) (o : Option Outcome) → with_delta marks o None ≡ marks
 no_delta marks None = refl
@@ -125,7 +125,7 @@ module _ (w v : PlaceWorld) (node owner : ℕ) (marks : List Mark) (on : Continu
       let some : d ≡ Some (about owner to.delta) = ed ∙ ap (option_map (about owner)) to.is in
       rw (eo, some) (taken_marked span (took_for (owner == node) (w.places node owner) span) (about owner to.delta) is to.leads (e ∙ ap (λ outcome. with_outcome (w.taken node owner) outcome (Some span)) eo))
 
--- where the node took nothing
+-- if the node took nothing
 quiet_marked : (w v : PlaceWorld) (node owner : ℕ) (marks : List Mark) (o : Option Outcome) → Continues (w.histories owner) (v.histories owner) → v.taken ≡ w.taken → Marked w node owner marks → Marked v node owner (with_delta marks o None)
 quiet_marked w v node owner marks o on same m =
     subst (λ (ms : List Mark). Marked v node owner ms) (sym (no_delta marks o)) (marked_still w v node owner marks on (ap (λ (t : ℕ → ℕ → List Span). t node owner) same) m)

@@ -94,7 +94,7 @@ idle_generation w e idle = let none : length (w.histories e) ≡ 0 = grind (arit
 
 -- ---- one item
 
--- What the next item of an endpoint leads to, of a world in which these have gone.
+-- The result of the next item of an endpoint, in a world in which these have gone.
 record Next (w : PlaceWorld) (gone : List RunItem) (e : ℕ) (now : Stage) (i : RunItem) (rest : List RunItem) : Type 0 where
   world : PlaceWorld
   then : Stage
@@ -308,19 +308,19 @@ module _ (w : PlaceWorld) (gone : List RunItem) (sound : IsSound w) (knows : Kno
 
 -- ---- all items
 
--- what is true where these items have gone
+-- the invariant after these items have gone
 pub record IsAt (w : PlaceWorld) (gone : List RunItem) (s : ℕ → Stage) : Type 0 where
   pub sound : IsSound w
   pub knows : KnowsOwners w
   pub said : AllSaid w gone
   pub stages : (e : ℕ) → IsStage w e (s e)
 
--- where a life ends
+-- the end of a life
 pub record EndsAt (w : PlaceWorld) (e : ℕ) (h : HistoryValue) : Type 0 where
   pub placed : IsPlaced w e h.node
   pub marked : (owner : ℕ) → Marked w e owner (took_from owner [] h.records)
 
--- and where all end
+-- and the end of all lives
 pub record Ends (w : PlaceWorld) (s : ℕ → Stage) : Type 0 where
   pub final : PlaceWorld
   pub sound : IsSound final
@@ -332,7 +332,7 @@ pub record Ends (w : PlaceWorld) (s : ℕ → Stage) : Type 0 where
   pub gaps : (e : ℕ) → GapsIn (s e)
 
 module _ (w : PlaceWorld) (is : IsWorld w) (e : ℕ) where
-  -- where nothing is left
+  -- if nothing is left
   stage_ends : (now : Stage) → IsStage w e now → [] ≡ items_left e now → (h : HistoryValue) → last_of now ≡ Some h → EndsAt w e h
   stage_ends (Idle []) st none h last = absurd cc
   stage_ends (Idle (k ∷ ks)) st none h last = absurd cc

@@ -1,5 +1,5 @@
--- The headline of lives that are one run: what is true of the tables where the last life of each endpoint ends. It is
--- said by the marks of entries and deltas, as the headline of a world is.
+-- The headline of lives that are one run: the tables at the end of each endpoint's last life. It is stated by the marks
+-- of entries and deltas, as the headline of a world is.
 use Rattle.std.specs.Prelude.{ℕ, ◌≡◌, ◌↔◌, ◌⊎◌, ◌==◌, ◌++◌, IsTrue, List, [], ◌∷◌, All, Option, Some, None, Ok, if◌then◌else◌}
 use Rattle.std.specs.List.{AllByRecursion, Contains}
 use Rattle.std.specs.Option.{option_and_then}
@@ -53,25 +53,25 @@ last_or before (h ∷ hs) = last_or (Some h) hs
 abbrev pub EndsWith : List LivesValue → ℕ → HistoryValue → Type 0
 EndsWith lives endpoint h = last_or None (histories_at lives endpoint) ≡ Some h
 
--- ---- what a life took
+-- ---- deltas that a life took
 
 -- the delta about an owner that an event hands over, if it hands one over
 abbrev pub delta_handed : ℕ → Event → Option OwnerDelta
 delta_handed owner e = option_and_then (λ m. delta_about owner (deltas_in m)) (message_in e)
 
--- what a node took of an owner, by the marks of the deltas in its records that were no gap
+-- the marks of an owner that a node took: those of the deltas in its records that were no gap
 abbrev pub took_from : ℕ → List Mark → List Item → List Mark
 took_from owner marks [] = marks
 took_from owner marks (r ∷ rs) =
     took_from owner (with_delta marks (outcome_about owner (outcomes_in r.reply)) (delta_handed owner r.event)) rs
 
--- what a life has of an owner at its end: its own entry's mark, if it is the owner's, and those that it took
+-- the marks of an owner that a life has at its end: its own entry's, if it is the owner's, and those that it took
 abbrev pub marks_of : ℕ → HistoryValue → ℕ → List Mark
 marks_of endpoint h owner =
     if owner == endpoint then mark_of (own_entry h.node.table) ∷ took_from owner [] h.records
     else took_from owner [] h.records
 
--- Of the records that follow this node, a delta is told as a gap exactly where it lies past what the node then held.
+-- In the records after this node, a delta is a gap exactly if it lies past what the node then held.
 abbrev pub GapsLiePast : NodeValue → List Item → Type 0
 GapsLiePast begun records =
     (earlier : List Item) (r : Item) (later : List Item) (n : NodeValue) → earlier ++ r ∷ later ≡ records
@@ -79,11 +79,11 @@ GapsLiePast begun records =
     → outcome_about owner (outcomes_in r.reply) ≡ Some outcome → delta_handed owner r.event ≡ Some d
     → IsTrue (is_gap outcome.took) ↔ LiesPast d.delta (map.get n.table.entries owner)
 
--- So it is in each of these histories.
+-- The same is true in each of these histories.
 abbrev pub AllGapsLiePast : List HistoryValue → Type 0
 AllGapsLiePast histories = AllByRecursion (λ (h : HistoryValue). GapsLiePast h.base h.records) histories
 
--- ---- what owners had
+-- ---- own entries of owners
 
 -- After some of the first of these records, which follow this node, the entry was its own.
 pub record WasOwnFrom (begun : NodeValue) (records : List Item) (entry : EntryValue) : Type 0 where
@@ -94,7 +94,7 @@ pub record WasOwnFrom (begun : NodeValue) (records : List Item) (entry : EntryVa
   pub leads : Replays begun earlier node
   pub own : own_entry node.table ≡ entry
 
--- So it was in one of these histories.
+-- The entry was its own in one of these histories.
 abbrev pub WasOwnIn : List HistoryValue → EntryValue → Type 0
 WasOwnIn [] entry = ⊥
 WasOwnIn (h ∷ hs) entry = WasOwnFrom h.base h.records entry ⊎ WasOwnIn hs entry
@@ -110,7 +110,7 @@ module _ (lives : List LivesValue) where
   abbrev pub IsMarked : ℕ → Mark → Type 0
   IsMarked owner mark = (entry : EntryValue) × Was owner entry × (mark_of entry ≡ mark)
 
-  -- lives with the same of every owner
+  -- lives with the same marks of every owner
   abbrev pub SameMarks : ℕ → HistoryValue → ℕ → HistoryValue → Type 0
   SameMarks a one b other =
       (owner : ℕ) (mark : Mark) → Contains (marks_of a one owner) mark ↔ Contains (marks_of b other owner) mark
@@ -119,7 +119,7 @@ module _ (lives : List LivesValue) where
     -- each table is the join of the node's own entry and the deltas that it took: it holds the furthest of each owner
     pub joined : (endpoint : ℕ) (h : HistoryValue) → EndsWith lives endpoint h
         → (owner : ℕ) → HasGreatest (map.get h.node.table.entries owner) (marks_of endpoint h owner)
-    -- a delta is left out, as a gap, exactly where it lies past what the node then held
+    -- a delta is left out, as a gap, exactly if it lies past what the node then held
     pub gaps : (endpoint : ℕ) → AllGapsLiePast (histories_at lives endpoint)
     -- each entry in it was its owner's own, whole, at one past time
     pub whole : (endpoint : ℕ) (h : HistoryValue) → EndsWith lives endpoint h
@@ -136,8 +136,8 @@ module _ (lives : List LivesValue) where
         → digests_of one.node.table.entries ≡ digests_of other.node.table.entries
         → AreEqual one.node.table.entries other.node.table.entries
 
--- Where lives are one run, the headline holds of where they end, whatever the settings of each and however many
--- endpoints there are.
+-- The headline is true of the ends of lives that are one run, whatever the settings of each and however many endpoints
+-- there are.
 abbrev pub RunsHaveTheHeadline : Type 0
 RunsHaveTheHeadline =
     (lives : List LivesValue) (order : List RunItem) → AreLives lives → IsOneRun lives order → RunHeadline lives

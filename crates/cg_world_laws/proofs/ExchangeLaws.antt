@@ -47,7 +47,7 @@ nodes_in_order = record { none = λ c. refl; next = λ c x xs. refl }
 pub exchanges_are_lists : ExchangesAreLists
 exchanges_are_lists settings actions x = listed_from by_nodes nodes_in_order (new_world settings) actions x
 
--- a tick leaves what an opening leaves after the beat
+-- a tick leaves the same as an opening after the beat
 ticked_opening : (c : WorldValue) (x : Exchange) (now : ℕ) (words : List ℕ) → IsOk (acting c (Local x.opener Beat)) → act c (Local x.opener (Tick now words)) ≡ after_opening by_nodes (act c (Local x.opener Beat)) x
 ticked_opening c x now words ok = go (acting c (Local x.opener Beat)) (acting c (Local x.opener (Tick now words))) (ticks_are_beats_and_openings c x.opener now words) ok
   where
@@ -65,7 +65,7 @@ ticked_exchanges_follow_beats settings actions x now words ok =
     (after_both by_nodes nodes_in_order (new_world settings) actions (Local x.opener (Tick now words) ∷ following by_nodes d x)
     ∙ ap (λ (e : WorldValue). run_from e (following by_nodes d x)) (ticked_opening c x now words ok) ∙ followed_from by_nodes nodes_in_order d x)
 
--- ---- what starts a node, by places
+-- ---- actions that start a node, by places
 
 neither_is : (a b : Bool) → (a || b) ≡ false → (a ≡ false) × (b ≡ false)
 neither_is true b e = absurd cc
@@ -144,7 +144,7 @@ module _ (c : WorldValue) (w : PlaceWorld) (x : Exchange) (j : Joined c w) (both
   pub from_start : Keeps w (after_exchange by_places w y)
   from_start = keeps_on (to_at_syn w y j.tied.sound both_run never) from_at_syn
 
--- ---- nodes that run, and what they hold
+-- ---- nodes that run, and their entries
 
 runs_by : (c : WorldValue) (w : PlaceWorld) → Joined c w → (node : ℕ) (n : NodeValue) → Runs c node n → runs w node ≡ true
 runs_by c w j node n e = sym (running c w j.tied node) ∙ ap is_some e

@@ -1,4 +1,4 @@
--- Tables of nodes that run find room together.
+-- Tables of nodes that run fit into one table.
 use Rattle.std.proofs.Common.{◌≡◌, ◌≤◌, ℕ, Bool, List, length, Result, Ok, Err, refl, ap, subst, arith}
 use Rattle.std.specs.Prelude.{◌↔◌, IsTrue, IfOk, map as map_list}
 use Rattle.std.proofs.lemmas.Bool.{le-ltb}
@@ -30,12 +30,12 @@ merge_done one other room = rw (le-ltb MEMBER_LIMIT (owners_together one.entries
 pub same_answer : (x y : TableValue) → ◌≡◌ {A = Result TableValue Fault} (Ok x) (Ok y) → x ≡ y
 same_answer x y is = cc
 
--- what is true of the answer that is due
+-- a property of the expected answer is one of the answer
 pub if_answered : (P : TableValue → Type 0) (t : TableValue) (r : Result TableValue Fault) → Answers (λ t. t) (Ok t) r → P t → IfOk r P
 if_answered P t (Ok x) is p = subst P (same_answer t x is) p
 if_answered P t (Err f) is p = tt
 
--- Three nodes' tables find room together, and make the join.
+-- Three nodes' tables fit into one, which is the join.
 pub record FindTheJoin (c : WorldValue) (x y z : ℕ) (one two three : NodeValue) : Type 0 where
   pub fit : FitTogether one.table two.table three.table
   pub join : IsJoinIn c x y z (merged_three one.table two.table three.table)

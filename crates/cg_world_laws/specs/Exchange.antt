@@ -1,4 +1,4 @@
--- A whole exchange between two nodes that run, with other actions between its messages, and where it ends.
+-- A whole exchange between two nodes that run, with other actions between its messages, and the tables at its end.
 use Rattle.std.specs.Prelude.{ℕ, ◌≡◌, ◌&&◌, false, IsOk, List, [], ◌∷◌, ◌++◌, length, Result, Ok, Err, map as map_list, slice_index_or, if◌then◌else◌}
 use Rattle.std.specs.List.{list_any}
 use Rattle.std.specs.FinMap as map
@@ -16,7 +16,7 @@ use Rattle.cg_world.specs.declared.action.LocalEvent.TheVariants.{Beat, Opening,
 use Rattle.cg_world.specs.World.{WorldValue, acting, act, run_from, run, plain, starts}
 use Rattle.cg_world.specs.WorldLaws.{Runs}
 
--- the worlds of nodes that run; a delivery has a moment
+-- the worlds of nodes that run; a delivery has a time in milliseconds
 abbrev pub by_nodes : WorldKind WorldValue Action ℕ
 by_nodes = record {
   after = act;
@@ -45,7 +45,7 @@ TickedExchangesFollowBeats =
     ∷ following by_nodes (run settings (actions ++ Local x.opener Beat ∷ [])) x)
     ≡ after_exchange by_nodes (run settings (actions ++ Local x.opener Beat ∷ [])) x
 
--- the same exchange without moments and words
+-- the same exchange without times and random words
 abbrev pub plain_exchange : Exchange → PlaceExchange
 plain_exchange x = record {
   opener = x.opener;
@@ -66,7 +66,7 @@ NeverStarts node actions = list_any (starts node) actions ≡ false
 abbrev pub StartsNeither : Exchange → Type 0
 StartsNeither x = OfBothNodes NeverStarts x
 
--- ---- where it ends
+-- ---- the end of an exchange
 
 -- The entries are at or past the others: a merge with those changes nothing.
 abbrev pub IsPast : Entries → Entries → Type 0
@@ -85,7 +85,7 @@ pub record ReachesTheMerge (c : WorldValue) (x : Exchange) (opening : NodeValue)
   pub opener_past : IsPast opener.table.entries (merge_of answering.table.entries opening.table.entries)
   pub answerer_past : IsPast answerer.table.entries (merge_of answering.table.entries opening.table.entries)
 
--- An exchange takes both of its nodes to the join, whatever is done between its messages but a start of the two.
+-- An exchange takes both of its nodes to the join, whatever is done between its messages except a start of the two.
 abbrev pub ExchangesEndAtTheJoin : Type 0
 ExchangesEndAtTheJoin =
     (settings : SettingsValue) (actions : List Action) (x : Exchange) (opening other : NodeValue)
@@ -111,7 +111,7 @@ UndisturbedExchangesMerge =
 
 -- ---- as a call
 
--- an exchange whose messages are handed over at one moment, each after one of three lists of actions
+-- an exchange whose messages are handed over at one time, each after one of three lists of actions
 abbrev pub exchange_among : ℕ → ℕ → ℕ → List (List Action) → Exchange
 exchange_among opener answerer now between = record {
   opener = opener;
@@ -124,13 +124,13 @@ exchange_among opener answerer now between = record {
   ack2_at = now;
 }
 
--- the world after an exchange; or one of the two nodes does not run
+-- the world after an exchange, or the fault if one of the two nodes does not run
 abbrev pub exchanging : WorldValue → Exchange → Result WorldValue Fault
 exchanging c x =
     if map.contains_key c.nodes x.opener && map.contains_key c.nodes x.answerer then Ok (after_exchange by_nodes c x)
     else Err NoSuchNode
 
--- Where an exchange leads, of two nodes that run.
+-- The result of an exchange of two nodes that run.
 pub record JoinsBoth (c : WorldValue) (x : Exchange) : Type 0 where
   pub opening : NodeValue
   pub opens : Runs c x.opener opening

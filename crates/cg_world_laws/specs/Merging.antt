@@ -14,7 +14,7 @@ use Rattle.cg_places.specs.TableLaws.{IsMergedOf}
 use Rattle.cg_world.specs.declared.action.Action.{Action}
 use Rattle.cg_world.specs.World.{WorldValue, run, place_world}
 
--- what follows for a node that runs
+-- a computation with a node that runs; NoSuchNode if it does not run
 abbrev pub of_node : {X : Type 0} → Option NodeValue → (NodeValue → Result X Fault) → Result X Fault
 of_node None go = Err NoSuchNode
 of_node (Some n) go = go n
@@ -42,14 +42,14 @@ pub record IsJoinIn (c : WorldValue) (x y z : ℕ) (t : TableValue) : Type 0 whe
 
 -- ---- tables compared
 
--- What it tells of two tables: whether their digests are equal, which is whether their entries are; and then so are
--- their rings.
+-- The flag says if the digests of two tables are equal, which they are exactly if the entries are. Then the rings are
+-- equal too.
 pub record TellsEqual (same : Bool) (one other : Entries) : Type 0 where
   pub digests : IsTrue same ↔ (digests_of one ≡ digests_of other)
   pub entries : IsTrue same ↔ (one ≡ other)
   pub rings : IsTrue same → ring one ≡ ring other
 
--- Both nodes run, and this is told of their tables.
+-- Both nodes run, and the flag says this of their tables.
 pub record TellsOfNodes (c : WorldValue) (x y : ℕ) (same : Bool) : Type 0 where
   pub one : NodeValue
   pub other : NodeValue

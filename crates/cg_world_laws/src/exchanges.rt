@@ -11,7 +11,7 @@ use cg_types::{Endpoint, Fault};
 use cg_world::{Action, LocalEvent, World, is_out_of_memory};
 use std::alloc::Global;
 
-// Does an action; a refused one changes nothing, but want of memory ends all.
+// Does an action. A refused one changes nothing, but OutOfMemory ends the call.
 fn act(alloc: Global, world: &mut World, action: &Action) -> Result<(), Fault>
     ensures ok { OnOk result (world.new ≡ after_act world.old action.now) }
     ensures err { IfErr result (λ f. f ≡ faults.OutOfMemory) }
@@ -50,14 +50,16 @@ fn hand_last(
     act(alloc, world, &Action::Deliver { number, to, now })
 }
 
-/// The world after a whole exchange: the opener's opening, the first list of actions, its SYN handed to the answerer,
-/// the second list, the ACK handed to the opener, the third list, and the ACK2 handed to the answerer, each at the
-/// moment `now`. What the lists have that is refused changes nothing. None of them may start one of the two
+/// Runs a whole exchange between two nodes of a world, after which both hold what the two held, or later entries.
+///
+/// The steps are the opener's opening, the first list of actions, its SYN handed to the answerer, the second list, the
+/// ACK handed to the opener, the third list, and the ACK2 handed to the answerer. Each message is handed over at the
+/// time `now`. An action of the lists that is refused changes nothing. None of them may start one of the two
 /// (`Action::starts`).
 ///
-/// Both then hold what the opener held when it opened and the answerer when it answered, or later entries; with three
-/// empty lists both hold the same. `NoSuchNode` where one of the two does not run, before anything is done; else at
-/// most `OutOfMemory`.
+/// In the world that is returned, both hold what the opener held when it opened and the answerer when it answered, or
+/// later entries. With three empty lists both hold the same. `NoSuchNode` if one of the two does not run, before
+/// anything is done; else at most `OutOfMemory`.
 pub fn exchange_reaches_join(
     alloc: Global,
     mut world: World,

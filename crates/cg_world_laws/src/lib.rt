@@ -1,4 +1,4 @@
-//! Where exchanges and merges lead nodes that run: laws of every list of actions, and three calls on a world in hand
+//! Laws of exchanges and merges between nodes that run, for every list of actions, and three calls on a world in hand
 //! whose contracts are laws.
 //!
 //! They rest on the laws of `cg_world` and, by places, of `cg_places`; no other crate rests on them.
@@ -17,9 +17,10 @@ mod merging;
 pub use exchanges::exchange_reaches_join;
 pub use merging::{equal_digests, merge_is_join};
 
-/// An exchange between two nodes that run takes both tables to the merge of what the opener held when it opened and
-/// the answerer when it answered, or past it: one more merge with that changes neither. Other actions may stand between
-/// its messages, but no start of the two.
+/// An exchange between two nodes that run takes both tables to the merge of what the two held, or past it.
+///
+/// The merge is that of what the opener held when it opened and the answerer when it answered: one more merge with that
+/// changes neither table. Other actions may come between its messages, but no start of the two.
 pub fn exchanges_end_at_the_join()
     ensures { ExchangesEndAtTheJoin }
 {}

@@ -1,4 +1,4 @@
-//! Calls on a world in hand whose contracts are laws: each makes what its law speaks of.
+//! Calls on a world in hand whose contracts are laws: merged tables and compared digests.
 
 ghost use Rattle.std.specs.Prelude.{◌≡◌, ◌&&◌, IfOk, IfErr, Ok, is_ok};
 ghost use Rattle.std.specs.FinMap as map;
@@ -11,7 +11,7 @@ use cg_types::{Endpoint, Fault};
 use cg_world::World;
 use std::alloc::Global;
 
-// The merge of three tables, that of the first with the entries of all.
+// Merges three tables, into that of the first with the entries of all.
 fn merge_three(alloc: Global, one: &Table, two: &Table, three: &Table) -> Result<Table, Fault>
     requires { FitTogether one.now two.now three.now }
     ensures { Answers (λ t. t) (Ok (merged_three one.now two.now three.now)) result }
@@ -20,10 +20,10 @@ fn merge_three(alloc: Global, one: &Table, two: &Table, three: &Table) -> Result
     both.merge(alloc, three)
 }
 
-/// The merge of the tables of three nodes, that of the first with the entries of all: its entries spell the join of
-/// what the three hold, and there are no more than endpoints started.
+/// Merges the tables of three nodes: the entries of the result spell the join of what the three hold.
 ///
-/// `NoSuchNode` where one of the three does not run; else at most `OutOfMemory`.
+/// The result is the first node's table with the entries of all, no more of them than endpoints started. `NoSuchNode`
+/// if one of the three does not run; else at most `OutOfMemory`.
 pub fn merge_is_join(
     alloc: Global,
     world: &World,
@@ -40,10 +40,9 @@ pub fn merge_is_join(
     merge_three(alloc, one.table(), two.table(), three.table())
 }
 
-/// Whether two nodes have equal digests: exactly where their tables hold the same entries, and then their rings are
-/// equal.
+/// Returns `true` if two nodes have equal digests: exactly if their tables hold the same entries.
 ///
-/// `NoSuchNode` where one of the two does not run. It takes no memory.
+/// Then their rings are equal too. `NoSuchNode` if one of the two does not run. It takes no memory.
 pub fn equal_digests(world: &World, a: Endpoint, b: Endpoint) -> Result<bool, Fault>
     ensures when { is_ok result ≡ (map.contains_key world.now.nodes a && map.contains_key world.now.nodes b) }
     ensures ok { IfOk result (λ same. TellsOfNodes world.now a b same) }
