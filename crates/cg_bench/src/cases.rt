@@ -1,9 +1,9 @@
-//! The list of cases: their names, and what each is to do.
+//! The list of cases: their names, and the task of each.
 
 use crate::messages::{Brings, Opens, Said};
 use cg_measure::{Held, Shape};
 
-/// What is done with messages and tables.
+/// A task with messages and tables.
 #[derive(Clone, Copy)]
 pub(crate) enum GossipTask {
     Encode(Said),
@@ -11,40 +11,40 @@ pub(crate) enum GossipTask {
     Check(Said),
     /// Makes a SYN of the plain table.
     Open,
-    /// This table answers a SYN.
+    /// Answers a SYN by this table.
     Answer(Held, Opens),
-    /// This table takes an ACK, and sends an ACK2.
+    /// Takes an ACK into this table, and sends an ACK2.
     TakeAck(Held, Brings),
-    /// This table takes an ACK2 with the deltas of an ACK.
+    /// Takes an ACK2 with the deltas of an ACK into this table.
     TakeAck2(Held, Brings),
-    /// The first table opens an exchange with the second.
+    /// Runs an exchange that the first table opens with the second.
     Exchange(Held, Held),
 }
 
-/// What is done by one member alone: with a ring, with texts, and with a window.
+/// A task of one member alone: with a ring, with texts, or with a window.
 #[derive(Clone, Copy)]
 pub(crate) enum LocalTask {
     BuildRing,
-    /// The places of a thousand tokens on a ring.
+    /// Finds the places of a thousand tokens on a ring.
     Places,
-    /// So many replicas of each of a thousand tokens.
+    /// Finds this number of replicas of each of a thousand tokens.
     Replicas(usize),
-    /// Three replicas of each of a thousand keys.
+    /// Finds three replicas of each of a thousand keys.
     Keys,
-    /// A thousand MD5s.
+    /// Computes a thousand MD5s.
     Digests,
     MakeTexts(Texts),
-    /// Puts texts one behind the other.
+    /// Joins texts one after the other.
     Put(Texts),
-    /// Puts them so, each behind seven bytes, as a state has it.
+    /// Joins texts one after the other, each after seven bytes, as a state has it.
     Head(Texts),
-    /// Two thousand arrivals at a window.
+    /// Takes two thousand arrivals at a window.
     Arrivals,
-    /// A thousand verdicts of a window.
+    /// Asks a window for a thousand verdicts.
     Verdicts,
 }
 
-/// So many texts, each of which is a part that is repeated so many times.
+/// A number of texts, each of which is a part that is repeated `times` times.
 #[derive(Clone, Copy)]
 pub(crate) struct Texts {
     pub(crate) part: &'static str,
@@ -120,7 +120,7 @@ pub(crate) const SMALL: [(&str, &str, &str, GossipTask); 7] = [
     ("make", "syn", "256", GossipTask::Open),
 ];
 
-/// What a seed node does at tables of each shape.
+/// The tasks of a seed node at tables of each shape.
 pub(crate) const SHAPED: [(&str, &str, GossipTask); 18] = [
     ("encode", "whole", GossipTask::Encode(WHOLE)),
     ("decode", "whole", GossipTask::Decode(WHOLE)),

@@ -7,7 +7,7 @@ use cg_messages::Message;
 use cg_types::Fault;
 use std::alloc::{AllocError, Global};
 
-/// The message that a frame spells.
+/// Reads the message that a frame spells.
 pub(crate) fn read(alloc: Global, frame: &[u8]) -> Result<Message, Failure> {
     match decode(alloc, frame)? {
         Some((message, _)) => Ok(message),
@@ -15,7 +15,7 @@ pub(crate) fn read(alloc: Global, frame: &[u8]) -> Result<Message, Failure> {
     }
 }
 
-/// The fault of a frame.
+/// Returns the fault of a frame.
 pub(crate) fn fault(alloc: Global, frame: &[u8]) -> Result<Fault, Failure> {
     match decode(alloc, frame) {
         Err(fault) => Ok(fault),
@@ -23,7 +23,7 @@ pub(crate) fn fault(alloc: Global, frame: &[u8]) -> Result<Fault, Failure> {
     }
 }
 
-// These fields behind their length, and one byte too many.
+// Returns these fields after their length, and one byte too many.
 fn with_one_more(alloc: Global, fields: &[u8]) -> Result<Vec<u8>, AllocError> {
     let length = u32::try_from(fields.len()).unwrap_or(0).wrapping_add(1);
     let mut spoilt = Vec::new(alloc);
@@ -33,7 +33,8 @@ fn with_one_more(alloc: Global, fields: &[u8]) -> Result<Vec<u8>, AllocError> {
     Ok(spoilt)
 }
 
-/// The frame of a message with one byte too many behind its last field: a reader checks all of it, and then makes nothing.
+/// Returns the frame of a message with one byte too many after its last field: a reader checks all of it, and then
+/// makes nothing.
 pub(crate) fn spoilt(alloc: Global, message: &Message) -> Result<Vec<u8>, Failure> {
     let frame: Bytes = encode(alloc, message)?;
     let fields = frame.as_slice().get(4..).unwrap_or(b"");

@@ -31,12 +31,12 @@ fn read_ack2(alloc: Global, frame: &[u8]) -> Result<Ack2, Failure> {
     }
 }
 
-/// The frame of the SYN that a table opens with.
+/// Returns the frame of the SYN that a table opens with.
 pub(crate) fn opened(alloc: Global, table: &Table, cluster: &Cluster) -> Result<Bytes, AllocError> {
     encode(alloc, &Message::Syn(syn(alloc, table, cluster)?))
 }
 
-/// The frame of the answer to the frame of a SYN.
+/// Returns the frame of the answer to the frame of a SYN.
 pub(crate) fn answered(
     alloc: Global,
     table: &Table,
@@ -48,20 +48,20 @@ pub(crate) fn answered(
     Ok(encode(alloc, &Message::Ack(ack))?)
 }
 
-/// The table after an ACK came, and the frame of the ACK2.
+/// Returns the table after an ACK came, and the frame of the ACK2.
 pub(crate) fn taken(alloc: Global, table: &Table, frame: &[u8]) -> Result<(Table, Bytes), Failure> {
     let ack = read_ack(alloc, frame)?;
     let (after, ack2, _) = take_ack(alloc, table, &ack)?;
     Ok((after, encode(alloc, &Message::Ack2(ack2))?))
 }
 
-/// The table after an ACK2 came.
+/// Returns the table after an ACK2 came.
 pub(crate) fn ended(alloc: Global, table: &Table, ack2: &Ack2) -> Result<Table, Fault> {
     let (after, _) = take_ack2(alloc, table, ack2)?;
     Ok(after)
 }
 
-// The answer to the SYN of the opener.
+// Returns the answer to the SYN of the opener.
 fn first_answer(
     alloc: Global,
     opener: &Table,
@@ -72,12 +72,12 @@ fn first_answer(
     answered(alloc, answerer, cluster, &opening)
 }
 
-// The table after the frame of an ACK2 came.
+// Returns the table after the frame of an ACK2 came.
 fn closed(alloc: Global, table: &Table, frame: &[u8]) -> Result<Table, Failure> {
     Ok(ended(alloc, table, &read_ack2(alloc, frame)?)?)
 }
 
-/// Both tables after an exchange.
+/// Returns both tables after an exchange.
 pub(crate) fn exchanged(
     alloc: Global,
     opener: &Table,

@@ -1,4 +1,4 @@
-//! The pieces of work on rings, texts and windows that are measured, what each works on, and what it makes.
+//! The tasks on rings, texts and windows that are measured: the inputs and the result of each.
 
 use crate::cases::{LOCAL, LocalTask};
 use crate::rings::{claimed, digests, key_tokens, places, replicas, replicas_of_keys, ring};
@@ -14,25 +14,25 @@ use md5::{Digest, Md5};
 use std::alloc::{AllocError, Global};
 use std::sync::ArcStr;
 
-/// One piece of work, with what it works on.
+/// A task of one member alone, with its inputs.
 #[derive(Drop)]
 pub(crate) enum LocalWork {
     BuildRing(Table),
     Places(Ring, Vec<Token>),
-    /// Finds so many replicas of each token, and keeps those of the last.
+    /// Finds this number of replicas of each token, and keeps those of the last.
     Replicas(Ring, Vec<Token>, usize),
     Keys(Ring),
     Digests,
-    /// Makes so many texts.
+    /// Makes this number of texts.
     MakeTexts(String, usize),
-    /// Puts texts in room for so many bytes.
+    /// Joins texts, with room for this number of bytes.
     Put(Vec<ArcStr<Global>>, usize),
     Head(Vec<ArcStr<Global>>, usize),
     Arrivals(Silence),
     Verdicts(Window),
 }
 
-/// What one turn makes.
+/// The result of one turn.
 #[derive(Drop)]
 pub(crate) enum Made {
     Ring(Ring),
@@ -74,7 +74,7 @@ fn add_texts(digest: &mut Md5, texts: &[ArcStr<Global>]) {
     }
 }
 
-// What one turn of the work makes.
+// Does one turn of the work, and returns its result.
 fn turn_of(alloc: Global, work: &LocalWork) -> Result<Made, AllocError> {
     match work {
         LocalWork::BuildRing(table) => Ok(Made::Ring(Ring::of_table(alloc, table)?)),
@@ -141,7 +141,7 @@ fn verdicts_of(alloc: Global, silence: Option<Silence>) -> Result<LocalWork, Fai
     }
 }
 
-// The work of a task.
+// Makes the work of a task.
 fn work_of(alloc: Global, task: LocalTask) -> Result<LocalWork, Failure> {
     match task {
         LocalTask::BuildRing => Ok(LocalWork::BuildRing(claimed(alloc)?)),
@@ -159,7 +159,7 @@ fn work_of(alloc: Global, task: LocalTask) -> Result<LocalWork, Failure> {
     }
 }
 
-/// The cases of rings, texts and windows.
+/// Makes the cases of rings, texts and windows.
 pub(crate) fn local_cases(alloc: Global) -> Result<Vec<(Name, LocalWork)>, Failure> {
     let mut cases = Vec::new(alloc);
     for (work, on, tag, task) in LOCAL {

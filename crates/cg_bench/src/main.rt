@@ -1,5 +1,7 @@
-//! Measures the core's work on frames, tables, rings, windows and texts. With no words it runs each case once and prints a
-//! digest of what it makes, which no clock and no machine changes; with the word `time` it measures each.
+//! Measures the core's work on frames, tables, rings, windows and texts.
+//!
+//! With no words it runs each case once and prints a digest of its result, which no clock and no machine changes. With
+//! the word `time` it measures each.
 #![tactic(auto)]
 
 mod cases;

@@ -1,4 +1,4 @@
-//! Cases of gossip made ready: what each task works on.
+//! Cases of gossip made ready: the inputs of each task.
 
 use crate::cases::{GossipTask, SHAPED, SMALL, SMALL_SHAPE};
 use crate::frames::spoilt;
@@ -71,7 +71,7 @@ fn exchange(
     Ok(GossipWork::Exchange(opener, copy(alloc, tables, answerer)?, cluster))
 }
 
-// The work of a task on these tables.
+// Makes the work of a task on these tables.
 fn work_of(alloc: Global, tables: &[Table], task: GossipTask) -> Result<GossipWork, Failure> {
     match task {
         GossipTask::Encode(said) => Ok(GossipWork::Encode(message(alloc, tables, said)?)),
@@ -85,7 +85,7 @@ fn work_of(alloc: Global, tables: &[Table], task: GossipTask) -> Result<GossipWo
     }
 }
 
-/// The cases of a SYN and of heartbeats.
+/// Makes the cases of a SYN and of heartbeats.
 pub(crate) fn small(alloc: Global) -> Result<Vec<(Name, GossipWork)>, Failure> {
     let tables = tables_of(alloc, SMALL_SHAPE)?;
     let mut cases = Vec::new(alloc);
@@ -95,7 +95,7 @@ pub(crate) fn small(alloc: Global) -> Result<Vec<(Name, GossipWork)>, Failure> {
     Ok(cases)
 }
 
-/// The cases at tables of a shape, which has this tag.
+/// Makes the cases at tables of a shape, which has this tag.
 pub(crate) fn shaped(
     alloc: Global,
     tag: &'static str,

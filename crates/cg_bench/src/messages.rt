@@ -7,7 +7,7 @@ use cg_samples::cluster;
 use cg_table::Table;
 use std::alloc::{AllocError, Global};
 
-/// What a SYN is of.
+/// The table of which a SYN is made.
 #[derive(Clone, Copy)]
 pub(crate) enum Opens {
     /// The plain table.
@@ -16,7 +16,7 @@ pub(crate) enum Opens {
     Nobody,
 }
 
-/// What an ACK brings.
+/// The contents of an ACK.
 #[derive(Clone, Copy)]
 pub(crate) enum Brings {
     /// All that a table holds.
@@ -29,14 +29,14 @@ pub(crate) enum Brings {
     Single,
 }
 
-/// What a message says.
+/// The contents of a message.
 #[derive(Clone, Copy)]
 pub(crate) enum Said {
     Syn(Opens),
     Ack(Brings),
 }
 
-/// All tables of a shape, by the numbers of what they hold.
+/// Makes all tables of a shape, in the order of `HELD`.
 pub(crate) fn tables_of(alloc: Global, shape: Shape) -> Result<Vec<Table>, Failure> {
     let mut tables = Vec::new(alloc);
     for held in HELD {
@@ -45,12 +45,12 @@ pub(crate) fn tables_of(alloc: Global, shape: Shape) -> Result<Vec<Table>, Failu
     Ok(tables)
 }
 
-/// The one that holds this.
+/// Returns the table with these contents.
 pub(crate) fn held_in(tables: &[Table], held: Held) -> Result<&Table, Failure> {
     tables.get(held as usize).ok_or(Failure::Lacking("a table"))
 }
 
-/// A SYN of such a table.
+/// Makes a SYN of such a table.
 pub(crate) fn syn_of(alloc: Global, tables: &[Table], opens: Opens) -> Result<Syn, Failure> {
     match opens {
         Opens::Plain => Ok(syn(alloc, held_in(tables, Held::Plain)?, &cluster(alloc)?)?),
@@ -58,7 +58,7 @@ pub(crate) fn syn_of(alloc: Global, tables: &[Table], opens: Opens) -> Result<Sy
     }
 }
 
-// What a newer table sends to the plain one.
+// Returns the ACK that a newer table sends to the plain one.
 fn newer(alloc: Global, tables: &[Table], held: Held) -> Result<Ack, Failure> {
     let syn = syn_of(alloc, tables, Opens::Plain)?;
     Ok(answer_syn(alloc, held_in(tables, held)?, syn.cluster(), &syn)?)
@@ -72,14 +72,14 @@ fn copies(alloc: Global, deltas: &[OwnerDelta]) -> Result<Vec<OwnerDelta>, Alloc
     Ok(copies)
 }
 
-// The ACK with the eighth of these deltas alone.
+// Returns the ACK with the eighth of these deltas alone.
 fn single(alloc: Global, ack: &Ack) -> Result<Ack, Failure> {
     let eighth = ack.deltas().get(7..8).unwrap_or(&[]);
     let eighth = copies(alloc, eighth)?;
     Ack::new(Vec::new(alloc), eighth).ok_or(Failure::Lacking("an ACK"))
 }
 
-/// The ACK that brings this.
+/// Returns the ACK with these contents.
 pub(crate) fn ack_of(alloc: Global, tables: &[Table], brings: Brings) -> Result<Ack, Failure> {
     match brings {
         Brings::Whole => bringing(alloc, held_in(tables, Held::Other)?),
@@ -89,13 +89,13 @@ pub(crate) fn ack_of(alloc: Global, tables: &[Table], brings: Brings) -> Result<
     }
 }
 
-/// The ACK2 with the deltas of an ACK.
+/// Returns the ACK2 with the deltas of an ACK.
 pub(crate) fn ack2_of(alloc: Global, tables: &[Table], brings: Brings) -> Result<Ack2, Failure> {
     let ack = ack_of(alloc, tables, brings)?;
     Ack2::new(copies(alloc, ack.deltas())?).ok_or(Failure::Lacking("an ACK2"))
 }
 
-/// The message that says so.
+/// Returns the message with these contents.
 pub(crate) fn message(alloc: Global, tables: &[Table], said: Said) -> Result<Message, Failure> {
     match said {
         Said::Syn(opens) => Ok(Message::Syn(syn_of(alloc, tables, opens)?)),

@@ -10,7 +10,7 @@ use cg_types::{Endpoint, Fault, StateText};
 use md5::{Digest, Md5};
 use std::alloc::{AllocError, Global};
 
-/// The tokens of a thousand keys.
+/// Returns the tokens of a thousand keys.
 pub(crate) fn key_tokens(alloc: Global) -> Result<Vec<Token>, AllocError> {
     let mut tokens = Vec::new(alloc);
     for number in 0..1000u32 {
@@ -19,7 +19,7 @@ pub(crate) fn key_tokens(alloc: Global) -> Result<Vec<Token>, AllocError> {
     Ok(tokens)
 }
 
-/// The replicas of the last of these tokens, all of which are looked up.
+/// Looks up the replicas of all these tokens, and returns those of the last.
 pub(crate) fn replicas(
     alloc: Global,
     ring: &Ring,
@@ -33,7 +33,7 @@ pub(crate) fn replicas(
     Ok(last)
 }
 
-/// Where on the ring each of these tokens is looked for, by the library alone: the sum of the places.
+/// Searches the ring for each of these tokens, by the library alone, and returns the sum of the places.
 pub(crate) fn places(ring: &Ring, tokens: &[Token]) -> usize {
     let mut sum: usize = 0;
     for token in tokens {
@@ -45,7 +45,7 @@ pub(crate) fn places(ring: &Ring, tokens: &[Token]) -> usize {
     sum
 }
 
-/// The three replicas of the last of a thousand keys of sixteen bytes, all of which are looked up.
+/// Looks up three replicas of each of a thousand keys of sixteen bytes, and returns those of the last.
 pub(crate) fn replicas_of_keys(alloc: Global, ring: &Ring) -> Result<Vec<Endpoint>, AllocError> {
     let mut last = Vec::new(alloc);
     for number in 0..1000u64 {
@@ -55,7 +55,7 @@ pub(crate) fn replicas_of_keys(alloc: Global, ring: &Ring) -> Result<Vec<Endpoin
     Ok(last)
 }
 
-/// The last of a thousand MD5s, each of the one before, by the library alone.
+/// Returns the last of a thousand MD5s, each of the one before, by the library alone.
 pub(crate) fn digests() -> [u8; 16] {
     let mut digest = [0u8; 16];
     for _ in 0..1000 {
@@ -64,7 +64,7 @@ pub(crate) fn digests() -> [u8; 16] {
     digest
 }
 
-// Sixteen tokens of an endpoint, rising.
+// Returns sixteen tokens of an endpoint, rising.
 fn tokens(alloc: Global, number: u16) -> Result<Vec<Token>, AllocError> {
     let mut tokens = Vec::new(alloc);
     for part in 0..16u8 {
@@ -75,7 +75,7 @@ fn tokens(alloc: Global, number: u16) -> Result<Vec<Token>, AllocError> {
     Ok(tokens)
 }
 
-// Tokens as an endpoint tells them.
+// Writes tokens as an endpoint publishes them.
 fn tokens_text(alloc: Global, tokens: &[Token]) -> Result<String, AllocError> {
     let mut text = String::new(alloc);
     for token in tokens {
@@ -95,7 +95,7 @@ fn state(alloc: Global, number: u8, text: &str) -> Result<State, Fault> {
     })
 }
 
-// The states of an endpoint that is in the ring and claims sixteen tokens.
+// Returns the states of an endpoint that is in the ring and claims sixteen tokens.
 fn claims(alloc: Global, number: u16) -> Result<Vec<State>, Fault> {
     let tokens = tokens_text(alloc, &tokens(alloc, number)?)?;
     let mut states = Vec::with_capacity(alloc, 2)?;
@@ -109,7 +109,7 @@ fn claiming(alloc: Global, number: u16) -> Result<Delta, Failure> {
     Delta::new(generation(5), 0, version(18), states).ok_or(Failure::Lacking("a delta"))
 }
 
-/// A table of 256 endpoints with sixteen tokens each.
+/// Makes a table of 256 endpoints with sixteen tokens each.
 pub(crate) fn claimed(alloc: Global) -> Result<Table, Failure> {
     let mut deltas = Vec::new(alloc);
     for number in 0..256u16 {
@@ -118,7 +118,7 @@ pub(crate) fn claimed(alloc: Global) -> Result<Table, Failure> {
     table_of(alloc, 0, &deltas)
 }
 
-/// The ring of that table.
+/// Makes the ring of that table.
 pub(crate) fn ring(alloc: Global) -> Result<Ring, Failure> {
     Ok(Ring::of_table(alloc, &claimed(alloc)?)?)
 }

@@ -1,10 +1,10 @@
-//! Texts of states, as the core keeps what is shared: made, and put one behind the other.
+//! Texts of states, as the core keeps what is shared: made, and joined one after the other.
 
 use crate::cases::Texts;
 use std::alloc::{AllocError, Global};
 use std::sync::ArcStr;
 
-/// So many copies of a text.
+/// Makes this number of copies of a text.
 pub(crate) fn copies(
     alloc: Global,
     text: &str,
@@ -17,17 +17,17 @@ pub(crate) fn copies(
     Ok(texts)
 }
 
-/// One of the texts.
+/// Returns one of the texts.
 pub(crate) fn text_of(alloc: Global, texts: Texts) -> Result<String, AllocError> {
     texts.part.repeat(alloc, texts.times)
 }
 
-/// All of the texts.
+/// Returns all of the texts.
 pub(crate) fn texts_of(alloc: Global, texts: Texts) -> Result<Vec<ArcStr<Global>>, AllocError> {
     copies(alloc, &text_of(alloc, texts)?, texts.count)
 }
 
-/// How many bytes all of the texts have, where so many stand before each.
+/// Returns the number of bytes of all the texts, with this number of bytes before each.
 pub(crate) fn room_for(texts: Texts, before: usize) -> usize {
     let each = texts
         .part
@@ -37,7 +37,7 @@ pub(crate) fn room_for(texts: Texts, before: usize) -> usize {
     each.saturating_mul(texts.count)
 }
 
-/// The texts one behind the other, in room for so many bytes.
+/// Joins the texts one after the other, in room for this number of bytes.
 pub(crate) fn joined(
     alloc: Global,
     texts: &[ArcStr<Global>],
@@ -50,7 +50,7 @@ pub(crate) fn joined(
     Ok(all)
 }
 
-// What stands before a text, as before that of a state: a key, a version and the length.
+// Returns the bytes before a text, as before that of a state: a key, a version and the length.
 fn head_of(version: u32, size: u16) -> [u8; 7] {
     let mut head = [1u8; 7];
     head[1..5].copy_from_slice(&version.to_be_bytes());
@@ -58,7 +58,7 @@ fn head_of(version: u32, size: u16) -> [u8; 7] {
     head
 }
 
-// How many bytes each of the texts has.
+// Returns the number of bytes of each of the texts.
 fn size_of_each(texts: &[ArcStr<Global>]) -> u16 {
     match texts.first() {
         Some(text) => u16::try_from(text.as_str().len()).unwrap_or(0),
@@ -66,7 +66,7 @@ fn size_of_each(texts: &[ArcStr<Global>]) -> u16 {
     }
 }
 
-/// The texts one behind the other, each behind seven bytes, as a state has it.
+/// Joins the texts one after the other, each after seven bytes, as a state has it.
 pub(crate) fn headed(
     alloc: Global,
     texts: &[ArcStr<Global>],

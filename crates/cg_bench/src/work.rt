@@ -1,4 +1,4 @@
-//! The pieces of work on messages and tables that are measured, and what each makes.
+//! The tasks on messages and tables that are measured, and the result of each.
 
 use crate::frames::{fault, read};
 use crate::gossip::{answered, ended, exchanged, opened, taken};
@@ -11,12 +11,12 @@ use cg_types::{Cluster, Fault};
 use md5::{Digest, Md5};
 use std::alloc::Global;
 
-/// One piece of work, with what it works on.
+/// A task of gossip, with its inputs.
 #[derive(Drop)]
 pub(crate) enum GossipWork {
     Encode(Message),
     Decode(Bytes),
-    /// Checks a frame with a fault behind its last field, and makes nothing.
+    /// Checks a frame with a fault after its last field, and makes nothing.
     Check(Vec<u8>),
     /// Makes a SYN, as a frame.
     Open(Table, Cluster),
@@ -29,7 +29,7 @@ pub(crate) enum GossipWork {
     Exchange(Table, Table, Cluster),
 }
 
-/// What one turn makes.
+/// The result of one turn.
 #[derive(Drop)]
 pub(crate) enum Made {
     Frame(Bytes),

@@ -1,4 +1,4 @@
-//! One case: a piece of work with a name, run once for its digest, or measured.
+//! One case: a task with a name, run once for its digest, or measured.
 
 use crate::failure::Failure;
 use crate::sampling::samples;
@@ -6,14 +6,14 @@ use md5::{Digest, Md5};
 use std::alloc::Global;
 use std::rt::Clock;
 
-/// Whether cases are run once, or measured.
+/// The mode of cases: run once, or measured.
 #[derive(Clone, Copy)]
 pub enum Mode {
     Once,
     Timed,
 }
 
-/// What a case is called: the work, what it is done on, and a tag that tells the shape of that.
+/// The name of a case: the work, its subject, and a tag for the subject's shape.
 #[derive(Clone, Copy)]
 pub struct Name {
     pub work: &'static str,
@@ -21,19 +21,19 @@ pub struct Name {
     pub tag: &'static str,
 }
 
-/// A piece of work, with all that it works on.
+/// A task that is measured, with all that it works on.
 pub trait Work {
-    /// What one turn makes.
+    /// The result of one turn.
     type Made: Drop;
 
     /// Does the work once.
     fn turn(&self, alloc: Global) -> Result<Self::Made, Failure>;
 
-    /// Adds what a turn made to a digest.
+    /// Adds the result of a turn to a digest.
     fn add(alloc: Global, digest: &mut Md5, made: &Self::Made) -> Result<(), Failure>;
 }
 
-// The MD5 of what a turn makes, in hexadecimal digits.
+// Computes the MD5 of a turn's result, in hexadecimal digits.
 fn digest_of<W: Work>(alloc: Global, work: &W) -> Result<String, Failure> {
     let made = work.turn(alloc)?;
     let mut digest = Md5::new();
@@ -47,7 +47,7 @@ fn print_digest(rt: &impl Print, name: Name, digest: &str) -> Result<(), Failure
     Ok(())
 }
 
-// The middle and the least of sorted samples, which are tenths of nanoseconds.
+// Prints the middle and the least of sorted samples, which are tenths of nanoseconds.
 fn print_times(rt: &impl Print, name: Name, samples: &[u128]) -> Result<(), Failure> {
     let Name { work, on, tag } = name;
     let middle = samples.get(samples.len() / 2).copied().unwrap_or(0);
@@ -75,8 +75,10 @@ fn run_case<W: Work>(
     }
 }
 
-/// For each case prints a line `case NAME DIGEST` of what the work makes, or measures it and prints a line `bench NAME
-/// ns_per_op N least L`: the middle and the least of nine samples.
+/// Runs or measures each case, and prints a line for it.
+///
+/// The line is `case NAME DIGEST` of the work's result, or, measured, `bench NAME ns_per_op N least L`: the middle and
+/// the least of nine samples.
 pub fn run_cases<W: Work>(
     rt: &(impl Clock + Print),
     alloc: Global,

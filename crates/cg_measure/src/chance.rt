@@ -19,7 +19,7 @@ impl Chance {
         z ^ (z >> 31)
     }
 
-    /// A printable byte, `!` to `z`.
+    /// Returns a printable byte, `!` to `z`.
     pub(crate) fn printable(&mut self) -> char {
         char::from(33 + (self.word() % 90) as u8)
     }

@@ -1,13 +1,13 @@
-//! Why a case was not run.
+//! Failures of cases.
 
 use cg_types::Fault;
 use std::alloc::{AllocError, AllocFailed};
 use std::io;
 
-/// Why a case was not run.
+/// The failure of a case that was not run.
 #[derive(Clone, Copy, Debug)]
 pub enum Failure {
-    /// What the core refused, or memory that was refused.
+    /// A fault of the core, or memory that was refused.
     Refused(Fault),
     /// The clock or the standard output failed.
     Outside,

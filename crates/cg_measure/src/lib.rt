@@ -1,5 +1,5 @@
-//! What the programs that measure share: cases and how they are run, the tables and messages that cases work on, and the
-//! digests of what they make.
+//! The common part of the programs that measure: cases and their runs, tables and messages to work on, and digests of
+//! results.
 #![tactic(auto)]
 
 mod case;

@@ -1,4 +1,4 @@
-//! Messages that both programs make of tables.
+//! Messages of tables, for the programs that measure.
 
 use crate::failure::Failure;
 use cg_exchange::answer_syn;
@@ -7,12 +7,12 @@ use cg_samples::cluster;
 use cg_table::Table;
 use std::alloc::Global;
 
-/// The SYN of a member that holds nothing.
+/// Makes the SYN of a member that holds nothing.
 pub fn empty_syn(alloc: Global) -> Result<Syn, Failure> {
     Syn::new(cluster(alloc)?, Vec::new(alloc)).ok_or(Failure::Lacking("a SYN"))
 }
 
-/// An ACK that brings all that a table holds, and asks for nothing.
+/// Makes an ACK that brings all that a table holds, and requests nothing.
 pub fn bringing(alloc: Global, table: &Table) -> Result<Ack, Failure> {
     let syn = empty_syn(alloc)?;
     Ok(answer_syn(alloc, table, syn.cluster(), &syn)?)

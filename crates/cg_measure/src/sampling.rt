@@ -1,4 +1,4 @@
-//! Samples of the time that a piece of work takes.
+//! Samples of the time that a task takes.
 
 use crate::case::Work;
 use crate::failure::Failure;
@@ -9,19 +9,19 @@ use std::time::Instant;
 
 const SAMPLES: usize = 9;
 
-// Nanoseconds of a sample.
+// The nanoseconds of a sample.
 const SAMPLE: u128 = 15_000_000;
 
-// More turns than any sample has.
+// A number of turns that no sample reaches.
 const MOST_TURNS: u64 = 1 << 40;
 
-// One turn, of which nothing is kept.
+// Does one turn, and keeps nothing of it.
 fn pass<W: Work>(alloc: Global, work: &W) -> Result<(), Failure> {
     black_box(work.turn(alloc)?);
     Ok(())
 }
 
-// How many turns make a sample.
+// Finds the number of turns that make a sample.
 fn turns_of_a_sample<W: Work>(clock: &impl Clock, alloc: Global, work: &W) -> Result<u64, Failure> {
     let start = Instant::now(clock)?;
     for count in 1..MOST_TURNS {
@@ -33,7 +33,7 @@ fn turns_of_a_sample<W: Work>(clock: &impl Clock, alloc: Global, work: &W) -> Re
     Ok(MOST_TURNS)
 }
 
-// Tenths of a nanosecond that each of so many turns takes.
+// Measures the tenths of a nanosecond that each of this number of turns takes.
 fn sample<W: Work>(
     clock: &impl Clock,
     alloc: Global,
@@ -48,7 +48,7 @@ fn sample<W: Work>(
     Ok(tenths.checked_div(u128::from(turns)).unwrap_or(0))
 }
 
-/// Nine samples, sorted: tenths of a nanosecond a turn.
+/// Takes nine samples, sorted: tenths of a nanosecond a turn.
 pub(crate) fn samples<W: Work>(
     clock: &impl Clock,
     alloc: Global,

@@ -8,14 +8,14 @@ use cg_table::Table;
 use cg_types::{Fault, StateText};
 use std::alloc::Global;
 
-/// How many states an entry has, and how many bytes each of their texts.
+/// The number of states of an entry, and the bytes of each state's text.
 #[derive(Clone, Copy)]
 pub struct Shape {
     pub states: u8,
     pub text: usize,
 }
 
-/// What a table holds.
+/// The contents of a table.
 #[derive(Clone, Copy)]
 pub enum Held {
     /// Endpoint 0 alone.
@@ -34,7 +34,7 @@ pub enum Held {
     FirstState,
 }
 
-/// All of them, in the order of their numbers.
+/// All contents, in the order of their numbers.
 pub const HELD: [Held; 7] = [
     Held::Alone,
     Held::Plain,
@@ -88,7 +88,7 @@ fn text(alloc: Global, chance: &mut Chance, length: usize) -> Result<StateText, 
     StateText::new(alloc, &text)
 }
 
-// The states of an endpoint.
+// Makes the states of an endpoint.
 fn states(alloc: Global, number: u16, held: Held, shape: Shape) -> Result<Vec<State>, Fault> {
     let mut chance = Chance::new(u64::from(number));
     let mut states = Vec::new(alloc);
@@ -102,7 +102,7 @@ fn states(alloc: Global, number: u16, held: Held, shape: Shape) -> Result<Vec<St
     Ok(states)
 }
 
-// The whole entry of an endpoint.
+// Makes the whole entry of an endpoint.
 fn whole(alloc: Global, number: u16, held: Held, shape: Shape) -> Result<Delta, Failure> {
     let states = states(alloc, number, held, shape)?;
     let heartbeat = version(held.heartbeat(number));
@@ -114,13 +114,13 @@ fn entry(alloc: Global, whole: Option<&Delta>) -> Result<Entry, Failure> {
     Entry::of_delta(alloc, whole)?.ok_or(Failure::Lacking("an entry"))
 }
 
-// The table with what a delta brings of an endpoint.
+// Returns the table with a delta of an endpoint taken.
 fn with(alloc: Global, table: &Table, number: u16, delta: &Delta) -> Result<Table, Fault> {
     let (after, _) = table.put_delta(alloc, endpoint(number), delta)?;
     Ok(after)
 }
 
-/// The table of an endpoint that holds what these deltas bring, each of the endpoint whose number is its place.
+/// Makes the table of an endpoint that takes these deltas, each of the endpoint whose number is its place.
 pub fn table_of(alloc: Global, own: u16, deltas: &[Delta]) -> Result<Table, Failure> {
     let entry = entry(alloc, deltas.get(usize::from(own)))?;
     let mut table = Table::new(alloc, endpoint(own), entry)?;
@@ -132,7 +132,7 @@ pub fn table_of(alloc: Global, own: u16, deltas: &[Delta]) -> Result<Table, Fail
     Ok(table)
 }
 
-/// The table that holds this, with entries of this shape.
+/// Makes the table with these contents, and entries of this shape.
 pub fn table(alloc: Global, held: Held, shape: Shape) -> Result<Table, Failure> {
     let mut deltas = Vec::new(alloc);
     for number in 0..held.count() {
