@@ -1,4 +1,4 @@
--- How an exchange ends, by how its last turn ended.
+-- The end of an exchange, by the end of its last turn.
 use Rattle.std.proofs.Common.{◌≡◌, ℕ, ◌+◌, ◌<◌, ◌⊎◌, List, [], length, Option, Some, Result, Ok, Err, refl, sym, ap, subst, inl, inr, arith}
 use Rattle.std.specs.Prelude.{slice_get}
 use Rattle.std.proofs.KnownBytes.{Appends-trans}
@@ -17,7 +17,7 @@ use Rattle.cg_engine.specs.Turns.{DoesEvent, FindsEnd, ReadsNone, ReadsAnother, 
 use Rattle.cg_engine.specs.Exchanged.{Turn, written_of, Turned, AllWritten, IsClosed, BreaksOff, Exchanges}
 use Rattle.cg_engine.proofs.TurnLemmas.{turns_kept, turns_ended, turn_added, turn_of, flushed_both}
 
--- Where nothing is due, nothing fails.
+-- If there is nothing to write, nothing fails.
 nothing_fails : {L : Type 0} (held holds : Option (List ℕ)) (old new : Counted L) (f : Fault) → FailsToSend held holds old new [] f → ⊥
 nothing_fails held holds old new f (inl x) = omega (arith, x.some)
 nothing_fails held holds old new f (inr x) = omega (arith, x.some)

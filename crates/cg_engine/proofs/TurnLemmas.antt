@@ -38,7 +38,7 @@ runs_snoc does s u v (x ∷ xs) t ran did = (ran.0, (ran.1.0, runs_snoc does ran
 pub length_snoc : {X : Type 0} (xs : List X) (x : X) → length (xs ++ (x ∷ [])) ≡ length xs + 1
 length_snoc xs x = length-append xs (x ∷ [])
 
--- what stands at the place of the turn that comes next
+-- the element at the place of the turn that comes next
 pub next_at : {X : Type 0} (xs : List X) (count index : ℕ) (d : X) → count ≡ index → index < length xs → slice_get xs count ≡ Some (get_or xs index d)
 next_at xs count index d same within = ap (slice_get xs) same ∙ slice_get-get_or xs index d within
 
@@ -56,13 +56,13 @@ module _ {S R : Type 0} (does : S → Event → Reply → S → Type 0) (kinds :
   pub no_turns : Turned does kinds now before r0 s [] before r0 s
   no_turns = record { due = tt; ran = refl; read = Consumes-nil before; sound = record { failed = refl; idle = refl } }
 
-  -- the same turns, where the gate stayed
+  -- the same turns, if the gate stayed
   pub turns_kept : (turns : List Turn) (there : Option (List ℕ)) (reader : Counted R) (here t : S) → Turned does kinds now before r0 s turns there reader here → t ≡ here
       → Turned does kinds now before r0 s turns there reader t
   turns_kept turns there reader here t done same =
       subst (λ (x : S). Turned does kinds now before r0 s turns there reader x) (sym same) done
 
-  -- the same turns, where nothing more was read
+  -- the same turns, if nothing more was read
   pub turns_ended : (turns : List Turn) (there after : Option (List ℕ)) (reader r1 : Counted R) (here : S) → Turned does kinds now before r0 s turns there reader here
       → MeetsEnd there after reader r1 → Turned does kinds now before r0 s turns after r1 here
   turns_ended turns there after reader r1 here done end = record {
@@ -84,18 +84,18 @@ module _ {S R : Type 0} (does : S → Event → Reply → S → Type 0) (kinds :
     sound = KeepsCounts-trans r0 reader r1 done.sound d.read.kept;
   }
 
--- Where the second of two writes was flushed, or had nothing to write, all was.
+-- All was flushed if the second of two writes was flushed or had nothing to write.
 pub flushed_both : {L : Type 0} (a b c : Counted L) (first second : List ℕ) → LeavesFlushed first a b → LeavesFlushed second b c → LeavesFlushed (first ++ second) a c
 flushed_both a b c first [] one two (inl some) = two (inr (one (inl (subst (λ (l : List ℕ). 0 < length l) (append-nil first) some))))
 flushed_both a b c first (x ∷ xs) one two (inl some) = two (inl (omega arith))
 flushed_both a b c first second one two (inr sound) = two (inr (one (inr sound)))
 
--- Nothing to write leaves it so.
+-- The writer stays flushed if there is nothing to write.
 pub flushed_still : {L : Type 0} (w : Counted L) → LeavesFlushed [] w w
 flushed_still w (inl some) = absurd (omega (arith, some))
 flushed_still w (inr sound) = sound
 
--- what is written with one turn more
+-- the bytes written with one turn more
 pub written_more : (opening : List ℕ) (turns : List Turn) (t : Turn) → opening ++ written_of (turns ++ (t ∷ [])) ≡ (opening ++ written_of turns) ++ written_for t.reply
 written_more opening turns t =
     ap (λ l. opening ++ l) (map_snoc (λ (x : Turn). written_for x.reply) turns t) ∙ sym (append_assoc opening (written_of turns) (written_for t.reply))
@@ -111,6 +111,6 @@ module _ {W : Type 0} (opening : List ℕ) (held : Option (List ℕ)) (w0 : Coun
     kept = KeepsCounts-trans w0 writer w1 wrote.kept sent.kept;
   }
 
--- nothing was written, where nothing is written first
+-- nothing was written if nothing is written first
 pub nothing_written : {W : Type 0} (held : Option (List ℕ)) (w : Counted W) → AllWritten [] held w [] held w
 nothing_written held w = record { written = Appends-nil held; flushed = flushed_still w; kept = record { failed = refl; idle = refl } }

@@ -1,4 +1,4 @@
--- Messages as events, what is written for their replies, and the faults that an event may be refused by.
+-- Messages as events, the bytes written for their replies, and the faults that may refuse an event.
 use Rattle.std.specs.Prelude.{ℕ, List, [], Result}
 use Rattle.cg_types.specs.ResultSteps.{then}
 use Rattle.cg_types.specs.declared.fault.Fault.{Fault}
@@ -15,13 +15,13 @@ use Rattle.cg_wire.specs.Due.{syn_due, ack_due, ack2_due}
 use Rattle.cg_messages.specs.declared.kind.Kind.{Kind}
 use Rattle.cg_messages.specs.declared.kind.Kind.TheVariants as kind
 
--- The event of a message of the kind that is due, as it comes at a moment; the fault of another kind.
+-- The event of a message of the expected kind, which comes at a time; the fault of another kind.
 abbrev pub event_due : Kind → ℕ → Message → Result Event Fault
 event_due kind.Syn now m = then (syn_due m) event.Syn
 event_due kind.Ack now m = then (ack_due m) (event.Ack now)
 event_due kind.Ack2 now m = then (ack2_due m) (event.Ack2 now)
 
--- the bytes of the message that a reply holds, in the layout that is written; none where it holds none
+-- the bytes of the message that a reply holds, in the layout that is written; none if it holds none
 abbrev pub written_for : Reply → List ℕ
 written_for (reply.Done version) = []
 written_for (reply.Round peers syn) = frame WRITTEN (messages.Syn syn)
@@ -29,7 +29,7 @@ written_for (reply.Sent m) = frame WRITTEN m
 written_for (reply.Both outcomes ack2) = frame WRITTEN (messages.Ack2 ack2)
 written_for (reply.Took outcomes) = []
 
--- the faults that an event may be refused by
+-- the faults that may refuse an event
 abbrev pub IsGateFault : Fault → Type 0
 IsGateFault fault.OutOfMemory = Unit {0}
 IsGateFault fault.VersionsSpent = Unit {0}

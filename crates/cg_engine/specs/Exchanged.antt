@@ -1,4 +1,4 @@
--- What a whole exchange reads, does and writes.
+-- A whole exchange: the messages read, the events done, and the bytes written.
 use Rattle.std.specs.Prelude.{◌≡◌, ℕ, ◌+◌, ◌<◌, ◌⊎◌, List, [], ◌∷◌, ◌++◌, length, slice_get, Option, Some, Result, Ok, Err}
 use Rattle.std.specs.List.{flat_map}
 use Rattle.std.specs.Io.KnownBytes.{Appends, Consumes, IsAtEnd}
@@ -24,14 +24,14 @@ pub record Turn : Type 0 where
   pub event : Event
   pub reply : Reply
 
--- The bytes spell the message in some layout, it is of the kind that is due, its event is at this moment, and the reply
--- is of the event's kind.
+-- The bytes spell the message in some layout, it is of the expected kind, its event is at this time, and the reply is
+-- of the event's kind.
 pub record IsTurn (kind : Kind) (now : ℕ) (t : Turn) : Type 0 where
   pub spelled : IsSpelledBy t.bytes t.message
   pub due : event_due kind now t.message ≡ Ok t.event
   pub answer : IsReplyTo t.event t.reply
 
--- the first turns of an exchange in which messages of these kinds are due, in this order
+-- the first turns of an exchange in which messages of these kinds are expected, in this order
 abbrev pub AreTurns : List Kind → ℕ → List Turn → Type 0
 AreTurns kinds now [] = Unit {0}
 AreTurns [] now (t ∷ ts) = ⊥
@@ -58,15 +58,15 @@ pub record Turned {S R : Type 0} (does : S → Event → Reply → S → Type 0)
   pub read : Consumes before there (read_of turns)
   pub sound : KeepsCounts r0 reader
 
--- All that was to be written so far was written and flushed, and nothing else.
+-- All bytes to write so far were written and flushed, and no others.
 pub record AllWritten {W : Type 0} (opening : List ℕ) (held : Option (List ℕ)) (w0 : Counted W) (turns : List Turn)
     (holds : Option (List ℕ)) (w1 : Counted W) : Type 0 where
   pub written : Appends held holds (opening ++ written_of turns)
   pub flushed : LeavesFlushed (opening ++ written_of turns) w0 w1
   pub kept : KeepsCounts w0 w1
 
--- By what a gate does, refuses and leaves; which kinds are due, at which moment, and what is written first; what is
--- left of the reader, what the writer holds, their counts, and the state of the gate, before and after.
+-- The parameters are the gate's events, refusals and states left; the kinds that are expected, their time, and the
+-- bytes written first; the reader's rest, the writer's contents, their counts, and the gate's state, before and after.
 module _ {S R W : Type 0} (does : S → Event → Reply → S → Type 0) (refuses : S → Event → Fault → Type 0)
     (stays : S → S → Type 0) (kinds : List Kind) (now : ℕ) (opening : List ℕ)
     (before after held holds : Option (List ℕ)) (r0 r1 : Counted R) (w0 w1 : Counted W) (s t : S) where
@@ -77,7 +77,7 @@ module _ {S R W : Type 0} (does : S → Event → Reply → S → Type 0) (refus
     pub done : Turned does kinds now before r0 s turns after r1 t
     pub wrote : AllWritten opening held w0 turns holds w1
 
-  -- the input ended where a message would begin, and events were still due
+  -- the input ended where a message would begin, with events still to come
   pub record IsClosed (count : ℕ) : Type 0 where
     pub turns : List Turn
     pub counted : length turns ≡ count
@@ -130,7 +130,7 @@ module _ {S R W : Type 0} (does : S → Event → Reply → S → Type 0) (refus
     pub stayed : stays here t
     pub wrote : AllWritten opening held w0 turns holds w1
 
-  -- the last event was done, its message was not written whole, and all before it was
+  -- the last event was done, its message was not written whole, and all bytes before it were written
   pub record IsUnanswered (count : ℕ) (f : Fault) : Type 0 where
     pub turns : List Turn
     pub last : Turn
@@ -141,7 +141,7 @@ module _ {S R W : Type 0} (does : S → Event → Reply → S → Type 0) (refus
     pub wrote : AllWritten opening held w0 turns there writer
     pub failed : FailsToSend there holds writer w1 (written_for last.reply) f
 
-  -- what is written first was not written whole; nothing was read, and the gate is as it was
+  -- the first bytes were not written whole; nothing was read, and the gate stayed the same
   pub record IsUnopened (count : ℕ) (f : Fault) : Type 0 where
     pub none : count ≡ 0
     pub unread : after ≡ before
@@ -149,12 +149,12 @@ module _ {S R W : Type 0} (does : S → Event → Reply → S → Type 0) (refus
     pub same : t ≡ s
     pub failed : FailsToSend held holds w0 w1 opening f
 
-  -- why an exchange broke off, after so many events
+  -- the faults that break off an exchange, after this number of events
   abbrev pub BreaksOff : ℕ → Fault → Type 0
   BreaksOff count f = IsUnread count f ⊎ (IsUnexpected count f ⊎ (IsRefused count f
       ⊎ (IsUnanswered count f ⊎ IsUnopened count f)))
 
-  -- what an exchange came to
+  -- the results of an exchange
   abbrev pub Exchanges : Result Ended Broken → Type 0
   Exchanges (Ok ended.Whole) = IsWhole
   Exchanges (Ok (ended.Closed count)) = IsClosed count

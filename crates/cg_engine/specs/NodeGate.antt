@@ -1,4 +1,4 @@
--- What a clause reads of the gate over one node.
+-- The gate over one node, as clauses see it.
 use Rattle.std.specs.Prelude.{Option}
 use Rattle.cg_core.specs.Values.{NodeValue}
 use Rattle.cg_events.specs.declared.reply.Reply.{Reply}

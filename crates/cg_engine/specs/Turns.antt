@@ -1,4 +1,4 @@
--- What one turn of an exchange comes to: a message is read, and its event is done.
+-- One turn of an exchange: a message is read, its event is done, and the results.
 use Rattle.std.specs.Prelude.{◌≡◌, ℕ, ◌⊎◌, List, Bool, true, false, Option, Some, Result, Ok, Err}
 use Rattle.cg_types.specs.declared.fault.Fault.{Fault}
 use Rattle.cg_messages.specs.declared.message.Message.{Message}
@@ -10,12 +10,12 @@ use Rattle.cg_events.specs.Replies.{IsReplyTo}
 use Rattle.cg_engine.specs.Events.{event_due, IsGateFault}
 use Rattle.cg_messages.specs.declared.kind.Kind.{Kind}
 
--- What a gate does, by its ghost members: a state, an event, its reply and the state after it; the refusals of an event
--- in a state; a state and one that a refused event left; the reply of the last event done.
+-- A gate by its ghost members: a state, an event, its reply and the state after it; the refusals of an event in a
+-- state; a state and one that a refused event left; the reply of the last event done.
 module _ {S L : Type 0} (does : S → Event → Reply → S → Type 0) (refuses : S → Event → Fault → Type 0)
     (stays : S → S → Type 0) (last : S → Option Reply)
     (kind : Kind) (now : ℕ) (before after : Option (List ℕ)) (old new : Counted L) (s t : S) where
-  -- a message of the kind that is due came, and its event was done
+  -- a message of the expected kind came, and its event was done
   pub record DoesEvent : Type 0 where
     pub message : Message
     pub event : Event
@@ -53,7 +53,7 @@ module _ {S L : Type 0} (does : S → Event → Reply → S → Type 0) (refuses
     pub known : IsGateFault f
     pub stayed : stays s t
 
-  -- what a turn came to: whether the event was done, or why none was
+  -- the results of a turn: an event was done, or the input ended, or a fault
   abbrev pub TakesEvent : Result Bool Fault → Type 0
   TakesEvent (Ok true) = DoesEvent
   TakesEvent (Ok false) = FindsEnd

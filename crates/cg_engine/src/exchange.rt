@@ -17,25 +17,25 @@ use cg_wire::send;
 use std::alloc::Global;
 use std::io::{Read, Write};
 
-/// How an exchange ended.
+/// The end of an exchange.
 #[derive(Clone, Copy, Debug, PartialEq, Eq)]
 pub enum Ended {
     /// Each message came, and its event was done.
     Whole,
-    /// The input ended where a message would begin, after so many events.
+    /// The input ended where a message would begin, after this number of events.
     Closed(u32),
 }
 
-/// Why an exchange broke off, and how many of its events were done before.
+/// An exchange that broke off: the number of events done before, and the fault.
 #[derive(Clone, Copy, Debug, PartialEq, Eq)]
 pub struct Broken {
-    /// How many events were done.
+    /// The number of events done.
     pub done: u32,
-    /// What broke it off.
+    /// The fault that broke it off.
     pub fault: Fault,
 }
 
-// Takes turns: reads a message of each of these kinds, does its event, and writes what its reply holds.
+// Takes turns: reads a message of each of these kinds, does its event, and writes the message of its reply.
 fn take_turns<G: Gate, R: Read, W: Write>(
     alloc: Global,
     gate: &mut G,
@@ -65,12 +65,13 @@ fn take_turns<G: Gate, R: Read, W: Write>(
 }
 
 /// Answers an exchange that another side begins: reads a SYN, does its event, writes the ACK, reads an ACK2, and does
-/// its event. `now` is the moment of these events, in milliseconds of the gate's clock.
+/// its event.
 ///
-/// `Closed` where the input ends where a message would begin. Broken off by `OutOfMemory`, a refusal of the gate
-/// (`VersionsSpent`, `TableFull`, `OtherCluster`), `BadFrame` (at 5, Unexpected, where the message is of another kind),
-/// `Truncated`, `ReadFault` and `WriteFault`. What was written is a front of the messages due, and each is flushed. No
-/// byte behind the last message is read.
+/// `now` is the time of these events, in milliseconds of the gate's clock. `Closed` if the input ends where a message
+/// would begin. The exchange is broken off by `OutOfMemory`, a refusal of the gate (`VersionsSpent`, `TableFull`,
+/// `OtherCluster`), `BadFrame` (at 5, Unexpected, if the message is of another kind), `Truncated`, `ReadFault` and
+/// `WriteFault`. The bytes written are a prefix of the expected messages, and each message is flushed. No byte after
+/// the last message is read.
 pub fn respond<G: Gate, R: Read, W: Write>(
     alloc: Global,
     gate: &mut G,

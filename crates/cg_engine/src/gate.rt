@@ -1,4 +1,4 @@
-//! What does events.
+//! Gates, which do events.
 
 ghost use Rattle.std.specs.Prelude.{◌≡◌, Option, Some, IfErr, OnErr, OnOk, option_map};
 ghost use Rattle.cg_types.specs.declared.fault.Fault.{Fault as FaultValue};
@@ -11,8 +11,8 @@ use cg_events::{Event, Reply};
 use cg_types::Fault;
 use std::alloc::Global;
 
-/// What does events one after the other, and knows the reply of the last one: one node (`NodeGate`), or a node that is
-/// shared.
+/// A gate does events one after the other, and knows the reply of the last one. It is one node (`NodeGate`), or a node
+/// that is shared.
 pub trait Gate {
     // a state, an event, its reply, and the state after it
     ghost does: { Self → EventValue → ReplyValue → Self → Type 0 };
@@ -26,8 +26,10 @@ pub trait Gate {
     // the reply of the last event done
     ghost last: { Self → Option ReplyValue };
 
-    /// Does an event, whose kind of reply is then the last one. Refused by `OutOfMemory`, `VersionsSpent`, `TableFull`
-    /// and `OtherCluster` alone, so that no refusal can be taken for a fault of a link or a frame.
+    /// Does an event, whose kind of reply is then the last one.
+    ///
+    /// It is refused by `OutOfMemory`, `VersionsSpent`, `TableFull` and `OtherCluster` alone, so that no refusal can be
+    /// taken for a fault of a link or a frame.
     fn event(&mut self, alloc: Global, event: Event) -> Result<(), Fault>
         ensures ok { OnOk result ((reply : ReplyValue) × (last self.new ≡ Some reply)
             × does self.old event reply self.new × IsReplyTo event reply) }

@@ -1,7 +1,7 @@
 //! Exchanges of messages over links.
 //!
-//! A gate does the events of the messages that come, as one node does, or many threads that share one. An exchange is
-//! a few turns: a message is read, its event is done, and what the reply holds is written.
+//! A gate does the events of the messages that come, as one node does, or many threads that share one. An exchange is a
+//! few turns: a message is read, its event is done, and the message of the reply is written.
 #![tactic(auto)]
 
 mod exchange;

@@ -20,7 +20,7 @@ pub struct NodeGate {
 impl NodeGate {
     ghost use Rattle.cg_engine.specs.NodeGate.{node_of, last_of};
 
-    /// The node, which did no event yet.
+    /// Makes the gate over a node, which did no event yet.
     pub fn new(node: Node) -> NodeGate
         ensures node { node_of result ≡ node }
         ensures last { last_of result ≡ None }
@@ -28,14 +28,14 @@ impl NodeGate {
         NodeGate { node, last: None }
     }
 
-    /// The node as it is now.
+    /// The node in its present state.
     pub fn node(&self) -> &Node
         ensures { result.now ≡ node_of self.now }
     {
         &self.node
     }
 
-    /// The node as it is now.
+    /// Returns the node in its present state.
     pub fn into_node(self) -> Node
         ensures { result ≡ node_of self }
     {

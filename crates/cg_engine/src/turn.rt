@@ -1,4 +1,4 @@
-//! One turn of an exchange: a message is read, its event is done, and what the reply holds is written.
+//! One turn of an exchange: a message is read, its event is done, and the message of the reply is written.
 
 ghost use Rattle.std.specs.Prelude.{◌≡◌, IfSome};
 ghost use Rattle.cg_links.specs.Counted.{link_of};
@@ -15,7 +15,7 @@ use cg_wire::{ack_due, ack2_due, receive, send, syn_due};
 use std::alloc::Global;
 use std::io::{Read, Write};
 
-// The event of a message of the kind that is due, as it comes at a moment.
+// Makes the event of a message of the expected kind, which comes at a time.
 fn event_due(kind: Kind, now: u64, message: Message) -> Result<Event, Fault>
     ensures { result ≡ event_due_of kind now message }
 {
@@ -35,7 +35,7 @@ fn event_due(kind: Kind, now: u64, message: Message) -> Result<Event, Fault>
     }
 }
 
-/// Reads the message that is due, and does its event at this moment. False where the input ends before it.
+/// Reads the expected message, and does its event at this time. `false` if the input ends before it.
 pub(crate) fn take_event<G: Gate, R: Read>(
     alloc: Global,
     gate: &mut G,

@@ -1,4 +1,4 @@
-//! What `Counted` counts is what its link was called for: links that count their own calls, and fail at one of them.
+//! Calls, failures, idle writes and unflushed bytes as `Counted` counts them, beside links that count their own calls.
 
 use cg_expect::{expect, expect_eq};
 use cg_links::{Counted, CountingLink, FailingLink, write_bytes};
@@ -22,7 +22,7 @@ impl Write for FullLink {
     }
 }
 
-// The answers to three reads of which that of a number fails, and what the link and the counts say after them.
+// Makes three reads, of which the one of this number fails; returns their answers, the link's count, and the counts.
 fn three_reads(turn: u64) -> ([bool; 3], u64, u64, u64) {
     let mut reader = Counted::new(FailingLink::new(b"some bytes".as_slice(), turn));
     let mut piece = [0u8; 4];
@@ -43,8 +43,8 @@ fn each_read_is_passed_on_once() -> Result<(), Fail> {
     expect_eq!(three_reads(4), ([true, true, true], 3, 3, 0))
 }
 
-// The answers to a write, a flush and a write of which that of a number fails, the link's own counts, the counts, and
-// how many bytes were written.
+// Makes a write, a flush and a write, of which the one of this number fails; returns their answers, the link's own
+// counts, the counts, and the number of bytes written.
 fn writes_and_a_flush(alloc: Global, turn: u64) -> ([bool; 3], [u64; 3], (u64, u64), usize) {
     let mut writer = Counted::new(FailingLink::new(CountingLink::new(Vec::new(alloc)), turn));
     let first = writer.write(b"ab").is_ok();
@@ -98,8 +98,8 @@ fn failed_calls_are_counted_each(rt: HostRuntime) -> Result<(), Fail> {
     expect_eq!((writer.calls(), writer.failed(), writer.idle()), (2, 2, 0))
 }
 
-// Whether nothing waits for a flush: at first, after a write of no byte, after one of two bytes, and after a flush,
-// where the call of a number fails.
+// Returns `true` for each of four times if nothing waits for a flush: at first, after a write of no byte, after one of
+// two bytes, and after a flush. The call of this number fails.
 fn flushed(alloc: Global, turn: u64) -> [bool; 4] {
     let mut writer = Counted::new(FailingLink::new(Vec::new(alloc), turn));
     let at_first = writer.is_flushed();

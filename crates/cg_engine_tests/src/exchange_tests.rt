@@ -1,4 +1,4 @@
-//! The worked exchange, and how it ends where the other side sends too little, another message, or a fault.
+//! The worked exchange, and its end if the other side sends too little, another message, or a fault.
 
 use crate::samples::{ACK, ACK2, SYN, a, b, front, joined, syn};
 use cg_engine::{Broken, Ended, initiate, respond};
@@ -8,7 +8,7 @@ use cg_types::{Cause, Fault};
 use std::alloc::Global;
 use std::test::Fail;
 
-// What an exchange came to, how many owners the node then holds, how many bytes were left, and what was written.
+// The result of an exchange, the number of owners that the node then holds, the bytes left, and the bytes written.
 type Came = (Result<Ended, Broken>, usize, usize, Vec<u8>);
 
 fn responded(alloc: Global, input: &[u8]) -> Result<Came, Fail> {
@@ -38,7 +38,8 @@ fn initiated(alloc: Global, input: &[u8]) -> Result<Came, Fail> {
     ))
 }
 
-// Whether B, on this input, ends so, holds so many owners, leaves so many bytes, and writes this.
+// Returns `true` if B, on this input, ends with this, holds this number of owners, leaves this number of bytes, and
+// writes this text.
 fn responds(
     alloc: Global,
     input: &[&[u8]],
@@ -75,7 +76,7 @@ const UNEXPECTED: Fault = Fault::BadFrame {
 fn b_responds(rt: HostRuntime) -> Result<(), Fail> {
     let alloc = rt.alloc();
     expect!(responds(alloc, &[SYN, ACK2], (Ok(Ended::Whole), 2, 0), ACK)?)?;
-    // what stands behind the last message stays unread
+    // bytes after the last message stay unread
     expect!(responds(
         alloc,
         &[SYN, ACK2, SYN, b"\xff"],
@@ -186,7 +187,8 @@ fn a_finds_no_answer(rt: HostRuntime) -> Result<(), Fail> {
     expect!(initiates(alloc, &[SYN], (broken(0, UNEXPECTED), 1, 0), &[SYN])?)
 }
 
-// Whether B's writer is flushed after its part of the worked exchange, and after a part of which the flush failed.
+// Returns `true` if B's writer is flushed after its part of the worked exchange, in which the call of this number
+// fails.
 fn is_flushed(alloc: Global, turn: u64) -> Result<bool, Fail> {
     let mut gate = b(alloc)?;
     let mut reader = Counted::new(SYN);
@@ -204,7 +206,7 @@ fn what_was_written_is_flushed(rt: HostRuntime) -> Result<(), Fail> {
     )
 }
 
-// The reads, writes and flushes of B's part of the worked exchange, and the most bytes that one read asked for.
+// Returns the reads, writes and flushes of B's part of the worked exchange, and the most bytes that one read requested.
 fn calls(alloc: Global) -> Result<(u64, usize, u64, u64), Fail> {
     let input = joined(alloc, &[SYN, ACK2])?;
     let mut gate = b(alloc)?;

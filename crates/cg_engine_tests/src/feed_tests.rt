@@ -1,4 +1,4 @@
-//! Streams that come in pieces: what a feed wants, what it answers once it has found a fault, and the longest message.
+//! Streams in chunks: the bytes that a feed wants, its answers once it has found a fault, and the longest message.
 
 use crate::frame_tests::is_written_as;
 use cg_expect::{expect, expect_eq};
@@ -10,10 +10,10 @@ use std::test::Fail;
 // A SYN that names nothing.
 const EMPTY_SYN: &[u8] = b"\0\0\0\x08\x01\x01\x02c1\x01\0\0";
 
-// How many messages a piece gave, the fault, how many bytes are wanted then, and how the stream may end.
+// The number of messages of a chunk, the fault, the bytes wanted then, and the end that the stream may have.
 type Given = (usize, Option<Fault>, usize, Result<(), Fault>);
 
-// What one more piece gives.
+// Pushes one more chunk, and returns its results.
 fn pushed(feed: &mut Feed, piece: &[u8]) -> Result<Given, Fault> {
     let fed = feed.push(piece)?;
     Ok((fed.messages.len(), fed.fault, feed.wants(), feed.end()))
@@ -40,7 +40,8 @@ fn wants_what_is_lacking(rt: HostRuntime) -> Result<(), Fail> {
     expect_eq!(feed.end(), Ok(()))
 }
 
-// Whether a feed finds a fault in these bytes, behind so many messages, and answers it to whatever comes then.
+// Returns `true` if a feed finds a fault in these bytes, after this number of messages, and answers all later chunks
+// with it.
 fn stands(alloc: Global, bytes: &[u8], count: usize, fault: Fault) -> Result<bool, Fault> {
     let mut feed = Feed::new(alloc);
     let mut due = count;
@@ -94,7 +95,7 @@ fn add_longest_delta(frame: &mut Vec<u8>, number: u8) -> Result<(), AllocError> 
     Ok(())
 }
 
-// The frame of the longest message: an ACK with requests of 256 endpoints, and of each the longest delta.
+// Returns the frame of the longest message: an ACK with requests of 256 endpoints, and of each the longest delta.
 fn longest(alloc: Global) -> Result<Vec<u8>, AllocError> {
     let mut frame = Vec::new(alloc);
     frame.extend_from_slice(b"\0\x40\x91\x06\x01\x02\x01\0")?;
@@ -109,7 +110,7 @@ fn longest(alloc: Global) -> Result<Vec<u8>, AllocError> {
     Ok(frame)
 }
 
-// How many of the messages are written as this frame.
+// Returns the number of the messages that are written as this frame.
 fn written_as(alloc: Global, messages: &[Message], frame: &[u8]) -> Result<usize, Fault> {
     let mut count: usize = 0;
     for message in messages {
@@ -120,7 +121,8 @@ fn written_as(alloc: Global, messages: &[Message], frame: &[u8]) -> Result<usize
     Ok(count)
 }
 
-// How many messages a frame in pieces gives, how many of them are written as that frame, and how the stream may end.
+// Pushes a frame in chunks; returns the number of messages, the number of them that are written as that frame, and the
+// end that the stream may have.
 fn given_in_pieces(
     alloc: Global,
     frame: &[u8],

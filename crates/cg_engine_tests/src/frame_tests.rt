@@ -1,4 +1,4 @@
-//! Messages as frames, both ways: each call once with ample memory.
+//! Messages read from frames and written back, and frames of which bytes are missing.
 
 use cg_expect::expect_eq;
 use cg_frames::{Message, decode, encode, encode_lent, every_message_fits};
@@ -10,7 +10,7 @@ use std::test::Fail;
 const SYN: [u8; 26] =
     *b"\0\0\0\x16\x01\x01\x02c1\x01\0\x01\x0a\0\0\x01\x1b\x58\0\0\0\x09\0\0\0\x01";
 
-// One with no digest, and of the next frame its length alone.
+// A SYN with no digest, and of the next frame its length alone.
 const EMPTY_SYN: &[u8] = b"\0\0\0\x08\x01\x01\x02c1\x01\0\0\0\0\0\x08";
 
 // An ACK with a request of A, and of B a delta of one state.
@@ -20,7 +20,7 @@ const ACK: &[u8] =
 // An ACK2 of no deltas.
 const EMPTY_ACK2: &[u8] = b"\0\0\0\x04\x01\x03\0\0";
 
-// Whether a message is written as these bytes, whole and lent.
+// Returns `true` if a message is written as these bytes, by value and by reference.
 pub(crate) fn is_written_as(alloc: Global, message: &Message, bytes: &[u8]) -> Result<bool, Fault> {
     every_message_fits(message);
     let whole = encode(alloc, message)?;
@@ -28,7 +28,7 @@ pub(crate) fn is_written_as(alloc: Global, message: &Message, bytes: &[u8]) -> R
     Ok(whole.as_slice() == bytes && lent.as_slice() == bytes)
 }
 
-// How many bytes the frame at the front has, and whether its message is written as they are.
+// Returns the size of the frame at the start of the bytes, and `true` if its message is written as that frame.
 fn read_and_written(alloc: Global, bytes: &[u8]) -> Result<(usize, bool), Fail> {
     let (message, size) = decode(alloc, bytes)?.ok_or("a whole frame")?;
     match bytes.get(..size) {
@@ -50,7 +50,7 @@ fn messages_are_read_and_written(rt: HostRuntime) -> Result<(), Fail> {
     Ok(())
 }
 
-// How many bytes the frame at the front has, if it is whole.
+// Returns the size of the frame at the start of the bytes, if it is whole.
 fn size_of(alloc: Global, bytes: &[u8]) -> Result<Option<usize>, Fault> {
     Ok(decode(alloc, bytes)?.map(|found| found.1))
 }

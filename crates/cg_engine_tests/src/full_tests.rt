@@ -13,12 +13,12 @@ use cg_types::{StateText, TEXT_LIMIT};
 use std::alloc::Global;
 use std::test::Fail;
 
-// The letter of a key of an endpoint.
+// Returns the letter of a key of an endpoint.
 fn letter(number: u16, at: u8) -> char {
     char::from(b'a' + (number % 13) as u8 + at % 13)
 }
 
-// The text of a key of an endpoint: its letter, as often as a text may have it.
+// Makes the text of a key of an endpoint: its letter, as often as a text may have it.
 fn text(alloc: Global, number: u16, at: u8) -> Result<String, Fail> {
     let letter = letter(number, at);
     let mut text = String::new(alloc);
@@ -28,7 +28,7 @@ fn text(alloc: Global, number: u16, at: u8) -> Result<String, Fail> {
     Ok(text)
 }
 
-// All that is held of an endpoint, as a message brings it.
+// Makes the delta with all states of an endpoint.
 fn whole(alloc: Global, number: u16) -> Result<OwnerDelta, Fail> {
     let mut states = Vec::new(alloc);
     for at in 1..17u8 {
@@ -41,7 +41,7 @@ fn whole(alloc: Global, number: u16) -> Result<OwnerDelta, Fail> {
     })
 }
 
-// The message that brings what is held of the endpoints of these numbers.
+// Makes the message that brings the endpoints of these numbers.
 fn crowd(alloc: Global, from: u16, to: u16) -> Result<Ack2, Fail> {
     let mut deltas = Vec::new(alloc);
     for number in from..to {
@@ -50,7 +50,7 @@ fn crowd(alloc: Global, from: u16, to: u16) -> Result<Ack2, Fail> {
     Ok(Ack2::new(deltas).ok_or("an ACK2")?)
 }
 
-// The node of an endpoint that has set its 16 states.
+// Makes the node of an endpoint that has set its 16 states.
 fn settled(alloc: Global, own: u16) -> Result<Node, Fail> {
     let mut node = started(alloc, own, 5)?;
     for at in 1..17u8 {
@@ -61,7 +61,7 @@ fn settled(alloc: Global, own: u16) -> Result<Node, Fail> {
     Ok(node)
 }
 
-// The node of the first of these endpoints, which holds all of them.
+// Makes the node of the first of these endpoints, which holds all of them.
 fn holding(alloc: Global, from: u16, to: u16) -> Result<Node, Fail> {
     let mut node = settled(alloc, from)?;
     let event = Event::Ack2 {
@@ -72,8 +72,8 @@ fn holding(alloc: Global, from: u16, to: u16) -> Result<Node, Fail> {
     Ok(node)
 }
 
-// How a part of an exchange ended, how many bytes were left, the most that one read asked for, the node then, and what
-// was written.
+// The result of one side of an exchange: its end, the number of bytes left, the most that one read requested, the node
+// then, and the bytes written.
 #[derive(Drop)]
 struct Part {
     ended: Result<Ended, Broken>,
@@ -115,8 +115,8 @@ fn opening(alloc: Global, node: Node, first: &Syn, input: &[u8]) -> Part {
     }
 }
 
-// How both sides ended, what each left of its input, the most that their reads asked for, how long the ACK is, and
-// whether both hold the same, of so many endpoints.
+// The ends of both sides, the bytes that each left of its input, the most that their reads requested, the length of the
+// ACK, whether both hold the same entries, and the number of endpoints.
 type Meeting = (
     [Result<Ended, Broken>; 2],
     [usize; 2],
@@ -125,13 +125,13 @@ type Meeting = (
     (bool, usize),
 );
 
-// The ACK that the second of two nodes answers the SYN of the first with; they stay as they are.
+// Returns the ACK with which the second of two nodes answers the SYN of the first; both nodes stay the same.
 fn acked(alloc: Global, a: &Node, b: &Node, first: &Syn) -> Result<Vec<u8>, Fail> {
     let asking = opening(alloc, a.copy()?, first, b"");
     Ok(answering(alloc, b.copy()?, asking.written.as_slice()).written)
 }
 
-// Each of two nodes is run over what the other wrote, and two bytes behind it; and how long the ACK is.
+// Runs each of two nodes over the bytes that the other wrote and two more; returns both sides, and the ACK's length.
 fn sides(alloc: Global, a: Node, b: Node) -> Result<(Part, Part, usize), Fail> {
     let first = syn(alloc, a.table(), a.settings().cluster())?;
     let mut ack = acked(alloc, &a, &b, &first)?;
@@ -143,7 +143,7 @@ fn sides(alloc: Global, a: Node, b: Node) -> Result<(Part, Part, usize), Fail> {
     Ok((one, other, length))
 }
 
-// The first side holds so many endpoints, and the other side the rest.
+// Runs the exchange if the first side holds this number of endpoints, and the other side the rest.
 fn meeting(alloc: Global, split: u16) -> Result<Meeting, Fail> {
     let a = holding(alloc, 1, split.saturating_add(1))?;
     let b = holding(alloc, split.saturating_add(1), 257)?;

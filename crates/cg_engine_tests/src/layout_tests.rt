@@ -1,4 +1,4 @@
-//! Another layout is another record: the same readers and writers take it, and of several the byte names one.
+//! Other layouts with the same readers and writers: another byte, other limits, and two layouts named by the byte.
 
 ghost use Rattle.cg_frames.specs.Choosing.{AreLayouts, AreRead};
 ghost use Rattle.cg_engine_tests.specs.declared.layout_tests.TheConstants.{BOTH};
@@ -27,7 +27,7 @@ const SMALL: Layout = Layout {
     marks: false,
 };
 
-// Whether a frame of the other byte is read whole, and its message written as it was.
+// Returns `true` if a frame of the other byte is read whole, and its message written as the same bytes.
 fn is_read_and_written(alloc: Global, frame: &[u8]) -> Result<bool, Fail> {
     let read = decode_in(alloc, &OTHER, frame)?;
     let (message, size) = read.ok_or("a whole frame")?;
@@ -58,7 +58,7 @@ const LONG: Layout = Layout {
 
 const BOTH: [Layout; 2] = [LAYOUT_1, LONG];
 
-// That the laws of several layouts hold of both.
+// The laws of several layouts hold of both.
 fn both_are_layouts()
     ensures layouts { AreLayouts BOTH }
     ensures read { AreRead BOTH }
@@ -69,7 +69,7 @@ fn both_are_told_apart(_rt: HostRuntime) {
     both_are_layouts();
 }
 
-// The length of the frame that is read in one of these layouts, and the first fault; neither where more bytes are needed.
+// The length of the frame that is read in one of these layouts, and the first fault; neither if more bytes are needed.
 type Read = (Option<usize>, Option<(usize, Cause)>);
 
 fn read_among(alloc: Global, layouts: &[Layout], bytes: &[u8]) -> Result<Read, Fail>

@@ -1,5 +1,8 @@
-//! Frames and streams of them, both ways and in other layouts; links: what is read from them, written to them and counted;
-//! and exchanges over bytes in memory, over links that fail at each call in turn, and over links that move a byte a call.
+//! Worked examples of frames, links and exchanges.
+//!
+//! They show frames and streams of them, both ways and in other layouts; links, with the bytes read and written and the
+//! calls counted; and exchanges over bytes in memory, over links that fail at each call in turn, and over links that
+//! move a byte a call.
 #![tactic(auto)]
 
 #[cfg(test)]

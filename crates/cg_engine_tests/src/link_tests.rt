@@ -8,10 +8,10 @@ use cg_types::Fault;
 use std::alloc::Global;
 use std::test::Fail;
 
-// What an exchange came to, the failures that were counted at both links, and what was written.
+// The result of an exchange, the failures counted at both links, and the bytes written.
 type Came = (Result<Ended, Broken>, u64, u64, Vec<u8>);
 
-// B's part, a byte a call, where the read of a number fails, or the write or flush of a number.
+// Runs B's part, a byte a call; the read of one number fails, or the write or flush of another.
 fn responded(alloc: Global, read: u64, write: u64) -> Result<Came, Fail> {
     let input = joined(alloc, &[SYN, ACK2])?;
     let mut gate = b(alloc)?;
@@ -27,7 +27,7 @@ fn responded(alloc: Global, read: u64, write: u64) -> Result<Came, Fail> {
     ))
 }
 
-// A's part.
+// Runs A's part in the same way.
 fn initiated(alloc: Global, read: u64, write: u64) -> Result<Came, Fail> {
     let mut gate = a(alloc)?;
     let opening = syn(alloc)?;
@@ -43,7 +43,7 @@ fn initiated(alloc: Global, read: u64, write: u64) -> Result<Came, Fail> {
     ))
 }
 
-// Whether an exchange came to this, with these failures, and so many bytes of a text were written.
+// Returns `true` if an exchange had this result, with these failures, and wrote this number of bytes of a text.
 fn is(
     came: &Came,
     ended: Result<Ended, Broken>,

@@ -20,7 +20,7 @@ pub(crate) const ACK: &[u8] =
 pub(crate) const ACK2: &[u8] =
     b"\x00\x00\x00\x17\x01\x03\x00\x01\x0a\x00\x00\x01\x1b\x58\x00\x00\x00\x09\x00\x00\x00\x00\x00\x00\x00\x01\x00";
 
-// The node of an endpoint that has just started at a generation.
+// Makes the node of an endpoint that has just started at a generation.
 pub(crate) fn started(alloc: Global, own: u16, start: u32) -> Result<Node, Fail> {
     Ok(Node::start(alloc, endpoint(own), generation(start), settings(alloc)?)?)
 }
@@ -43,12 +43,12 @@ pub(crate) fn syn(alloc: Global) -> Result<Syn, Fail> {
     Ok(syn_due(message)?)
 }
 
-// The first bytes, so many of them.
+// Returns the first `count` bytes.
 pub(crate) fn front(bytes: &[u8], count: usize) -> &[u8] {
     &bytes[..count.min(bytes.len())]
 }
 
-// Bytes, one after the other.
+// Joins bytes, one after the other.
 pub(crate) fn joined(alloc: Global, parts: &[&[u8]]) -> Result<Vec<u8>, Fail> {
     let mut all = Vec::new(alloc);
     for part in parts {

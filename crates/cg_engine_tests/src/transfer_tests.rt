@@ -7,7 +7,7 @@ use std::alloc::Global;
 use std::io::Write;
 use std::test::Fail;
 
-// Bytes of which none is the same as the one before it.
+// Makes bytes, none of which is the same as the one before it.
 fn many(alloc: Global, count: usize) -> Result<Vec<u8>, Fail> {
     let mut bytes = Vec::new(alloc);
     for i in 0..count {
@@ -16,10 +16,10 @@ fn many(alloc: Global, count: usize) -> Result<Vec<u8>, Fail> {
     Ok(bytes)
 }
 
-// What a run of `read_all` came to: the bytes or the fault, and the calls and the failures that were counted.
+// The result of `read_all`: the bytes or the fault, and the calls and the failures counted.
 type WasRead = (Option<usize>, Option<Fault>, u64, u64);
 
-// Reads so many bytes, a byte a call, where the call of a number fails; the bytes that came have to be those sent.
+// Reads these bytes, a byte a call, of which the one of this number fails; the bytes have to be those sent.
 fn read_slowly(alloc: Global, sent: &[u8], turn: u64) -> WasRead {
     let mut reader = Counted::new(FailingLink::new(SlowLink::new(sent), turn));
     let came = read_all(alloc, &mut reader);
@@ -61,7 +61,7 @@ fn a_failed_read_leaves_what_follows(rt: HostRuntime) -> Result<(), Fail> {
     expect_eq!(rest.as_slice(), b" bytes".as_slice())
 }
 
-// How many reads it took, and whether all came.
+// Returns the number of reads, and whether all bytes came.
 fn read_in_pieces(alloc: Global, count: usize) -> Result<(u64, u64, bool), Fail> {
     let sent = many(alloc, count)?;
     let mut reader = Counted::new(CountingLink::new(sent.as_slice()));
@@ -79,8 +79,8 @@ fn reads_more_than_a_piece(rt: HostRuntime) -> Result<(), Fail> {
     Ok(())
 }
 
-// What a run of `write_bytes` came to: how many bytes were written, each as it was to be, the fault, and the calls and
-// the failures that were counted.
+// The result of `write_bytes`: the number of bytes written, if they are a prefix, the fault, and the calls and the
+// failures counted.
 type WasWritten = (Option<usize>, Option<Fault>, u64, u64);
 
 fn write_slowly(alloc: Global, bytes: &[u8], turn: u64) -> WasWritten {

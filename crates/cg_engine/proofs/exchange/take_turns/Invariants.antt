@@ -1,4 +1,4 @@
--- Each kind so far had its turn, and what its reply holds was written.
+-- Each kind so far had its turn, and the message of its reply was written.
 use Rattle.std.proofs.Common.{◌≡◌, List, [], length}
 use Rattle.cg_engine.specs.Exchanged.{Turn, Turned, AllWritten}
 use Rattle.cg_engine.proofs.exchange.take_turns.Given as goal
