@@ -1,4 +1,4 @@
--- Where no link failed, the answer to all of the input was written.
+-- If no link failed, the answer to all of the input was written.
 use Rattle.std.proofs.Common.{◌≡◌, ℕ, ◌<◌, ◌⊎◌, List, Option, Some, None, IfSome, ap, ◌∙◌, subst, inl, inr}
 use Rattle.std.specs.Io.KnownBytes.{Appends}
 use Rattle.cg_links.specs.declared.counted.Counted.{Counted}

@@ -1,4 +1,4 @@
--- What `answer` writes for what it reads.
+-- The text that `answer` writes for an input.
 use Rattle.std.specs.Prelude.{ℕ, nat_lt, if◌then◌else◌, List, [], ◌∷◌, ◌++◌, length, Option, Some, None, Result, Ok, Err}
 use Rattle.hex.specs.Hex.{encode_lower}
 use Rattle.cg_types.specs.declared.fault.Cause.TheVariants as cause
@@ -20,14 +20,14 @@ use Rattle.cg_wire.specs.Due.{syn_due}
 use Rattle.cg_answering.specs.declared.request.Header.{Header}
 use Rattle.cg_answering.specs.Request.{request_in}
 
--- the message at the front of the bytes, where nothing stands behind it
+-- the message at the start of the bytes, if nothing follows it
 abbrev pub alone_in : List ℕ → Result (Option (Message × ℕ)) Fault → Result SynValue Fault
 alone_in bytes (Ok None) = Err fault.Truncated
 alone_in bytes (Ok (Some m)) =
     if nat_lt m.1 (length bytes) then Err (fault.BadFrame m.1 cause.Rest) else syn_due m.0
 alone_in bytes (Err f) = Err f
 
--- the SYN that the bytes are the frame of
+-- the SYN whose frame the bytes are
 unfoldable pub syn_in : List ℕ → Result SynValue Fault
 syn_in bytes = alone_in bytes (frame_among LAYOUTS bytes)
 
@@ -35,7 +35,7 @@ syn_in bytes = alone_in bytes (frame_among LAYOUTS bytes)
 abbrev pub started_table : Header → TableValue
 started_table h = lone_table h.endpoint (starting_entry h.generation)
 
--- the frame of the ACK that the node answers a frame with
+-- the frame of the ACK with which the node answers a frame
 unfoldable pub answer_to_frame : Header → List ℕ → Result (List ℕ) Fault
 answer_to_frame h bytes = do
   syn ← syn_in bytes

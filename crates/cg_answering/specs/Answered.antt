@@ -1,4 +1,4 @@
--- What `answer` writes, and when.
+-- The results of `answer`: the text written, and the status.
 use Rattle.std.specs.Prelude.{◌≡◌, ℕ, ◌⊎◌, List, Option}
 use Rattle.std.specs.Io.KnownBytes.{Appends, Consumes, IsAtEnd}
 use Rattle.cg_types.specs.declared.fault.Fault.TheVariants as fault
@@ -24,13 +24,13 @@ pub record OutOfMemoryDue {L : Type 0} (old new : Counted L) (text : List ℕ) (
   pub text_is : text ≡ fault_text fault.OutOfMemory
   pub status_is : status ≡ 1
 
--- a read failed, or as many reads were made as may be, and the text says so
+-- a read failed, or all reads that are allowed were made, and the text says so
 pub record ReadFaultDue {L : Type 0} (old new : Counted L) (text : List ℕ) (status : ℕ) : Type 0 where
   pub caused : CountsFailed old new ⊎ CountsCalls old new MOST_READS
   pub text_is : text ≡ fault_text fault.ReadFault
   pub status_is : status ≡ 1
 
--- the text and the status that are due
+-- the expected text and status
 abbrev pub IsDue : {L : Type 0} → Option (List ℕ) → Option (List ℕ) → Counted L → Counted L → List ℕ → ℕ → Type 0
 IsDue before after old new text status =
     AnswersInput before after old new text status

@@ -1,4 +1,4 @@
--- What the input of `answer` asks: a line with the node, and a line with a frame in hexadecimal digits.
+-- The input of `answer`: a line with the node, and a line with a frame in hexadecimal digits.
 use Rattle.std.specs.Prelude.{ℕ, ◌==◌, if◌then◌else◌, List, length, Option, Some, None}
 use Rattle.hex.specs.Hex.{decode_of}
 use Rattle.cg_types.specs.declared.limits.TheConstants.{PARTITIONER}

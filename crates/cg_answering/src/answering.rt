@@ -22,7 +22,7 @@ use cg_wire::syn_due;
 use std::alloc::{AllocError, Global};
 use std::io::{Read, Write};
 
-// The SYN that the bytes are the frame of.
+// Reads the SYN whose frame the bytes are.
 #[tactic(auto, unfolding(crate::specs::Answer::syn_in))]
 fn syn_in(alloc: Global, bytes: &[u8]) -> Result<Syn, Fault>
     ensures { Gives (λ s. s) result (text_syn_in bytes.now) }
@@ -42,7 +42,7 @@ fn syn_in(alloc: Global, bytes: &[u8]) -> Result<Syn, Fault>
     }
 }
 
-// The ACK's frame that a node which has just started answers a frame with.
+// Returns the frame of the ACK with which a node that has just started answers a frame.
 #[tactic(auto, unfolding(crate::specs::Answer::answer_to_frame))]
 fn answer_frame(alloc: Global, header: &Header, bytes: &[u8]) -> Result<Bytes, Fault>
     ensures { Gives (λ b. b) result (answer_to_frame header.now bytes.now) }
@@ -62,7 +62,7 @@ fn answer_bytes(alloc: Global, input: &[u8]) -> Result<Bytes, Fault>
     answer_frame(alloc, &header, &frame)
 }
 
-// The text that answers the input, and the status.
+// Returns the text that answers the input, and the status.
 fn text_due(alloc: Global, input: &[u8]) -> Result<(String, u8), AllocError>
     ensures { IfOk result (λ p. (string_bytes p.0 ≡ text_of (answer_to input.now))
         × (p.1 ≡ status_of (answer_to input.now))) }
@@ -78,7 +78,7 @@ fn text_due(alloc: Global, input: &[u8]) -> Result<(String, u8), AllocError>
     }
 }
 
-// Writes a text, and answers the status, which is 1 where the writer failed.
+// Writes a text, and returns the status, which is 1 if the writer failed.
 fn written<W: Write>(writer: &mut Counted<W>, text: &[u8], status: u8) -> u8
     ensures { Wrote
         (W.contents (link_of writer.old)) (W.contents (link_of writer.new))
@@ -113,29 +113,30 @@ fn answer_links<R: Read, W: Write>(
     }
 }
 
-/// Answers one SYN as a node that has just started, and answers the exit status.
+/// Answers one SYN as a node that has just started, and returns the exit status.
 ///
-/// The reader has a line `ENDPOINT GENERATION CLUSTER` and a line with the SYN's frame in hexadecimal
-/// digits; the last line feed may be missing. What is written is the ACK's frame in lower-case digits and
-/// a line feed, with status 0, or one fault line, with status 1. Faults are found in this order: BadText
-/// (either line is unreadable, a line is missing or there is a further one), BadFrame (what is wrong in the
-/// frame), Truncated, BadFrame (bytes behind the frame, then a frame of another kind), OtherCluster.
-/// OutOfMemory comes where memory runs out on the way, ReadFault where a read fails or 4,294,967,295 reads
-/// do not meet the end. Where the writer fails or takes no byte, a front of the text is written, and the
-/// status is 1. The whole input is held in memory, and the writer is not flushed.
+/// The reader has a line `ENDPOINT GENERATION CLUSTER` and a line with the SYN's frame in hexadecimal digits; the last
+/// line feed may be missing. It writes the ACK's frame in lower-case digits and a line feed, with status 0, or one
+/// fault line, with status 1.
+///
+/// Faults are found in this order: BadText (either line is unreadable, a line is missing or there is a further one),
+/// BadFrame (a fault in the frame), Truncated, BadFrame (bytes after the frame, then a frame of another kind),
+/// OtherCluster. OutOfMemory comes if memory runs out on the way, ReadFault if a read fails or 4,294,967,295 reads do
+/// not meet the end. If the writer fails or takes no byte, a prefix of the text is written, and the status is 1. The
+/// whole input is held in memory, and the writer is not flushed.
 pub fn answer<R: Read, W: Write>(
     alloc: Global,
     reader: &mut Counted<R>,
     writer: &mut Counted<W>,
 ) -> u8
-    // Which text is due, and how much of it was written.
+    // The expected text, and the prefix of it that was written.
     ensures answered { (text : List ℕ) × (status : ℕ)
         × IsDue (R.remaining (link_of reader.old)) (R.remaining (link_of reader.new)) reader.old reader.new text status
         × Wrote
         (W.contents (link_of writer.old)) (W.contents (link_of writer.new))
         writer.old writer.new text status result }
-    // Where no call of a link failed, no write took nothing and the bound on reads was not met, it is the
-    // answer to all of the input, unless memory ran out.
+    // The text is the answer to all of the input, unless memory ran out, if no call of a link failed, no write took
+    // nothing and the bound on reads was not met.
     ensures honest { failed_of reader.new ≡ 0 → calls_of reader.new < MOST_READS
         → failed_of writer.new ≡ 0 → idle_of writer.new ≡ 0
         → IfSome (R.remaining (link_of reader.old)) (λ input.

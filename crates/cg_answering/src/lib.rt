@@ -1,4 +1,4 @@
-//! The job `answer`: reads a node and one SYN, and writes the ACK that the node answers.
+//! The job `answer`: reads a node and one SYN, and writes the ACK with which the node answers.
 #![tactic(auto)]
 
 mod answering;

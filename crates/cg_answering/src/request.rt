@@ -40,7 +40,7 @@ fn header_of(alloc: Global, line: &[u8]) -> Result<Header, Fault>
     })
 }
 
-// A last line, whose line feed may be missing.
+// Returns a last line, whose line feed may be missing.
 #[tactic(auto, unfolding(crate::specs::Request::last_line))]
 fn last_line(text: &[u8]) -> Option<&[u8]>
     ensures { option_map (λ l. l.now) result ≡ text_last_line text.now }
@@ -54,7 +54,7 @@ fn last_line(text: &[u8]) -> Option<&[u8]>
     }
 }
 
-/// The header, and the bytes of the second line's digits.
+/// Reads the header, and the bytes of the second line's digits.
 #[tactic(auto, unfolding(crate::specs::Request::request_in))]
 pub(crate) fn request(alloc: Global, input: &[u8]) -> Result<(Header, Vec<u8>), Fault>
     ensures { Finds (λ p. (p.0, p.1.items)) result (request_in input.now) }

@@ -22,7 +22,7 @@ pub struct Journals {
     groups: Vec<Group>,
 }
 
-// A group with one history.
+// Makes a group with one history.
 fn group_of(alloc: Global, endpoint: Endpoint, history: History) -> Result<Group, AllocError> {
     let mut histories = Vec::with_capacity(alloc, 1)?;
     histories.push(history)?;
@@ -32,7 +32,7 @@ fn group_of(alloc: Global, endpoint: Endpoint, history: History) -> Result<Group
     })
 }
 
-// The lives of each group's endpoint.
+// Returns the lives of each group's endpoint.
 fn lives_of(alloc: Global, groups: Vec<Group>) -> Result<Vec<Lives>, AllocError> {
     let mut lives = Vec::with_capacity(alloc, groups.len())?;
     for group in groups {
@@ -44,14 +44,14 @@ fn lives_of(alloc: Global, groups: Vec<Group>) -> Result<Vec<Lives>, AllocError>
 }
 
 impl Journals {
-    /// No journal was read yet.
+    /// Returns no journals.
     pub fn new(alloc: Global) -> Journals {
         Journals {
             groups: Vec::new(alloc),
         }
     }
 
-    // Adds a history behind the others of its endpoint.
+    // Adds a history after the others of its endpoint.
     fn add(&mut self, alloc: Global, history: History) -> Result<(), AllocError> {
         let endpoint = history.base().table().own();
         match self
@@ -70,8 +70,10 @@ impl Journals {
         Ok(())
     }
 
-    /// Reads a journal: the next life of its endpoint. What can't be read adds nothing, and is told with its line; line 0
-    /// stands for want of memory once all lines were read.
+    /// Reads a journal, and adds its history as the next life of its endpoint.
+    ///
+    /// A journal that can't be read adds nothing, and its fault is returned with the line. Line 0 means that memory ran
+    /// out once all lines were read.
     pub fn read<R: Read>(&mut self, alloc: Global, reader: &mut Counted<R>) -> Result<(), Unread> {
         let history = read_journal(alloc, reader)?;
         match self.add(alloc, history) {
@@ -83,18 +85,18 @@ impl Journals {
         }
     }
 
-    /// Whether what was read is one run, by `audit`: its order, or why there is none.
+    /// Audits all that was read, by `audit`: returns the order of one run, or the fault if there is none.
     pub fn audit(self, alloc: Global) -> Result<Order, AuditFault> {
         let lives = lives_of(alloc, self.groups)?;
         if !endpoints_differ(&lives) {
-            // Never so: there is one group for each endpoint.
+            // Never true: there is one group for each endpoint.
             return Err(AuditFault::Other(Fault::NotRising));
         }
         audit(alloc, &lives)
     }
 }
 
-// Writes a text, and answers the status, which is 1 where the writer failed.
+// Writes a text, and returns the status, which is 1 if the writer failed.
 fn written<W: Write>(writer: &mut Counted<W>, text: &str, status: u8) -> u8 {
     match write_bytes(writer, text.as_bytes()) {
         Ok(()) => status,
@@ -102,7 +104,7 @@ fn written<W: Write>(writer: &mut Counted<W>, text: &str, status: u8) -> u8 {
     }
 }
 
-/// Writes what is said of journals that were read, and answers the exit status: 0 where they are one run.
+/// Writes the report of the audit of journals, and returns the exit status: 0 if they are one run.
 pub fn write_report<W: Write>(alloc: Global, journals: Journals, writer: &mut Counted<W>) -> u8 {
     match report(alloc, &journals.audit(alloc)) {
         Ok((text, status)) => written(writer, text.as_str(), status),
@@ -110,7 +112,7 @@ pub fn write_report<W: Write>(alloc: Global, journals: Journals, writer: &mut Co
     }
 }
 
-/// Writes why a journal was not read, as one fault line, and answers the exit status, 1.
+/// Writes the fault of a journal that was not read, as one line, and returns the exit status, 1.
 pub fn write_unread<W: Write>(alloc: Global, fault: Fault, writer: &mut Counted<W>) -> u8 {
     match fault.line(alloc) {
         Ok(line) => written(writer, line.as_str(), 1),
@@ -118,9 +120,11 @@ pub fn write_unread<W: Write>(alloc: Global, fault: Fault, writer: &mut Counted<
     }
 }
 
-/// Reads one journal from each reader and writes whether they are one run: an order, a line an item, and `one run`, with
-/// status 0; else, with status 1, the items that can't go and `fault 17 Stuck`, `fault 11 NotRising`, or the fault of
-/// the first journal that can't be read. Journals of one endpoint are its lives, in the order of the readers.
+/// Reads one journal from each reader, writes the report of their audit, and returns the exit status.
+///
+/// With status 0 the report is an order, a line an item, and `one run`. With status 1 it is the items that can't go and
+/// `fault 17 Stuck`, `fault 11 NotRising`, or the fault of the first journal that can't be read. Journals of one
+/// endpoint are its lives, in the order of the readers.
 pub fn audit_files<R: Read, W: Write>(
     alloc: Global,
     readers: &mut [Counted<R>],

@@ -1,4 +1,4 @@
-//! The audit of journals: what is read of each, and what is said of all.
+//! The audit of journals: reading each, and the report on all.
 #![tactic(auto)]
 
 mod journals;

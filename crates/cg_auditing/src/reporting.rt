@@ -1,4 +1,4 @@
-//! What is said of an audit.
+//! The report of an audit.
 
 ghost use Rattle.std.specs.Prelude.{◌≡◌, ◌++◌, IfOk, OnOk, codes, string_bytes};
 ghost use Rattle.std.specs.List.{flat_map};
@@ -46,8 +46,10 @@ fn stuck_text(alloc: Global, heads: &[LifeItem]) -> Result<String, AllocError>
     Ok(text)
 }
 
-/// What is said of an audit, and the status: a line for each item of the order and `one run`, with status 0; a line for
-/// each head and that they are stuck, or a fault, with status 1. `AllocError` where the text finds no memory.
+/// Returns the text that reports an audit, and the exit status.
+///
+/// With status 0 the text is a line for each item of the order and `one run`. With status 1 it is a line for each head
+/// and that they are stuck, or a fault. `AllocError` if there is no memory for the text.
 pub fn report(
     alloc: Global,
     audited: &Result<Order, AuditFault>,

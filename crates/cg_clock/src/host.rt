@@ -8,8 +8,8 @@ use std::rt::Clock;
 use std::sync::atomic::{AtomicU64, Ordering};
 use std::time::{Duration, Instant, SystemTime};
 
-/// The system's clock, in milliseconds since this was made. Where it can't be read it shows what it showed last, 0 at
-/// first.
+/// The system's clock, in milliseconds since this value was made. If the clock can't be read, it shows its last time, 0
+/// at first.
 #[derive(Drop)]
 pub struct HostClock<'a, R: Clock> {
     rt: &'a R,
@@ -17,7 +17,7 @@ pub struct HostClock<'a, R: Clock> {
     last: AtomicU64,
 }
 
-// Whole milliseconds, at most 2^64 - 1.
+// Returns the whole milliseconds, at most 2^64 - 1.
 fn milliseconds_of(duration: Duration) -> u64
     ensures { result ≡ min (as_nanos duration / 1000000) (2 ^ 64 - 1) }
 {
@@ -28,7 +28,7 @@ fn milliseconds_of(duration: Duration) -> u64
 }
 
 impl<'a, R: Clock> HostClock<'a, R> {
-    /// A clock that begins now.
+    /// Makes a clock that begins now.
     pub fn new(rt: &'a R) -> HostClock<'a, R> {
         HostClock {
             rt,
@@ -37,7 +37,7 @@ impl<'a, R: Clock> HostClock<'a, R> {
         }
     }
 
-    // The time since it was made, where it can be read.
+    // Returns the time since the clock was made, if it can be read.
     fn elapsed(&self) -> Option<Duration> {
         let began = self.began?;
         began.elapsed(self.rt).ok()
@@ -57,7 +57,7 @@ impl<'a, R: Clock> Milliseconds for HostClock<'a, R> {
     }
 }
 
-/// Whole seconds since 1970 by the system's clock; 0 where it can't be read or shows a moment before.
+/// Returns the whole seconds since 1970 by the system's clock; 0 if it can't be read or shows a time before.
 pub fn seconds_since_1970<R: Clock>(rt: &R) -> u64 {
     let Ok(now) = SystemTime::now(rt) else {
         return 0;

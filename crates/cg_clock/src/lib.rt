@@ -1,4 +1,4 @@
-//! The clock that a node's moments are read from.
+//! The clock from which a node's times are read.
 #![tactic(auto)]
 
 mod host;
@@ -9,10 +9,10 @@ pub use host::{HostClock, seconds_since_1970};
 
 /// A clock of milliseconds. It may be read by many threads.
 pub trait Milliseconds {
-    // the moments that a clock shows
+    // the times that a clock shows
     ghost shows: { Self → ℕ → Type 0 } = { λ c n. Unit {0} };
 
-    /// The moment now, in milliseconds since a moment of the clock's own.
+    /// Returns the present time, in milliseconds since a time of the clock's own.
     fn now(&self) -> u64
         ensures { shows self.now result };
 }

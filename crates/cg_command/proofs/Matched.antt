@@ -1,4 +1,4 @@
--- What clap finds for a command whose shape is known.
+-- Matches that clap finds for a command whose shape is known.
 use Rattle.std.proofs.Common.{◌≡◌, List, [], Option, true, refl, sym, ap, ◌∙◌, codes, option_map, unwrap_or}
 use Rattle.clap.specs.Words.{App, HasMatchesOf, Text, fault_of, is_simple, is_simple_and_free, subcommand_of, subcommand_rows_of, takes}
 use Rattle.clap.proofs.OnLiterals.{clap_on_literals}

@@ -1,4 +1,4 @@
--- What a command line asks for.
+-- The job of a command line.
 use Rattle.std.specs.Prelude.{Bool, true, List, [], map, codes, Option, Some, None, unwrap_or, if◌then◌else◌, bytes_eq}
 use Rattle.std.specs.Borrow.{Bor}
 use Rattle.clap.specs.Words.{App, Kinds, Row, Rule, Text, all_of, fault_of, new_app, new_rule, subcommand_of, takes}
@@ -7,7 +7,7 @@ use Rattle.clap.specs.declared.builder.action.ArgAction.TheVariants.{Append}
 use Rattle.cg_command.specs.declared.job.Subcommand.{Subcommand}
 use Rattle.cg_command.specs.declared.job.Subcommand.TheVariants.{Answer, Sim, Audit, Serve}
 
--- a command that tells its version
+-- a command with a version
 abbrev pub with_version : App → App
 with_version app = record app { top = record app.top { has_version = true } }
 
@@ -45,7 +45,7 @@ subcommand_named name =
     else if bytes_eq name (codes "serve") then Serve
     else Answer
 
--- the subcommand that was met, and `answer` where none was
+-- the subcommand that was met, or `answer` if none was
 abbrev pub subcommand_met : Option (Text × List Row) → Subcommand
 subcommand_met None = Answer
 subcommand_met (Some met) = subcommand_named met.0
@@ -59,7 +59,7 @@ abbrev pub files_met : Option (Text × List Row) → List Text
 files_met None = []
 files_met (Some met) = files_in met.1
 
--- the texts behind references
+-- the texts that references point to
 abbrev pub texts : List (Bor Text) → List Text
 texts = map (λ s. s.now)
 
@@ -67,7 +67,7 @@ texts = map (λ s. s.now)
 unfoldable pub subcommand_in : List Text → Option (Text × List Row)
 subcommand_in words = subcommand_of program words
 
--- whether the words name what the command has
+-- `true` if the words name what the command has
 unfoldable pub are_taken : List Text → Bool
 are_taken words = takes program words
 

@@ -1,4 +1,4 @@
-//! What a command line asks for.
+//! The job that a command line requests.
 
 ghost use Rattle.std.specs.Prelude.{◌≡◌, IfOk, IfErr, true, false, codes};
 ghost use Rattle.clap.specs.Words.{app_of, found_of, new_app, rows_of, subcommand_rows_of, kind_of, FailsBy};
@@ -13,7 +13,7 @@ use clap::error::ErrorKind;
 use clap::{Arg, ArgAction, ArgMatches, Command, Error};
 use std::alloc::{AllocError, Global};
 
-/// A kind of work.
+/// The kind of a job.
 #[derive(Clone, Copy, Debug, PartialEq, Eq)]
 pub enum Subcommand {
     /// Answer one SYN.
@@ -26,7 +26,7 @@ pub enum Subcommand {
     Serve,
 }
 
-/// What the program is to do, and the files that it is given for it, in the order of the words.
+/// The job of the program, and its files, in the order of the words.
 #[derive(Debug, Drop)]
 pub struct Job<'a> {
     pub subcommand: Subcommand,
@@ -93,7 +93,7 @@ fn command<'a>(alloc: Global) -> Result<Command<'a>, AllocError>
     Ok(with_serve)
 }
 
-// The matches of the words, of which the first is the program's name.
+// Returns the matches of the words, of which the first is the program's name.
 fn matches<'a>(alloc: Global, words: &'a [&'a str]) -> Result<ArgMatches<'a>, Error>
     ensures ok { IfOk result (λ m. subcommand_rows_of m ≡ subcommand_in (texts words.entry.now)) }
     ensures passes { IfErr result (λ e. are_taken (texts words.entry.now) ≡ true → kind_of e ≡ ErrorKind.OutOfMemory) }
@@ -123,15 +123,16 @@ fn files_of<'a>(alloc: Global, found: &ArgMatches<'a>) -> Result<Vec<&'a str>, A
     }
 }
 
-/// What the words ask for, of which the first is the program's name: the subcommand that `clap` finds, and `answer`
-/// where it finds none, with the files that it finds. The error is `clap`'s; where help or the version is asked for, it
-/// is their text.
+/// Reads the job from the words of a command line, of which the first is the program's name.
+///
+/// The job is the subcommand that `clap` finds, or `answer` if it finds none, with the files that it finds. The error
+/// is `clap`'s; for a request of help or of the version, it is their text.
 pub fn job_of<'a>(alloc: Global, words: &'a [&'a str]) -> Result<Job<'a>, Error>
     ensures subcommand { IfOk result (λ job. job.subcommand ≡ subcommand_met (subcommand_in (texts words.entry.now))) }
     ensures files { IfOk result (λ job. texts job.files.items ≡ files_met (subcommand_in (texts words.entry.now))) }
-    // Where the words name what the command has, only memory fails.
+    // If the words name what the command has, only memory fails.
     ensures passes { IfErr result (λ e. are_taken (texts words.entry.now) ≡ true → kind_of e ≡ ErrorKind.OutOfMemory) }
-    // An error is the one that clap finds first, and there is none where it finds none.
+    // An error is the one that clap finds first, and there is none if clap finds none.
     ensures kinds { FailsBy (faults_of (texts words.entry.now)) result }
 {
     let matches = matches(alloc, words)?;

@@ -1,13 +1,13 @@
 //! The texts of the command's help.
 
-/// The version that `--version` tells.
+/// The version that `--version` prints.
 pub const VERSION: &str = "0.1.0";
 
-/// What the program is.
+/// The description of the program.
 pub const ABOUT: &str =
     "Cluster metadata by gossip, as Apache Cassandra's members exchange it. With no command it is `answer`.";
 
-/// What holds of all commands.
+/// The input, the output and the statuses of all commands.
 pub const STATUSES: &str =
     "answer and sim read standard input, audit reads files, serve reads both; all write standard output. \
 Endpoints are written as 10.0.0.1:7000.\n\
@@ -18,7 +18,7 @@ Exit status: 0 when done; 1 after a fault that ended the work, told by a line as
 /// `answer` in a line.
 pub const ANSWER_ABOUT: &str = "Answer one SYN as a node that has just started";
 
-/// What `answer` reads and writes.
+/// The input and the output of `answer`.
 pub const ANSWER_HELP: &str =
     "Reads two lines: the node, as ENDPOINT GENERATION CLUSTER, and the frame of a SYN in \
 hexadecimal digits.\n\
@@ -33,7 +33,7 @@ Example: node 10.0.0.2:7000 in generation 5 of the cluster c1 answers a SYN that
 pub const SIM_ABOUT: &str =
     "Play a script of starts, changes, messages and losses over the nodes of a cluster";
 
-/// What `sim` reads and writes.
+/// The input and the output of `sim`.
 pub const SIM_HELP: &str =
     "Reads a script, a line at a time, and writes what each line shows before it does the next:\n\
 \n  seeds EP ..                    the seeds of all nodes, rising; only as the first line\
@@ -64,7 +64,7 @@ Example:\n\
 /// `audit` in a line.
 pub const AUDIT_ABOUT: &str = "Tell whether the journals of nodes are one run of the gossip";
 
-/// What `audit` reads and writes.
+/// The input and the output of `audit`.
 pub const AUDIT_HELP: &str =
     "Reads one journal from each file: the life of one node, as a first line \
 `life EP GENERATION WINDOW INITIAL MAX THRESHOLD SEEDS CLUSTER` and a line for each thing that it did. Journals of one \
@@ -80,7 +80,7 @@ Example:\n\
 /// `serve` in a line.
 pub const SERVE_ABOUT: &str = "Run a node over TCP, with an operator at standard input";
 
-/// What `serve` reads and writes.
+/// The input and the output of `serve`.
 pub const SERVE_HELP: &str = "Reads the node's settings from a file, a TOML table:\n\
 \n  cluster = TEXT           the cluster's name; needed\
 \n  listen = ENDPOINT        where it listens, as \"127.0.0.1:7001\": the node's own endpoint; needed\

@@ -1,4 +1,4 @@
--- Each step of the line keeps its rule.
+-- Each step of the channel keeps its rule.
 use Rattle.std.proofs.Common.{◌≡◌, ◌≢◌, ℕ, zero, suc, ◌⊎◌, true, false, List, [], ◌∷◌, ◌++◌, length, set, refl, sym, ap, ◌∙◌, subst, inl, inr, ⊎_elim, append_assoc}
 use Rattle.std.proofs.lemmas.List.{append-nil}
 use mathlib.Core.Option.{some, some-injective, some-ne-none}
@@ -14,7 +14,7 @@ rounds-append : (xs ys : List Order) → rounds_of (xs ++ ys) ≡ rounds_of xs +
 rounds-append [] ys = refl
 rounds-append (x ∷ xs) ys = ap (λ ns. round_of x ++ ns) (rounds-append xs ys) ∙ sym (append_assoc (round_of x) (rounds_of xs) (rounds_of ys))
 
--- the last of a list stands at its length
+-- the last element of a list is at its length
 at_end : {A : Type 0} (l : List A) (a b : A) (j : ℕ) → get_elem? (l ++ a ∷ []) j ≡ some b → (get_elem? l j ≡ some b) ⊎ ((j ≡ length l) × (a ≡ b))
 at_end [] a b zero e = inr (refl, some-injective a b e)
 at_end [] a b (suc j) e = absurd (some-ne-none b (sym e))

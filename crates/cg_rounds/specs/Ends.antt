@@ -1,4 +1,4 @@
--- What was put in at one end, and taken at the other.
+-- Rounds that were put in at one end of the channel, and taken at the other.
 use Rattle.std.specs.Prelude.{◌≡◌, ℕ, List, [], ◌∷◌, ◌++◌, Option, Some, None}
 use Rattle.crossbeam_channel.specs.Claims.{view, IsSeatAt}
 use Rattle.crossbeam_channel.specs.Ends.{sends_on, receives_on, ruled_capacity}
@@ -22,23 +22,23 @@ taken_in taken = (view taken.pass).taken
 abbrev pub AreEnds : Putting → Taking → Type 0
 AreEnds putting taking = receives_on taking.from ≡ sends_on putting.to
 
--- rounds, and one more where there is one
+-- rounds, and one more if there is one
 abbrev pub with_next : List Round → Option Round → List Round
 with_next rounds None = rounds
 with_next rounds (Some round) = rounds ++ round ∷ []
 
--- how many rounds the channel has room for
+-- the number of rounds for which the channel has room
 abbrev pub room_of : Putting → ℕ
 room_of putting = ruled_capacity (sends_on putting.to)
 
--- the end is the one that it was: an end of the same channel
+-- the end stays one of the same channel
 abbrev pub PutsWhere : Putting → Putting → Type 0
 PutsWhere putting before = sends_on putting.to ≡ sends_on before.to
 
 abbrev pub TakesWhere : Taking → Taking → Type 0
 TakesWhere taking before = receives_on taking.from ≡ receives_on before.from
 
--- what is left of this end
+-- they were taken at this end of the channel
 abbrev pub IsLeftOf : Taking → Taken → Type 0
 IsLeftOf taking taken = IsSeatAt (receives_on taking.from) taken.pass
 

@@ -1,4 +1,4 @@
--- What the channel of rounds holds, and what its passes know.
+-- Contents of the channel of rounds, and the knowledge of its passes.
 use Rattle.std.specs.Prelude.{◌≡◌, ℕ, Bool, true, List, [], ◌∷◌, ◌++◌}
 use mathlib.Core.Option.{some}
 use lib.ListN.{get_elem?}
@@ -19,12 +19,12 @@ rounds_of (x ∷ xs) = round_of x ++ rounds_of xs
 abbrev pub hand : Bool → Bool → List Round → List Round → Hand
 hand puts takes put taken = record { puts = puts; takes = takes; put = put; taken = taken }
 
--- One pass alone may put, and knows what was put in; one alone may take, and knows what was taken.
+-- One pass alone may put, and knows the rounds put in; one alone may take, and knows the rounds taken.
 abbrev pub Fits : ℕ → ℕ → List Round → List Round → ℕ → Hand → Type 0
 Fits putter taker put taken pass v =
     (v.puts ≡ true → (pass ≡ putter) × (v.put ≡ put)) × (v.takes ≡ true → (pass ≡ taker) × (v.taken ≡ taken))
 
--- what was taken, and then what the channel holds, is what was put in
+-- the rounds taken, and then those that the channel holds, are those put in
 abbrev pub InOrder : List Order → List Hand → Type 0
 InOrder items views =
     (putter : ℕ) × (taker : ℕ) × (put : List Round) × (taken : List Round)

@@ -23,7 +23,7 @@ pub struct Putting {
     ghost puts: { view pass ≡ hand true false (view pass).put [] },
 }
 
-/// The end where they are taken.
+/// The end where rounds are taken.
 #[derive(Drop)]
 pub struct Taking {
     pub(crate) from: Receiver,
@@ -32,7 +32,7 @@ pub struct Taking {
     ghost takes: { view pass ≡ hand false true [] (view pass).taken },
 }
 
-/// What is left of that end: which rounds were taken.
+/// The remains of an end that was given up: the rounds taken there.
 #[derive(Drop)]
 pub struct Taken {
     pub(crate) pass: Ticket,

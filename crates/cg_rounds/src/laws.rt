@@ -8,7 +8,7 @@ pub fn words_are_the_generators()
     ensures { WordsAreTheGenerators }
 {}
 
-/// How many rounds the channel has room for, as a number.
+/// The channel has room for `ROOM` rounds, which is 16.
 pub fn room_has_its_value()
     ensures { RoomHasItsValue }
 {}

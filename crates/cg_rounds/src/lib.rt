@@ -1,7 +1,7 @@
-//! The rounds of a node, on their way from the thread that begins them to the one that sends them, and the random words
-//! that they are drawn with.
+//! The channel that carries a node's rounds from the thread that begins them to the one that sends them, and the random
+//! words with which they are drawn.
 //!
-//! What is taken out of the channel is a front of what was put in: whole rounds, each once, in their order.
+//! The rounds taken out of the channel are a prefix of those put in: whole rounds, each once, in their order.
 #![tactic(auto)]
 
 mod ends;

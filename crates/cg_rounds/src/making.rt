@@ -1,4 +1,4 @@
-//! The channel.
+//! Making the channel.
 
 ghost use Rattle.std.specs.Prelude.{◌≡◌, IfOk, []};
 ghost use Rattle.cg_rounds.specs.Ends.{AreEnds, put_by, taken_by, room_of};
@@ -8,10 +8,10 @@ use crate::rule::{Cut, Hand, Line, Order};
 use crossbeam_channel::bounded_with;
 use std::alloc::{AllocError, Global};
 
-/// Rounds that the channel has room for.
+/// The number of rounds for which the channel has room.
 pub const ROOM: usize = 16;
 
-/// The two ends of a new channel.
+/// Makes a channel, and returns its two ends.
 pub fn rounds(alloc: Global) -> Result<(Putting, Taking), AllocError>
     ensures ends { IfOk result (λ r. AreEnds r.0 r.1) }
     ensures room { IfOk result (λ r. room_of r.0 ≡ ROOM) }

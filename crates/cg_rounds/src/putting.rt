@@ -1,4 +1,4 @@
-//! Rounds that are put in.
+//! Putting rounds in.
 
 ghost use Rattle.std.specs.Prelude.{◌≡◌, ◌++◌, ◌∷◌, [], OnOk, IfErr, OnErr};
 ghost use mathlib.Core.List.{IsPrefix};
@@ -11,7 +11,7 @@ use crossbeam_channel::SendError;
 use std::sync::Wait;
 
 impl Putting {
-    /// Puts a round in, where it waits for room. It is handed back where nobody takes any more.
+    /// Puts a round in, and waits for room. The round is handed back if nobody takes any more.
     pub fn put<R: Wait>(&mut self, rt: &R, round: Round) -> Result<(), Round>
         ensures channel { PutsWhere self.new self.old }
         ensures ok { OnOk result (put_by self.new ≡ put_by self.old ++ round ∷ []) }
@@ -28,7 +28,7 @@ impl Putting {
         }
     }
 
-    /// Says that no more come.
+    /// Puts in the mark that no more rounds come.
     pub fn end<R: Wait>(&mut self, rt: &R)
         ensures channel { PutsWhere self.new self.old }
         ensures put { put_by self.new ≡ put_by self.old }
@@ -36,7 +36,8 @@ impl Putting {
         let _said = self.to.send_as::<Puts, R>(rt, &mut self.pass, Order::Done);
     }
 
-    /// What was taken at the other end is a front of what was put in here: each round once, in their order.
+    /// Compares both ends: the rounds taken at the other end are a prefix of those put in here, each once, in their
+    /// order.
     pub fn compare(self, taken: Taken)
         requires { WereTakenOf self taken }
         ensures { IsPrefix (taken_in taken) (put_by self) }

@@ -3,12 +3,12 @@
 use cg_messages::Syn;
 use cg_peers::Peers;
 
-/// Whom a round is for, what they are sent, and the number of the record that it came of.
+/// A round: its peers, the SYN for each of them, and the number of its record.
 #[derive(Debug, Drop)]
 pub struct Round {
-    /// The endpoints that it is for, in the order in which they were chosen.
+    /// The endpoints of the round, in the order in which they were chosen.
     pub peers: Peers,
-    /// What each of them is sent.
+    /// The SYN that each of them is sent.
     pub syn: Syn,
     /// The number of its record.
     pub number: u64,

@@ -1,17 +1,17 @@
-//! The rule of the channel: what was taken, and then what it holds, is what was put in.
+//! The rule of the channel: the rounds taken, and then those that it holds, are those put in.
 
 use crate::round::Round;
 use crossbeam_channel::protocol::{Join, Lesson, Outcome, Protocol, Split};
 use std::collections::LinkedList;
 
-/// What crosses the channel: a round, or that there are no more.
+/// An element of the channel: a round, or the mark that there are no more.
 #[derive(Drop)]
 pub enum Order {
     Of(Round),
     Done,
 }
 
-/// What the holder of a pass may do, and the rounds that it has put in and taken. No value of it is made.
+/// The rights of the holder of a pass, and the rounds that it has put in and taken. No value of it is made.
 pub struct Hand {
     pub puts: bool,
     pub takes: bool,
@@ -19,7 +19,7 @@ pub struct Hand {
     pub taken: LinkedList<Round>,
 }
 
-/// The rule.
+/// The rule of the channel.
 pub struct Line;
 
 impl Protocol<Order, Hand> for Line {
@@ -31,7 +31,7 @@ impl Protocol<Order, Hand> for Line {
     ghost first = { hand true true [] [] };
 }
 
-/// One pass becomes two: the one puts, the other takes.
+/// The step in which one pass becomes two: the one puts, the other takes.
 pub struct Cut;
 
 impl Split<Hand> for Cut {
@@ -52,7 +52,7 @@ impl Join<Hand> for Cut {
     ghost spent = { hand false false [] [] };
 }
 
-/// A round is put in.
+/// The step that puts a round in.
 pub struct Puts;
 
 impl Outcome<Order, Hand> for Puts {
@@ -66,7 +66,7 @@ impl Lesson<Order, Hand> for Puts {
     ghost fact = { λ v items. Unit {0} };
 }
 
-/// A round is taken.
+/// The step that takes a round.
 pub struct Takes;
 
 impl Outcome<Order, Hand> for Takes {
@@ -80,7 +80,7 @@ impl Lesson<Order, Hand> for Takes {
     ghost fact = { λ v items. Unit {0} };
 }
 
-/// What was put in is what was taken, and what the channel holds.
+/// The fact that the rounds put in are those taken, and then those that the channel holds.
 pub struct Total;
 
 impl Lesson<Order, Hand> for Total {

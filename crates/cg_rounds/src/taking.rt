@@ -1,4 +1,4 @@
-//! Rounds that are taken.
+//! Taking rounds.
 
 ghost use Rattle.std.specs.Prelude.{◌≡◌};
 ghost use Rattle.cg_rounds.specs.Ends.{taken_by, taken_in, with_next, TakesWhere, IsLeftOf};
@@ -9,7 +9,7 @@ use crate::rule::{Order, Takes};
 use std::sync::Wait;
 
 impl Taking {
-    /// Takes the next round, for which it waits. None where it was said that no more come, or nobody can put any in.
+    /// Takes the next round, and waits for it. `None` if no more come, or if nobody can put any in.
     pub fn take<R: Wait>(&mut self, rt: &R) -> Option<Round>
         ensures channel { TakesWhere self.new self.old }
         ensures taken { taken_by self.new ≡ with_next (taken_by self.old) result }
@@ -20,7 +20,7 @@ impl Taking {
         }
     }
 
-    /// Gives the end up. What was taken stays known; a round that is put in later is handed back.
+    /// Gives up the end, and returns the rounds taken. A round that is put in later is handed back.
     pub fn leave(self) -> Taken
         ensures channel { IsLeftOf self result }
         ensures taken { taken_in result ≡ taken_by self }

@@ -1,4 +1,4 @@
--- Where no link failed, all of the script was played, or memory ran out.
+-- If no link failed, all of the script was played, or memory ran out.
 use Rattle.std.proofs.Common.{◌≡◌, ℕ, ◌<◌, ◌⊎◌, inl, inr, List, [], ◌++◌, take, Option, Some, None, IfSome, sym, ap, ◌∙◌, subst, append_assoc}
 use Rattle.std.specs.Io.KnownBytes.{Appends, Consumes, IsAtEnd}
 use Rattle.cg_types.specs.declared.fault.Fault.TheVariants.{OutOfMemory}
@@ -14,12 +14,12 @@ use Rattle.cg_sim.specs.Simulated.{IsDue, Simulates, PlaysAll, SaysOutOfMemory}
 use Rattle.cg_lines.proofs.LineLemmas.{ended_lines-append}
 use Rattle.cg_sim.proofs.TextLemmas.{take_front}
 
--- what was read is a front of what was there
+-- the bytes read are a prefix of the bytes that were there
 front_read : (input bytes : List ℕ) (after : Option (List ℕ)) → Consumes (Some input) after bytes → (rest : List ℕ) × (input ≡ bytes ++ rest)
 front_read input bytes None read = absurd read
 front_read input bytes (Some rest) read = (rest, read)
 
--- the first lines that a line feed ends are among the first lines of the whole script
+-- the first lines of a prefix that a line feed ends are among the first lines of the whole script
 first_lines : (input front rest : List ℕ) (n : ℕ) → input ≡ front ++ rest → (k : ℕ) × (take n (ended_lines [] front) ≡ take k (lines_of input))
 first_lines input front rest n e =
     let more = ended_lines (open_line [] front) rest ++ last_line (open_line [] input) in

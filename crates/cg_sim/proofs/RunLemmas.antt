@@ -1,4 +1,4 @@
--- The world that lines leave is the run of the actions that they ask for.
+-- The world that lines leave is the run of the actions that they request.
 use Rattle.std.proofs.Common.{◌≡◌, ℕ, true, List, [], ◌∷◌, ◌++◌, Result, Ok, Err, refl, sym, ◌∙◌, subst}
 use Rattle.cg_types.specs.declared.fault.Fault.{Fault}
 use Rattle.cg_world.specs.declared.action.Action.{Action}

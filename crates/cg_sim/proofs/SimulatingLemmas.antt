@@ -1,4 +1,4 @@
--- What was told of a script, and the line of a fault.
+-- The texts written of a script, and the line of a fault.
 use Rattle.std.proofs.Common.{◌≡◌, ℕ, ◌+◌, inl, inr, List, [], ◌++◌, length, take, Option, refl, sym, ◌∙◌, subst}
 use Rattle.std.specs.Io.KnownBytes.{Appends}
 use Rattle.std.proofs.KnownBytes.{Appends-trans}
@@ -66,7 +66,7 @@ simulates_broken before after held holds r0 r1 w0 w1 f other another (inr (inl l
     )
 simulates_broken before after held holds r0 r1 w0 w1 f other another (inr (inr u)) = absurd (another u.fault)
 
--- memory ran out, and the line that says so was written, or a front of it
+-- memory ran out, and the line that says so was written, or a prefix of it
 pub simulates_short : {R W : Type 0} (before after held holds written : Option (List ℕ)) (r0 r1 : Counted R) (w0 w1 w2 : Counted W) (f : Fault)
     → f ≡ OutOfMemory → Fails before after held holds r0 r1 w0 w1 f → WritesLine holds written w1 w2 (fault_text OutOfMemory)
     → Simulates before after held written r0 r1 w0 w2 1
@@ -84,7 +84,7 @@ simulates_short before after held holds written r0 r1 w0 w1 w2 f e (inl s) line 
 simulates_short before after held holds written r0 r1 w0 w1 w2 f e (inr (inl l)) line = let wrong : OutOfMemory ≡ WriteFault = sym e ∙ l.breaks.fault in absurd (cc wrong)
 simulates_short before after held holds written r0 r1 w0 w1 w2 f e (inr (inr u)) line = let wrong : OutOfMemory ≡ ReadFault = sym e ∙ u.fault in absurd (cc wrong)
 
--- a read failed, and the line that says so was written, or a front of it
+-- a read failed, and the line that says so was written, or a prefix of it
 pub simulates_cut : {R W : Type 0} (before after held holds written : Option (List ℕ)) (r0 r1 : Counted R) (w0 w1 w2 : Counted W) (f : Fault)
     → f ≡ ReadFault → Fails before after held holds r0 r1 w0 w1 f → WritesLine holds written w1 w2 (fault_text ReadFault)
     → Simulates before after held written r0 r1 w0 w2 1

@@ -1,4 +1,4 @@
--- What a script that is told to a writer does, as what the writer then holds.
+-- A script that is played to a writer, by the bytes that the writer then holds.
 use Rattle.std.proofs.Common.{◌≡◌, ℕ, ◌≤◌, ◌⊎◌, inl, inr, List, [], ◌∷◌, length, take, Option, Result, Ok, Err, refl, sym, ap, ◌∙◌, subst, arith}
 use Rattle.std.specs.Prelude.{MatchResult}
 use Rattle.std.specs.Io.KnownBytes.{Appends}
@@ -22,7 +22,7 @@ one_last : (line : List ℕ) → length (last_line line) ≤ 1
 one_last [] = omega arith
 one_last (b ∷ bs) = omega arith
 
--- no memory before anything was read
+-- memory ran out before anything was read
 pub nothing_read : {R W : Type 0} (before holds : Option (List ℕ)) (r : Counted R) (w : Counted W) (f : Fault) → f ≡ OutOfMemory
     → due.Stops before before holds holds r r w w f
 nothing_read before holds r w f short = record {
@@ -39,7 +39,7 @@ module _ {W : Type 0} (holds : W → Option (List ℕ)) where
   abbrev stops : Telling W → List ℕ → Telling W → Fault → Type 0
   stops = RefusesStep holds
 
-  -- ---- lines that were told
+  -- ---- lines that were done and written
 
   pub record Chained (s t : Telling W) (lines : List (List ℕ)) : Type 0 where
     pub writer : t.writer.ghost_name ≡ s.writer.ghost_name
@@ -58,7 +58,7 @@ module _ {W : Type 0} (holds : W → Option (List ℕ)) where
             s.writer.now h.0.writer.now t.writer.now h.1.told rest.told;
       }
 
-  -- ---- a line that stops, where those before it are the first of some
+  -- ---- a line that stops, if those before it are the first of some
 
   refused : (s t : Telling W) (lines first : List (List ℕ)) (n : ℕ) (f : Fault) (h : Refuses steps stops s lines t f)
       → h.front ≡ take n first

@@ -1,4 +1,4 @@
--- What some lines print, and then some more; fronts of that.
+-- The text that some lines print, and then some more; prefixes of that.
 use Rattle.std.proofs.Common.{◌≡◌, ℕ, ◌+◌, ◌≤◌, suc, zero, List, [], ◌∷◌, ◌++◌, length, take, refl, sym, ap, ◌∙◌, append_assoc, length-append, arith}
 use Rattle.std.proofs.Math.Seq.{take-append-add, take-append_seam, take-append-le}
 use Rattle.cg_sim.specs.declared.play.Play.{Play}
@@ -14,13 +14,13 @@ lines_text-append p (x ∷ xs) ys =
     ap (λ (t : List ℕ). line_text p x ++ t) (lines_text-append (after_line p x) xs ys)
     ∙ sym (append_assoc (line_text p x) (lines_text (after_line p x) xs) (lines_text (after_lines (after_line p x) xs) ys))
 
--- a front of the first part is one of both
+-- a prefix of the first part is a prefix of both
 pub take_front : {A : Type 0} → (n : ℕ) (xs ys : List A) → (k : ℕ) × (take n xs ≡ take k (xs ++ ys))
 take_front zero xs ys = (0, refl)
 take_front (suc n) [] ys = (0, refl)
 take_front {A} (suc n) (x ∷ xs) ys = let h = take_front n xs ys in (suc h.0, ap (λ (l : List A). x ∷ l) h.1)
 
--- what stands before an element of two parts, of which the second has one at most, is a front of the first part
+-- the elements before an element of two parts, of which the second has one at most, are a prefix of the first part
 pub front_of_first : {A : Type 0} (xs ys front rest : List A) (x : A) → length ys ≤ 1 → xs ++ ys ≡ front ++ x ∷ rest
     → front ≡ take (length front) xs
 front_of_first xs ys front rest x few are =
@@ -30,7 +30,7 @@ front_of_first xs ys front rest x few are =
     let within : length front ≤ length xs = omega (arith, few, lengths, whole, parts) in
     sym (take-append_seam front (x ∷ rest)) ∙ ap (take (length front)) (sym are) ∙ take-append-le (length front) xs ys within
 
--- all of a first part's text, and then a front of a second's
+-- all of a first part's text, and then a prefix of a second's
 pub text_front-more : (p : Play) (xs ys : List (List ℕ)) (n : ℕ)
     → take (length (lines_text p xs) + n) (lines_text p (xs ++ ys)) ≡ lines_text p xs ++ take n (lines_text (after_lines p xs) ys)
 text_front-more p xs ys n =

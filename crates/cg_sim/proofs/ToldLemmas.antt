@@ -1,4 +1,4 @@
--- Lines that are told, and then some more.
+-- Lines that are done and written, and then some more.
 use Rattle.std.proofs.Common.{◌≡◌, ℕ, ◌+◌, ◌⊎◌, inl, inr, List, [], ◌++◌, length, take, Option, refl, sym, ap, ◌∙◌, subst, append-nil}
 use Rattle.std.specs.Io.KnownBytes.{Appends}
 use Rattle.std.proofs.KnownBytes.{Appends-nil, Appends-trans}
@@ -40,11 +40,11 @@ breaks_off_on p q xs ys a b c u v w f one two = record {
   caused = caused_later u v w one.kept two.caused;
 }
 
--- nothing is told where no memory is found for a line
+-- nothing is written if there is no memory for a line
 pub nothing_told : {L : Type 0} (a : Option (List ℕ)) (u : Counted L) (f : Fault) → f ≡ OutOfMemory → IsUntold a a u u f
 nothing_told a u f short = record { fault = short; text = Appends-nil a; kept = record { failed = refl; idle = refl } }
 
--- the first of some lines are told, and then nothing
+-- the first of some lines are done and written, and then nothing
 pub runs_out_behind : {L : Type 0} (p q : Play) (front lines : List (List ℕ)) (n : ℕ) (a b c : Option (List ℕ)) (u v w : Counted L) (f : Fault)
     → AreTold p q front a b u v → IsUntold b c v w f → front ≡ take n lines → RunsOut p lines a c u w f
 runs_out_behind p q front lines n a b c u v w f told none is = record {

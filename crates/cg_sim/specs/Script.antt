@@ -1,4 +1,4 @@
--- What a script prints, line by line.
+-- The text that a script prints, line by line.
 use Rattle.std.specs.Prelude.{ℕ, true, false, List, [], ◌∷◌, ◌++◌, Option, Some, None, Result, Ok, Err, if◌then◌else◌}
 use Rattle.std.specs.FinMap as map
 use Rattle.cg_types.specs.declared.fault.Fault.{Fault}
@@ -25,9 +25,9 @@ use Rattle.cg_script.specs.Script.{line_in, settings_with}
 use Rattle.cg_sim.specs.declared.play.Play.{Play}
 use Rattle.cg_lines.specs.Lines.{lines_of}
 
--- ---- what an action shows
+-- ---- the text of an action
 
--- what a node answered, but for the message that it sends
+-- the text of a node's answer, except for the message that it sends
 abbrev pub reply_lines : Reply → List ℕ
 reply_lines (Done version) = version_line version
 reply_lines (Round peers syn) = round_line peers
@@ -45,7 +45,7 @@ abbrev pub answer_lines : Option Reply → Option ℕ → List ℕ
 answer_lines None number = []
 answer_lines (Some reply) number = reply_lines reply ++ sent_lines number (message_of reply)
 
--- what an action that is done shows
+-- the text of an action that is done
 abbrev pub shown_lines : Action → Shown → List ℕ
 shown_lines (Start node generation) shown = started_line node generation
 shown_lines (Local node change) shown = answer_lines shown.reply shown.sent
@@ -55,7 +55,7 @@ abbrev pub action_lines : Action → Result Shown Fault → List ℕ
 action_lines action (Ok shown) = shown_lines action shown
 action_lines action (Err f) = fault_text f
 
--- ---- what is shown of a node
+-- ---- the text of a view
 
 abbrev pub node_lines : NodeValue → View → List ℕ
 node_lines n Gossipinfo = gossipinfo n.table.entries
@@ -73,14 +73,14 @@ view_lines (Some n) view = node_lines n view
 abbrev pub first_play : Play
 first_play = record { world = new_world (settings_with []); is_begun = false }
 
--- the world after what a line asks for; seeds are asked for by the first line alone
+-- the world after a line's request; the first line alone may request seeds
 abbrev pub world_after : Play → Result Line Fault → WorldValue
 world_after p (Ok (Seeds settings)) = if p.is_begun then p.world else new_world settings
 world_after p (Ok (Act action)) = act p.world action
 world_after p (Ok (Show node view)) = p.world
 world_after p (Err f) = p.world
 
--- what it prints
+-- the text that the line prints
 abbrev pub text_of : Play → Result Line Fault → List ℕ
 text_of p (Ok (Seeds settings)) = if p.is_begun then fault_text BadText else []
 text_of p (Ok (Act action)) = action_lines action (showing p.world action)
@@ -104,6 +104,6 @@ abbrev pub lines_text : Play → List (List ℕ) → List ℕ
 lines_text p [] = []
 lines_text p (line ∷ lines) = line_text p line ++ lines_text (after_line p line) lines
 
--- what a script prints
+-- the text that a script prints
 unfoldable pub script_text : List ℕ → List ℕ
 script_text input = lines_text first_play (lines_of input)

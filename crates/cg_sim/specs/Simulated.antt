@@ -1,4 +1,4 @@
--- What `sim` writes for what it reads.
+-- The results of `sim`: the text written for the script that it reads, and the status.
 use Rattle.std.specs.Prelude.{◌≡◌, ℕ, ◌⊎◌, List, [], ◌++◌, take, Option}
 use Rattle.std.specs.Io.KnownBytes.{Appends, Consumes, IsAtEnd}
 use Rattle.cg_types.specs.declared.fault.Fault.{Fault}
@@ -12,9 +12,9 @@ use Rattle.cg_lines.specs.Lines.{ended_lines, lines_of}
 use Rattle.cg_sim.specs.Script.{first_play, lines_text, script_text}
 use Rattle.cg_sim.specs.Told.{RunsOut, BreaksOff}
 
--- ---- reading and telling, to the end or to a fault
+-- ---- reading and writing, to the end or to a fault
 
--- All of the script was read, and what it prints was written.
+-- All of the script was read, and the text that it prints was written.
 pub record IsPlayed {R W : Type 0} (before after held holds : Option (List ℕ))
     (r0 r1 : Counted R) (w0 w1 : Counted W) : Type 0 where
   pub script : List ℕ
@@ -42,7 +42,7 @@ pub record BreaksLast {R W : Type 0} (before after held holds : Option (List ℕ
   pub kept : KeepsCounts r0 r1
   pub breaks : BreaksOff first_play (lines_of script) held holds w0 w1 f
 
--- A read failed, or as many were made as may be: what the lines print that were read whole was written.
+-- A read failed, or all reads that are allowed were made: the text of the lines that were read whole was written.
 pub record IsUnread {R W : Type 0} (before after held holds : Option (List ℕ))
     (r0 r1 : Counted R) (w0 w1 : Counted W) (f : Fault) : Type 0 where
   pub script : List ℕ
@@ -59,15 +59,15 @@ Fails before after held holds r0 r1 w0 w1 f =
     Stops before after held holds r0 r1 w0 w1 f
     ⊎ (BreaksLast before after held holds r0 r1 w0 w1 f ⊎ IsUnread before after held holds r0 r1 w0 w1 f)
 
--- A line was written, or a front of it before the writer failed or took nothing.
+-- A line was written, or a prefix of it before the writer failed or took nothing.
 abbrev pub WritesLine : {L : Type 0} → Option (List ℕ) → Option (List ℕ) → Counted L → Counted L → List ℕ → Type 0
 WritesLine before after old new line =
     (Appends before after line × KeepsCounts old new)
     ⊎ ((count : ℕ) × Appends before after (take count line) × (CountsFailed old new ⊎ CountsIdle old new))
 
--- ---- the text and the status that are due
+-- ---- the expected text and status
 
--- the reader was read to its end, and the text is what the script prints
+-- the reader was read to its end, and the text is the one that the script prints
 pub record IsWhole {L : Type 0} (before after : Option (List ℕ)) (old new : Counted L)
     (text : List ℕ) (status : ℕ) : Type 0 where
   pub script : List ℕ
@@ -77,7 +77,7 @@ pub record IsWhole {L : Type 0} (before after : Option (List ℕ)) (old new : Co
   pub text_is : text ≡ script_text script
   pub status_is : status ≡ 0
 
--- memory ran out: the text is what some of the first lines print, and the fault
+-- memory ran out: the text is that of some of the first lines, and the fault
 pub record IsShort {L : Type 0} (before after : Option (List ℕ)) (old new : Counted L)
     (text : List ℕ) (status : ℕ) : Type 0 where
   pub script : List ℕ
@@ -87,7 +87,7 @@ pub record IsShort {L : Type 0} (before after : Option (List ℕ)) (old new : Co
   pub text_is : text ≡ lines_text first_play (take count (ended_lines [] script)) ++ fault_text OutOfMemory
   pub status_is : status ≡ 1
 
--- a read failed, or as many were made as may be: the text is what the lines print that were read whole, and the fault
+-- a read failed, or all reads that are allowed were made: the text is that of the lines read whole, and the fault
 pub record IsCut {L : Type 0} (before after : Option (List ℕ)) (old new : Counted L)
     (text : List ℕ) (status : ℕ) : Type 0 where
   pub script : List ℕ
@@ -101,16 +101,16 @@ IsDue before after old new text status =
     IsWhole before after old new text status
     ⊎ (IsShort before after old new text status ⊎ IsCut before after old new text status)
 
--- a part of the script was read, and the text is what its lines print
+-- a part of the script was read, and the text is the one that its lines print
 pub record IsBegun {L : Type 0} (before after : Option (List ℕ)) (old new : Counted L) (text : List ℕ) : Type 0 where
   pub script : List ℕ
   pub read : Consumes before after script
   pub kept : KeepsCounts old new
   pub text_is : text ≡ lines_text first_play (ended_lines [] script)
 
--- ---- what is written of it
+-- ---- the bytes written of it
 
--- The text that is due was written, or a front of it before the writer failed.
+-- The expected text was written, or a prefix of it before the writer failed.
 abbrev pub Simulates : {R W : Type 0}
     → Option (List ℕ) → Option (List ℕ) → Option (List ℕ) → Option (List ℕ)
     → Counted R → Counted R → Counted W → Counted W → ℕ → Type 0
@@ -118,15 +118,15 @@ Simulates before after held holds r0 r1 w0 w1 result =
     ((text : List ℕ) × (status : ℕ) × IsDue before after r0 r1 text status × Wrote held holds w0 w1 text status result)
     ⊎ ((text : List ℕ) × IsBegun before after r0 r1 text × WroteFront held holds w0 w1 text result)
 
--- ---- where no link failed
+-- ---- if no link failed
 
--- all of the script was read, and what it prints was written
+-- all of the script was read, and the text that it prints was written
 pub record PlaysAll (after held holds : Option (List ℕ)) (script : List ℕ) (result : ℕ) : Type 0 where
   pub end : IsAtEnd after
   pub text : Appends held holds (script_text script)
   pub status : result ≡ 0
 
--- memory ran out: what some of the first lines print was written, and the fault
+-- memory ran out: the text of some of the first lines was written, and the fault
 pub record SaysOutOfMemory (held holds : Option (List ℕ)) (script : List ℕ) (result : ℕ) : Type 0 where
   pub count : ℕ
   pub text : Appends held holds (lines_text first_play (take count (lines_of script)) ++ fault_text OutOfMemory)

@@ -1,4 +1,4 @@
--- The steps of a script that is told to a writer.
+-- The steps of a script that is played to a writer.
 use Rattle.std.specs.Prelude.{◌≡◌, ℕ, ◌⊎◌, List, [], ◌∷◌, Option}
 use Rattle.cg_types.specs.declared.fault.Fault.{Fault}
 use Rattle.cg_links.specs.Counted.{link_of}
@@ -6,7 +6,7 @@ use Rattle.cg_sim.specs.declared.telling.Telling.{Telling}
 use Rattle.cg_sim.specs.Told.{AreTold, IsUntold, BreaksOff}
 
 module _ {W : Type 0} (holds : W → Option (List ℕ)) where
-  -- what its writer holds
+  -- the bytes that its writer holds
   abbrev pub held : Telling W → Option (List ℕ)
   held s = holds (link_of s.writer.now)
 

@@ -1,4 +1,4 @@
--- What is written of the texts of some lines as they are done.
+-- The bytes written of the texts of some lines as these are done.
 use Rattle.std.specs.Prelude.{◌≡◌, ℕ, ◌⊎◌, List, [], take, Option}
 use Rattle.std.specs.Io.KnownBytes.{Appends}
 use Rattle.cg_types.specs.declared.fault.Fault.{Fault}
@@ -29,7 +29,7 @@ pub record RunsOut {L : Type 0} (p : Play) (lines : List (List ℕ))
   pub text : Appends before after (lines_text p (take count lines))
   pub kept : KeepsCounts old new
 
--- the writer failed or took nothing: a front of the texts was written
+-- the writer failed or took nothing: a prefix of the texts was written
 pub record BreaksOff {L : Type 0} (p : Play) (lines : List (List ℕ))
     (before after : Option (List ℕ)) (old new : Counted L) (f : Fault) : Type 0 where
   pub fault : f ≡ WriteFault

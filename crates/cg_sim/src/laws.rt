@@ -2,8 +2,10 @@
 
 ghost use Rattle.cg_sim.specs.Runs.{ScriptsAreRuns};
 
-/// What a script does is a run of actions: after any lines the world is that of the actions that the lines ask for, in
-/// their order, with the seeds of the first line; so the headline holds of its nodes.
+/// A script's world is a run of actions: after any lines it is that of the actions that the lines request, in their
+/// order.
+///
+/// The nodes have the seeds of the first line. So the headline holds of the nodes.
 pub fn scripts_are_runs()
     ensures { ScriptsAreRuns }
 {}

@@ -1,4 +1,4 @@
-//! A script as far as it was read.
+//! The part of a script that was read.
 
 ghost use Rattle.std.specs.Prelude.{◌≡◌, ◌++◌, OnOk, IfOk, string_bytes};
 ghost use Rattle.std.specs.FinMap as map;
@@ -28,7 +28,7 @@ fn add_fault(alloc: Global, text: &mut String, fault: Fault) -> Result<(), Alloc
     text.push_str(&line)
 }
 
-// Does an action, and adds what that prints.
+// Does an action, and adds the text that it prints.
 fn act(
     alloc: Global,
     world: &mut World,
@@ -46,7 +46,7 @@ fn act(
     }
 }
 
-// Adds what is printed of a node.
+// Adds the text of a view of a node.
 fn show(
     alloc: Global,
     world: &World,
@@ -64,7 +64,7 @@ fn show(
 }
 
 impl Play {
-    /// No line was read.
+    /// Returns the play before any line was read.
     pub(crate) fn new(alloc: Global) -> Result<Play, AllocError>
         ensures { IfOk result (λ p. p ≡ first_play) }
     {
@@ -77,7 +77,7 @@ impl Play {
         })
     }
 
-    // Does what a line asks for, and adds what that prints.
+    // Does a line's request, and adds the text that it prints.
     fn ask(&mut self, alloc: Global, text: &mut String, line: Line) -> Result<(), AllocError>
         ensures text { OnOk result (string_bytes text.new ≡ string_bytes text.old ++ text_of self.old (Ok line)) }
         ensures world { OnOk result (self.new.world ≡ world_after self.old (Ok line)) }
@@ -96,7 +96,7 @@ impl Play {
         }
     }
 
-    /// Does a line, and adds what it prints. `AllocError` where memory runs out.
+    /// Does a line, and adds the text that it prints. `AllocError` if memory runs out.
     #[tactic(auto, unfolding(crate::specs::Script::line_text, crate::specs::Script::after_line))]
     pub(crate) fn line(
         &mut self,

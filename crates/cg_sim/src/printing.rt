@@ -1,4 +1,4 @@
-//! What actions show, and what is shown of nodes.
+//! The texts of actions, and of views of nodes.
 
 ghost use Rattle.std.specs.Prelude.{◌≡◌, ◌++◌, OnOk, string_bytes, option_map};
 ghost use Rattle.cg_steps.specs.Step.{message_of};
@@ -16,7 +16,7 @@ use cg_script::View;
 use cg_world::{Action, Shown};
 use std::alloc::{AllocError, Global};
 
-// Adds what a node answered, but for the message that it sends.
+// Adds the text of a node's answer, except for the message that it sends.
 fn add_reply(text: &mut String, reply: &Reply) -> Result<(), AllocError>
     ensures { OnOk result (string_bytes text.new ≡ string_bytes text.old ++ reply_lines reply.now) }
 {
@@ -29,7 +29,7 @@ fn add_reply(text: &mut String, reply: &Reply) -> Result<(), AllocError>
     }
 }
 
-// The kind of the message that a reply sends, if it sends one.
+// Returns the kind of the message that a reply sends, if it sends one.
 fn sent_kind(reply: &Reply) -> Option<Kind>
     ensures { result ≡ option_map kind_of (message_of reply.now) }
 {
@@ -65,7 +65,7 @@ fn add_answer(text: &mut String, shown: &Shown) -> Result<(), AllocError>
     add_sent(text, reply, shown.sent)
 }
 
-/// Adds what an action that is done shows.
+/// Adds the text of an action that is done.
 pub(crate) fn add_shown(text: &mut String, action: &Action, shown: &Shown) -> Result<(), AllocError>
     ensures { OnOk result (string_bytes text.new ≡ string_bytes text.old ++ shown_lines action.now shown.now) }
 {
@@ -76,7 +76,7 @@ pub(crate) fn add_shown(text: &mut String, action: &Action, shown: &Shown) -> Re
     }
 }
 
-/// Adds what is shown of a node.
+/// Adds the text of a view of a node.
 pub(crate) fn add_view(
     alloc: Global,
     text: &mut String,

@@ -14,7 +14,7 @@ use cg_types::Fault;
 use std::alloc::Global;
 use std::io::{Read, Write};
 
-// Does and tells each line of a script.
+// Does each line of a script, and writes its text.
 fn tell_script<R: Read, W: Write>(
     alloc: Global,
     reader: &mut Counted<R>,
@@ -92,22 +92,24 @@ fn sim_links<R: Read, W: Write>(
     }
 }
 
-/// Plays a script over the nodes of a cluster, and answers the exit status.
+/// Plays a script over the nodes of a cluster, and returns the exit status.
 ///
 /// Each line is done and its text written and flushed before the next one is done; the last line feed may be missing. A
-/// line that can't be read shows its fault, `fault 2 BadText` or `fault 3 TooLong`; a refused one shows `NotRising`,
-/// `TableFull`, `NoSuchMessage`, `NoSuchNode` or `VersionsSpent`; the script goes on. The status is 0 at the script's
-/// end. It is 1 after `fault 1 OutOfMemory`, where memory runs out; after `fault 14 ReadFault`, where a read fails or
-/// 4,294,967,295 reads were made; and where the writer fails or takes no byte, which leaves a front of the text.
-/// What a script takes of memory is its world (nodes and messages), its longest line, and the longest text of a line.
+/// line that can't be read prints its fault, `fault 2 BadText` or `fault 3 TooLong`; a refused one prints `NotRising`,
+/// `TableFull`, `NoSuchMessage`, `NoSuchNode` or `VersionsSpent`; the script goes on.
+///
+/// The status is 0 at the script's end. It is 1 after `fault 1 OutOfMemory`, if memory runs out; after
+/// `fault 14 ReadFault`, if a read fails or 4,294,967,295 reads were made; and if the writer fails or takes no byte,
+/// which leaves a prefix of the text. A script's memory is its world (nodes and messages), its longest line, and the
+/// longest text of a line.
 pub fn sim<R: Read, W: Write>(alloc: Global, reader: &mut Counted<R>, writer: &mut Counted<W>) -> u8
-    // Which text is due, and how much of it was written.
+    // The expected text, and the prefix of it that was written.
     ensures played { Simulates
         (R.remaining (link_of reader.old)) (R.remaining (link_of reader.new))
         (W.contents (link_of writer.old)) (W.contents (link_of writer.new))
         reader.old reader.new writer.old writer.new result }
-    // Where no call of a link failed, no write took nothing and the bound on reads was not met, it is what all of the
-    // script prints, unless memory ran out.
+    // The text is the one that all of the script prints, unless memory ran out, if no call of a link failed, no write
+    // took nothing and the bound on reads was not met.
     ensures honest { failed_of reader.new ≡ 0 → calls_of reader.new < MOST_READS
         → failed_of writer.new ≡ 0 → idle_of writer.new ≡ 0
         → IfSome (R.remaining (link_of reader.old)) (λ script.

@@ -1,4 +1,4 @@
-//! Lines that are done and told, one after the other.
+//! Lines that are done and written, one after the other.
 
 ghost use Rattle.std.specs.Prelude.{◌≡◌, ◌⊎◌, [], ◌∷◌, MatchResult};
 ghost use Rattle.cg_links.specs.Counted.{link_of};
@@ -58,7 +58,7 @@ impl<'a, W: Write> TakeLine for Telling<'a, W> {
     }
 }
 
-/// Does and tells each line of a script, of which nothing was read.
+/// Does each line of a script, from its first one on, and writes its text.
 pub(crate) fn tell_lines<R: Read, W: Write>(
     alloc: Global,
     telling: &mut Telling<'_, W>,
