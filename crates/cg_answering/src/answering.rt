@@ -119,11 +119,14 @@ fn answer_links<R: Read, W: Write>(
 /// line feed may be missing. It writes the ACK's frame in lower-case digits and a line feed, with status 0, or one
 /// fault line, with status 1.
 ///
-/// Faults are found in this order: BadText (either line is unreadable, a line is missing or there is a further one),
-/// BadFrame (a fault in the frame), Truncated, BadFrame (bytes after the frame, then a frame of another kind),
-/// OtherCluster. OutOfMemory comes if memory runs out on the way, ReadFault if a read fails or 4,294,967,295 reads do
-/// not meet the end. If the writer fails or takes no byte, a prefix of the text is written, and the status is 1. The
-/// whole input is held in memory, and the writer is not flushed.
+/// Faults are found in this order:
+/// - BadText: either line is unreadable, a line is missing, or there is a further one;
+/// - BadFrame (a fault in the frame), and then Truncated;
+/// - BadFrame (bytes after the frame, then a frame of another kind), and then OtherCluster.
+///
+/// OutOfMemory comes if memory runs out on the way, ReadFault if a read fails or 4,294,967,295 reads do not meet the
+/// end. If the writer fails or takes no byte, a prefix of the text is written, and the status is 1. The whole input is
+/// held in memory, and the writer is not flushed.
 pub fn answer<R: Read, W: Write>(
     alloc: Global,
     reader: &mut Counted<R>,

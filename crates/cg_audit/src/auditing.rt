@@ -13,13 +13,13 @@ use std::alloc::Global;
 
 /// Returns an order in which the lives of all endpoints can have been one run.
 ///
-/// At each turn the least endpoint goes whose next item can go. `Stuck` with the heads that are left if there is no
-/// such order; `NotRising`, before that, if the generations of an endpoint do not rise; `OutOfMemory` only in place of
-/// an order or of heads.
+/// At each turn the least endpoint goes whose next item can go. `Stuck` comes with the heads that are left if there is
+/// no such order. `NotRising` comes before that, if the generations of an endpoint do not rise; `OutOfMemory` only in
+/// place of an order or of heads.
 ///
 /// No two of the lives may be of one endpoint (`endpoints_differ`). There may be more endpoints than a table holds, and
-/// lives may have settings of their own. The time is that of the items, each with a look-up by a hash of the message
-/// that it handles or sends, and for each item one step for each endpoint.
+/// lives may have settings of their own. For each item the audit takes one step for each endpoint. A step may look up,
+/// by a hash, the message that the endpoint's next item handles; the message that the item sends is looked up too.
 pub fn audit(alloc: Global, lives: &[Lives]) -> Result<Order, AuditFault>
     requires { IsTrue (differ lives.now) }
     ensures { IsAudited lives.now result }

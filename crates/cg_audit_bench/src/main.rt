@@ -1,6 +1,6 @@
 //! Measures the audit of lives.
 //!
-//! With no words it audits a thousand items over eight and over 64 endpoints, and prints a digest of each order, which
+//! With no words it audits a thousand items, over eight and over 64 endpoints. It prints a digest of each order, which
 //! no clock and no machine changes. With the word `time` it measures lives of a thousand, ten thousand and a hundred
 //! thousand items.
 #![tactic(auto)]

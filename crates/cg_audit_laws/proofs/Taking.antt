@@ -156,7 +156,7 @@ module _ (w : PlaceWorld) (sound : IsSound w) (node number : ℕ) (n : NodeValue
   step_marked (event.Ack now ack) x s st = delivered_marked x (kinds.Ack ack) s st.told (after_action w (action_at node number (event.Ack now ack))) (λ said is. receives w number node said p.runs_here is) (st.changed.histories owner)
   step_marked (event.Ack2 now ack2) x s st = delivered_marked x (kinds.Ack2 ack2) s st.told (after_action w (action_at node number (event.Ack2 now ack2))) (λ said is. receives w number node said p.runs_here is) (st.changed.histories owner)
 
--- ---- what is left out
+-- ---- deltas that are left out
 
 module _ (w : PlaceWorld) (sound : IsSound w) (node number : ℕ) (n : NodeValue) (p : IsPlaced w node n) (owner : ℕ) (outcome : Outcome) (d : OwnerDelta) where
   own_stands : (span : Span) → IsSpan (w.histories owner) span → (owner == node) ≡ true → span.from ≤ w.places node owner

@@ -40,7 +40,7 @@ pub(crate) enum LocalTask {
     Head(Texts),
     /// Takes two thousand arrivals at a window.
     Arrivals,
-    /// Asks a window for a thousand verdicts.
+    /// Computes a thousand verdicts of a window.
     Verdicts,
 }
 

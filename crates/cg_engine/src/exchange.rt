@@ -68,10 +68,12 @@ fn take_turns<G: Gate, R: Read, W: Write>(
 /// its event.
 ///
 /// `now` is the time of these events, in milliseconds of the gate's clock. `Closed` if the input ends where a message
-/// would begin. The exchange is broken off by `OutOfMemory`, a refusal of the gate (`VersionsSpent`, `TableFull`,
-/// `OtherCluster`), `BadFrame` (at 5, Unexpected, if the message is of another kind), `Truncated`, `ReadFault` and
-/// `WriteFault`. The bytes written are a prefix of the expected messages, and each message is flushed. No byte after
-/// the last message is read.
+/// would begin. The bytes written are a prefix of the expected messages, and each message is flushed. No byte after the
+/// last message is read.
+///
+/// The exchange is broken off by a refusal of the gate (`VersionsSpent`, `TableFull`, `OtherCluster`) and by
+/// `OutOfMemory`, `Truncated`, `ReadFault`, `WriteFault` and `BadFrame` (at 5, Unexpected, if the message is of another
+/// kind).
 pub fn respond<G: Gate, R: Read, W: Write>(
     alloc: Global,
     gate: &mut G,

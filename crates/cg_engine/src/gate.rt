@@ -28,7 +28,7 @@ pub trait Gate {
 
     /// Does an event, whose kind of reply is then the last one.
     ///
-    /// It is refused by `OutOfMemory`, `VersionsSpent`, `TableFull` and `OtherCluster` alone, so that no refusal can be
+    /// It is refused by `OutOfMemory`, `VersionsSpent`, `TableFull` and `OtherCluster` alone. So no refusal can be
     /// taken for a fault of a link or a frame.
     fn event(&mut self, alloc: Global, event: Event) -> Result<(), Fault>
         ensures ok { OnOk result ((reply : ReplyValue) × (last self.new ≡ Some reply)

@@ -43,8 +43,7 @@ impl NodeGate {
     }
 }
 
-/// An event is one step of the node: it is refused as the step is, and a refused one leaves the node and the last
-/// reply.
+/// An event is one step of the node. If it is refused, as the step is, the node and the last reply stay the same.
 impl Gate for NodeGate {
     ghost use Rattle.cg_engine.specs.NodeGate.{node_of, last_of};
 

@@ -1,8 +1,8 @@
 //! Worked examples of frames, links and exchanges.
 //!
-//! They show frames and streams of them, both ways and in other layouts; links, with the bytes read and written and the
-//! calls counted; and exchanges over bytes in memory, over links that fail at each call in turn, and over links that
-//! move a byte a call.
+//! They show frames and streams of them, both ways and in other layouts, and links, with the bytes read and written and
+//! the calls counted. Exchanges are run over bytes in memory, over links that fail at each call in turn, and over links
+//! that move a byte a call.
 #![tactic(auto)]
 
 #[cfg(test)]

@@ -23,8 +23,10 @@ pub fn written_events_are_read()
     ensures { WrittenEventsAreRead }
 {}
 
-/// The text of a history is read as that history: the node that it began with, its records and where they lead, each
-/// record for caller 0. The history that was read is written as the same text.
+/// The text of a history is read as that history, each record for caller 0, and what was read is written as the same
+/// text.
+///
+/// The history that was read has the same node that it began with, the same records, and the same node at its end.
 pub fn written_histories_are_read()
     ensures { WrittenHistoriesAreRead }
 {}

@@ -1,7 +1,8 @@
 //! One node's history behind a lock, with the views of its table.
 //!
-//! The data under the lock is a `Board`: the history, the publisher, the number of records appended to the views, and
-//! the book of a ledger that counts the records. The types of these state what is true whenever the lock is free.
+//! The data under the lock is a `Board`: the history, the publisher, and the number of records appended to the views.
+//! It has the book of a ledger too, which counts the records. Its types state what is true of it whenever the lock is
+//! free.
 #![tactic(auto)]
 
 mod board;

@@ -5,8 +5,8 @@ use std::env::Env;
 use std::rt::Clock;
 use std::time::Instant;
 
-/// The number of owners of the table, the states of each, the bytes of a state's text, the number of events, and
-/// whether times are printed.
+/// The amounts of work: owners of the table, states of each, bytes of a state's text, and events; and whether times are
+/// printed.
 #[derive(Clone, Copy)]
 pub(crate) struct Counts {
     pub(crate) owners: u16,

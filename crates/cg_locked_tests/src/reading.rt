@@ -19,7 +19,7 @@ pub(crate) struct Read {
     pub(crate) snapshot: Snapshot,
 }
 
-/// Sets a key, learns what was published, and reads: the own entry then has the key at the version of the reply or a
+/// Sets a key, learns what was published, and reads. The own entry then has the key at the version of the reply or a
 /// later one. `None` if there was no memory to publish.
 pub(crate) fn set_and_read<N: Name, R: Wait>(
     rt: &R,

@@ -66,7 +66,7 @@ module _ (lives : List LivesValue) where
       by None is e onward = ended left gone order rise at e
       by (Some i) is e onward = onward (without_next left i.endpoint) (gone ++ i ∷ []) (after_one lives left gone at es i (next_is left gone es i is)) e
 
-  -- ---- where turns are stuck
+  -- ---- stuck turns
 
   stuck_at : (left : ℕ → List RunItem) (gone stuck : List RunItem) → IsAtTurn lives left gone → next es left gone ≡ None → found (heads es left) gone ≡ Stuck stuck → AreStuck lives stuck
   stuck_at left gone stuck at nobody e =

@@ -1,5 +1,6 @@
-//! The channel that carries a node's rounds from the thread that begins them to the one that sends them, and the random
-//! words with which they are drawn.
+//! The channel of a node's rounds, and the random words with which they are drawn.
+//!
+//! The channel carries rounds from the thread that begins them to the one that sends them.
 //!
 //! The rounds taken out of the channel are a prefix of those put in: whole rounds, each once, in their order.
 #![tactic(auto)]

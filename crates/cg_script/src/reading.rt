@@ -244,9 +244,12 @@ fn line_of_word(alloc: Global, word: Word, words: &[u8]) -> Result<Line, Fault>
 /// Reads a line of a script, without its line feed.
 ///
 /// `TooLong` and `BadText` come if only the text of a `set` is refused: over 1,024 bytes, or with control characters.
-/// `BadText` comes if anything else can't be read: another first word, a word too few or too many, a number of another
-/// form or out of its range, a text that is not UTF-8; seeds that don't rise strictly, or more than 16. `OutOfMemory`
-/// comes if memory runs out on the way.
+/// `BadText` comes if anything else can't be read:
+/// - another first word, or a word too few or too many;
+/// - a number of another form or out of its range, or a text that is not UTF-8;
+/// - seeds that don't rise strictly, or more than 16.
+///
+/// `OutOfMemory` comes if memory runs out on the way.
 #[tactic(auto, unfolding(crate::specs::Script::line_in))]
 pub fn read_line(alloc: Global, line: &[u8]) -> Result<Line, Fault>
     ensures { Gives (λ l. l) result (line_in line.now) }

@@ -95,13 +95,15 @@ fn sim_links<R: Read, W: Write>(
 /// Plays a script over the nodes of a cluster, and returns the exit status.
 ///
 /// Each line is done and its text written and flushed before the next one is done; the last line feed may be missing. A
-/// line that can't be read prints its fault, `fault 2 BadText` or `fault 3 TooLong`; a refused one prints `NotRising`,
-/// `TableFull`, `NoSuchMessage`, `NoSuchNode` or `VersionsSpent`; the script goes on.
+/// line that can't be read prints its fault, `fault 2 BadText` or `fault 3 TooLong`. A refused one prints `NotRising`,
+/// `TableFull`, `NoSuchMessage`, `NoSuchNode` or `VersionsSpent`. The script goes on after both.
 ///
-/// The status is 0 at the script's end. It is 1 after `fault 1 OutOfMemory`, if memory runs out; after
-/// `fault 14 ReadFault`, if a read fails or 4,294,967,295 reads were made; and if the writer fails or takes no byte,
-/// which leaves a prefix of the text. A script's memory is its world (nodes and messages), its longest line, and the
-/// longest text of a line.
+/// The status is 0 at the script's end. It is 1 in three cases:
+/// - after `fault 1 OutOfMemory`, if memory runs out;
+/// - after `fault 14 ReadFault`, if a read fails or 4,294,967,295 reads were made;
+/// - if the writer fails or takes no byte, which leaves a prefix of the text.
+///
+/// A script's memory is its world (nodes and messages), its longest line, and the longest text of a line.
 pub fn sim<R: Read, W: Write>(alloc: Global, reader: &mut Counted<R>, writer: &mut Counted<W>) -> u8
     // The expected text, and the prefix of it that was written.
     ensures played { Simulates

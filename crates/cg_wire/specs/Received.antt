@@ -36,7 +36,7 @@ pub record IsNextPiece (held piece : List ℕ) : Type 0 where
 -- ---- the ends of reading a message, by the reader's rest before and after, and its counts
 
 module _ {L : Type 0} (before after : Option (List ℕ)) (old new : Counted L) where
-  -- the message was read, and no byte behind it
+  -- the message was read, and no byte after it
   pub record ReceivesMessage (m : Message) : Type 0 where
     pub bytes : List ℕ
     pub spelled : IsSpelledBy bytes m

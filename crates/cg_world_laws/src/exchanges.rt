@@ -52,10 +52,14 @@ fn hand_last(
 
 /// Runs a whole exchange between two nodes of a world, after which both hold what the two held, or later entries.
 ///
-/// The steps are the opener's opening, the first list of actions, its SYN handed to the answerer, the second list, the
-/// ACK handed to the opener, the third list, and the ACK2 handed to the answerer. Each message is handed over at the
-/// time `now`. An action of the lists that is refused changes nothing. None of them may start one of the two
-/// (`Action::starts`).
+/// The steps are these:
+/// - the opener's opening, and the first list of actions;
+/// - its SYN handed to the answerer, and the second list;
+/// - the ACK handed to the opener, and the third list;
+/// - the ACK2 handed to the answerer.
+///
+/// Each message is handed over at the time `now`. An action of the lists that is refused changes nothing. None of them
+/// may start one of the two (`Action::starts`).
 ///
 /// In the world that is returned, both hold what the opener held when it opened and the answerer when it answered, or
 /// later entries. With three empty lists both hold the same. `NoSuchNode` if one of the two does not run, before

@@ -1,5 +1,6 @@
-//! Laws of exchanges and merges between nodes that run, for every list of actions, and three calls on a world in hand
-//! whose contracts are laws.
+//! Laws of exchanges and merges between nodes that run, for every list of actions.
+//!
+//! Three calls on a world in hand have contracts that are laws too.
 //!
 //! They rest on the laws of `cg_world` and, by places, of `cg_places`; no other crate rests on them.
 #![tactic(auto)]
@@ -19,14 +20,16 @@ pub use merging::{equal_digests, merge_is_join};
 
 /// An exchange between two nodes that run takes both tables to the merge of what the two held, or past it.
 ///
-/// The merge is that of what the opener held when it opened and the answerer when it answered: one more merge with that
+/// The merge is that of what the opener held when it opened and the answerer when it answered. One more merge with that
 /// changes neither table. Other actions may come between its messages, but no start of the two.
 pub fn exchanges_end_at_the_join()
     ensures { ExchangesEndAtTheJoin }
 {}
 
-/// With nothing between its messages, an exchange between two nodes that run leaves both with equal tables and rings,
-/// and their table is the merge of the two that they held.
+/// An exchange between two nodes that run leaves both with equal tables and rings if nothing is done between its
+/// messages.
+///
+/// Their table is the merge of the two that they held.
 pub fn undisturbed_exchanges_merge()
     ensures { UndisturbedExchangesMerge }
 {}
