@@ -18,7 +18,7 @@ module _ {N : Type 0} {of_board : name.Ghosts N} {of_views : naming.Ghosts N} wh
       (s.receiver.share.amount ≡ 0) × (s.sender.share.amount ≡ 0) × (s.ticker.share.amount ≡ 0)
       × (s.operator.share.amount ≡ 0)
 
-  -- how many parts of the board they have together
+  -- the number of parts of the board that they have together
   abbrev pub parts_of : Seats N of_board of_views → ℕ
   parts_of s =
       s.receiver.share.parts + s.sender.share.parts + s.ticker.share.parts + s.operator.share.parts

@@ -1,4 +1,4 @@
-//! What is made for the workers before they start.
+//! The values made for the workers before they start.
 
 ghost use Rattle.std.specs.Prelude.{◌≡◌, ◌≤◌, [], vec_capacity, IfOk};
 ghost use Rattle.cg_rounds.specs.Ends.{AreEnds, put_by, taken_by};
@@ -16,7 +16,7 @@ use std::alloc::{AllocError, Global};
 use std::sync::Wait;
 use std::sync::ledger::Blank;
 
-/// What a node's workers begin with.
+/// The values that a node's workers begin with.
 pub struct Begun<N: Name> {
     /// The node's history and views, behind a lock.
     pub shared: Shared<N>,
@@ -24,7 +24,7 @@ pub struct Begun<N: Name> {
     pub seats: Seats<N>,
     /// An empty list with room for the four seats, which are put back into it.
     pub list: Vec<Seat<N>>,
-    /// What the operator reads the views with.
+    /// The pass with which the operator reads the views.
     pub pass: Pass<N>,
     /// The ends of the channel of rounds, from the ticker to the sender.
     pub ends: (Putting, Taking),
@@ -46,8 +46,9 @@ fn ways<N: Name>(
     Ok((publisher, passes.pop().unwrap(), ends))
 }
 
-/// Makes what the workers of a node begin with, whose name fixes its ledger, its views and where its history began. The
-/// history has no records yet. `AllocError` where there is no memory for it; then the history is gone.
+/// Makes the values that the workers of a node begin with. The node's name fixes its ledger, its views and the start of
+/// its history. The history has no records yet. `AllocError` if there is no memory for the values; then the history is
+/// gone.
 pub fn begin<N: Name, R: Wait>(
     rt: &R,
     alloc: Global,

@@ -1,4 +1,4 @@
--- What the workers of a node leave.
+-- The remains of a node's workers: models and rules.
 use Rattle.std.specs.Prelude.{ℕ, ◌≡◌, Bool, true, false, List, map, refl}
 use Rattle.std.specs.Coded.{Coded, code_by, coded×, coded_ℕ, coded_list}
 use Rattle.std.specs.List.{All}
@@ -16,34 +16,34 @@ use Rattle.cg_left.specs.declared.callers.TheConstants.{RECEIVER, SENDER, TICKER
 
 -- ---- kinds of events
 
--- what the receiver has done
+-- an event of the receiver
 abbrev pub is_received : Event → Bool
 is_received (event.Syn m) = true
 is_received (event.Ack2 now m) = true
 is_received e = false
 
--- what the sender has done
+-- an event of the sender
 abbrev pub is_ack : Event → Bool
 is_ack (event.Ack now m) = true
 is_ack e = false
 
--- what the ticker has done
+-- an event of the ticker
 abbrev pub is_tick : Event → Bool
 is_tick (event.Tick now words) = true
 is_tick e = false
 
--- what the operator has done
+-- an event of the operator
 abbrev pub is_any : Event → Bool
 is_any e = true
 
--- ---- what is left
+-- ---- remains
 
 -- the parts of a seat, and the receipts that it has counted
 pub record LeftValue : Type 0 where
   pub parts : ℕ
   pub receipts : List Receipt
 
--- the code that a model of such a value asks for
+-- the code that a model of such a value requires
 abbrev pub left_code : Coded LeftValue
 left_code =
     code_by (ℕ × List Receipt) (coded× coded_ℕ (coded_list receipt_code)) (λ l. (l.parts, l.receipts))
@@ -58,12 +58,12 @@ pub record IsOf (kind : Event → Bool) (caller : ℕ) (q : Receipt) : Type 0 wh
 abbrev pub AreOf : (Event → Bool) → ℕ → List Receipt → Type 0
 AreOf kind caller receipts = All (IsOf kind caller) receipts
 
--- The seat that is left has the parts that it had; the receipts are its caller's, of events of the kind.
+-- The seat has the parts that it began with; the receipts are its caller's, of events of the kind.
 pub record IsLeft (kind : Event → Bool) (caller parts : ℕ) (l : LeftValue) : Type 0 where
   pub same_parts : l.parts ≡ parts
   pub own_receipts : AreOf kind caller l.receipts
 
--- What is left of this end tells which rounds were taken, and these are their numbers.
+-- The remains of this end hold the rounds that were taken, and these are their numbers.
 pub record HasTaken (before : Taking) (taken : Taken) (numbers : List ℕ) : Type 0 where
   pub channel : IsLeftOf before taken
   pub are_of : numbers ≡ numbers_of (taken_in taken)
@@ -72,7 +72,7 @@ pub record HasTaken (before : Taking) (taken : Taken) (numbers : List ℕ) : Typ
 abbrev pub numbers_of_all : List Receipt → List ℕ
 numbers_of_all receipts = map (λ (q : Receipt). q.number) receipts
 
--- The end is the one that it was, and the rounds that were put in there are those of the first of the receipts.
+-- The end is the same, and the rounds that were put in there are those of the first of the receipts.
 pub record HasPut (before after : Putting) (receipts : List Receipt) : Type 0 where
   pub channel : PutsWhere after before
   pub are_first : IsPrefix (numbers_of (put_by after)) (numbers_of_all receipts)

@@ -1,4 +1,4 @@
-//! What the workers leave.
+//! The remains of the workers: seats, receipts and ends of the channel.
 
 ghost use Rattle.std.specs.Prelude.{◌≡◌, [], length};
 
@@ -30,7 +30,7 @@ impl<N: Name> Model for Left<N> {
 }
 
 impl<N: Name> Left<N> {
-    /// A seat, and the receipts that it has counted.
+    /// Makes a `Left` of a seat and the receipts that it has counted.
     pub fn of(seat: Seat<N>, receipts: Vec<Receipt>) -> Left<N>
         requires { seat.share.amount ≡ length receipts.items }
         ensures { result ≡ record { parts = seat.share.parts; receipts = receipts.items } }
@@ -38,7 +38,7 @@ impl<N: Name> Left<N> {
         Left { seat, receipts }
     }
 
-    /// A seat from which no event was done: one that has counted nothing. It takes no memory.
+    /// Makes a `Left` of a seat from which no event was done: one that has counted nothing. It takes no memory.
     pub fn unused(alloc: Global, seat: Seat<N>) -> Left<N>
         requires { seat.share.amount ≡ 0 }
         ensures { result ≡ record { parts = seat.share.parts; receipts = [] } }
@@ -46,7 +46,7 @@ impl<N: Name> Left<N> {
         Left::of(seat, Vec::new(alloc))
     }
 
-    /// The seat, and the receipts.
+    /// Returns the seat and the receipts.
     pub fn into_parts(self) -> (Seat<N>, Vec<Receipt>)
         ensures seat { (result.0.share.parts ≡ self.parts) × (result.0.share.amount ≡ length self.receipts) }
         ensures receipts { result.1.items ≡ self.receipts }
@@ -56,7 +56,7 @@ impl<N: Name> Left<N> {
     }
 }
 
-/// What the sender leaves: also which rounds it took, and the numbers of these, in their order.
+/// The sender's seat and receipts, the rounds that it took, and their numbers in their order.
 #[derive(Drop)]
 pub struct Sent<N: Name> {
     pub left: Left<N>,
@@ -64,14 +64,14 @@ pub struct Sent<N: Name> {
     pub numbers: Vec<u64>,
 }
 
-/// What the ticker leaves: also the end where it put its rounds in.
+/// The ticker's seat and receipts, and the end where it put its rounds in.
 #[derive(Drop)]
 pub struct Ticks<N: Name> {
     pub left: Left<N>,
     pub putting: Putting,
 }
 
-/// What all workers leave, and whether all of them were started.
+/// The remains of all workers, and `true` if all of them were started.
 #[derive(Drop)]
 pub struct Work<N: Name> {
     pub started: bool,

@@ -1,4 +1,4 @@
-//! What each worker of a node leaves: its seat, its receipts, and the ends of the channel that it used.
+//! The remains of each worker of a node: its seat, its receipts, and the ends of the channel that it used.
 #![tactic(auto)]
 
 mod callers;

@@ -16,7 +16,7 @@ goes_on-same g h same = record {
   receipts = ap (λ (v : SeatValue). v.receipts) same ∙ sym (append-nil g.receipts);
 }
 
--- what is told is handed over
+-- the told is handed over
 pub goes_on-told : (g h : SeatValue) (told : Option (List Put)) → h ≡ with_told g told → GoesOn g h
 goes_on-told g h told same = record {
   seat = (ap (λ (v : SeatValue). v.caller) same, ap (λ (v : SeatValue). v.parts) same);

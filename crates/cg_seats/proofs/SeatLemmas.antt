@@ -1,4 +1,4 @@
--- What an entry tells the gate that submitted it.
+-- Consequences of an entry for the gate that submitted it.
 use Rattle.std.proofs.Common.{◌≡◌, ◌+◌, ◌-◌, ℕ, Bool, true, false, cond, List, [], ◌∷◌, ◌++◌, length, refl, sym, ap, ◌∙◌, subst, length-append, arith}
 use Rattle.std.specs.Prelude.{Result, Ok, Err, Option, Some, IfSome, slice_get, option_map, ◌==◌}
 use Rattle.std.proofs.lemmas.List.Elements.{All-push}

@@ -1,4 +1,4 @@
--- What a gate over a seat shows, and how it goes on.
+-- A gate over a seat as contracts see it, and its steps.
 use Rattle.std.specs.Prelude.{ℕ, ◌-◌, ◌≡◌, ◌⊎◌, List, [], ◌∷◌, ◌++◌, length, Option, None, Ok, Err, IfSome, option_map, slice_get, refl}
 use Rattle.std.specs.Coded.{Coded, code_by, coded×, coded_ℕ, coded_list, coded_option}
 use Rattle.std.specs.List.{All}
@@ -12,14 +12,14 @@ use Rattle.cg_records.specs.declared.item.Receipt.{Receipt}
 use Rattle.cg_records.specs.Items.{receipt_code}
 use Rattle.cg_locked.specs.Entry.{IsEntry, ShowsSet}
 
--- the seat's caller and parts, the receipts, and what the last event was told
+-- the seat's caller and parts, the receipts, and the told of the last event
 pub record SeatValue : Type 0 where
   pub caller : ℕ
   pub parts : ℕ
   pub receipts : List Receipt
   pub told : Option (List Put)
 
--- the code that a model of such a value asks for
+-- the code that a model of such a value requires
 abbrev pub seat_code : Coded SeatValue
 seat_code =
     code_by (ℕ × (ℕ × (List Receipt × Option (List Put))))
@@ -47,8 +47,8 @@ last_reply receipts = option_map (λ q. q.reply) (slice_get receipts (length rec
 abbrev pub IsReceiptOf : ℕ → Event → Reply → Receipt → Type 0
 IsReceiptOf caller e answer q = (q.caller ≡ caller) × (q.event ≡ e) × (q.reply ≡ answer)
 
--- The gate went on by one event with its reply: it was entered for the caller into some history of the start, with at
--- least as many records as the gate has receipts; its receipt is kept behind those; and what it was told shows its Set.
+-- The gate went on by one event with its reply. The event was entered for the caller into some history of the start,
+-- with at least as many records as the gate has receipts. Its receipt is kept after those, and its told shows its Set.
 pub record Enters (start : NodeValue) (g : SeatValue) (e : Event) (answer : Reply) (h : SeatValue) : Type 0 where
   pub receipt : Receipt
   pub is : IsReceiptOf g.caller e answer receipt

@@ -1,4 +1,4 @@
-//! What an operator has done.
+//! The work of an operator over a gate.
 
 ghost use Rattle.std.specs.Prelude.{IfErr};
 ghost use Rattle.cg_seats.specs.Seats.{GoesOn, IsOperatorFault};
@@ -10,9 +10,9 @@ use cg_views::Pass;
 use std::alloc::Global;
 use std::sync::Wait;
 
-/// What an operator has done at a node: it reads by a pass, and has events done by a gate.
+/// An operator's work at a node: it reads by a pass, and has events done by a gate.
 pub trait Operate {
-    /// Works to its end. Refused by `OutOfMemory`, `ReadFault`, `WriteFault` and `NoSuchNode` alone.
+    /// Works to its end. Its faults are `OutOfMemory`, `ReadFault`, `WriteFault` and `NoSuchNode` alone.
     fn run<N: Name, R: Wait>(
         &mut self,
         alloc: Global,
@@ -23,7 +23,7 @@ pub trait Operate {
         ensures fault { IfErr result IsOperatorFault };
 }
 
-/// The operator at a seat: what it is to do is done to its end. A fault ends the operator alone.
+/// Does an operator's work at a seat, to its end. A fault ends the operator alone.
 pub fn operator<O: Operate, N: Name, R: Wait>(
     alloc: Global,
     gate: &mut SeatGate<'_, N, R>,

@@ -13,7 +13,7 @@ use std::alloc::Global;
 use std::marker::Model;
 use std::sync::Wait;
 
-/// A seat at a shared node, the receipts of the events that were done from it, and what the last of them was told.
+/// A seat at a shared node, the receipts of the events done from it, and the `Told` of the last of them.
 #[derive(Drop)]
 pub struct SeatGate<'a, N: Name, R: Wait> {
     rt: &'a R,
@@ -23,7 +23,7 @@ pub struct SeatGate<'a, N: Name, R: Wait> {
     told: Option<Told<N>>,
 }
 
-/// A contract sees the caller and the parts of the seat, the receipts, and what is told. The seat has counted the
+/// A contract sees the caller and the parts of the seat, the receipts, and the `Told`. The seat has counted the
 /// receipts, and they are its caller's.
 impl<'a, N: Name, R: Wait> Model for SeatGate<'a, N, R> {
     ghost use Rattle.std.specs.Prelude.{◌≡◌, length};
@@ -44,7 +44,7 @@ impl<'a, N: Name, R: Wait> Model for SeatGate<'a, N, R> {
 }
 
 impl<'a, N: Name, R: Wait> SeatGate<'a, N, R> {
-    /// The gate over a seat from which no event was done yet.
+    /// Makes the gate over a seat from which no event was done yet.
     pub fn new(rt: &'a R, alloc: Global, shared: &'a Shared<N>, seat: Seat<N>) -> SeatGate<'a, N, R>
         requires { seat.share.amount ≡ 0 }
         ensures { result ≡ new_gate seat.caller seat.share.parts }
@@ -58,7 +58,7 @@ impl<'a, N: Name, R: Wait> SeatGate<'a, N, R> {
         }
     }
 
-    /// The receipts of the events done, the first one first. They are all of the seat's caller.
+    /// Returns the receipts of the events done, in their order. They are all of the seat's caller.
     pub fn receipts(&self) -> &[Receipt]
         ensures value { result.now ≡ self.now.receipts }
         ensures own { AreOf self.now.caller self.now.receipts }
@@ -66,8 +66,8 @@ impl<'a, N: Name, R: Wait> SeatGate<'a, N, R> {
         &self.receipts
     }
 
-    /// What the last event was told, handed over once: `None` where nothing was done, where no memory was found to
-    /// publish it, and where it was handed over.
+    /// Hands over the `Told` of the last event, once. `None` if no event was done, if no memory was found to publish
+    /// it, or if it was handed over before.
     pub fn told(&mut self) -> Option<Told<N>>
         ensures told { result ≡ self.old.told }
         ensures gate { self.new ≡ with_told self.old None }
@@ -75,7 +75,7 @@ impl<'a, N: Name, R: Wait> SeatGate<'a, N, R> {
         self.told.take()
     }
 
-    /// The seat, which has counted the receipts, and the receipts.
+    /// Returns the seat, which has counted the receipts, and the receipts.
     pub fn into_parts(self) -> (Seat<N>, Vec<Receipt>)
         ensures seat { (result.0.caller ≡ self.entry.caller) × (result.0.share.parts ≡ self.entry.parts)
             × (result.0.share.amount ≡ length self.entry.receipts) }
@@ -87,8 +87,9 @@ impl<'a, N: Name, R: Wait> SeatGate<'a, N, R> {
     }
 }
 
-/// An event is entered for the seat's caller; where it is done, its receipt is kept. Room for that is made before all
-/// else, so that none is lost: `OutOfMemory`, whatever is due, where there is none. A refused event changes nothing.
+/// Enters an event for the seat's caller; if it is done, its receipt is kept. Room for the receipt is made before all
+/// else, so that none is lost: `OutOfMemory`, whatever else is expected, if there is no room. A refused event changes
+/// nothing.
 impl<'a, N: Name, R: Wait> Gate for SeatGate<'a, N, R> {
     ghost use Rattle.std.specs.Prelude.{◌≡◌};
     ghost use Rattle.cg_seats.specs.Seats.{Enters, Refuses, last_reply};

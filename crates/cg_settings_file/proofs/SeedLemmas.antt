@@ -38,7 +38,7 @@ or_again true b = refl
 or_again false true = refl
 or_again false false = refl
 
--- what was read, and the rest of what there is
+-- the endpoints read so far, before the rest if there is one
 abbrev pub with_front : List ℕ → Option (List ℕ) → Option (List ℕ)
 with_front front None = None
 with_front front (Some rest) = Some (front ++ rest)

@@ -2,19 +2,19 @@
 use Rattle.std.specs.Prelude.{ℕ, ◌&&◌, ◌||◌, Bool, true, List, codes, bytes_eq}
 use Rattle.toml.specs.Data.{Members, no_members, member}
 
--- the cluster, the endpoint and the files of a node, and its seeds
+-- keys of the cluster, the endpoint and the files of a node, and of its seeds
 unfoldable pub is_text_key : List ℕ → Bool
 is_text_key key =
     bytes_eq key (codes "cluster") || (bytes_eq key (codes "listen") || (bytes_eq key (codes "generation_file")
     || (bytes_eq key (codes "journal") || bytes_eq key (codes "seeds"))))
 
--- how many turns it takes, how often, and by which words
+-- keys of the turns: rounds, exchanges, the interval between rounds, and the seed of the random words
 unfoldable pub is_turn_key : List ℕ → Bool
 is_turn_key key =
     bytes_eq key (codes "rounds") || (bytes_eq key (codes "exchanges")
     || (bytes_eq key (codes "interval") || bytes_eq key (codes "random")))
 
--- how it judges silence
+-- keys of the numbers that judge silence
 unfoldable pub is_silence_key : List ℕ → Bool
 is_silence_key key =
     bytes_eq key (codes "window") || (bytes_eq key (codes "initial_gap")

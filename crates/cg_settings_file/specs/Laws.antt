@@ -1,4 +1,4 @@
--- What the laws of the settings say.
+-- The laws of the settings, as statements.
 use Rattle.std.specs.Prelude.{ℕ, ◌≡◌, List}
 use Rattle.cg_types.specs.Rising.{Rises, is_among}
 use Rattle.cg_settings_file.specs.declared.limits.TheConstants.{TURN_LIMIT, INTERVAL_LIMIT, DEFAULT_INTERVAL, DEFAULT_RANDOM}
@@ -9,7 +9,7 @@ pub record LimitValues : Type 0 where
   pub default_interval : DEFAULT_INTERVAL ≡ 1000
   pub default_random : DEFAULT_RANDOM ≡ 0
 
--- they rise strictly, and are the listed ones
+-- The seeds rise strictly, and are the listed ones.
 pub record AreDistinct (listed seeds : List ℕ) : Type 0 where
   pub rise : Rises seeds
   pub same : (endpoint : ℕ) → is_among seeds endpoint ≡ is_among listed endpoint

@@ -6,7 +6,7 @@ use Rattle.toml.specs.Data.{Items, no_items, item}
 use Rattle.cg_types.specs.OptionSteps.{◌>>=◌}
 use Rattle.cg_settings_file.specs.Values.{endpoint_in_value}
 
--- the endpoints that the items are the texts of, if each is one
+-- the endpoints whose texts the items are, if each is one
 unfoldable pub endpoints_in : Items → Option (List ℕ)
 endpoints_in no_items = Some []
 endpoints_in (item value items) = do
@@ -14,7 +14,7 @@ endpoints_in (item value items) = do
   endpoints ← endpoints_in items
   Some (endpoint ∷ endpoints)
 
--- endpoints that rise, and others, each at its place unless it stands there
+-- rising endpoints with others inserted, each in its order unless it is there already
 abbrev pub put_in_order : List ℕ → List ℕ → List ℕ
 put_in_order seeds [] = seeds
 put_in_order seeds (endpoint ∷ endpoints) = put_in_order (insert_key nat_cmp seeds endpoint) endpoints

@@ -1,4 +1,4 @@
--- What a clause reads of settings, and how they are found.
+-- The settings as a clause reads them, and the rule of finding them.
 use Rattle.std.specs.Prelude.{◌≡◌, ◌⊎◌, Option, Some, None, Result, MatchResult, string_bytes}
 use Rattle.cg_types.specs.declared.fault.Fault.{Fault}
 use Rattle.cg_types.specs.declared.fault.Fault.TheVariants.{OutOfMemory, BadText}
@@ -19,7 +19,7 @@ settings_view s = record {
   random = s.random;
 }
 
--- What was found is what is due, or memory ran out before; BadText exactly where nothing is due.
+-- The result is the expected value, or memory ran out before; it is BadText exactly if no value is expected.
 abbrev pub Finds : {X Y : Type 0} → (X → Y) → Result X Fault → Option Y → Type 0
 Finds view found due =
     MatchResult found (λ x. due ≡ Some (view x)) (λ f. (f ≡ OutOfMemory) ⊎ ((f ≡ BadText) × (due ≡ None)))

@@ -17,13 +17,13 @@ use Rattle.cg_settings_file.specs.Values.{text_at, endpoint_at, number_in, numbe
 use Rattle.cg_settings_file.specs.Seeds.{endpoints_in, distinct}
 use Rattle.cg_settings_file.specs.Keys.{are_known}
 
--- the cluster that is named
+-- the cluster that the table names
 unfoldable pub cluster_from : Members → Option ClusterValue
 cluster_from table = do
   name ← text_at (codes "cluster") table
   result_ok (cluster_of name PARTITIONER)
 
--- the endpoints that a value lists, sorted and made distinct; none where there is no value
+-- the endpoints that a value lists, sorted and made distinct; an empty list if there is no value
 unfoldable pub seeds_in : Option Data → Option (List ℕ)
 seeds_in None = Some []
 seeds_in (Some value) = do
@@ -31,12 +31,12 @@ seeds_in (Some value) = do
   listed ← endpoints_in items
   Some (distinct listed)
 
--- how four numbers judge silence, where each is in its range
+-- the settings by which four numbers judge silence, if each is in its range
 unfoldable pub silence_by : ℕ → ℕ → ℕ → ℕ → Option SilenceValue
 silence_by window initial_gap max_gap threshold =
     result_ok (silence.settings_or_fault (silence_of window initial_gap max_gap threshold))
 
--- how silence is judged, each number with its default
+-- the settings by which silence is judged, each number with its default
 unfoldable pub silence_from : Members → Option SilenceValue
 silence_from table = do
   window ← number_at (codes "window") WINDOW_LIMIT (Some DEFAULT_WINDOW) table
@@ -45,7 +45,7 @@ silence_from table = do
   threshold ← number_at (codes "threshold") THRESHOLD_LIMIT (Some DEFAULT_THRESHOLD) table
   silence_by window initial_gap max_gap threshold
 
--- what the node is set to
+-- the settings of the node itself
 unfoldable pub node_from : Members → Option SettingsValue
 node_from table = do
   cluster ← cluster_from table
@@ -81,7 +81,7 @@ paths_from table = do
   journal ← text_at (codes "journal") table
   Some (generation_file, journal)
 
--- what a node that serves is told
+-- the settings of a node that serves
 pub record ServeValue : Type 0 where
   pub node : SettingsValue
   pub listen : ℕ
@@ -100,7 +100,7 @@ serve_of node listen paths turns random = record {
   random = random;
 }
 
--- what a table tells, where each key has a meaning
+-- the settings in a table, if each key has a meaning
 unfoldable pub settings_from : Members → Option ServeValue
 settings_from table = do
   told ← node_from table
@@ -110,7 +110,7 @@ settings_from table = do
   random ← random_from table
   if are_known table then Some (serve_of told listen paths turns random) else None
 
--- what a text tells
+-- the settings in a text
 unfoldable pub settings_in : List ℕ → Option ServeValue
 settings_in text = parse_document text >>= settings_from
 
@@ -118,6 +118,6 @@ settings_in text = parse_document text >>= settings_from
 unfoldable pub text_in : List ℕ → Option (List ℕ)
 text_in bytes = if is_utf8 bytes then Some bytes else None
 
--- what the bytes of a file tell
+-- the settings in the bytes of a file
 unfoldable pub settings_in_bytes : List ℕ → Option ServeValue
 settings_in_bytes bytes = text_in bytes >>= settings_in

@@ -8,7 +8,7 @@ use Rattle.cg_types.specs.EndpointText.{endpoint_in}
 unfoldable pub text_at : List ℕ → Members → Option (List ℕ)
 text_at key table = get_member key table >>= as_str
 
--- the endpoint that a value is the text of
+-- the endpoint whose text a value is
 unfoldable pub endpoint_in_value : Data → Option ℕ
 endpoint_in_value value = as_str value >>= endpoint_in
 
@@ -31,6 +31,6 @@ abbrev pub number_or : ℕ → Option ℕ → Option Data → Option ℕ
 number_or most default None = default
 number_or most default (Some value) = small_number_in most value
 
--- the whole number from 0 to the greatest at a key, or the default, if there is one, where the key is missing
+-- the whole number from 0 to the greatest at a key; if the key is missing, the default, if there is one
 unfoldable pub number_at : List ℕ → ℕ → Option ℕ → Members → Option ℕ
 number_at key most default table = number_or most default (get_member key table)

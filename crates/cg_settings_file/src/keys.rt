@@ -47,7 +47,7 @@ fn keys_are_known(table: &Table) -> bool
     table.keys().all(|key| is_known(key.as_str()))
 }
 
-/// Whether each key of the table has a meaning.
+/// Tests whether each key of the table has a meaning.
 pub(crate) fn are_known(table: &Table) -> bool
     ensures { result ≡ are_known_keys (table_view table.now) }
 {

@@ -1,13 +1,13 @@
-//! The limits of what a node that serves is told, and the defaults.
+//! Limits and defaults of the settings of a node that serves.
 
-/// Rounds that it begins, and exchanges that it takes.
+/// The most rounds that a node begins, and the most exchanges that it takes.
 pub const TURN_LIMIT: u32 = 1000000;
 
-/// Milliseconds between two rounds: a minute.
+/// The longest interval between two rounds, in milliseconds: a minute.
 pub const INTERVAL_LIMIT: u32 = 60000;
 
-/// Milliseconds between two rounds, where nothing else is set.
+/// The interval between two rounds, in milliseconds, if nothing else is set.
 pub const DEFAULT_INTERVAL: u32 = 1000;
 
-/// The seed of the random words, where nothing else is set.
+/// The seed of the random words, if nothing else is set.
 pub const DEFAULT_RANDOM: u64 = 0;

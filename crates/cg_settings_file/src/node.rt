@@ -1,4 +1,4 @@
-//! What the node is set to: its cluster, its seeds, and how it judges silence.
+//! The settings of the node itself: its cluster, its seeds, and its judgement of silence.
 
 ghost use Rattle.std.specs.Prelude.{◌≡◌, IfOk, codes, option_map};
 ghost use Rattle.toml.specs.Data.{get_member};
@@ -47,7 +47,7 @@ fn seeds_in(alloc: Global, value: Option<&Value>) -> Result<Vec<Endpoint>, Fault
     Ok(distinct(alloc, &listed)?)
 }
 
-// How these numbers judge silence, where each is in its range.
+// Returns the settings by which these numbers judge silence, if each is in its range.
 #[tactic(auto, unfolding(crate::specs::Settings::silence_by))]
 fn silence_by(window: u32, initial_gap: u32, max_gap: u32, threshold: u32) -> Option<Silence>
     ensures { result ≡ told_judgement window initial_gap max_gap threshold }
@@ -71,7 +71,7 @@ fn silence_in(table: &Table) -> Option<Silence>
     silence_by(window, initial_gap, max_gap, threshold)
 }
 
-/// What the node is set to.
+/// Reads the settings of the node itself.
 #[tactic(auto, unfolding(crate::specs::Settings::node_from))]
 pub(crate) fn node_in(alloc: Global, table: &Table) -> Result<Settings, Fault>
     ensures { Finds (λ s. s) result (told_node (table_view table.now)) }

@@ -10,7 +10,7 @@ use std::alloc::{AllocError, Global};
 use std::collections::BTreeSet;
 use toml::value::Array;
 
-/// The endpoints that the items are the texts of, if each is one.
+/// Reads the endpoints whose texts the items are, if each item is one.
 pub(crate) fn endpoints_in(
     alloc: Global,
     items: &Array,
@@ -27,7 +27,7 @@ pub(crate) fn endpoints_in(
     Ok(Some(endpoints))
 }
 
-/// The same endpoints, rising, each once.
+/// Returns the same endpoints, rising, each once.
 #[tactic(auto, unfolding(crate::specs::Seeds::distinct))]
 pub(crate) fn distinct(alloc: Global, endpoints: &[Endpoint]) -> Result<Vec<Endpoint>, AllocError>
     ensures { IfOk result (λ seeds. seeds.items ≡ sorted_distinct endpoints.now) }

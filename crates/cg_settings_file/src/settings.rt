@@ -1,4 +1,4 @@
-//! What a node that serves is told.
+//! Settings of a node that serves, and how they are read.
 
 ghost use Rattle.std.specs.Prelude.{◌≡◌, IfOk, option_map, codes};
 ghost use Rattle.toml.specs.View.{table_view};
@@ -15,7 +15,7 @@ use cg_types::{Endpoint, Fault};
 use std::alloc::Global;
 use toml::Table;
 
-/// How long a node serves.
+/// The rounds and exchanges of a node that serves, and its interval.
 #[derive(Clone, Copy, Debug, PartialEq, Eq)]
 pub struct Turns {
     /// The rounds that it begins.
@@ -26,18 +26,18 @@ pub struct Turns {
     pub interval: u32,
 }
 
-/// What a node that serves is told.
+/// The settings of a node that serves.
 #[derive(Debug, Drop)]
 pub struct ServeSettings {
-    /// Its cluster, its seeds, and how it judges silence.
+    /// Its cluster, its seeds, and its judgement of silence.
     pub node: Settings,
-    /// Where it listens: its own endpoint.
+    /// Its own endpoint, at which it listens.
     pub listen: Endpoint,
     /// The path of the file that keeps its generation.
     pub generation_file: String,
     /// The path of its journal.
     pub journal: String,
-    /// How long it serves.
+    /// Its rounds, its exchanges and its interval.
     pub turns: Turns,
     /// The seed of its random words.
     pub random: u64,
@@ -106,10 +106,10 @@ fn settings_of_table(alloc: Global, table: &Table) -> Result<ServeSettings, Faul
     })
 }
 
-/// The settings that a text holds, which is a TOML table.
+/// Reads the settings in a text, which is a TOML table.
 ///
-/// `BadText` exactly where it is none, where a key has no meaning, where one that is needed is missing, or where a
-/// value is of another type or out of its range; `OutOfMemory` where memory runs out on the way.
+/// `BadText` if and only if the text is no TOML table, a key has no meaning, a key that is needed is missing, or a
+/// value is of another type or out of its range. `OutOfMemory` if memory runs out on the way.
 #[tactic(auto, unfolding(crate::specs::Settings::settings_in))]
 pub fn settings_of(alloc: Global, text: &str) -> Result<ServeSettings, Fault>
     ensures { Finds settings_view result (settings_in text.now) }
@@ -126,7 +126,7 @@ pub fn settings_of(alloc: Global, text: &str) -> Result<ServeSettings, Fault>
     }
 }
 
-// The text that bytes are, if they are UTF-8.
+// Returns the text that bytes are, if they are UTF-8.
 #[tactic(auto, unfolding(crate::specs::Settings::text_in))]
 fn text_in(bytes: &[u8]) -> Option<&str>
     ensures { option_map (λ t. t.now) result ≡ text_of_bytes bytes.now }
@@ -137,7 +137,7 @@ fn text_in(bytes: &[u8]) -> Option<&str>
     }
 }
 
-/// The settings that the bytes of a file hold: as `settings_of`, and `BadText` too where they are not UTF-8.
+/// Reads the settings in the bytes of a file: as `settings_of`, and `BadText` too if they are not UTF-8.
 #[tactic(auto, unfolding(crate::specs::Settings::settings_in_bytes))]
 pub fn settings_of_bytes(alloc: Global, bytes: &[u8]) -> Result<ServeSettings, Fault>
     ensures { Finds settings_view result (settings_in_bytes bytes.now) }

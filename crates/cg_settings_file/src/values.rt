@@ -27,7 +27,7 @@ pub(crate) fn text_at<'a>(table: &'a Table, key: &str) -> Option<&'a str>
     }
 }
 
-/// The endpoint that a value is the text of.
+/// The endpoint whose text a value is.
 #[tactic(auto, unfolding(crate::specs::Values::endpoint_in_value))]
 pub(crate) fn endpoint_in_value(value: &Value) -> Option<Endpoint>
     ensures { result ≡ value_endpoint (view value.now) }
@@ -74,7 +74,7 @@ fn small_number_in(value: &Value, most: u32) -> Option<u32>
     }
 }
 
-/// The whole number from 0 to `most` at a key, or the default, if there is one, where the key is missing.
+/// The whole number from 0 to `most` at a key; if the key is missing, the default, if there is one.
 #[tactic(auto, unfolding(crate::specs::Values::number_at))]
 pub(crate) fn number_at(table: &Table, key: &str, most: u32, default: Option<u32>) -> Option<u32>
     ensures { result ≡ table_number_at key.now most default (table_view table.now) }

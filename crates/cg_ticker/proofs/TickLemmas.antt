@@ -11,7 +11,7 @@ use Rattle.cg_ticker.specs.Ticks.{IsTick, round_in, rounds_in, words_in, words_o
 
 -- ---- words
 
--- what is left of a stream after so many ticks
+-- the rest of a stream after a number of ticks
 abbrev pub left_after : ℕ → Stream → Stream
 left_after zero s = s
 left_after (suc n) s = left_after n (four_of s).1
@@ -47,7 +47,7 @@ rounds-push (p ∷ ps) q = ap (λ ns. round_in p ++ ns) (rounds-push ps q) ∙ s
 -- ---- all turns so far
 
 module _ (shows : ℕ → Type 0) (s : Stream) (had : List Receipt) (before : List Round) where
-  -- after so many turns, each of which was refused or put its round in
+  -- after `n` turns, each of which was refused or put its round in
   pub record SoFar (n refused : ℕ) (left : Stream) (has : List Receipt) (after : List Round) : Type 0 where
     pub passed : List Receipt
     pub receipts : has ≡ had ++ passed

@@ -1,4 +1,4 @@
--- What a ticker does.
+-- The ticks of a ticker, and their rounds.
 use Rattle.std.specs.Prelude.{ℕ, ◌+◌, ◌≡◌, ◌≤◌, Bool, true, false, List, [], ◌∷◌, ◌++◌, length}
 use Rattle.std.specs.List.{All}
 use Rattle.rand_core.specs.Stream.{Stream}
@@ -15,7 +15,7 @@ use Rattle.cg_ticker.specs.declared.ticking.Turn.TheVariants as turn
 
 -- ---- ticks, and their rounds
 
--- A tick at one of a clock's moments was answered by a round.
+-- A tick at one of a clock's times was answered by a round.
 abbrev pub IsTickOf : (ℕ → Type 0) → Event → Reply → Type 0
 IsTickOf shows (event.Tick now words) (reply.Round peers syn) = shows now
 IsTickOf shows e answer = ⊥
@@ -23,7 +23,7 @@ IsTickOf shows e answer = ⊥
 abbrev pub IsTick : (ℕ → Type 0) → Receipt → Type 0
 IsTick shows q = IsTickOf shows q.event q.reply
 
--- the round of a receipt: its reply's peers and SYN, with its number; none where it is not of a tick
+-- the round of a receipt: its reply's peers and SYN, with its number; empty if it is not of a tick
 abbrev pub round_with : ℕ → Reply → List Round
 round_with number (reply.Round peers syn) = record { peers = peers; syn = syn; number = number } ∷ []
 round_with number answer = []
@@ -36,7 +36,7 @@ abbrev pub rounds_in : List Receipt → List Round
 rounds_in [] = []
 rounds_in (q ∷ qs) = round_in q ++ rounds_in qs
 
--- the words of an event, none where it is not a tick
+-- the words of an event; empty if it is not a tick
 abbrev pub words_in : Event → List ℕ
 words_in (event.Tick now words) = words
 words_in e = []
@@ -48,7 +48,7 @@ words_of (q ∷ qs) = words_in q.event ++ words_of qs
 
 -- ---- one turn
 
--- There is one receipt more, of a tick with these words, at a moment that the clock showed.
+-- There is one receipt more, of a tick with these words, at a time that the clock showed.
 pub record HasTicked (shows : ℕ → Type 0) (drawn : List ℕ) (had has : List Receipt) (q : Receipt) : Type 0 where
   pub tick : IsTick shows q
   pub words : words_in q.event ≡ drawn
@@ -65,14 +65,14 @@ IsTurn shows s had before turn.Stopped has after =
 
 -- ---- all turns
 
--- how many ticks at the end have no round in the channel
+-- the number of ticks at the end that have no round in the channel
 abbrev pub missing : Bool → ℕ
 missing true = 1
 missing false = 0
 
--- There are more receipts, all of ticks at moments that the clock showed: first those whose rounds were put in,
--- then, where the ticker stopped, one whose round was not. Where it did not stop, ticks and refused ticks are as many
--- as rounds were wanted; where no tick was refused, the words of the ticks are the generator's.
+-- There are more receipts, all of ticks at times that the clock showed: first those whose rounds were put in, then, if
+-- the ticker stopped, one whose round was not. If it did not stop, ticks and refused ticks are as many as rounds were
+-- wanted. If no tick was refused, the words of the ticks are the generator's.
 pub record Ticks (shows : ℕ → Type 0) (rounds : ℕ) (s : Stream) (had : List Receipt) (before : List Round)
     (left : Ticked) (has : List Receipt) (after : List Round) : Type 0 where
   pub passed : List Receipt

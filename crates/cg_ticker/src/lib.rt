@@ -1,6 +1,6 @@
 //! The worker that begins rounds.
 //!
-//! A ticker has a node tick through what enters events and keeps their receipts (`Enter`), and puts the round of each
+//! A ticker has a node tick through an `Enter`, which enters events and keeps their receipts. It puts the round of each
 //! tick into the channel that the sender takes from.
 #![tactic(auto)]
 

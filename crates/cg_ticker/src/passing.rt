@@ -11,7 +11,7 @@ use cg_rounds::{Putting, Round};
 use std::alloc::{AllocError, Global};
 use std::sync::Wait;
 
-/// The round of a tick's receipt, which shares no list with it.
+/// Returns the round of a tick's receipt, which shares no list with it.
 pub(crate) fn round_of(alloc: Global, receipt: &Receipt) -> Result<Round, AllocError>
     requires { IsRound receipt.now.reply }
     ensures { IfOk result (λ r. r ∷ [] ≡ round_in receipt.now) }
@@ -26,8 +26,8 @@ pub(crate) fn round_of(alloc: Global, receipt: &Receipt) -> Result<Round, AllocE
     })
 }
 
-/// Puts the round of a tick's receipt in. Answers whether it went in: it does not where no memory is found for it, and
-/// where the channel hands it back.
+/// Puts the round of a tick's receipt into the channel. Returns `false` if no memory is found for the round, or if the
+/// channel hands it back.
 pub(crate) fn pass_on<R: Wait>(rt: &R, alloc: Global, receipt: &Receipt, to: &mut Putting) -> bool
     requires { IsRound receipt.now.reply }
     ensures channel { PutsWhere to.new to.old }

@@ -1,10 +1,10 @@
-//! What a ticker leaves.
+//! The outcome of a ticker's work.
 
-/// What became of a ticker's ticks.
+/// The outcome of a ticker's ticks.
 #[derive(Clone, Copy, Debug, PartialEq, Eq)]
 pub struct Ticked {
-    /// How many were refused.
+    /// The number of refused ticks.
     pub refused: u32,
-    /// Whether it stopped before its last tick or at it, since a round could not be put in.
+    /// `true` if it stopped before its last tick or at it, since a round could not be put in.
     pub stopped: bool,
 }

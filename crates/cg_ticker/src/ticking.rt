@@ -19,7 +19,7 @@ use std::sync::Wait;
 use std::thread;
 use std::time::Duration;
 
-/// What became of one tick.
+/// The outcome of one tick.
 pub(crate) enum Turn {
     /// It was refused, and made no round.
     Refused,
@@ -29,7 +29,7 @@ pub(crate) enum Turn {
     Stopped,
 }
 
-/// The next tick: at the clock's moment, with the next four words.
+/// Makes the next tick: at the clock's time, with the next four words.
 pub(crate) fn tick<C: Milliseconds, G: Rng>(clock: &C, generator: &mut G) -> Event
     ensures tick { (now : ℕ) × C.shows clock.now now
         × (result ≡ events.Tick now (four_of (G.stream generator.old)).0) }
@@ -40,7 +40,7 @@ pub(crate) fn tick<C: Milliseconds, G: Rng>(clock: &C, generator: &mut G) -> Eve
     Event::Tick { now, words }
 }
 
-/// Has the node tick, and puts its round in.
+/// Has the node tick, and puts its round into the channel.
 pub(crate) fn tick_once<R: Wait, C: Milliseconds, E: Enter, G: Rng>(
     rt: &R,
     alloc: Global,
@@ -69,7 +69,7 @@ pub(crate) fn tick_once<R: Wait, C: Milliseconds, E: Enter, G: Rng>(
     }
 }
 
-/// So many turns, with a pause of so many milliseconds between two; fewer where a round could not be put in.
+/// Does `rounds` turns, with a pause of `interval` milliseconds between two; fewer if a round could not be put in.
 fn turns<R: Wait + Clock, C: Milliseconds, E: Enter, G: Rng>(
     rt: &R,
     alloc: Global,
@@ -105,11 +105,11 @@ fn turns<R: Wait + Clock, C: Milliseconds, E: Enter, G: Rng>(
     }
 }
 
-/// Has a node tick `rounds` times by its gate, with a pause of `interval` milliseconds between two ticks, and puts the
-/// round of each tick into the channel; in the end it says that no more come.
+/// Has a node tick `rounds` times by its gate, and puts the round of each tick into the channel. Between two ticks it
+/// pauses for `interval` milliseconds; in the end it reports that no more rounds come.
 ///
-/// A refused tick makes no round, and counts as one. The ticker stops where it finds no memory to pass a round on, and
-/// where the channel hands it back. The contract does not say that the moments of the ticks rise, nor that it pauses.
+/// A refused tick makes no round, and counts as one. The ticker stops if it finds no memory to pass a round on, or if
+/// the channel hands it back. The contract does not say that the times of the ticks rise, nor that it pauses.
 pub fn ticker<R: Wait + Clock, C: Milliseconds, E: Enter, G: Rng>(
     rt: &R,
     alloc: Global,

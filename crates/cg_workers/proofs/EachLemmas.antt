@@ -15,7 +15,7 @@ module _ {X S : Type 0} (step : X → S → S → Type 0) where
   each_next xs i x s u t less is steps last =
       subst (λ (l : List X). Each step l s t) (ap (λ (y : X). take i xs ++ (y ∷ [])) is ∙ sym (take_more xs i x less)) (each_more (take i xs) x s u t steps last)
 
-  -- What each step keeps, all keep.
+  -- All steps together keep what each step keeps.
   pub each_keeps : (keeps : S → S → Type 0) → ((s : S) → keeps s s) → ((s u t : S) → keeps s u → keeps u t → keeps s t)
       → ((x : X) (s t : S) → step x s t → keeps s t) → (xs : List X) (s t : S) → Each step xs s t → keeps s t
   each_keeps keeps same both one [] s t is = subst (keeps s) (sym is) (same s)

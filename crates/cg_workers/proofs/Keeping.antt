@@ -1,4 +1,4 @@
--- What each event and each refusal keeps, whole exchanges keep, and so do the workers.
+-- Whole exchanges keep what each event and each refusal keeps, and so do the workers.
 use Rattle.std.proofs.Common.{◌≡◌, ℕ, List, [], ◌∷◌, ◌++◌, Option, Result, Ok, Err, refl, sym, subst, inl, inr}
 use Rattle.cg_types.specs.declared.fault.Fault.{Fault}
 use Rattle.cg_messages.specs.declared.kind.Kind.{Kind}
@@ -20,7 +20,7 @@ use Rattle.cg_rounds.specs.declared.ends.Taking.{Taking}
 use Rattle.cg_workers.specs.Workers.{Exchanged, BegunWith, Came, Received, Reached, SentRound, Sent}
 use Rattle.cg_workers.proofs.EachLemmas.{each_keeps}
 
--- the event is of a message of this kind, at this moment
+-- the event is of a message of this kind, at this time
 abbrev pub IsEventAt : Kind → ℕ → Event → Type 0
 IsEventAt kind.Syn now (event.Syn m) = Unit {0}
 IsEventAt kind.Ack now (event.Ack at m) = at ≡ now
@@ -44,8 +44,8 @@ event_at kind.Ack2 now (messages.Ack2 m) e due =
     let same : event.Ack2 now m ≡ e = cc in
     subst (IsEventAt kind.Ack2 now) same refl
 
--- By what a gate does, refuses and leaves, the moments of a clock, and what is kept: from each state to itself, over two
--- steps where over both, and where an event was refused.
+-- Parameters: a gate's steps, refusals and rests, the times of a clock, and a relation that is kept: from each state to
+-- itself, over two steps if over both, and by a refused event.
 module _ {S : Type 0} (does : S → Event → Reply → S → Type 0) (refuses : S → Event → Fault → Type 0) (stays : S → S → Type 0) (shows : ℕ → Type 0)
     (keeps : S → S → Type 0) (same : (s : S) → keeps s s) (both : (s u t : S) → keeps s u → keeps u t → keeps s t)
     (stayed : (s t : S) → stays s t → keeps s t) where

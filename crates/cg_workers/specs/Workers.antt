@@ -1,4 +1,4 @@
--- What the workers of a node do over links.
+-- The exchanges, connections and rounds of a node's workers over links.
 use Rattle.std.specs.Prelude.{◌≡◌, ℕ, ◌<◌, ◌⊎◌, List, [], ◌∷◌, ◌++◌, length, map, Option, Some, Result, Ok, Err}
 use Rattle.cg_types.specs.declared.fault.Fault.{Fault}
 use Rattle.cg_messages.specs.declared.kind.Kind.{Kind}
@@ -28,11 +28,11 @@ IsNoLink r = Unit {0}
 abbrev pub numbers_of : List Round → List ℕ
 numbers_of rounds = map (λ (r : Round). r.number) rounds
 
--- By what a gate does, refuses and leaves, what a reader has left and a writer holds, and the moments of a clock.
+-- Parameters: a gate's steps, refusals and rests, a reader's rest, a writer's contents, and the times of a clock.
 module _ {S R W : Type 0} (does : S → Event → Reply → S → Type 0) (refuses : S → Event → Fault → Type 0)
     (stays : S → S → Type 0) (remaining : R → Option (List ℕ)) (contents : W → Option (List ℕ))
     (shows : ℕ → Type 0) where
-  -- one exchange over a link that was not used before, at one moment of the clock
+  -- one exchange over a link that was not used before, at one time of the clock
   pub record Exchanged (kinds : List Kind) (opening : List ℕ) (link : R × W) (s t : S) : Type 0 where
     pub now : ℕ
     pub shown : shows now
@@ -55,12 +55,12 @@ module _ {S R W : Type 0} (does : S → Event → Reply → S → Type 0) (refus
   abbrev pub Begun : SynValue → R × W → S → S → Type 0
   Begun syn link s t = Exchanged (kind.Ack ∷ []) (frame WRITTEN (messages.Syn syn)) link s t
 
-  -- what came of a peer that was dialed: an exchange was begun, or nothing was done
+  -- the outcome of dialing a peer: an exchange was begun, or nothing was done
   abbrev pub BegunWith : SynValue → Result (R × W) Fault → S → S → Type 0
   BegunWith syn (Ok link) s t = Begun syn link s t
   BegunWith syn (Err fault) s t = t ≡ s
 
--- By a listener too: what it answers.
+-- Parameters: the same, and a listener's answers.
 module _ {S R W L : Type 0} (does : S → Event → Reply → S → Type 0) (refuses : S → Event → Fault → Type 0)
     (stays : S → S → Type 0) (remaining : R → Option (List ℕ)) (contents : W → Option (List ℕ))
     (accepts : L → Result (Option (R × W)) Fault → L → Type 0) (shows : ℕ → Type 0) where
@@ -69,7 +69,7 @@ module _ {S R W L : Type 0} (does : S → Event → Reply → S → Type 0) (ref
     pub accepted : accepts s.0 (Ok (Some link)) t.0
     pub answered : Answered does refuses stays remaining contents shows link s.1 t.1
 
-  -- so many connections came, one after the other
+  -- that many connections came, one after the other
   pub record AllCame (count : ℕ) (s t : L × S) : Type 0 where
     pub links : List (R × W)
     pub counted : length links ≡ count
@@ -81,17 +81,17 @@ module _ {S R W L : Type 0} (does : S → Event → Reply → S → Type 0) (ref
     pub accepted : accepts s answer t
     pub none : IsNoLink answer
 
-  -- So many connections came, each was answered, and there were as many as were wanted, or no further one came.
+  -- `count` connections came, each was answered, and there were as many as were wanted, or no further one came.
   pub record Received (wanted count : ℕ) (s t : L × S) : Type 0 where
     pub here : L
     pub all : AllCame count s (here, t.1)
     pub ended : ((count ≡ wanted) × (t.0 ≡ here)) ⊎ ((count < wanted) × NoneCame here t.0)
 
--- By a dialer too: what it answers.
+-- Parameters: the same, and a dialer's answers.
 module _ {S R W D : Type 0} (does : S → Event → Reply → S → Type 0) (refuses : S → Event → Fault → Type 0)
     (stays : S → S → Type 0) (remaining : R → Option (List ℕ)) (contents : W → Option (List ℕ))
     (dials : D → ℕ → Result (R × W) Fault → D → Type 0) (shows : ℕ → Type 0) where
-  -- a peer was dialed, and an exchange was begun with this SYN where it was reached
+  -- a peer was dialed, and an exchange was begun with this SYN if it was reached
   pub record Reached (syn : SynValue) (peer : ℕ) (s t : D × S) : Type 0 where
     pub answer : Result (R × W) Fault
     pub dialed : dials s.0 peer answer t.0

@@ -1,7 +1,8 @@
-//! The work of a node over links: connections that come are answered, and rounds are sent.
+//! The work of a node over links: it answers connections that come, and sends rounds.
 //!
-//! Both work over any gate, any listener, any dialer and any clock, and neither ends for the fault of one exchange. No
-//! exchange has an end time here: a link that waits forever makes its worker wait, so who hands out links bounds them.
+//! The receiver and the sender work over any gate, any listener, any dialer and any clock, and neither ends for the
+//! fault of one exchange. No exchange has an end time here. A link that waits forever makes its worker wait, so the one
+//! who hands out links has to bound them.
 #![tactic(auto)]
 
 mod links;

@@ -1,4 +1,4 @@
-//! Where links come from.
+//! Sources of links: listeners and dialers.
 
 ghost use Rattle.std.specs.Prelude.{ℕ, Option, Result};
 ghost use Rattle.cg_types.specs.declared.fault.Fault.{Fault as Error};
@@ -6,35 +6,35 @@ ghost use Rattle.cg_types.specs.declared.fault.Fault.{Fault as Error};
 use cg_types::{Endpoint, Fault};
 use std::io::{Read, Write};
 
-/// Where connections come in.
+/// A source of connections that others make.
 pub trait Listen {
-    /// What is read of a connection.
+    /// The reader of a connection.
     type Reader: Read + Drop;
 
-    /// What is written to a connection.
+    /// The writer of a connection.
     type Writer: Write + Drop;
 
-    // a listener, what it answers, and the listener after it
+    // a listener, its answer, and the listener after it
     ghost accepts: { Self → Result (Option (Self.Reader × Self.Writer)) Error → Self → Type 0 } = { λ l r m. Unit {0} };
 
-    /// The next connection, for which it may wait; none where no further one comes. Refused by `OutOfMemory` and
-    /// `ReadFault`.
+    /// Returns the next connection, for which it may wait; `None` if no further one comes. The faults are `OutOfMemory`
+    /// and `ReadFault`.
     fn accept(&mut self) -> Result<Option<(Self::Reader, Self::Writer)>, Fault>
         ensures { accepts self.old result self.new };
 }
 
-/// What makes connections.
+/// A maker of connections to peers.
 pub trait Dial {
-    /// What is read of a connection.
+    /// The reader of a connection.
     type Reader: Read + Drop;
 
-    /// What is written to a connection.
+    /// The writer of a connection.
     type Writer: Write + Drop;
 
-    // a dialer, the endpoint that it is to reach, what it answers, and the dialer after it
+    // a dialer, the endpoint that it is to reach, its answer, and the dialer after it
     ghost dials: { Self → ℕ → Result (Self.Reader × Self.Writer) Error → Self → Type 0 } = { λ d p r e. Unit {0} };
 
-    /// A connection to an endpoint. Refused by `OutOfMemory`, `ReadFault` and `WriteFault`.
+    /// Makes a connection to an endpoint. The faults are `OutOfMemory`, `ReadFault` and `WriteFault`.
     fn dial(&mut self, peer: Endpoint) -> Result<(Self::Reader, Self::Writer), Fault>
         ensures { dials self.old peer result self.new };
 }

@@ -25,8 +25,8 @@ fn answer<G: Gate, R: Read + Drop, W: Write + Drop, C: Milliseconds>(
     let _ended = respond(alloc, gate, now, &mut reader, &mut writer);
 }
 
-/// Answers one exchange over each connection that comes, up to so many, and tells how many came. It ends before only
-/// where none comes or accepting fails; a broken exchange ends that exchange alone.
+/// Answers one exchange over each connection that comes, up to `exchanges`, and returns the number that came. It ends
+/// earlier only if no connection comes or accepting fails; a broken exchange ends that exchange alone.
 pub fn receiver<G: Gate, L: Listen, C: Milliseconds>(
     alloc: Global,
     gate: &mut G,

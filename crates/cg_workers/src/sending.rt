@@ -31,7 +31,7 @@ fn begin<G: Gate, R: Read + Drop, W: Write + Drop, C: Milliseconds>(
     let _ended = initiate(alloc, gate, now, syn, &mut reader, &mut writer);
 }
 
-// Dials a peer, and begins an exchange with it where it can be reached.
+// Dials a peer, and begins an exchange with it if it can be reached.
 fn reach<G: Gate, D: Dial, C: Milliseconds>(
     alloc: Global,
     gate: &mut G,
@@ -64,12 +64,12 @@ fn send_round<G: Gate, D: Dial, C: Milliseconds>(
     }
 }
 
-/// Sends each round that is taken: it dials the peers of the round in their order, and begins an exchange with each
-/// that it reaches. A peer that can't be reached and a broken exchange end that exchange alone. Answers the numbers of
-/// the rounds that it took.
+/// Sends each round that it takes: it dials the round's peers in their order, and begins an exchange with each that it
+/// reaches. A peer that can't be reached and a broken exchange end that exchange alone. Returns the numbers of the
+/// rounds that it took.
 ///
-/// It ends where it is told that no more rounds come, and where there is no memory for the number of a further one; a
-/// round is only taken once there is room for its number.
+/// It ends if the channel reports that no more rounds come, or if there is no memory for the number of a further one.
+/// It takes a round only once there is room for its number.
 pub fn sender<G: Gate, D: Dial, C: Milliseconds, R: Wait>(
     rt: &R,
     alloc: Global,
