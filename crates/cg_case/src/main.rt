@@ -1,15 +1,15 @@
-//! The program `cg`, for stored runs: of words that ask for help or the version, or can't be read, of `audit` over files, and
-//! of a script.
+//! The program `cg`, for stored runs: of words that ask for help or the version, or can't be read, of `audit` over
+//! files, and of a script.
 //!
-//! It does what a few lines of words ask for, each behind a line that shows them and before one with the status, and
-//! then what its own words do, whose status it ends with. It serves no node. What goes to standard error is not among what
-//! it prints.
+//! It does the job of each of a few lines of words, after a line that shows them and before one with the status. Then
+//! it does the job of its own words, and ends with its status. It serves no node. Output on standard error is not among
+//! what it prints.
 #![tactic(auto)]
 
 use cg_tool::show_run;
 use std::process::ExitCode;
 
-/// Does what the lines ask for, and then what the words do.
+/// Does the jobs of the lines, and then that of the words.
 fn main(rt: HostRuntime) -> ExitCode {
     let lines = [
         "cg --help",

@@ -1,4 +1,4 @@
--- Where a new file stands before it is put in the place of another.
+-- The path and the link of a new file that is to replace another.
 use Rattle.std.specs.Prelude.{ℕ, List, ◌++◌, codes, string_bytes}
 use Rattle.cg_links.specs.declared.counted.Counted.{Counted}
 use Rattle.cg_files.specs.declared.replacing.Replacement.{Replacement}

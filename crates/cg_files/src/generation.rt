@@ -11,10 +11,10 @@ use std::alloc::{AllocError, Global};
 use std::fmt::Write;
 use std::rt::Files;
 
-// The bytes of the longest file that is a generation: ten digits and a line feed.
+// The length of the longest file that holds a generation: ten digits and a line feed.
 const MOST: u32 = 11;
 
-/// The generation that the bytes are: one decimal number with no leading zero, and perhaps a line feed.
+/// Reads a generation in bytes: one decimal number with no leading zero, and perhaps a line feed.
 #[tactic(auto, unfolding(crate::specs::Generation::generation_in))]
 pub fn generation_in(bytes: &[u8]) -> Option<Generation>
     ensures { result ≡ generation_of bytes.now }
@@ -29,7 +29,7 @@ pub fn generation_in(bytes: &[u8]) -> Option<Generation>
     }
 }
 
-/// The text of a generation: its number and a line feed.
+/// Writes the text of a generation: its number and a line feed.
 #[tactic(auto, unfolding(crate::specs::Generation::text_of))]
 pub fn generation_text(alloc: Global, generation: Generation) -> Result<String, AllocError>
     ensures { IfOk result (λ text. string_bytes text ≡ text_of generation) }
@@ -40,10 +40,10 @@ pub fn generation_text(alloc: Global, generation: Generation) -> Result<String, 
     Ok(text)
 }
 
-/// The generation that a file keeps; none where there is no file.
+/// Reads the generation that a file keeps; `None` if there is no file.
 ///
-/// `BadText` where it holds anything else than one number and perhaps a line feed; `ReadFault` where it can't be read,
-/// `OutOfMemory` where memory is refused.
+/// `BadText` if it holds anything else than one number and perhaps a line feed; `ReadFault` if it can't be read,
+/// `OutOfMemory` if memory is refused.
 pub fn stored_generation<R: Files>(
     rt: &R,
     alloc: Global,
@@ -61,9 +61,9 @@ pub fn stored_generation<R: Files>(
     }
 }
 
-/// Has a file keep a generation, in place of what it kept: after a crash it keeps the old one or the new one.
+/// Has a file keep a generation in place of the old one: after a crash it keeps the old one or the new one.
 ///
-/// `WriteFault` where that fails, `OutOfMemory` where memory is refused.
+/// `WriteFault` if that fails, `OutOfMemory` if memory is refused.
 pub fn store_generation<R: Files>(
     rt: &R,
     alloc: Global,

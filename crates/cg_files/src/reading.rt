@@ -10,7 +10,7 @@ use std::fs;
 use std::io::{Error, ErrorKind, Read};
 use std::rt::Files;
 
-/// The fault of a call that failed: `OutOfMemory` where memory was refused, else the one that is given.
+/// Returns the fault of a call that failed: `OutOfMemory` if memory was refused, else the given one.
 pub(crate) fn fault_of(error: &Error, other: Fault) -> Fault
     ensures { (result ≡ faults.OutOfMemory) ⊎ (result ≡ other) }
 {
@@ -20,7 +20,7 @@ pub(crate) fn fault_of(error: &Error, other: Fault) -> Fault
     }
 }
 
-// Opens a file; none where there is none.
+// Opens a file; `None` if there is none.
 fn open<R: Files>(rt: &R, path: &str) -> Result<Option<R::File>, Fault>
     ensures { IfErr result (λ f. (f ≡ faults.OutOfMemory) ⊎ (f ≡ faults.ReadFault)) }
 {
@@ -33,7 +33,7 @@ fn open<R: Files>(rt: &R, path: &str) -> Result<Option<R::File>, Fault>
     }
 }
 
-// All that a link has, up to so many bytes.
+// Reads all that a link has, up to `most` bytes.
 fn read_up_to<L: Read + Drop>(alloc: Global, link: L, most: u32) -> Result<Vec<u8>, Fault>
     ensures most { IfOk result (λ v. length v.items ≤ most) }
     ensures err { IfErr result (λ f. (f ≡ faults.OutOfMemory) ⊎ ((f ≡ faults.BadText) ⊎ (f ≡ faults.ReadFault))) }
@@ -49,10 +49,10 @@ fn read_up_to<L: Read + Drop>(alloc: Global, link: L, most: u32) -> Result<Vec<u
     Ok(bytes)
 }
 
-/// The bytes of a file; none where there is no file.
+/// Reads the bytes of a file; `None` if there is no file.
 ///
-/// `BadText` where it has more than `most` bytes, of which no more are read; `ReadFault` where it can't be opened or
-/// read, `OutOfMemory` where the bytes find no memory.
+/// `BadText` if it has more than `most` bytes, of which no more are read; `ReadFault` if it can't be opened or read,
+/// `OutOfMemory` if the bytes find no memory.
 pub fn read_file<R: Files>(
     rt: &R,
     alloc: Global,

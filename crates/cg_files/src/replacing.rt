@@ -13,16 +13,15 @@ use std::fs::OpenFile;
 use std::rt::Files;
 use std::{fs, io};
 
-/// A new file that is to stand in the place of another. Until it is put there, it stands beside that, under its name
-/// with `.new` behind it.
+/// A new file that is to replace another. Until then it is beside that file, under its name followed by `.new`.
 #[derive(Drop)]
 pub struct Replacement<F> {
     link: Counted<F>,
     aside: String,
 }
 
-// The folder that a file stands in: what stands before the last slash of its path, or the root, or where the program
-// runs.
+// Returns the folder that a file is in: the part of its path before the last slash, or the root, or the folder in which
+// the program runs.
 fn folder_of(path: &str) -> &str {
     match path.rsplit_once('/') {
         Some((folder, _)) => { if folder.is_empty() { "/" } else { folder } }
@@ -40,9 +39,9 @@ fn path_aside(alloc: Global, path: &str) -> Result<String, AllocError>
 }
 
 impl<F> Replacement<F> {
-    /// Begins a new, empty file beside the one at the path; what stands there from before is written over.
+    /// Begins a new, empty file beside the one at the path; an older file under its name is written over.
     ///
-    /// `WriteFault` where it can't be made, `OutOfMemory` where its path finds no memory.
+    /// `WriteFault` if it can't be made, `OutOfMemory` if its path finds no memory.
     pub fn begin<R: Files<File = F>>(
         rt: &R,
         alloc: Global,
@@ -62,16 +61,16 @@ impl<F> Replacement<F> {
         }
     }
 
-    /// The link that the new file is written over.
+    /// Returns the link over which the new file is written.
     pub fn link(&mut self) -> &mut Counted<F> {
         &mut self.link
     }
 }
 
 impl<F: OpenFile + Drop> Replacement<F> {
-    /// Puts the new file in the place of the one at the path, once all of it is on the disk; then the folder is synced,
-    /// so that no crash brings the old file back. `WriteFault` where that fails, `OutOfMemory` where memory is refused:
-    /// the old file may then stand in its place, or the new one.
+    /// Puts the new file in the place of the one at the path, once all of it is on the disk. Then it syncs the folder,
+    /// so that no crash brings the old file back. `WriteFault` if that fails, `OutOfMemory` if memory is refused: the
+    /// file at the path may then be the old one or the new one.
     pub fn put<R: Files>(self, rt: &R, path: &str) -> Result<(), Fault>
         ensures { IfErr result (λ f. (f ≡ faults.OutOfMemory) ⊎ (f ≡ faults.WriteFault)) }
     {
@@ -83,7 +82,7 @@ impl<F: OpenFile + Drop> Replacement<F> {
     }
 }
 
-// Syncs a file and renames it, and syncs the folder that it stands in then.
+// Syncs a file and renames it, and syncs its new folder.
 fn put_in_place<R: Files, F: OpenFile + Drop>(
     rt: &R,
     file: F,
@@ -97,8 +96,7 @@ fn put_in_place<R: Files, F: OpenFile + Drop>(
 
 /// Replaces a file by these bytes, or makes it: after a crash it has the old bytes or the new ones.
 ///
-/// `WriteFault` where that fails, `OutOfMemory` where memory is refused: then, too, it has the old bytes or the new
-/// ones.
+/// `WriteFault` if that fails, `OutOfMemory` if memory is refused: then, too, it has the old bytes or the new ones.
 pub fn replace<R: Files>(rt: &R, alloc: Global, path: &str, bytes: &[u8]) -> Result<(), Fault>
     ensures { IfErr result (λ f. (f ≡ faults.OutOfMemory) ⊎ (f ≡ faults.WriteFault)) }
 {

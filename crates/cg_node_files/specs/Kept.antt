@@ -1,4 +1,4 @@
--- The settings and the generation that a life takes from files, and the faults that stand in its way.
+-- The settings and the generation that a life takes from files, and the faults that prevent it.
 use Rattle.std.specs.Prelude.{◌≡◌, ◌⊎◌, ◌≤◌, ℕ, List, length, Option, Some, Result, Ok, Err, MatchResult}
 use Rattle.cg_types.specs.declared.fault.Fault.{Fault}
 use Rattle.cg_types.specs.declared.fault.Fault.TheVariants as fault
@@ -13,7 +13,7 @@ IsUnsettled fault.BadText = Unit {0}
 IsUnsettled fault.ReadFault = Unit {0}
 IsUnsettled f = ⊥
 
--- faults of its settings or its generation; that it can not listen, or that no worker starts, brings no others
+-- faults of its settings or its generation; a life that can't listen, or whose workers do not start, has no others
 abbrev pub IsUnborn : Fault → Type 0
 IsUnborn fault.OutOfMemory = Unit {0}
 IsUnborn fault.BadText = Unit {0}
@@ -22,15 +22,15 @@ IsUnborn fault.ReadFault = Unit {0}
 IsUnborn fault.WriteFault = Unit {0}
 IsUnborn f = ⊥
 
--- The bytes of some file within the limit tell these settings.
+-- The bytes of some file within the limit hold these settings.
 abbrev pub AreTold : ServeValue → Type 0
 AreTold s = (bytes : List ℕ) × (length bytes ≤ SETTINGS_MOST) × (settings_in_bytes bytes ≡ Some s)
 
--- The generation is that of a start, by what was stored and the seconds since 1970.
+-- The generation is that of a start, by the stored one and the seconds since 1970.
 abbrev pub IsOfAStart : ℕ → Type 0
 IsOfAStart generation = (stored : Option ℕ) × (seconds : ℕ) × (generation_at_start stored seconds ≡ Ok generation)
 
--- The generation that is due is kept; or there is none, or it can't be kept.
+-- The expected generation is kept; or there is none, or it can't be kept.
 abbrev pub KeepsOf : Result ℕ Fault → Result ℕ Fault → Type 0
 KeepsOf due kept =
     MatchResult kept (λ g. due ≡ Ok g)

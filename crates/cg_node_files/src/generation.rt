@@ -11,7 +11,7 @@ use cg_version::next_generation;
 use std::alloc::Global;
 use std::rt::{Clock, Files};
 
-// Has a file keep the generation of a start, by what is stored, at so many seconds since 1970.
+// Has a file keep the generation of a start, by the stored one and the seconds since 1970.
 fn keep_next<R: Files>(
     rt: &R,
     alloc: Global,
@@ -31,11 +31,11 @@ fn keep_next<R: Files>(
     }
 }
 
-/// The generation of the life that begins, which the file keeps from then on: one more than it kept, or the seconds
-/// since 1970 where these are more.
+/// Returns the generation of the life that begins, after storing it in the file: one more than the file kept, or the
+/// seconds since 1970 if these are more.
 ///
-/// `ReadFault` where the file can't be read, `BadText` where it holds no generation, `VersionsSpent` where there is no
-/// greater one, `WriteFault` where it can't be kept; `OutOfMemory` where memory is refused.
+/// `ReadFault` if the file can't be read, `BadText` if it holds no generation, `VersionsSpent` if there is no greater
+/// one, `WriteFault` if it can't be kept; `OutOfMemory` if memory is refused.
 pub fn next_life<R: Files + Clock>(rt: &R, alloc: Global, file: &str) -> Result<Generation, Fault>
     ensures next { IfOk result IsOfAStart }
     ensures err { IfErr result IsUnborn }

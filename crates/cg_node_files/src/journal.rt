@@ -1,4 +1,4 @@
-//! The journal that a file holds in the end.
+//! The journal that a file holds at the end of a life.
 
 ghost use Rattle.std.specs.Prelude.{◌≡◌, ◌⊎◌, IfErr};
 ghost use Rattle.cg_types.specs.declared.fault.Fault.TheVariants as faults;
@@ -10,8 +10,8 @@ use cg_types::Fault;
 use std::alloc::Global;
 use std::rt::Files;
 
-/// Has a file hold the journal of a history, in place of what it held: after a crash it holds the old text or the new
-/// one. `WriteFault` where that fails, `OutOfMemory` where memory is refused.
+/// Writes the journal of a history to a file, in place of its old text: after a crash it holds the old text or the new
+/// one. `WriteFault` if that fails, `OutOfMemory` if memory is refused.
 pub fn write_journal_to<R: Files>(
     rt: &R,
     alloc: Global,

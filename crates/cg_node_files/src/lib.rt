@@ -1,4 +1,4 @@
-//! What a node keeps in files: its settings, its generation and its journal.
+//! The files of a node: its settings, its generation and its journal.
 #![tactic(auto)]
 
 mod generation;

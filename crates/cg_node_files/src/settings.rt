@@ -10,11 +10,11 @@ use cg_types::Fault;
 use std::alloc::Global;
 use std::rt::Files;
 
-/// Bytes that a settings file may have.
+/// The most bytes that a settings file may have.
 pub const SETTINGS_MOST: u32 = 65536;
 
-/// The settings that a file holds. `ReadFault` where it is missing or can't be read; `BadText` where it holds no
-/// settings, or more than `SETTINGS_MOST` bytes; `OutOfMemory` where memory is refused.
+/// Reads the settings in a file. `ReadFault` if it is missing or can't be read; `BadText` if it holds no settings, or
+/// more than `SETTINGS_MOST` bytes; `OutOfMemory` if memory is refused.
 pub fn settings_in<R: Files>(rt: &R, alloc: Global, file: &str) -> Result<ServeSettings, Fault>
     ensures told { IfOk result (λ s. AreTold (settings_view s)) }
     ensures err { IfErr result IsUnsettled }

@@ -36,7 +36,7 @@ pub starts_further : (p q r : List Put) → StartsWith q p → StartsWith r q �
 starts_further p q r one two =
     (one.0 ++ two.0, two.1 ∙ ap (λ (l : List Put). l ++ two.0) one.1 ∙ append_assoc p one.0 two.0)
 
--- what goes on with a line
+-- The gate and the pass go on with a line.
 pub record On (g : SeatValue) (p : List Put) (h : SeatValue) (q : List Put) : Type 0 where
   pub gate : GoesOn g h
   pub later : StartsWith q p
@@ -159,7 +159,7 @@ module _ (start : NodeValue) where
       operated_faults (Ok x) h = tt
       operated_faults (Err f) h = (failed_goes f h).fault
 
-    -- the same with other names for what is left
+    -- the same with other names for the values left
     pub operated_at : {R T : Type 0} (before after : Option (List ℕ)) (old new : Counted R) (s : At W)
         (g h : SeatValue) (p q : List Put) (w x : Counted W) (r : Result T Fault) → g ≡ h → p ≡ q → w ≡ x
         → Operates holds start opening before after old new s (record { gate = g; pass = p; writer = w }) r

@@ -1,4 +1,4 @@
--- What an operator that holds its gate, its pass and its writer does, as what becomes of these.
+-- The steps of an operator that holds its gate, its pass and its writer, as steps of these.
 use Rattle.std.proofs.Common.{◌≡◌, ℕ, ◌⊎◌, inl, inr, true, false, List, [], ◌∷◌, ◌++◌, Option, Result, Ok, Err, refl, sym, ap, ◌∙◌, subst, append_assoc}
 use Rattle.std.specs.Io.KnownBytes.{Consumes}
 use Rattle.cg_types.specs.declared.fault.Fault.{Fault}
@@ -115,7 +115,7 @@ module _ {N R W : Type 0} (holds : W → Option (List ℕ)) (start : NodeValue) 
       taken = (chained s t (lines_of h.text) h.taken).done;
     }
 
-    -- ---- what it holds
+    -- ---- held values
 
     stopped_same : (f : Fault) → Stops steps stops before after old new s t f → HoldsSame s t
     stopped_same f h =
@@ -154,7 +154,7 @@ module _ {N R W : Type 0} (holds : W → Option (List ℕ)) (start : NodeValue) 
       done = q.done;
     }
 
-    -- with the last line behind those that end
+    -- with the last line after those that end
     quits_before : (text : List ℕ) → QuitsIn holds start opening (at_of s) (at_of t) (ended_lines [] text) → QuitsIn holds start opening (at_of s) (at_of t) (lines_of text)
     quits_before text q =
         let last = last_line (open_line [] text) in

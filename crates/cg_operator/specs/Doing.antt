@@ -1,4 +1,4 @@
--- What a line of the operator does at a gate and a pass, and what is shown of it.
+-- The effect of a line of the operator at a gate and a pass, and the text that it shows.
 use Rattle.std.specs.Prelude.{ℕ, ◌≡◌, ◌⊎◌, List, Option, Some, None, Result, Ok, Err}
 use Rattle.cg_types.specs.declared.fault.Fault.{Fault}
 use Rattle.cg_types.specs.declared.fault.Fault.TheVariants.{OutOfMemory, NoSuchNode}
@@ -16,14 +16,14 @@ use Rattle.cg_orders.specs.declared.order.Order.{Order}
 use Rattle.cg_orders.specs.declared.order.Order.TheVariants.{Show, Set, Quit}
 use Rattle.cg_orders.specs.Shown.{table_lines, unpublished_line}
 
--- A key that was set is told of by its version, once the pass has learnt what was told; where nothing was, as
--- unpublished.
+-- The answer to a key that was set is its version, once the pass has learnt the told of the change; if there is none,
+-- it is the line of an unpublished version.
 abbrev pub TellsSet : ℕ → Option (List Put) → List Put → List Put → List ℕ → Type 0
 TellsSet version None p q text = (q ≡ p) × (text ≡ unpublished_line version)
 TellsSet version (Some told) p q text = StartsWith q told × (text ≡ version_line version)
 
 module _ (start : NodeValue) where
-  -- The gate entered the Set, with what it told handed over.
+  -- The gate entered the Set, and its told was handed over.
   pub record SetsKey (key : ℕ) (value : List ℕ) (g : SeatValue) (p : List Put) (text : List ℕ) (h : SeatValue)
       (q : List Put) : Type 0 where
     pub version : ℕ
@@ -32,7 +32,7 @@ module _ (start : NodeValue) where
     pub later : StartsWith q p
     pub tells : TellsSet version told p q text
 
-  -- The Set was refused, and its fault is told.
+  -- The Set was refused, and the text is its fault.
   pub record RefusesKey (key : ℕ) (value : List ℕ) (g : SeatValue) (p : List Put) (text : List ℕ) (h : SeatValue)
       (q : List Put) : Type 0 where
     pub fault : Fault
@@ -44,7 +44,7 @@ module _ (start : NodeValue) where
   abbrev pub Sets : ℕ → List ℕ → SeatValue → List Put → List ℕ → SeatValue → List Put → Type 0
   Sets key value g p text h q = SetsKey key value g p text h q ⊎ RefusesKey key value g p text h q
 
-  -- What a line does, from a gate and what a pass has read to those after it, and its text.
+  -- The step of a line, from a gate and the puts that a pass has read to those after it, and its text.
   abbrev pub Does : TableValue → Result Order Fault → SeatValue → List Put → List ℕ → SeatValue → List Put → Type 0
   Does opening (Ok (Show view)) g p text h q =
       (h ≡ g) × StartsWith q p × (text ≡ table_lines (with_puts opening q) view)
@@ -58,7 +58,7 @@ module _ (start : NodeValue) where
   Answers opening order g p None h q = (order ≡ Ok Quit) × (h ≡ g) × (q ≡ p)
   Answers opening order g p (Some text) h q = Does opening order g p text h q
 
--- A line is not answered: memory ran out, or it asks for what is held and there is nothing to read.
+-- A line is not answered: memory ran out, or it is to show the table and there is nothing to read.
 abbrev pub Unanswered : Result Order Fault → SeatValue → List Put → SeatValue → List Put → Fault → Type 0
 Unanswered order g p h q f =
     ((f ≡ OutOfMemory) × GoesOn g h × StartsWith q p)

@@ -1,4 +1,4 @@
--- Lines of the operator, one after the other, and what is written of them.
+-- Lines of the operator, one after the other, and the text written of them.
 use Rattle.std.specs.Prelude.{ℕ, ◌≡◌, ◌⊎◌, Bool, true, false, List, ◌∷◌, ◌++◌, take, Option, Result, Ok, MatchResult}
 use Rattle.std.specs.Io.KnownBytes.{Appends, Consumes}
 use Rattle.cg_types.specs.declared.fault.Fault.{Fault}
@@ -17,13 +17,13 @@ use Rattle.cg_orders.specs.declared.order.Order.TheVariants.{Show, Quit}
 use Rattle.cg_orders.specs.Orders.{order_in}
 use Rattle.cg_operator.specs.Doing.{Does}
 
--- how far an operator has come: its gate, the puts that its pass has read or learnt, and its writer
+-- the progress of an operator: its gate, the puts that its pass has read or learnt, and its writer
 pub record At (W : Type 0) : Type 0 where
   pub gate : SeatValue
   pub pass : List Put
   pub writer : Counted W
 
--- by what a writer holds, the node's start and the table that the views opened with
+-- Parameters: a writer's contents, the node's start, and the table that the views opened with.
 module _ {W : Type 0} (holds : W → Option (List ℕ)) (start : NodeValue) (opening : TableValue) where
   abbrev pub held : At W → Option (List ℕ)
   held s = holds (link_of s.writer)
@@ -43,14 +43,14 @@ module _ {W : Type 0} (holds : W → Option (List ℕ)) (start : NodeValue) (ope
     pub later : StartsWith t.pass s.pass
     pub writer : t.writer ≡ s.writer
 
-  -- The line asks for something that is held, and there is nothing to read it from.
+  -- The line is to show the table, and there is nothing to read it from.
   pub record ReadsNothing (s : At W) (line : List ℕ) (t : At W) (f : Fault) : Type 0 where
     pub fault : f ≡ NoSuchNode
     pub view : View
     pub asked : order_in line ≡ Ok (Show view)
     pub same : t ≡ s
 
-  -- The line was done, and a front of its text was written before the writer failed or took nothing.
+  -- The line was done, and a prefix of its text was written before the writer failed or took nothing.
   pub record WritesFront (s : At W) (line : List ℕ) (t : At W) (f : Fault) : Type 0 where
     pub fault : f ≡ WriteFault
     pub text : List ℕ
@@ -68,12 +68,12 @@ module _ {W : Type 0} (holds : W → Option (List ℕ)) (start : NodeValue) (ope
   Goes s line t true = DoesLine s line t
   Goes s line t false = (order_in line ≡ Ok Quit) × (t ≡ s)
 
-  -- what became of a line
+  -- the outcome of a line
   abbrev pub TellsLine : At W → List ℕ → At W → Result Bool Fault → Type 0
   TellsLine s line t result = MatchResult result (Goes s line t) (EndsAt s line t)
 
   module _ {R : Type 0} (before after : Option (List ℕ)) (old new : Counted R) (s t : At W) where
-    -- A line asked for the end: those before it were done, and those behind it are not looked at.
+    -- A line asked for the end: those before it were done, and those after it are not looked at.
     pub record Quits : Type 0 where
       pub text : List ℕ
       pub read : Consumes before after text

@@ -8,7 +8,7 @@ use Rattle.cg_operator.specs.declared.operating.Operating.{Operating}
 use Rattle.cg_orders.specs.Orders.{order_in}
 use Rattle.cg_operator.specs.Operating.{At, DoesLine, EndsAt}
 
--- how far it has come
+-- the progress of the operator
 abbrev pub at_of : {N R W : Type 0} → Operating N R W → At W
 at_of o = record { gate = o.gate.now; pass = o.pass.now; writer = o.writer.now }
 

@@ -1,4 +1,4 @@
-//! What the lines of the operator do.
+//! The answers to the lines of the operator.
 
 ghost use Rattle.std.specs.Prelude.{ℕ, ◌≡◌, ◌⊎◌, Some, None, Ok, Err, IfOk, IfErr, MatchResult, option_map, string_bytes};
 ghost use Rattle.cg_types.specs.declared.fault.Fault.TheVariants as faults;
@@ -22,7 +22,7 @@ use cg_views::{Pass, Told};
 use std::alloc::{AllocError, Global};
 use std::sync::Wait;
 
-// What is shown of the table that a pass reads.
+// Returns a view of the table that a pass reads, as text.
 fn show<N: Name>(alloc: Global, pass: &mut Pass<N>, view: View) -> Result<String, Fault>
     ensures later { StartsWith pass.new pass.old }
     ensures text { IfOk result (λ text. string_bytes text ≡ table_lines (with_puts N.opening pass.new) view) }
@@ -39,7 +39,7 @@ fn show<N: Name>(alloc: Global, pass: &mut Pass<N>, view: View) -> Result<String
     }
 }
 
-// Tells of a key that was set, once the pass has learnt what was told of it.
+// Returns the answer to a key that was set, once the pass has learnt the `Told` of the change.
 fn tell_set<N: Name>(
     alloc: Global,
     pass: &mut Pass<N>,
@@ -60,7 +60,7 @@ fn tell_set<N: Name>(
     Ok(text)
 }
 
-// The version that the last event, a change, was given.
+// Returns the version that the last event, a change, was given.
 fn version_of<N: Name, R: Wait>(gate: &SeatGate<'_, N, R>) -> Version
     requires { (version : ℕ) × (last_reply gate.now.receipts ≡ Some (replies.Done version)) }
     ensures { last_reply gate.now.receipts ≡ Some (replies.Done result) }
@@ -74,7 +74,7 @@ fn version_of<N: Name, R: Wait>(gate: &SeatGate<'_, N, R>) -> Version
     }
 }
 
-// Sets a key, and tells of it.
+// Sets a key, and returns the answer.
 fn set<N: Name, R: Wait>(
     alloc: Global,
     gate: &mut SeatGate<'_, N, R>,
@@ -99,7 +99,7 @@ fn set<N: Name, R: Wait>(
     }
 }
 
-// Does what is asked for, and tells what is shown of it; nothing where it is the end.
+// Does an order, and returns the text that it shows, or `None` if it is the end.
 fn obey<N: Name, R: Wait>(
     alloc: Global,
     gate: &mut SeatGate<'_, N, R>,
@@ -124,7 +124,7 @@ fn obey<N: Name, R: Wait>(
     }
 }
 
-/// Does what a line asks for, and tells what is shown of it; nothing where it asks for the end.
+/// Does the order of a line, and returns the text that it shows, or `None` if it is the end.
 pub(crate) fn answer<N: Name, R: Wait>(
     alloc: Global,
     gate: &mut SeatGate<'_, N, R>,

@@ -18,7 +18,7 @@ pub struct Console<'a, R: Input + Print> {
 }
 
 impl<'a, R: Input + Print> Console<'a, R> {
-    /// The operator at the program's streams.
+    /// Makes the operator at the program's streams.
     pub fn new(rt: &'a R) -> Console<'a, R> {
         Console { rt }
     }

@@ -1,7 +1,7 @@
 //! The operator of a running node: lines that show what the node holds, and that set its keys.
 //!
-//! What is shown is read without a lock. Each line is answered at once: its text is written and flushed before the next
-//! line is done. A `Console` is this operator at the standard streams.
+//! The operator reads the table without a lock. Each line is answered at once: its text is written and flushed before
+//! the next line is done. A `Console` is this operator at the standard streams.
 #![tactic(auto)]
 
 mod answering;

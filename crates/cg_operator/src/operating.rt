@@ -18,7 +18,7 @@ use std::alloc::Global;
 use std::io::{Read, Write};
 use std::sync::Wait;
 
-// An operator between two lines, and whether a line asked for the end.
+// An operator between two lines, and `true` if a line asked for the end.
 #[derive(Drop)]
 pub(crate) struct Operating<'a, 'b, N: Name, R: Wait, W> {
     pub gate: &'a mut SeatGate<'b, N, R>,
@@ -27,7 +27,7 @@ pub(crate) struct Operating<'a, 'b, N: Name, R: Wait, W> {
     pub has_quit: bool,
 }
 
-// Does a line, and writes what is shown of it; answers whether a further line is to be read.
+// Does a line, and writes the text that it shows. Returns `true` if a further line is to be read.
 fn tell_line<N: Name, R: Wait, W: Write>(
     alloc: Global,
     gate: &mut SeatGate<'_, N, R>,
@@ -67,7 +67,7 @@ impl<'a, 'b, N: Name, R: Wait, W: Write> TakeLine for Operating<'a, 'b, N, R, W>
     }
 }
 
-// How reading ended that a line stopped: no fault where the line asked for the end.
+// Returns the end of a reading that a line stopped: no fault if the line asked for the end.
 fn ended(has_quit: bool, fault: Fault) -> Result<(), Fault>
     ensures quit { has_quit ≡ true → result ≡ Ok tt }
     ensures fault { has_quit ≡ false → result ≡ Err fault }
@@ -95,17 +95,17 @@ fn operate_lines<N: Name, R: Wait, W: Write, I: Read>(
     }
 }
 
-/// Does the lines that a reader has left, one after the other, until `quit` or the end: what a line shows is written
-/// and flushed before the next one is done.
+/// Does the lines that a reader has left, one after the other, until `quit` or the end. The text that a line shows is
+/// written and flushed before the next line is done.
 ///
 /// `gossipinfo`, `ring`, `digests` and `replicas RF TEXT` show what the pass reads, with no lock. `set KEY TEXT` sets a
-/// key of the node and shows `version N` once the pass has learnt what was told of it, or `version N unpublished` where
-/// no memory was found to publish it. A line that can't be read shows `fault 2 BadText` or `fault 3 TooLong`, and a
+/// key of the node. It shows `version N` once the pass has learnt the `Told` of the change, or `version N unpublished`
+/// if no memory was found to publish it. A line that can't be read shows `fault 2 BadText` or `fault 3 TooLong`, and a
 /// refused set `fault 4 VersionsSpent`.
 ///
-/// `OutOfMemory` where memory runs out, `ReadFault` where a read fails or 4,294,967,295 reads were made, `WriteFault`
-/// where the writer fails or takes no byte, `NoSuchNode` where there is nothing to read any more. With the first and
-/// the third the set of that line may stand.
+/// `OutOfMemory` if memory runs out, `ReadFault` if a read fails or 4,294,967,295 reads were made, `WriteFault` if the
+/// writer fails or takes no byte, `NoSuchNode` if there is nothing to read any more. With `OutOfMemory` and
+/// `WriteFault` the set of that line may have been done.
 pub fn operate<N: Name, R: Wait, I: Read, W: Write>(
     alloc: Global,
     reader: &mut Counted<I>,
@@ -113,7 +113,7 @@ pub fn operate<N: Name, R: Wait, I: Read, W: Write>(
     gate: &mut SeatGate<'_, N, R>,
     pass: &mut Pass<N>,
 ) -> Result<(), Fault>
-    // Which lines are done, and what is written of each.
+    // The lines that are done, and the text written of each.
     ensures lines { Operates W.contents N.start N.opening
         (I.remaining (link_of reader.old)) (I.remaining (link_of reader.new))
         reader.old reader.new (record { gate = gate.old; pass = pass.old; writer = writer.old })

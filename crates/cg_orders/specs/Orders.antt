@@ -1,4 +1,4 @@
--- What a line of the operator asks for.
+-- The orders in lines of the operator.
 use Rattle.std.specs.Prelude.{ℕ, List, Option, Some, None, Result, Ok, Err, codes, bytes_eq, if◌then◌else◌}
 use Rattle.cg_types.specs.declared.fault.Fault.{Fault}
 use Rattle.cg_types.specs.declared.fault.Fault.TheVariants.{BadText}
@@ -21,7 +21,7 @@ replicas_line words = do
   text ← text_in rf.1
   Some (Show (view.Replicas (token_of text) rf.0))
 
--- a key that is set, or why its text is refused
+-- a key that is set, or the fault of its text
 abbrev pub setting : ℕ → Result (List ℕ) Fault → Result Order Fault
 setting key (Ok text) = Ok (Set key text)
 setting key (Err f) = Err f
@@ -43,7 +43,7 @@ bare_order word =
     else if bytes_eq word (codes "quit") then Some Quit
     else None
 
--- a line of more words, behind the first one
+-- the order of a line of more words: its first word, and the words after it
 unfoldable pub order_behind : List ℕ → List ℕ → Result Order Fault
 order_behind word words =
     if bytes_eq word (codes "replicas") then or_unreadable (replicas_line words)
@@ -54,6 +54,6 @@ abbrev pub order_of_parts : List ℕ → Option (List ℕ × List ℕ) → Resul
 order_of_parts line None = or_unreadable (bare_order line)
 order_of_parts line (Some parts) = order_behind parts.0 parts.1
 
--- what a line asks for, or why it is refused
+-- the order in a line, or its fault
 unfoldable pub order_in : List ℕ → Result Order Fault
 order_in line = order_of_parts line (cut_at 32 line)

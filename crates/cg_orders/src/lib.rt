@@ -1,4 +1,4 @@
-//! What lines of an operator ask for, and the texts that answer them.
+//! Orders that an operator types as lines, and the texts that answer them.
 //!
 //! A line is read by its words; what is shown of a table is one text.
 #![tactic(auto)]

@@ -1,15 +1,15 @@
-//! What a line of the operator asks for.
+//! The orders of an operator.
 
 use cg_script::View;
 use cg_types::{StateKey, StateText};
 
-/// What a line of the operator asks for.
+/// An order of the operator: what one line asks for.
 #[derive(Debug, Drop)]
 pub enum Order {
-    /// `gossipinfo`, `ring`, `digests` or `replicas RF TEXT`: something is shown.
+    /// `gossipinfo`, `ring`, `digests` or `replicas RF TEXT`: shows something.
     Show(View),
-    /// `set KEY TEXT`: a key of the node is set.
+    /// `set KEY TEXT`: sets a key of the node.
     Set { key: StateKey, text: StateText },
-    /// `quit`: no further line is read.
+    /// `quit`: ends the reading of lines.
     Quit,
 }

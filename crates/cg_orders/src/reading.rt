@@ -44,7 +44,7 @@ fn set_line(alloc: Global, words: &[u8]) -> Result<Order, Fault>
     }
 }
 
-// What a line of one word asks for.
+// Reads the order of a line of one word.
 #[tactic(auto, unfolding(crate::specs::Orders::bare_order))]
 fn bare_order(word: &[u8]) -> Option<Order>
     ensures { result ≡ spec.bare_order word.now }
@@ -64,7 +64,7 @@ fn bare_order(word: &[u8]) -> Option<Order>
     None
 }
 
-// What a line that takes no memory asks for.
+// Returns the order of a line that takes no memory, or `BadText` if there is none.
 fn or_unreadable(order: Option<Order>) -> Result<Order, Fault>
     ensures { result ≡ spec.or_unreadable order }
 {
@@ -74,7 +74,7 @@ fn or_unreadable(order: Option<Order>) -> Result<Order, Fault>
     }
 }
 
-// What a line of more words asks for, behind the first one.
+// Reads the order of a line of more words: its first word, and the words after it.
 #[tactic(auto, unfolding(crate::specs::Orders::order_behind))]
 fn order_behind(alloc: Global, word: &[u8], words: &[u8]) -> Result<Order, Fault>
     ensures { Gives (λ o. o) result (spec.order_behind word.now words.now) }
@@ -88,12 +88,12 @@ fn order_behind(alloc: Global, word: &[u8], words: &[u8]) -> Result<Order, Fault
     Err(Fault::BadText)
 }
 
-/// What a line of the operator, without its line feed, asks for: `gossipinfo`, `ring`, `digests`, `replicas RF TEXT`,
+/// Reads a line of the operator, without its line feed: `gossipinfo`, `ring`, `digests`, `replicas RF TEXT`,
 /// `set KEY TEXT` or `quit`. RF is 0 to 2^64 - 1, KEY 1 to 16, TEXT the rest of the line, which may be empty.
 ///
-/// `TooLong` and `BadText` where only the text of a `set` is refused: over 1,024 bytes, or with control characters.
-/// `BadText` where anything else can't be read, as another word, a word too few or too many, or a text that is not
-/// UTF-8. `OutOfMemory` where the text finds no memory.
+/// `TooLong` and `BadText` if only the text of a `set` is refused: over 1,024 bytes, or with control characters.
+/// `BadText` if anything else can't be read, such as another word, a word too few or too many, or a text that is not
+/// UTF-8. `OutOfMemory` if the text finds no memory.
 #[tactic(auto, unfolding(crate::specs::Orders::order_in))]
 pub fn read_order(alloc: Global, line: &[u8]) -> Result<Order, Fault>
     ensures { Gives (λ o. o) result (spec.order_in line.now) }

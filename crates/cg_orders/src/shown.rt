@@ -1,4 +1,4 @@
-//! What is shown of a table.
+//! Texts that show a table.
 
 ghost use Rattle.std.specs.Prelude.{◌≡◌, ◌++◌, IfOk, OnOk, string_bytes};
 ghost use Rattle.cg_orders.specs.Shown.{table_lines, unpublished_line};
@@ -22,7 +22,7 @@ fn ring_text(alloc: Global, table: &Table) -> Result<String, AllocError>
     Ok(text)
 }
 
-// The endpoints that keep what has a token.
+// Returns the replicas of a token in a table's ring, as text.
 fn replicas_text(alloc: Global, table: &Table, token: Token, rf: u64) -> Result<String, AllocError>
     ensures { IfOk result (λ text. string_bytes text ≡ table_lines table.now (View.Replicas token rf)) }
 {
@@ -32,7 +32,7 @@ fn replicas_text(alloc: Global, table: &Table, token: Token, rf: u64) -> Result<
     Ok(text)
 }
 
-/// What is shown of a table: what it holds of each endpoint, its digests, its ring, or endpoints of that.
+/// Returns a view of a table as text: the entry of each endpoint, its digests, its ring, or replicas of a token.
 pub fn table_text(alloc: Global, table: &Table, view: View) -> Result<String, AllocError>
     ensures { IfOk result (λ text. string_bytes text ≡ table_lines table.now view) }
 {
@@ -52,8 +52,8 @@ pub fn table_text(alloc: Global, table: &Table, view: View) -> Result<String, Al
     }
 }
 
-/// Adds the line `version 2 unpublished`: a change was given a version, and those who read do not see it yet.
-/// `AllocError` where the text finds no memory.
+/// Adds the line `version 2 unpublished`: a change was given a version, and readers do not see it yet. `AllocError` if
+/// the text finds no memory.
 #[tactic(auto, unfolding(crate::specs::Shown::unpublished_line))]
 pub fn add_unpublished(text: &mut String, version: Version) -> Result<(), AllocError>
     ensures { OnOk result (string_bytes text.new ≡ string_bytes text.old ++ unpublished_line version) }

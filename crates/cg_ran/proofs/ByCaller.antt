@@ -15,7 +15,7 @@ use Rattle.cg_ran.specs.Laws.{ReceiptsHaveTheNumbers}
 use Rattle.cg_ran.proofs.SameNumbers.{In, same_members, places_rise, place_passes, passes_in_place, passing_rise, passing_with, with_passing}
 
 module _ (caller : ℕ) (kind : Event → Bool) where
-  -- a record passes where its receipt does
+  -- a record passes if its receipt does
   same_test : (i : Item) (q : Receipt) → IsOf i q → is_record_of caller kind i ≡ is_receipt_of caller kind q
   same_test i q is = ap (λ (c : ℕ). (c == caller) && kind i.event) is.0 ∙ ap (λ (e : Event). (q.caller == caller) && kind e) is.1
 

@@ -10,7 +10,7 @@ use Rattle.cg_left.specs.Left.{AreOfWorkers}
 use Rattle.cg_ran.specs.Ran.{IsStrayBehind}
 use Rattle.cg_ran.proofs.Workers.{stray_of_sender, stray_of_ticker, stray_of_operator, all_confirmed}
 
--- as many as all workers left
+-- as many as the receipts of all workers
 pub as_many : (receiver sender ticker operator : List Receipt) (n : ℕ) → n ≡ length receiver + length sender + length ticker + length operator
     → n ≡ length (receiver ++ sender ++ ticker ++ operator)
 as_many receiver sender ticker operator n is =

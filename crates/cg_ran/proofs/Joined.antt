@@ -1,4 +1,4 @@
--- Receipts of several callers, one list behind the other, are confirmed where each list is.
+-- Receipts of several callers, one list after the other, are confirmed if each list is.
 use Rattle.std.proofs.Common.{◌≡◌, ℕ, zero, suc, ◌+◌, ◌<◌, ◌≤◌, ◌⊎◌, inl, inr, List, [], ◌∷◌, ◌++◌, length, take, Some, refl, sym, ap, ◌∙◌, subst, arith}
 use Rattle.std.specs.Prelude.{slice_get}
 use Rattle.std.specs.List.{All}
@@ -10,7 +10,7 @@ use Rattle.cg_records.specs.declared.item.Stray.{Stray}
 use Rattle.cg_records.specs.Confirming.{ComesAfter, Follows, IsConfirmed, AreConfirmed, IsFirstStray}
 use Rattle.cg_ran.specs.Ran.{IsStrayBehind}
 
--- ---- what stands in two lists, one behind the other
+-- ---- members of two lists, one after the other
 
 abbrev AtEither : List Receipt → List Receipt → ℕ → Receipt → Type 0
 AtEither xs ys k r = ((k < length xs) × (slice_get xs k ≡ Some r)) ⊎ ((j : ℕ) × (k ≡ length xs + j) × (slice_get ys j ≡ Some r))
@@ -44,7 +44,7 @@ take_second (x ∷ xs) ys j =
     let next : length (x ∷ xs) + j ≡ suc (length xs + j) = omega arith in
     ap (λ (n : ℕ). take n (x ∷ (xs ++ ys))) next ∙ ap (λ zs. x ∷ zs) (take_second xs ys j)
 
--- ---- of a caller, behind callers with smaller numbers
+-- ---- of a caller, after callers with smaller numbers
 
 abbrev pub Below : ℕ → List Receipt → Type 0
 Below c qs = All (λ (q : Receipt). q.caller < c) qs
@@ -98,7 +98,7 @@ module _ (records : List Item) (c : ℕ) (xs : List Receipt) (all : AreConfirmed
         why = behind.2.why;
       }
 
--- the first stray of a list is that of the list with more behind it
+-- the first unconfirmed receipt of a list is that of the list with more after it
 pub stray_before : (records : List Item) (xs ys : List Receipt) (s : Stray) → IsFirstStray records xs s → IsFirstStray records (xs ++ ys) s
 stray_before records xs ys s first =
     let r = first.stray.0 in

@@ -1,4 +1,4 @@
--- Why a node whose workers have ended is one that ran, or is not confirmed.
+-- A node whose workers have ended is one that ran, or is not confirmed.
 use Rattle.std.proofs.Common.{◌≡◌, ℕ, List, ◌++◌, length, sym, ap, ◌∙◌, subst, append_assoc}
 use Rattle.std.proofs.lemmas.List.{map-append}
 use mathlib.Core.List.{IsPrefix}

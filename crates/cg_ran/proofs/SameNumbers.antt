@@ -1,4 +1,4 @@
--- Rising numbers with the same members are the same; the numbers of what passes a test rise.
+-- Rising numbers with the same members are the same; the numbers of the items that pass a test rise.
 use Rattle.std.proofs.Common.{◌≡◌, ℕ, zero, suc, ◌+◌, ◌<◌, ◌⊎◌, inl, inr, Bool, true, false, cond, List, [], ◌∷◌, map, Some, refl, sym, ap, ◌∙◌, subst, arith}
 use Rattle.std.specs.Prelude.{slice_get}
 use Rattle.std.specs.List.{filter}
@@ -21,7 +21,7 @@ past_all n x [] rises is = absurd is
 past_all n x (y ∷ ys) rises (inl here) = let less = rises.0 in omega (arith, less, here)
 past_all n x (y ∷ ys) rises (inr there) = let less = rises.0 in let rest = past_all y x ys rises.1 there in omega (arith, less, rest)
 
--- what is in the longer lists is in the rest
+-- a member of the longer lists is in the rest
 narrowed : (x y z : ℕ) (xs ys : List ℕ) → x ≡ y → RisesPast x xs → In z xs → In z (y ∷ ys) → In z ys
 narrowed x y z xs ys same rises is (inl here) = absurd (let less = past_all x z xs rises is in omega (arith, less, here, same))
 narrowed x y z xs ys same rises is (inr there) = there
@@ -55,7 +55,7 @@ module _ {A : Type 0} (passes : A → Bool) where
       by rest true = (less, rest)
       by rest false = earlier n m (numbers_from (suc m) passes xs) less rest
 
-  -- one that passes stands at the number's place
+  -- one that passes is at the number's place
   abbrev pub PassesAt : ℕ → List A → ℕ → Type 0
   PassesAt n xs number = (k : ℕ) × (x : A) × (slice_get xs k ≡ Some x) × (passes x ≡ true) × (number ≡ n + k)
 

@@ -40,7 +40,7 @@ module _ (receiver sender ticker operator : List Receipt) (are : AreOfWorkers re
       lower OPERATOR (receiver ++ sender) ticker (lower OPERATOR receiver sender (below_of is_received RECEIVER OPERATOR receiver (omega arith) are.of_receiver) (below_of is_ack SENDER OPERATOR sender (omega arith) are.of_sender))
       (below_of is_tick TICKER OPERATOR ticker (omega arith) are.of_ticker)
 
-  -- ---- whether they are confirmed
+  -- ---- confirmation
 
   module _ (records : List Item) (first : AreConfirmed records receiver) where
     pub stray_of_sender : (s : Stray) → IsStrayBehind (length receiver) records sender s → IsFirstStray records (receiver ++ sender ++ ticker ++ operator) s
@@ -80,7 +80,7 @@ module _ (receiver sender ticker operator : List Receipt) (are : AreOfWorkers re
       length-append (receiver ++ sender ++ ticker) operator
       ∙ ap (λ n. n + length operator) (length-append (receiver ++ sender) ticker ∙ ap (λ n. n + length ticker) (length-append receiver sender))
 
-  -- ---- what they are of
+  -- ---- their events
 
   pub all_work : All (λ (q : Receipt). IsWork q.caller q.event) (receiver ++ sender ++ ticker ++ operator)
   all_work =
@@ -120,7 +120,7 @@ module _ (receiver sender ticker operator : List Receipt) (are : AreOfWorkers re
       ∙ ap (λ ns. ns ++ numbers_on TICKER is_tick ticker) (numbers-append receiver sender ∙ ap (λ ns. ns ++ numbers_on TICKER is_tick sender) (passed_over is_received RECEIVER receiver refl are.of_receiver) ∙ passed_over is_ack SENDER sender refl are.of_sender)
       ∙ all_taken ticker are.of_ticker
 
-  -- ---- where they are as many as the records
+  -- ---- as many receipts as records
 
   module _ (records : List Item) (all : AreConfirmed records (receiver ++ sender ++ ticker ++ operator)) (many : length (receiver ++ sender ++ ticker ++ operator) ≡ length records) where
     pub records_are_work : All (λ (r : Item). IsWork r.caller r.event) records

@@ -1,4 +1,4 @@
--- What holds of confirmed receipts.
+-- The law of confirmed receipts, as a statement.
 use Rattle.std.specs.Prelude.{ℕ, ◌≡◌, Bool, List, length}
 use Rattle.cg_events.specs.declared.event.Event.{Event}
 use Rattle.cg_records.specs.declared.item.Item.{Item}
@@ -6,8 +6,8 @@ use Rattle.cg_records.specs.declared.item.Receipt.{Receipt}
 use Rattle.cg_records.specs.Confirming.{AreConfirmed}
 use Rattle.cg_ran.specs.Numbers.{numbers_in, numbers_on}
 
--- Where confirmed receipts are as many as the records, the receipts of a caller's events of a kind have, in their
--- order, the numbers of the records of these.
+-- The receipts of a caller's events of a kind have, in their order, the numbers of the records of these, if confirmed
+-- receipts are as many as the records.
 abbrev pub ReceiptsHaveTheNumbers : Type 0
 ReceiptsHaveTheNumbers =
     (records : List Item) (receipts : List Receipt) (caller : ℕ) (kind : Event → Bool) → AreConfirmed records receipts

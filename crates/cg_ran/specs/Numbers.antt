@@ -5,13 +5,13 @@ use Rattle.cg_events.specs.declared.event.Event.{Event}
 use Rattle.cg_records.specs.declared.item.Item.{Item}
 use Rattle.cg_records.specs.declared.item.Receipt.{Receipt}
 
--- the numbers of those that pass a test, in their order, where the first of all has number n
+-- the numbers of those that pass a test, in their order, if the first of all has number n
 abbrev pub numbers_from : {A : Type 0} → ℕ → (A → Bool) → List A → List ℕ
 numbers_from n passes [] = []
 numbers_from n passes (x ∷ xs) =
     if passes x then n ∷ numbers_from (suc n) passes xs else numbers_from (suc n) passes xs
 
--- whether a record is of a caller's event of a kind
+-- true if a record is of a caller's event of a kind
 abbrev pub is_record_of : ℕ → (Event → Bool) → Item → Bool
 is_record_of caller kind r = (r.caller == caller) && kind r.event
 

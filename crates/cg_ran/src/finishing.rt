@@ -1,4 +1,4 @@
-//! What the workers left, put together.
+//! Putting together the remains of the workers.
 
 ghost use Rattle.std.specs.Prelude.{◌≡◌, ◌+◌, ◌≤◌, ◌<◌, ◌++◌, [], true, length, vec_len, vec_capacity, IfOk, IfErr, MatchResult};
 ghost use Rattle.std.specs.List.{sum_by};
@@ -15,7 +15,7 @@ use cg_records::Receipt;
 use cg_types::Fault;
 use std::sync::Wait;
 
-// Has a history confirm further receipts, which stand behind `before` others.
+// Has a history confirm further receipts, which come after `before` others.
 fn confirm_behind(
     history: History,
     before: usize,
@@ -66,14 +66,14 @@ fn confirm_all<N: Name, R: Wait>(
     confirm_behind(history, before, operator)
 }
 
-/// Puts the seats of the workers, which have ended, back together, and has the history confirm their receipts: the
-/// receiver's, the sender's, the ticker's and the operator's. What is left is that history, and the numbers of the rounds
-/// that the sender took.
+/// Puts the seats of workers that have ended back together, and has the history confirm their receipts: the receiver's,
+/// the sender's, the ticker's and the operator's. Returns that history and the numbers of the rounds that the sender
+/// took.
 ///
-/// `Unstarted`, with OutOfMemory, where not all workers were started, whatever the history confirms; `Unconfirmed` has the
-/// history, and the place, counted from 0 through all receipts in that order, and the fault of the first that it does not
-/// confirm. `work` is what the workers of this board left: all its parts, and both ends of one channel. `seats` is an empty
-/// list with room for four. It may wait for the lock.
+/// `Unstarted`, with OutOfMemory, if not all workers were started, whatever the history confirms. `Unconfirmed` has the
+/// history and the first receipt that it does not confirm: its fault, and its place, counted from 0 through all
+/// receipts in that order. `work` is the remains of this board's workers: all its parts, and both ends of one channel.
+/// `seats` is an empty list with room for four. It may wait for the lock.
 pub fn finish<N: Name, R: Wait>(
     rt: &R,
     shared: Shared<N>,

@@ -2,8 +2,8 @@
 
 ghost use Rattle.cg_ran.specs.Laws.{ReceiptsHaveTheNumbers};
 
-/// Where confirmed receipts are as many as the records, the receipts of a caller's events of a kind have, in their
-/// order, the numbers of the records of these.
+/// The receipts of a caller's events of a kind have, in their order, the numbers of the records of these, if confirmed
+/// receipts are as many as the records.
 pub fn receipts_have_the_numbers()
     ensures { ReceiptsHaveTheNumbers }
 {}

@@ -1,4 +1,4 @@
-//! What is left of a node that ran.
+//! The remains of a node that ran.
 
 use cg_history::History;
 use cg_locked::Unconfirmed;
@@ -7,13 +7,13 @@ use cg_types::Fault;
 /// A node that ran.
 #[derive(Drop)]
 pub struct Ran {
-    /// Its history, in which the receipts of all workers stand.
+    /// Its history, which has the record of each receipt of all workers.
     pub history: History,
     /// The numbers of the records whose rounds the sender took, in their order.
     pub rounds: Vec<u64>,
 }
 
-/// A node that did not run, or whose history does not confirm what its workers were told.
+/// A node that did not run, or whose history does not confirm its workers' receipts.
 #[derive(Drop)]
 pub enum NotRun {
     /// The table's copy, the views, the board, the channel or a worker could not be made, for want of memory, and the

@@ -1,4 +1,4 @@
--- The lives of a node: what each begins with, and what is left of it.
+-- The lives of a node: their beginnings and their remains.
 use Rattle.std.specs.Prelude.{◌≡◌, ℕ, Option, Some, None, Result, Ok, Err, IfOk, IfErr, MatchResult, string_bytes}
 use Rattle.cg_types.specs.declared.fault.Fault.{Fault}
 use Rattle.cg_core.specs.Values.{NodeValue}
@@ -13,15 +13,15 @@ use Rattle.cg_serve.specs.declared.node.Birth.{Birth}
 use Rattle.cg_serve.specs.declared.node.Left.{Left}
 use Rattle.cg_serve.specs.declared.serving.Lived.{Lived}
 
--- ---- what a life begins with
+-- ---- the beginning of a life
 
--- the node that begins so
+-- the node that begins with these values
 abbrev pub node_of : Birth → NodeValue
 node_of b = starting_node b.own b.generation b.settings
 
--- ---- what is left of it
+-- ---- its remains
 
--- what a run leaves, or why none began
+-- the remains of a run, or the fault by which none began
 abbrev pub left_after : Result Ran NotRun → Result Left Fault
 left_after (Ok r) = Ok (record { history = r.history; stray = None })
 left_after (Err (not_run.Unconfirmed u)) = Ok (record { history = u.history; stray = Some u.fault })
@@ -34,8 +34,8 @@ IsLeft start l =
     (ran : Result Ran NotRun) × IfOk ran (λ r. IsRun start r.history r.rounds.items) × IfErr ran (IsNotRun start)
     × (left_after ran ≡ Ok l)
 
--- A node lived by settings that were told, at its own endpoint in the generation of a start, and its journal is to
--- stand where they say.
+-- A node lived by settings that a file held, at its own endpoint in the generation of a start, and its journal is to be
+-- where they say.
 pub record IsLived (l : Lived) : Type 0 where
   pub told : ServeValue
   pub are_told : AreTold told
@@ -46,16 +46,16 @@ pub record IsLived (l : Lived) : Type 0 where
 
 -- ---- its status
 
--- 0 exactly where no receipt is stray and the journal was written
+-- 0 exactly if every receipt is confirmed and the journal was written
 abbrev pub status_after : Option Fault → Result (Unit {0}) Fault → ℕ
 status_after None (Ok u) = 0
 status_after stray written = 1
 
--- A life that was not lived ends with 1, another by its stray receipt and its journal.
+-- A life that was not lived ends with 1, another by its unconfirmed receipt and its journal.
 abbrev pub EndsWith : Result Lived Fault → ℕ → Type 0
 EndsWith (Ok l) status = (written : Result (Unit {0}) Fault) × (status ≡ status_after l.left.stray written)
 EndsWith (Err f) status = status ≡ 1
 
--- A life was lived, or a fault kept the node from it, and the status is its end's.
+-- A life was lived, or a fault prevented it, and the status is that of its end.
 abbrev pub EndsALife : ℕ → Type 0
 EndsALife status = (life : Result Lived Fault) × MatchResult life IsLived IsUnborn × EndsWith life status

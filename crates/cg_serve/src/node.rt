@@ -20,7 +20,7 @@ use std::rt::Clock;
 use std::sync::Wait;
 use std::thread::Threads;
 
-// What a node begins with: who it is and how it judges.
+// The values that a node begins with: its endpoint, its generation and its settings.
 #[derive(Drop)]
 pub(crate) struct Birth {
     pub(crate) own: Endpoint,
@@ -28,14 +28,14 @@ pub(crate) struct Birth {
     pub(crate) settings: Settings,
 }
 
-// What is left of a node that ran: its history, and the fault of the first receipt that this does not confirm.
+// The remains of a node that ran: its history, and the fault of the first receipt that this does not confirm.
 #[derive(Drop)]
 pub(crate) struct Left {
     pub(crate) history: History,
     pub(crate) stray: Option<Fault>,
 }
 
-// What is left by a run, if one began.
+// Returns the remains of a run, if one began.
 fn left_of(ran: Result<Ran, NotRun>) -> Result<Left, Fault>
     ensures { result ≡ left_after ran }
 {
@@ -52,7 +52,7 @@ fn left_of(ran: Result<Ran, NotRun>) -> Result<Left, Fault>
     }
 }
 
-// Runs a node until its workers have ended. `OutOfMemory` where none began.
+// Runs a node until its workers have ended. `OutOfMemory` if none began.
 pub(crate) fn run<R>(
     rt: &R,
     alloc: Global,

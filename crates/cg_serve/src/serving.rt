@@ -16,7 +16,7 @@ use std::rt::{Clock, Files};
 use std::sync::Wait;
 use std::thread::Threads;
 
-// A life that was lived: what is left of its node, and where its journal is to stand.
+// A life that was lived: the remains of its node, and the path of its journal.
 #[derive(Drop)]
 struct Lived {
     left: Left,
@@ -58,7 +58,7 @@ where
     Ok(Lived { left, journal })
 }
 
-// Says a fault, where that can be said, and answers the status after one.
+// Prints a fault, if it can be printed, and returns the status after one.
 fn told<R: Print>(rt: &R, fault: Fault) -> u8
     ensures { result ≡ 1 }
 {
@@ -66,7 +66,7 @@ fn told<R: Print>(rt: &R, fault: Fault) -> u8
     1
 }
 
-// Says what is wrong with the receipts of a life, and with its journal, and answers the status after it.
+// Prints the faults of a life's receipts and of its journal, and returns the status after it.
 fn status_of<R: Print>(rt: &R, stray: Option<Fault>, written: Result<(), Fault>) -> u8
     ensures { result ≡ status_after stray written }
 {
@@ -80,7 +80,7 @@ fn status_of<R: Print>(rt: &R, stray: Option<Fault>, written: Result<(), Fault>)
     }
 }
 
-// Writes the journal of a life, if one was lived, and says what is wrong.
+// Writes the journal of a life, if one was lived, prints its faults, and returns the status.
 fn ended<R: Files + Print>(rt: &R, alloc: Global, life: &Result<Lived, Fault>) -> u8
     ensures { EndsWith life.now result }
 {
@@ -94,15 +94,17 @@ fn ended<R: Files + Print>(rt: &R, alloc: Global, life: &Result<Lived, Fault>) -
     }
 }
 
-/// Lives as a node by the settings in a file, and answers the exit status: 0, or 1 after a fault, which is one line on
+/// Lives as a node by the settings in a file, and returns the exit status: 0, or 1 after a fault, which is one line on
 /// standard output.
 ///
 /// A life ends once its rounds are done and sent, its exchanges were taken and its operator has ended. The first of
 /// these faults that comes ends it before it begins: the settings can't be read (`ReadFault`) or are none (`BadText`);
 /// the generation can't be read (`ReadFault`), is none (`BadText`), has none above it (`VersionsSpent`) or can't be
-/// kept (`WriteFault`); another program listens there (`ReadFault`); memory or a thread is refused (`OutOfMemory`). At
-/// the end a receipt that the history does not confirm is told by its fault, and the journal is written all the same;
-/// `WriteFault` where it can't be. A fault of a worker ends that worker; it is not told, and leaves the status.
+/// kept (`WriteFault`); another program listens there (`ReadFault`); memory or a thread is refused (`OutOfMemory`).
+///
+/// At the end it prints the fault of the first receipt that the history does not confirm, and writes the journal all
+/// the same; `WriteFault` if it can't. A fault of a worker ends that worker; it is not printed, and does not change the
+/// status.
 pub fn serve<R>(rt: &R, alloc: Global, file: &str) -> u8
 where
     R: Threads

@@ -10,7 +10,7 @@ use std::net::{Net, SocketAddr, TcpStream};
 use std::rt::Clock;
 use std::time::Instant;
 
-/// What dials peers over TCP. Dialing a peer and the exchange with it end at one moment.
+/// A dialer of peers over TCP. Dialing a peer and the exchange with it have one end time.
 #[derive(Drop)]
 pub struct Dialer<'a, R: Net<Stream = TcpStream> + Clock> {
     rt: &'a R,
@@ -19,12 +19,12 @@ pub struct Dialer<'a, R: Net<Stream = TcpStream> + Clock> {
 }
 
 impl<'a, R: Net<Stream = TcpStream> + Clock> Dialer<'a, R> {
-    /// What gives dialing and an exchange so many milliseconds.
+    /// Makes a dialer that gives dialing and an exchange `limit` milliseconds.
     pub fn new(rt: &'a R, alloc: Global, limit: u32) -> Dialer<'a, R> {
         Dialer { rt, alloc, limit }
     }
 
-    // Connects to a peer, before a moment.
+    // Connects to a peer, before an end time.
     fn connect(&self, peer: Endpoint, end: Instant) -> io::Result<TcpStream> {
         let address = SocketAddr::from((peer.address(), peer.port()));
         let left = left_until(self.rt, end)?;

@@ -2,8 +2,8 @@
 
 ghost use Rattle.cg_sockets.specs.Limits.{LimitValues};
 
-/// What a peer began lasts 2,000 ms at most, what a node begins is given 100 ms at least; an interrupted call is made 16
-/// times at most, a connection waited for 600 times, with 100 ms between two.
+/// An exchange that a peer began lasts 2,000 ms at most; one that a node begins has 100 ms at least. An interrupted
+/// call is made 16 times at most. A connection is waited for 600 times at most, with 100 ms between two tries.
 pub fn limits_have_their_values()
     ensures { LimitValues }
 {}

@@ -1,7 +1,7 @@
 //! Connections over TCP, each with one end time for all that it does.
 //!
 //! A limit of a socket is for one call, so a peer that sends a byte now and then could hold a connection for ever. Here
-//! each call of a connection is given what is left until its end, and a call behind the end fails.
+//! each call of a connection has the time that is left until its end, and a call after the end fails.
 #![tactic(auto)]
 
 mod dialing;

@@ -1,24 +1,24 @@
-//! How long connections may last, and how often a call is tried again.
+//! Limits of connections: the time that they may last, and the number of tries.
 
 ghost use Rattle.std.specs.Prelude.{◌≡◌, ◌/◌, max};
 
-/// Milliseconds that an exchange lasts at most where another side began it.
+/// The most milliseconds that an exchange lasts if another side began it.
 pub const RESPOND_LIMIT: u32 = 2000;
 
-/// Milliseconds that are given at least to dialing a peer and the exchange with it.
+/// The least milliseconds that dialing a peer and the exchange with it have.
 pub const LEAST_LIMIT: u32 = 100;
 
-/// How often a call that was interrupted is made at most.
+/// The most times that a call is made that was interrupted.
 pub const CALL_TRIES: u32 = 16;
 
-/// How often a connection is waited for at most, where those that came could not be taken.
+/// The most times that a connection is waited for if those that came could not be taken.
 pub const ACCEPT_TRIES: u32 = 600;
 
 /// Milliseconds between two such tries.
 pub const ACCEPT_PAUSE: u32 = 100;
 
-/// Milliseconds that are given to dialing a peer and the exchange with it, by those between two rounds: a third, so
-/// that three peers that are gone do not hold up the next round, and at least `LEAST_LIMIT`.
+/// Returns the milliseconds for dialing a peer and the exchange with it, by those between two rounds. They are a third,
+/// so that three peers that are gone do not hold up the next round, and at least `LEAST_LIMIT`.
 pub fn limit_for(interval: u32) -> u32
     ensures { result ≡ max (interval / 3) LEAST_LIMIT }
 {

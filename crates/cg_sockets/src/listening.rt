@@ -14,12 +14,12 @@ use std::rt::Clock;
 use std::time::Duration;
 use std::{io, thread};
 
-// What the system says of a process, and of itself, that has no descriptor left.
+// The system's error numbers if a process, and if the system itself, has no descriptor left.
 const NO_DESCRIPTOR: i32 = 24;
 
 const NO_FILE: i32 = 23;
 
-/// Where peers connect over TCP. An exchange ends `RESPOND_LIMIT` milliseconds after its connection came.
+/// A listener over TCP. An exchange ends `RESPOND_LIMIT` milliseconds after its connection came.
 #[derive(Drop)]
 pub struct Listener<'a, R: Clock> {
     rt: &'a R,
@@ -27,7 +27,7 @@ pub struct Listener<'a, R: Clock> {
     listener: TcpListener,
 }
 
-// Whether no more is said than that one connection could not be taken.
+// Tests whether an error says no more than that one connection could not be taken.
 fn is_of_one(error: &Error) -> bool {
     match error.kind() {
         ErrorKind::ConnectionAborted
@@ -42,8 +42,8 @@ fn is_of_one(error: &Error) -> bool {
 }
 
 impl<'a, R: Net<Listener = TcpListener, Stream = TcpStream> + Clock> Listener<'a, R> {
-    /// Listens at an endpoint. `ReadFault` where that can't be, as where another program does; `OutOfMemory` where
-    /// memory is refused.
+    /// Listens at an endpoint. `ReadFault` if that can't be, for example because another program listens there;
+    /// `OutOfMemory` if memory is refused.
     pub fn bind(rt: &'a R, alloc: Global, at: Endpoint) -> Result<Listener<'a, R>, Fault>
         ensures { IfErr result (λ f. (f ≡ faults.OutOfMemory) ⊎ (f ≡ faults.ReadFault)) }
     {
@@ -63,12 +63,12 @@ impl<'a, R: Net<Listener = TcpListener, Stream = TcpStream> + Clock> Listener<'a
 }
 
 impl<'a, R: Clock> Listener<'a, R> {
-    /// Where it listens.
+    /// Returns the address at which it listens.
     pub fn address(&self) -> io::Result<SocketAddr> {
         self.listener.local_addr()
     }
 
-    // The next connection; none where one could not be taken.
+    // Returns the next connection; `None` if one could not be taken.
     fn accept_one(&self) -> Result<Option<(Side<'a, R>, Side<'a, R>)>, Fault>
         ensures { IfErr result (λ f. f ≡ faults.ReadFault) }
     {
@@ -91,8 +91,9 @@ impl<'a, R: Clock> Listener<'a, R> {
     }
 }
 
-/// A connection that can't be taken, as where its peer gave up, no descriptor is left or memory is refused, is no end:
-/// after a pause the next one is waited for, up to `ACCEPT_TRIES` times. Any other failure is `ReadFault`.
+/// Goes on after a connection that can't be taken, for example because its peer gave up, no descriptor is left or
+/// memory is refused. After a pause it waits for the next one, up to `ACCEPT_TRIES` times. Any other failure is
+/// `ReadFault`.
 impl<'a, R: Clock> Listen for Listener<'a, R> {
     ghost use Rattle.std.specs.Prelude.{◌≡◌, IfErr};
     ghost use Rattle.cg_types.specs.declared.fault.Fault.TheVariants.{ReadFault};

@@ -14,7 +14,7 @@ use std::rt::Clock;
 use std::sync::Arc;
 use std::time::{Duration, Instant};
 
-/// A connection, to read or to write. A call fails that is made behind the connection's end, or that ends behind it.
+/// A connection, to read or to write. A call fails if it is made after the connection's end, or ends after it.
 #[derive(Drop)]
 pub struct Side<'a, R: Clock> {
     rt: &'a R,
@@ -22,7 +22,7 @@ pub struct Side<'a, R: Clock> {
     end: Instant,
 }
 
-/// The moment so many milliseconds from now.
+/// Returns the time a number of milliseconds from now.
 pub(crate) fn end_in<R: Clock>(rt: &R, milliseconds: u32) -> io::Result<Instant> {
     let now = Instant::now(rt)?;
     match now.checked_add(Duration::from_millis(u64::from(milliseconds))) {
@@ -31,7 +31,7 @@ pub(crate) fn end_in<R: Clock>(rt: &R, milliseconds: u32) -> io::Result<Instant>
     }
 }
 
-/// The time that is left until a moment; `TimedOut` where none is.
+/// Returns the time that is left until an end; `TimedOut` if none is.
 pub(crate) fn left_until<R: Clock>(rt: &R, end: Instant) -> io::Result<Duration> {
     let left = end.saturating_duration_since(Instant::now(rt)?);
     if left.is_zero() {
@@ -41,7 +41,7 @@ pub(crate) fn left_until<R: Clock>(rt: &R, end: Instant) -> io::Result<Duration>
 }
 
 impl<'a, R: Clock> Side<'a, R> {
-    /// Both sides of a connection that ends at a moment. `OutOfMemory` where there is no memory for them; the
+    /// Makes both sides of a connection that ends at a given time. `OutOfMemory` if there is no memory for them; the
     /// connection is then closed.
     pub(crate) fn pair(
         rt: &'a R,

@@ -1,8 +1,8 @@
 //! A node's workers, in the caller's thread and three more, over one history.
 //!
-//! `run_node` starts four workers on the seats of one board: the receiver answers exchanges, the sender begins them, the
-//! ticker begins rounds, and the operator does what it is told. What is left in the end is a history in which all their
-//! receipts stand.
+//! `run_node` starts four workers on the seats of one board: the receiver answers exchanges, the sender begins them,
+//! the ticker begins rounds, and the operator does its own work. They leave one history, which has a record of each of
+//! their receipts.
 #![tactic(auto)]
 
 mod parts;

@@ -1,16 +1,16 @@
-//! What a node runs on.
+//! The parts that a node runs on: links, a clock, random words, an operator.
 
-/// What a node runs on.
+/// The parts that a node runs on.
 #[derive(Drop)]
 pub struct Parts<L: Drop, D: Drop, C: Drop, G: Drop, O: Drop> {
-    /// Where connections come in.
+    /// The source of connections that come in.
     pub listener: L,
-    /// What makes connections.
+    /// The maker of connections to peers.
     pub dialer: D,
-    /// The clock that moments are read from.
+    /// The clock that times are read from.
     pub clock: C,
-    /// What the words of ticks are drawn from.
+    /// The generator from which the words of ticks are drawn.
     pub generator: G,
-    /// What the operator does.
+    /// The operator's work.
     pub operator: O,
 }

@@ -1,4 +1,4 @@
-//! What a worker's thread promises of what it leaves.
+//! The promises of a worker's thread about the values that it leaves.
 
 use cg_left::{Left, Sent, Ticks};
 use cg_locked::{Name, Seat};
@@ -6,7 +6,7 @@ use cg_rounds::{Putting, Taking};
 use std::snapshot::Snapshot;
 use std::thread::Promise;
 
-// The operator's.
+// The promise of the operator's thread.
 #[derive(Drop)]
 pub(crate) struct Operates<N: Name> {
     pub(crate) seat: Snapshot<Seat<N>>,
@@ -19,7 +19,7 @@ impl<N: Name> Promise<Left<N>> for Operates<N> {
         IsLeft is_any p.seat.value.caller p.seat.value.share.parts r };
 }
 
-// The sender's.
+// The promise of the sender's thread.
 #[derive(Drop)]
 pub(crate) struct Sends<N: Name> {
     pub(crate) seat: Snapshot<Seat<N>>,
@@ -34,7 +34,7 @@ impl<N: Name> Promise<Sent<N>> for Sends<N> {
         × HasTaken p.taking.value r.taken r.numbers.items };
 }
 
-// The ticker's.
+// The promise of the ticker's thread.
 #[derive(Drop)]
 pub(crate) struct TicksOn<N: Name> {
     pub(crate) seat: Snapshot<Seat<N>>,

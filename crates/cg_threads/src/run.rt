@@ -27,7 +27,7 @@ use std::sync::ledger::Blank;
 use std::sync::{OnceLock, Wait};
 use std::thread::Threads;
 
-// Runs a node whose name fixes its ledger, its views and where its history began.
+// Runs a node whose name fixes its ledger, its views and the start of its history.
 fn run_named<
     N: Name + Send + Sync,
     R: Threads + Wait + Clock + Sync,
@@ -95,14 +95,14 @@ where
 /// Runs a node until its workers have ended, and takes its history back.
 ///
 /// The receiver answers up to `exchanges` connections, the ticker begins `rounds` rounds, `interval` milliseconds
-/// apart, the sender sends them, and the operator runs to its end; the receiver works in the caller's thread, each of
+/// apart, the sender sends them, and the operator runs to its end. The receiver works in the caller's thread, each of
 /// the others in one of its own. An exchange that breaks ends itself alone, a fault of the listener or of the operator
-/// that worker alone; where the sender or the ticker stops for want of memory, the other ends too, with fewer rounds.
-/// None begins before all are started. It waits until all have ended.
+/// that worker alone. If the sender or the ticker stops for want of memory, the other ends too, with fewer rounds. No
+/// worker begins before all are started. The call waits until all have ended.
 ///
-/// `history` has no records yet. `Unstarted`, with OutOfMemory, where the copy of its table, the views, the board, the
-/// channel or a thread was refused: then nothing was done, and the history is gone. `Unconfirmed` where the history
-/// does not confirm all receipts.
+/// `history` has no records yet. `Unstarted`, with OutOfMemory, if the copy of its table, the views, the board, the
+/// channel or a thread was refused: then nothing was done, and the history is gone. `Unconfirmed` if the history does
+/// not confirm all receipts.
 pub fn run_node<
     R: Threads + Wait + Clock + Sync,
     L: Listen + Drop,

@@ -27,7 +27,7 @@ use std::sync::Wait;
 use std::thread;
 use std::thread::Threads;
 
-// Starts the workers, the receiver in this thread, and waits for their ends. Each begins once all are started; where one
+// Starts the workers, the receiver in this thread, and waits for their ends. Each begins once all are started; if one
 // could not be started, all end at once.
 pub(crate) fn work<
     N: Name + Send + Sync,

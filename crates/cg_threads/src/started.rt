@@ -5,19 +5,19 @@ ghost use Rattle.std.specs.Prelude.{◌≡◌, IfOk, IfErr};
 use std::snapshot::Snapshot;
 use std::thread::{Promise, PromisedHandle, Scope, SpawnError, Threads};
 
-// A worker's thread, or its work where no thread could be made; and what it promised.
+// A worker's thread, or its work if no thread could be made; and its promise.
 pub(crate) struct Started<T, P: Promise<T>, F> {
     promise: Snapshot<P>,
     worker: Result<PromisedHandle<T, P>, SpawnError<F>>,
 }
 
 impl<T, P: Promise<T>, F: FnOnce() -> T> Started<T, P, F> {
-    // Whether it has a thread.
+    // Tests whether it has a thread.
     pub(crate) fn has_thread(&self) -> bool {
         self.worker.is_ok()
     }
 
-    // What it leaves, once its thread has ended, as it promised; one that no thread could be made for works here.
+    // Returns the worker's value, as promised, once its thread has ended; works here if no thread could be made.
     pub(crate) fn ended<R: Threads>(self, rt: &R) -> T
         requires promised { IfOk self.worker (λ h. h.promise ≡ self.promise.value) }
         requires runs { IfErr self.worker (λ e. F.pre e.value) }

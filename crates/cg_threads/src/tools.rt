@@ -1,6 +1,6 @@
-//! What each worker has of its own.
+//! The tools that each worker has of its own.
 
-// Where the receiver accepts, how the sender dials, what the ticker draws from, and what the operator does.
+// The receiver's listener, the sender's dialer, the ticker's generator, and the operator's work.
 #[derive(Drop)]
 pub(crate) struct Tools<L: Drop, D: Drop, G: Drop, O: Drop> {
     pub(crate) listener: L,

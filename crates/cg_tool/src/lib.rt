@@ -1,5 +1,5 @@
-//! The program's work, over readers and writers: each job stands in a crate of its own; here one is chosen by the words of
-//! the command line, and done, but for serving, which is left to the program.
+//! The program's work over readers and writers: the words of the command line choose a job, which a crate of its own
+//! does. Serving is left to the program.
 #![tactic(auto)]
 
 mod running;

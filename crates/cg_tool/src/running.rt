@@ -17,7 +17,7 @@ const FAILED: u8 = 1;
 /// The status after a fault of the command line.
 pub const MISUSED: u8 = 2;
 
-/// What a run of the program ends with.
+/// The outcome of a run of the program.
 #[derive(Drop)]
 pub enum Ending {
     /// All was done; this is the exit status.
@@ -34,13 +34,13 @@ fn texts(alloc: Global, words: &[String]) -> Result<Vec<&str>, AllocError> {
     Ok(texts)
 }
 
-// Says that memory was short before the work began, where that can be said.
+// Prints that memory was short before the work began, if it can be printed.
 fn out_of_memory<R: Print>(rt: &R) -> u8 {
     let _ = println!(rt; "fault 1 OutOfMemory");
     FAILED
 }
 
-// Tells what is wrong with the words, or the help or the version that they ask for.
+// Prints the fault of the words, or the help or the version that they ask for, and returns the status.
 fn told<R: Print + Eprint>(rt: &R, error: &Error) -> u8 {
     if error.kind() == ErrorKind::OutOfMemory {
         return out_of_memory(rt);
@@ -65,7 +65,7 @@ fn read<R: Files>(
     }
 }
 
-// Tells on standard error where a journal can't be read.
+// Prints on standard error the line at which a journal can't be read, and the fault.
 fn tell_place<R: Eprint>(rt: &R, file: &str, unread: Unread) {
     let Unread { line, fault } = unread;
     let _ = match line {
@@ -90,7 +90,7 @@ fn audit<R: Print + Eprint + Files>(rt: &R, alloc: Global, files: &[&str]) -> u8
     write_report(alloc, journals, &mut writer)
 }
 
-// By which settings a node is to be served.
+// Returns the settings file of the node that is to be served.
 fn serves<R: Print>(rt: &R, alloc: Global, files: &[&str]) -> Ending {
     match files {
         [file] => match file.to_string(alloc) {
@@ -102,7 +102,7 @@ fn serves<R: Print>(rt: &R, alloc: Global, files: &[&str]) -> Ending {
     }
 }
 
-// Does a job over the standard streams and over files, but for serving.
+// Does a job over the standard streams and over files, except serving.
 fn done<R: Runtime>(rt: &R, alloc: Global, job: &Job) -> Ending {
     let mut reader = Counted::new(rt.reader());
     let mut writer = Counted::new(io::writer(rt));
@@ -114,7 +114,7 @@ fn done<R: Runtime>(rt: &R, alloc: Global, job: &Job) -> Ending {
     })
 }
 
-// Tells why the words can't be read.
+// Prints the reason why the words can't be read, and returns the status.
 fn unread<R: Print + Eprint>(rt: &R, error: &io::Error) -> u8 {
     if error.kind() == io::ErrorKind::OutOfMemory {
         return out_of_memory(rt);
@@ -123,7 +123,7 @@ fn unread<R: Print + Eprint>(rt: &R, error: &io::Error) -> u8 {
     MISUSED
 }
 
-// Does what the words ask for.
+// Does the job that the words name.
 fn ran<R: Runtime>(rt: &R, alloc: Global, words: &[String]) -> Ending {
     let Ok(words) = texts(alloc, words) else {
         return Ending::Status(out_of_memory(rt));
@@ -134,7 +134,7 @@ fn ran<R: Runtime>(rt: &R, alloc: Global, words: &[String]) -> Ending {
     }
 }
 
-// Does what words ask for, of which the first is the program's name.
+// Does the job that words name, of which the first is the program's name.
 pub(crate) fn run_words<R: Runtime>(
     rt: &R,
     alloc: Global,
@@ -146,15 +146,15 @@ pub(crate) fn run_words<R: Runtime>(
     }
 }
 
-// The words of the command line, of which the first is the program's name.
+// Returns the words of the command line, of which the first is the program's name.
 fn words<R: Env + AllocGlobal>(rt: &R) -> io::Result<Vec<String>> {
     Ok(env::args(rt)?.collect(rt.alloc())?)
 }
 
-/// Does what the words of the command line ask for, of which the first is the program's name, over the standard streams and
-/// the files that are named, but for serving: whoever calls it has a node served by the file that it answers. With no
-/// further words the job is `answer`. Help and the version go to standard output, with status 0; a fault of the command
-/// line goes to standard error, with status 2, as does a word that is not UTF-8. Want of memory before the work begins is
+/// Does the job that the words of the command line name, over the standard streams and the named files. The first word
+/// is the program's name; with no further words the job is `answer`. A node is not served here: the caller serves it by
+/// the file that is returned. Help and the version go to standard output, with status 0. A fault of the command line
+/// goes to standard error, with status 2, as does a word that is not UTF-8. Want of memory before the work begins is
 /// the line `fault 1 OutOfMemory`, with status 1.
 pub fn run<R: Runtime + AllocGlobal>(rt: &R) -> Ending {
     run_words(rt, rt.alloc(), words(rt))

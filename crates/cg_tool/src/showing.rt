@@ -1,4 +1,4 @@
-//! Runs of the program that are shown, for stored runs.
+//! Runs of the program that are printed, for stored runs.
 
 use crate::running::{Ending, MISUSED, run, run_words};
 use std::alloc::Global;
@@ -22,16 +22,16 @@ fn status_of(ending: Ending) -> u8 {
     }
 }
 
-// Does what a line of words asks for.
+// Does the job of a line of words.
 fn show<R: Runtime>(rt: &R, alloc: Global, line: &str) {
     let _ = println!(rt; "> {line}");
     let status = status_of(run_words(rt, alloc, words_in(alloc, line)));
     let _ = println!(rt; "< {status}");
 }
 
-/// Does what a few lines of words ask for, each behind a line that shows them and before one with the status, and then
-/// what the words of the command line do, whose status it answers. Where words ask to serve, that is not done, and the
-/// status is 2.
+/// Does the job of each line of words, after a line that shows them and before one with the status. Then it does the
+/// job of the command line's words, and returns its status. If words ask to serve, no node is served, and the status is
+/// 2.
 pub fn show_run<R: Runtime + AllocGlobal>(rt: &R, lines: &[&str]) -> u8 {
     for line in lines {
         show(rt, rt.alloc(), line);

@@ -1,6 +1,6 @@
 //! The work of each of a node's four workers, over a gate of its own seat.
 //!
-//! Each waits for the word whether all were started, does its work, and leaves its seat with its receipts.
+//! Each waits for the start signal, does its work if all workers were started, and leaves its seat with its receipts.
 #![tactic(auto)]
 
 mod site;

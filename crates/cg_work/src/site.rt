@@ -1,9 +1,9 @@
-//! What the workers of a node share.
+//! The values that the workers of a node share.
 
 use cg_locked::{Name, Shared};
 use std::sync::OnceLock;
 
-/// The board, the clock, and the word whether all workers were started.
+/// The board, the clock, and the start signal: `true` if all workers were started.
 pub struct Site<N: Name, C> {
     pub shared: Shared<N>,
     pub clock: C,

@@ -1,4 +1,4 @@
-//! The workers: each waits for the word, works over a gate of its seat, and gives the seat back.
+//! The workers: each waits for the start signal, works over a gate of its seat, and gives the seat back.
 
 ghost use Rattle.std.specs.Prelude.{◌≡◌, []};
 ghost use Rattle.cg_rounds.specs.Ends.{put_by, taken_by};
@@ -20,7 +20,7 @@ use std::alloc::Global;
 use std::rt::Clock;
 use std::sync::Wait;
 
-// What is left of a gate: its seat and its receipts, which are all of the seat's caller.
+// Takes a gate apart: its seat and its receipts, which are all of the seat's caller.
 fn left_of<N: Name, R: Wait>(gate: SeatGate<'_, N, R>) -> Left<N>
     ensures parts { result.parts ≡ gate.entry.parts }
     ensures receipts { result.receipts ≡ gate.entry.receipts }
@@ -30,7 +30,7 @@ fn left_of<N: Name, R: Wait>(gate: SeatGate<'_, N, R>) -> Left<N>
     Left::of(seat, receipts)
 }
 
-/// The receiver's: it answers up to `exchanges` connections. A fault of the listener ends it.
+/// Does the receiver's work: it answers up to `exchanges` connections. A fault of the listener ends it.
 pub fn receive<N: Name, R: Wait, L: Listen + Drop, C: Milliseconds>(
     rt: &R,
     alloc: Global,
@@ -51,7 +51,7 @@ pub fn receive<N: Name, R: Wait, L: Listen + Drop, C: Milliseconds>(
     left_of(gate)
 }
 
-/// The sender's: it sends the rounds that come through the channel, until that ends.
+/// Does the sender's work: it sends the rounds that come through the channel, until that ends.
 pub fn send<N: Name, R: Wait, D: Dial + Drop, C: Milliseconds>(
     rt: &R,
     alloc: Global,
@@ -83,7 +83,7 @@ pub fn send<N: Name, R: Wait, D: Dial + Drop, C: Milliseconds>(
     }
 }
 
-/// The ticker's: it begins the rounds of these turns, and puts each into the channel.
+/// Does the ticker's work: it begins the rounds of these turns, and puts each into the channel.
 pub fn tick<N: Name, R: Wait + Clock, C: Milliseconds, G: Rng + Drop>(
     rt: &R,
     alloc: Global,
@@ -123,7 +123,7 @@ pub fn tick<N: Name, R: Wait + Clock, C: Milliseconds, G: Rng + Drop>(
     }
 }
 
-/// The operator's, to its end.
+/// Does the operator's work, to its end.
 pub fn operate<N: Name, R: Wait, C: Milliseconds, O: Operate + Drop>(
     rt: &R,
     alloc: Global,
