@@ -10,7 +10,7 @@ use std::rt::Files;
 use std::test::Fail;
 use std::{fs, io};
 
-/// A port that nobody listens at.
+/// Returns a port at which nobody listens.
 pub fn free_port<R: Net<Listener = TcpListener, Stream = TcpStream>>(rt: &R) -> io::Result<u16> {
     let listener = TcpListener::bind(rt, "127.0.0.1:0")?;
     listener.local_addr().map(|at| at.port())
@@ -34,7 +34,7 @@ pub fn write_file<R: Files>(
     Ok(())
 }
 
-/// Writes the settings of a node that begins two rounds and takes nobody; where they then lie.
+/// Writes the settings of a node that begins two rounds and takes no exchange, and returns their path.
 pub fn write_settings<R: Files>(
     rt: &R,
     alloc: Global,
@@ -56,7 +56,7 @@ pub fn remove_file<R: Files>(rt: &R, alloc: Global, name: &str, ending: &str) ->
     Ok(())
 }
 
-/// The generation that a node kept, if it kept one, or why it cannot be read.
+/// Reads the generation that a node kept, if it kept one; or returns the fault by which it can't be read.
 pub fn generation_of<R: Files>(
     rt: &R,
     alloc: Global,
@@ -70,8 +70,8 @@ pub fn generation_of<R: Files>(
     })
 }
 
-/// Whose journal a node left, in which generation, and how many records it has; `None` where there is no file. A journal
-/// that cannot be read is a failure.
+/// Reads the journal that a node left: its endpoint, its generation, and the number of its records; `None` if there is
+/// no file. A journal that can't be read is a failure.
 pub fn journal_of<R: Files>(
     rt: &R,
     alloc: Global,

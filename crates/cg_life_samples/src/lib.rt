@@ -1,4 +1,4 @@
-//! What lives of nodes that tests serve begin with and leave: settings, generations and journals in files.
+//! Files of the nodes that tests serve: settings, generations and journals.
 #![tactic(auto)]
 
 mod files;

@@ -1,8 +1,8 @@
-//! The list of a node's cases: their names, and what each is to do.
+//! The list of a node's cases: their names and their tasks.
 
 use cg_measure::Shape;
 
-/// What a case does, at tables of its shape where it needs any.
+/// The task of a case, at tables of its shape if it needs any.
 #[derive(Clone, Copy)]
 pub(crate) enum Task {
     /// A node takes one heartbeat of another.
@@ -15,20 +15,20 @@ pub(crate) enum Task {
     Links,
     /// The ACK that brings a whole table is read from a link.
     Receive,
-    /// So many heartbeats, one by one.
+    /// A number of heartbeats, one by one.
     Steps(u32),
     /// The same as records of a history.
     Records(u32),
-    /// A hundred thousand receipts of so many callers, who beat in turn, are confirmed: from one to the next, the number
-    /// rises by this.
+    /// A hundred thousand receipts of `callers` callers, who beat in turn, are confirmed: from one to the next, the
+    /// number rises by `rise`.
     Confirms { callers: u32, rise: u32 },
-    /// A script of so many nodes and rounds is played.
+    /// A script of a number of nodes and of rounds is played.
     Play(u16, u32),
-    /// Its actions are done.
+    /// The actions of such a script are done.
     Act(u16, u32),
 }
 
-/// What a case is called (the work, what it is done on, and a tag), what it does, and the shape of its tables.
+/// A case: its name (the work, its object, and a tag), its task, and the shape of its tables.
 pub(crate) type Case = (&'static str, &'static str, &'static str, Task, Shape);
 
 const SMALLEST: Shape = Shape {

@@ -17,7 +17,7 @@ fn next(alloc: Global, number: u32) -> Result<Event, Failure> {
     heartbeat(alloc, 1 + (number % 255) as u16, above, above + 1)
 }
 
-/// All that the others hold, and then so many heartbeats.
+/// The event of all that the others hold, and then `count` heartbeats.
 pub(crate) fn events(alloc: Global, shape: Shape, count: u32) -> Result<Vec<Event>, Failure> {
     let mut events = Vec::new(alloc);
     events.push(others(alloc, shape)?)?;
@@ -52,7 +52,7 @@ pub(crate) fn recorded(alloc: Global, events: &[Event]) -> Result<History, Failu
     Ok(history)
 }
 
-/// The history of so many heartbeats at a whole table, whose events are handed to it and not copied.
+/// The history of `count` heartbeats at a whole table, whose events are handed to it and not copied.
 pub(crate) fn kept(alloc: Global, shape: Shape, count: u32) -> Result<History, Failure> {
     let mut history = begun(alloc)?;
     apply(alloc, &mut history, 1, others(alloc, shape)?)?;
@@ -62,10 +62,10 @@ pub(crate) fn kept(alloc: Global, shape: Shape, count: u32) -> Result<History, F
     Ok(history)
 }
 
-// How many records are confirmed.
+// The number of records that are confirmed.
 const RECEIPTS: u32 = 100_000;
 
-/// The history of a hundred thousand beats of so many callers, who beat in turn.
+/// The history of a hundred thousand beats of `callers` callers, who beat in turn.
 pub(crate) fn beats(alloc: Global, callers: u32) -> Result<History, Failure> {
     let mut history = begun(alloc)?;
     for number in 1..=RECEIPTS {
@@ -85,7 +85,7 @@ fn receipt(number: u32, callers: u32) -> Receipt {
     }
 }
 
-// Adds the receipts whose numbers rise by this from the first.
+// Adds the receipts whose numbers rise by `rise` from the first.
 fn add_receipts(
     receipts: &mut Vec<Receipt>,
     first: u32,
@@ -100,7 +100,7 @@ fn add_receipts(
     Ok(())
 }
 
-/// The receipts of all beats, in runs whose numbers rise by this.
+/// The receipts of all beats, in runs whose numbers rise by `rise`.
 pub(crate) fn receipts(alloc: Global, callers: u32, rise: u32) -> Result<Vec<Receipt>, AllocError> {
     let mut receipts = Vec::new(alloc);
     for first in 1..=rise {

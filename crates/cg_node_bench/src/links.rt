@@ -14,7 +14,7 @@ use cg_samples::cluster;
 use cg_wire::receive;
 use std::alloc::{AllocError, Global};
 
-/// One side of an exchange: its node, and what it reads.
+/// One side of an exchange: its node, and the bytes that it reads.
 #[derive(Drop)]
 pub(crate) struct Side {
     node: Node,
@@ -26,7 +26,7 @@ fn opening(alloc: Global, opener: &Node) -> Result<Syn, Failure> {
     Ok(syn(alloc, opener.table(), &cluster)?)
 }
 
-/// The answerer's node after an exchange over links, and what it wrote.
+/// The answerer's node after an exchange over links, and the bytes that it wrote.
 pub(crate) fn answerer_part(alloc: Global, side: &Side) -> Result<(Node, Vec<u8>), Failure> {
     let mut gate = NodeGate::new(side.node.copy()?);
     let mut reader = Counted::new(side.input.as_slice());
@@ -38,7 +38,7 @@ pub(crate) fn answerer_part(alloc: Global, side: &Side) -> Result<(Node, Vec<u8>
     Ok((gate.into_node(), writer.into_link()))
 }
 
-/// The same of the opener.
+/// The opener's node after an exchange over links, and the bytes that it wrote.
 pub(crate) fn opener_part(alloc: Global, side: &Side) -> Result<(Node, Vec<u8>), Failure> {
     let syn = opening(alloc, &side.node)?;
     let mut gate = NodeGate::new(side.node.copy()?);
@@ -51,13 +51,13 @@ pub(crate) fn opener_part(alloc: Global, side: &Side) -> Result<(Node, Vec<u8>),
     Ok((gate.into_node(), writer.into_link()))
 }
 
-/// The message that is read from a link.
+/// The message that a link holds.
 pub(crate) fn received(alloc: Global, frame: &[u8]) -> Result<Message, Failure> {
     let mut reader = Counted::new(frame);
     receive(alloc, &mut reader)?.ok_or(Failure::Lacking("a message"))
 }
 
-// What the answerer sends to the SYN of the opener.
+// The ACK that the answerer sends to the opener's SYN.
 fn answer(alloc: Global, opener: &Node, answerer: &Node) -> Result<Ack, Failure> {
     let cluster = cluster(alloc)?;
     let syn = syn(alloc, opener.table(), &cluster)?;
@@ -103,13 +103,13 @@ fn put_together(alloc: Global, one: &[u8], other: &[u8]) -> Result<Vec<u8>, Allo
     Ok(all)
 }
 
-// What the opener reads: an ACK.
+// The bytes that the opener reads: an ACK.
 fn opener_input(alloc: Global, opener: &Node, answerer: &Node) -> Result<Vec<u8>, Failure> {
     let ack = encode(alloc, &Message::Ack(answer(alloc, opener, answerer)?))?;
     Ok(ack.to_vec(alloc)?)
 }
 
-// What the answerer reads: a SYN and an ACK2.
+// The bytes that the answerer reads: a SYN and an ACK2.
 fn answerer_input(alloc: Global, opener: &Node, answerer: &Node) -> Result<Vec<u8>, Failure> {
     let ack2 = ack2_frame(alloc, opener, answer(alloc, opener, answerer)?)?;
     Ok(put_together(alloc, &syn_frame(alloc, opener)?, &ack2)?)

@@ -1,7 +1,7 @@
-//! Measures what a node does: its steps, exchanges over links, histories and scripts. With no words it runs each case once
-//! and prints a digest of what it makes, which no clock and no machine changes; with the word `time` it measures each. With
-//! the word `keep` and a number it makes so many records of heartbeats at a whole table, and keeps them to its end, so that
-//! what they take can be seen from outside.
+//! Measures the work of a node: its steps, exchanges over links, histories and scripts. With no words it runs each case
+//! once and prints a digest of its results, which no clock and no machine changes. With the word `time` it measures
+//! each. With the word `keep` and a number it makes that number of records of heartbeats at a whole table, and keeps
+//! them to its end, so that their memory can be measured from outside.
 #![tactic(auto)]
 
 mod cases;
@@ -18,7 +18,7 @@ use cg_measure::{Failure, is_first_word, mode_of, run_cases};
 use std::alloc::Global;
 use std::env::Env;
 
-// The number that the second word is, and 0 where it is none.
+// The number in the second word, or 0 if it is none.
 fn second_number(rt: &impl Env) -> u32 {
     let mut word = [0u8; 8];
     let Ok(size) = rt.arg(2, &mut word) else {
@@ -31,7 +31,7 @@ fn second_number(rt: &impl Env) -> u32 {
     }
 }
 
-// Makes so many records, and tells how many it keeps.
+// Makes `count` records, and prints the number that it keeps.
 fn keep(rt: &impl Print, alloc: Global, count: u32) -> Result<(), Failure> {
     let history = kept(alloc, LARGEST, count)?;
     println!(rt; "{} records", history.records().len())?;

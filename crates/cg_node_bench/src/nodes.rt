@@ -74,7 +74,7 @@ pub(crate) fn joined(alloc: Global, shape: Shape) -> Result<Node, Failure> {
     Ok(after(alloc, &node, &others)?)
 }
 
-/// The event of a load that the node's own entry is to show.
+/// The event that sets a load in the node's own entry.
 pub(crate) fn load(alloc: Global) -> Result<Event, Fault> {
     Ok(Event::Set {
         key: key(3),

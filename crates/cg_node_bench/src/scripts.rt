@@ -9,7 +9,7 @@ use cg_world::{Action, World};
 use std::alloc::{AllocError, Global};
 use std::hint::black_box;
 
-// A script, and how many messages it sends.
+// A script, and the number of messages that it sends.
 #[derive(Drop)]
 struct Script {
     text: String,
@@ -79,8 +79,8 @@ fn among(number: u32, count: u16) -> u16 {
     u16::try_from(rest).unwrap_or(0)
 }
 
-/// A script of so many nodes, and then so many rounds: in each the next node opens, and the answerer is one of the seven
-/// after it.
+/// A script of `nodes` nodes, and then `rounds` rounds: in each the next node opens, and the answerer is one of the
+/// seven after it.
 pub(crate) fn script_of(alloc: Global, nodes: u16, rounds: u32) -> Result<String, AllocError> {
     let mut script = Script {
         text: String::new(alloc),
@@ -95,7 +95,7 @@ pub(crate) fn script_of(alloc: Global, nodes: u16, rounds: u32) -> Result<String
     Ok(script.text)
 }
 
-/// What a script prints.
+/// The text that a script prints.
 pub(crate) fn played(alloc: Global, script: &str) -> Result<Vec<u8>, Failure> {
     let mut reader = Counted::new(script.as_bytes());
     let mut writer = Counted::new(Vec::new(alloc));
@@ -105,7 +105,7 @@ pub(crate) fn played(alloc: Global, script: &str) -> Result<Vec<u8>, Failure> {
     Ok(writer.into_link())
 }
 
-/// What the lines of a script do.
+/// The actions of a script's lines.
 pub(crate) fn actions_of(alloc: Global, script: &str) -> Result<Vec<Action>, Failure> {
     let mut actions = Vec::new(alloc);
     for line in script.lines() {

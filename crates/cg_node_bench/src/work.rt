@@ -1,4 +1,4 @@
-//! The pieces of a node's work that are measured, what each works on, and what each makes.
+//! The tasks of a node that are measured, with their inputs and their results.
 
 use crate::cases::{Case, Task};
 use crate::histories::{beats, events, receipts, recorded, stepped, stray};
@@ -17,7 +17,7 @@ use cg_world::{Action, World};
 use md5::{Digest, Md5};
 use std::alloc::Global;
 
-/// One piece of work, with what it works on.
+/// One task, with its input.
 #[derive(Drop)]
 pub(crate) enum Work {
     /// One step of a node.
@@ -35,11 +35,11 @@ pub(crate) enum Work {
     Act(Vec<Action>),
 }
 
-/// What one turn makes.
+/// The result of one turn.
 #[derive(Drop)]
 pub(crate) enum Made {
     Node(Node),
-    /// Two nodes, each with what it wrote.
+    /// Two nodes, each with the bytes that it wrote.
     Linked((Node, Vec<u8>), (Node, Vec<u8>)),
     Message(Message),
     History(History),

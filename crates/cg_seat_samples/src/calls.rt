@@ -1,4 +1,4 @@
-//! What the operators of tests do at a gate.
+//! Calls that the operators of tests make at a gate.
 
 ghost use Rattle.std.specs.Prelude.{IfErr};
 ghost use Rattle.cg_seats.specs.Seats.{GoesOn, IsOperatorFault};
@@ -30,7 +30,7 @@ pub fn set_three<N: Name, R: Wait>(
     }
 }
 
-/// The version of the last reply.
+/// Returns the version of the last reply.
 pub fn last_version<N: Name, R: Wait>(gate: &SeatGate<'_, N, R>) -> Option<Version> {
     match gate.reply() {
         Some(Reply::Done(version)) => Some(*version),
@@ -38,7 +38,7 @@ pub fn last_version<N: Name, R: Wait>(gate: &SeatGate<'_, N, R>) -> Option<Versi
     }
 }
 
-/// Learns what is told, and answers whether anything was.
+/// Learns the `Told` of the last event, and returns `true` if there was one.
 pub fn learn<N: Name, R: Wait>(gate: &mut SeatGate<'_, N, R>, pass: &mut Pass<N>) -> bool
     ensures { GoesOn gate.old gate.new }
 {
@@ -51,7 +51,7 @@ pub fn learn<N: Name, R: Wait>(gate: &mut SeatGate<'_, N, R>, pass: &mut Pass<N>
     }
 }
 
-/// The version of key 3 as it is read, where its text is x.
+/// Reads the version of key 3, if its text is x.
 pub fn read_three<N: Name>(pass: &mut Pass<N>) -> Result<Option<Version>, Fault>
     ensures { IfErr result IsOperatorFault }
 {

@@ -1,4 +1,4 @@
-//! What operators of tests do at the gate of a seat.
+//! Samples for tests of operators at the gate of a seat.
 #![tactic(auto)]
 
 mod calls;

@@ -10,21 +10,21 @@ use cg_types::Fault;
 use std::alloc::{AllocError, Global};
 use std::rt::Files;
 
-/// How many vectors there were, and how many of them hold.
+/// The number of vectors that hold, and of all.
 #[derive(Clone, Copy, Debug)]
 pub struct Tally {
     pub held: usize,
     pub all: usize,
 }
 
-/// The lines of a text.
+/// Returns the lines of a text.
 pub fn lines_in(alloc: Global, text: &str) -> Result<Vec<&str>, AllocError>
     ensures { IfOk result (λ v. map (λ line. line.now) v.items ≡ lines text.now) }
 {
     text.lines().collect(alloc)
 }
 
-// A text that is known to be one.
+// Reads bytes as a text.
 fn text_in(bytes: &[u8]) -> Result<&str, Fault> {
     match std::str::from_utf8(bytes) {
         Ok(text) => Ok(text),
@@ -32,13 +32,13 @@ fn text_in(bytes: &[u8]) -> Result<&str, Fault> {
     }
 }
 
-// Tells what was found at a line in the place of what is expected.
+// Prints the text that was found at a line instead of the expected one.
 fn tell_difference<R: Print>(rt: &R, file: &str, number: usize, found: &[u8]) {
     let text = text_in(found).unwrap_or("no text");
     let _ = println!(rt; "{file}:{number}: {text}");
 }
 
-// Whether a vector holds. Where it does not, it tells what was found.
+// Tests whether a vector holds; if it does not, prints the text that was found.
 fn vector_holds<R: Files + Print + Alloc<A = Global>>(
     rt: &R,
     file: &str,
@@ -55,7 +55,7 @@ fn vector_holds<R: Files + Print + Alloc<A = Global>>(
     Ok(same)
 }
 
-// Whether a line has a vector that holds. Where it does not, it tells what was found, or why nothing was.
+// Tests whether a line has a vector that holds; if not, prints the text that was found, or why there is none.
 fn line_holds<R: Files + Print + Alloc<A = Global>>(
     rt: &R,
     file: &str,

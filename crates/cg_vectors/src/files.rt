@@ -1,4 +1,4 @@
-//! Scripts and journals, which stand in files of their own.
+//! Vectors of scripts and journals, which are in files of their own.
 
 use cg_auditing::audit_files;
 use cg_links::{Counted, read_all};
@@ -8,7 +8,7 @@ use std::alloc::Global;
 use std::fs;
 use std::rt::Files;
 
-/// What stands in a file. ReadFault where it can't be read.
+/// Reads the contents of a file. ReadFault if it can't be read.
 pub fn contents<R: Files + Alloc<A = Global>>(rt: &R, file: &str) -> Result<Vec<u8>, Fault> {
     match fs::open(rt, file) {
         Ok(link) => read_all(rt.alloc(), &mut Counted::new(link)),
@@ -16,7 +16,7 @@ pub fn contents<R: Files + Alloc<A = Global>>(rt: &R, file: &str) -> Result<Vec<
     }
 }
 
-/// Adds a line where a job ended with another status than is due.
+/// Adds a line if a job ended with another status than the expected one.
 pub fn add_status(text: &mut Vec<u8>, status: u8, due: u8) -> Result<(), Fault> {
     if status != due {
         text.extend_from_slice(b"another status\n")?;
@@ -24,7 +24,7 @@ pub fn add_status(text: &mut Vec<u8>, status: u8, due: u8) -> Result<(), Fault> 
     Ok(())
 }
 
-/// What the script of a file prints, and that it did not end well, where it didn't.
+/// Returns the text that the script of a file prints, with a line more if it did not end well.
 pub fn printed<R: Files + Alloc<A = Global>>(rt: &R, file: &str) -> Result<Vec<u8>, Fault> {
     let script = contents(rt, file)?;
     let mut reader = Counted::new(script.as_slice());
@@ -44,7 +44,7 @@ fn texts<R: Files + Alloc<A = Global>>(rt: &R, files: &str) -> Result<Vec<Vec<u8
     Ok(texts)
 }
 
-// What is said of these journals, and that the status was another, where it was not 0 for one run alone.
+// Returns the text of an audit of these journals, with a line more if its status is not 0 for one run and 1 otherwise.
 fn said(alloc: Global, journals: &[Vec<u8>]) -> Result<Vec<u8>, Fault> {
     let mut readers = Vec::new(alloc);
     for journal in journals {
@@ -58,7 +58,7 @@ fn said(alloc: Global, journals: &[Vec<u8>]) -> Result<Vec<u8>, Fault> {
     Ok(text)
 }
 
-/// What is said of the journals of the files that are named.
+/// Returns the text of an audit of the journals in the named files.
 pub fn verdict<R: Files + Alloc<A = Global>>(rt: &R, files: &str) -> Result<Vec<u8>, Fault> {
     let journals = texts(rt, files)?;
     said(rt.alloc(), &journals)

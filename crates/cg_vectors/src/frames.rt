@@ -1,4 +1,4 @@
-//! What is read of bytes, in one piece and in others, and of a frame that zeros lengthen.
+//! Vectors of frames: bytes read at once and in chunks, and frames that zeros lengthen.
 
 ghost use Rattle.std.specs.Prelude.{◌<◌};
 
@@ -8,13 +8,13 @@ use cg_frames::{Feed, Message, decode, encode};
 use cg_types::Fault;
 use std::alloc::Global;
 
-// Frames with more bytes than this behind their length are checked before they are read.
+// Frames with more bytes than this after their length are checked before they are read.
 const READ_AT_ONCE: usize = 8_192;
 
 // The longest frames that are cut in two at each of their bytes.
 const CUT: usize = 64;
 
-// Adds a word's space, where it is not the first.
+// Adds a space before a word that is not the first.
 fn add_space(text: &mut String) -> Result<(), Fault> {
     if !text.is_empty() {
         text.push(' ')?;
@@ -30,7 +30,7 @@ fn add_messages(alloc: Global, text: &mut String, messages: &[Message]) -> Resul
     Ok(())
 }
 
-// Adds how the bytes end: with the fault that was found, or inside a frame, of which so many bytes are lacking.
+// Adds the end of the bytes: the fault that was found, or the number of bytes that the last frame lacks.
 fn add_end(text: &mut String, feed: &Feed) -> Result<(), Fault> {
     match feed.end() {
         Ok(()) => Ok(()),
@@ -46,7 +46,7 @@ fn add_end(text: &mut String, feed: &Feed) -> Result<(), Fault> {
     }
 }
 
-// What is read of bytes that come in pieces of this size.
+// Reads bytes that come in chunks of this size, as words.
 fn read_by(alloc: Global, bytes: &[u8], size: usize) -> Result<String, Fault>
     requires { 0 < size }
 {
@@ -60,7 +60,7 @@ fn read_by(alloc: Global, bytes: &[u8], size: usize) -> Result<String, Fault>
     Ok(text)
 }
 
-// The frames of the messages that are read of bytes.
+// Reads the messages in bytes, and writes their frames again.
 fn written_again(alloc: Global, bytes: &[u8]) -> Result<Vec<u8>, Fault> {
     let mut feed = Feed::new(alloc);
     let fed = feed.push(bytes)?;
@@ -72,7 +72,7 @@ fn written_again(alloc: Global, bytes: &[u8]) -> Result<Vec<u8>, Fault> {
     Ok(frames)
 }
 
-// Whether the bytes are one frame: a length, and as many bytes as it says.
+// Tests whether the bytes are one frame: a length, and as many bytes as it says.
 fn is_one_frame(bytes: &[u8]) -> bool {
     match bytes.split_first_chunk::<4>() {
         Some((length, inside)) => u32::from_be_bytes(*length) as usize == inside.len(),
@@ -80,7 +80,7 @@ fn is_one_frame(bytes: &[u8]) -> bool {
     }
 }
 
-// What is read of bytes that come in two pieces, once the first has come and once both have.
+// Reads bytes that come in two chunks, as words: once the first has come and once both have.
 fn read_in_two(alloc: Global, front: &[u8], back: &[u8]) -> Result<String, Fault> {
     let mut feed = Feed::new(alloc);
     let mut text = String::new(alloc);
@@ -92,7 +92,7 @@ fn read_in_two(alloc: Global, front: &[u8], back: &[u8]) -> Result<String, Fault
     Ok(text)
 }
 
-// Whether a short frame that is cut in two, wherever it is, is waited for at the cut and then read as this text says.
+// Tests whether a short frame, cut in two at any byte, is waited for at the cut and then read as this text says.
 fn is_read_when_whole(alloc: Global, frame: &[u8], text: &str) -> Result<bool, Fault> {
     if frame.len() > CUT {
         return Ok(true);
@@ -109,7 +109,7 @@ fn is_read_when_whole(alloc: Global, frame: &[u8], text: &str) -> Result<bool, F
     Ok(true)
 }
 
-// The frame with zeros behind its last field, more of them than are read at once, and the length that this makes.
+// Returns the frame with zeros after its last field, more than are read at once, and with the length that results.
 fn lengthened(alloc: Global, frame: &[u8]) -> Result<Vec<u8>, Fault> {
     let size = frame.len().saturating_add(READ_AT_ONCE);
     let Ok(length) = u32::try_from(size.saturating_sub(4)) else {
@@ -122,7 +122,7 @@ fn lengthened(alloc: Global, frame: &[u8]) -> Result<Vec<u8>, Fault> {
     Ok(bytes)
 }
 
-// What `decode` finds in one frame.
+// Decodes one frame by `decode`, as words.
 fn decoded(alloc: Global, frame: &[u8]) -> Result<String, Fault> {
     let mut text = String::new(alloc);
     match decode(alloc, frame) {
@@ -133,8 +133,8 @@ fn decoded(alloc: Global, frame: &[u8]) -> Result<String, Fault> {
     Ok(text)
 }
 
-// Whether a frame has its fault also where zeros stand behind it. Without one the zeros are its fault; what was Short may
-// find its bytes among them.
+// Tests whether a frame has the same fault if zeros follow it. Without a fault the zeros are its fault; a frame that
+// was Short may find its bytes among them.
 fn is_same_lengthened(alloc: Global, frame: &[u8], text: &str) -> Result<bool, Fault> {
     if text.ends_with("Short") {
         return Ok(true);
@@ -149,7 +149,7 @@ fn is_same_lengthened(alloc: Global, frame: &[u8], text: &str) -> Result<bool, F
     Ok(found.as_bytes() == rest.as_bytes())
 }
 
-// Adds a note where one frame gives something else by itself, as it is cut, or as it is lengthened.
+// Adds a note if one frame gives something else by itself, as it is cut, or as it is lengthened.
 fn add_notes(alloc: Global, text: &mut String, frame: &[u8]) -> Result<(), Fault> {
     let alone = decoded(alloc, frame)?;
     let is_decoded = alone.as_bytes() == text.as_bytes();
@@ -167,10 +167,11 @@ fn add_notes(alloc: Global, text: &mut String, frame: &[u8]) -> Result<(), Fault
     Ok(())
 }
 
-/// What is read of the bytes that these digits spell: the messages, and behind them the first fault, or how many bytes
-/// the frame lacks that ends them. It has a note behind it where the same bytes, a byte at a time, give something else,
-/// where the messages are written otherwise than they were read, or where a single frame gives something else by itself,
-/// in two pieces or with zeros behind it.
+/// Reads the bytes that these digits spell: the messages, and then the first fault, or the number of bytes that the
+/// last frame lacks.
+///
+/// A note follows if the same bytes, a byte at a time, give something else, if the messages are written otherwise than
+/// they were read, or if a single frame gives something else by itself, in two chunks or with zeros after it.
 pub fn read_of(alloc: Global, digits: &str) -> Result<String, Fault> {
     let bytes = bytes_in(alloc, digits)?;
     let mut text = read_by(alloc, &bytes, bytes.len().max(1))?;

@@ -1,11 +1,11 @@
-//! Keys, and their tokens.
+//! Vectors of keys and their tokens.
 
 use cg_tokens::token_of;
 use cg_types::Fault;
 use hex::FromHexError;
 use std::alloc::Global;
 
-/// The bytes that an even number of hexadecimal digits spells; `-` stands for none.
+/// Reads the bytes that an even number of hexadecimal digits spells; `-` is none.
 pub fn bytes_in(alloc: Global, digits: &str) -> Result<Vec<u8>, Fault> {
     if digits == "-" {
         return Ok(Vec::new(alloc));
@@ -17,7 +17,7 @@ pub fn bytes_in(alloc: Global, digits: &str) -> Result<Vec<u8>, Fault> {
     }
 }
 
-/// The token of the key that these digits spell.
+/// Returns the token of the key that these digits spell.
 pub fn token_text(alloc: Global, digits: &str) -> Result<String, Fault> {
     let key = bytes_in(alloc, digits)?;
     let token = token_of(&key);

@@ -1,8 +1,9 @@
 //! Runs the conformance vectors of the folder `data`: files from which any implementation of this gossip can be tested
 //! (docs/VECTORS.md).
 //!
-//! It prints a line for each vector that does not hold, with its file, the number of its line and what was found in the
-//! place of what it expects; and for each file how many hold of how many. The status is 1 unless all do.
+//! It prints a line for each vector that does not hold, with its file, the number of its line and the text found
+//! instead of the expected one. For each file it prints the number of vectors that hold, and of all. The status is 1
+//! unless all hold.
 #![tactic(auto)]
 
 mod checking;
@@ -36,7 +37,7 @@ const FILES: [(&str, Subject); 7] = [
     ("journals.txt", Subject::Journals),
 ];
 
-// Runs the vectors of a file, and tells how many hold.
+// Runs the vectors of a file, and prints the number of those that hold.
 fn check_file<R: Files + Print + Alloc<A = Global>>(
     rt: &R,
     file: &str,
@@ -53,7 +54,7 @@ fn check_file<R: Files + Print + Alloc<A = Global>>(
     Ok(tally)
 }
 
-// Whether each vector of a file holds.
+// Tests whether each vector of a file holds.
 fn file_holds<R: Files + Print + Alloc<A = Global>>(rt: &R, file: &str, subject: Subject) -> bool {
     match check_file(rt, file, subject) {
         Ok(tally) => tally.held == tally.all,

@@ -4,7 +4,7 @@ use cg_entry::{Digest, State};
 use cg_messages::{Ack, Ack2, Message, OwnerDelta, Request, Syn};
 use std::alloc::{AllocError, Global};
 
-// Adds bytes as hexadecimal digits, and `-` where there are none.
+// Adds bytes as hexadecimal digits, or `-` if there are none.
 fn add_digits(alloc: Global, text: &mut String, bytes: &[u8]) -> Result<(), AllocError> {
     if bytes.is_empty() {
         return text.push('-');
@@ -81,7 +81,7 @@ fn add_ack2(alloc: Global, text: &mut String, ack2: &Ack2) -> Result<(), AllocEr
     add_deltas(alloc, text, ack2.deltas())
 }
 
-/// Adds a message's words: its kind, what it carries, and the parts of its lists, each behind a word that names it.
+/// Adds a message's words: its kind, its fields, and the parts of its lists, each after a word that names it.
 pub fn add_message(alloc: Global, text: &mut String, message: &Message) -> Result<(), AllocError> {
     match message {
         Message::Syn(syn) => add_syn(alloc, text, syn),

@@ -1,4 +1,4 @@
-//! Requests to `answer` that stand on one line, and what answers them.
+//! Vectors of requests to `answer`, each on one line, and of their answers.
 
 use crate::files::add_status;
 use cg_answering::answer;
@@ -7,7 +7,7 @@ use cg_types::Fault;
 use percent_encoding::percent_decode;
 use std::alloc::Global;
 
-// The bytes that a text spells: a percent sign and two digits are one of them, and `-` alone is none.
+// Reads the bytes that a text spells: a percent sign and two digits are one of them, and `-` alone is none.
 fn request_in(alloc: Global, given: &str) -> Result<Vec<u8>, Fault> {
     let mut request = Vec::new(alloc);
     if given != "-" {
@@ -16,8 +16,7 @@ fn request_in(alloc: Global, given: &str) -> Result<Vec<u8>, Fault> {
     Ok(request)
 }
 
-/// What is answered to the request that a text spells, and that the status is not 0 after an ACK or not 1 after a fault,
-/// where it isn't.
+/// Answers the request that a text spells, with a line more if the status is not 0 after an ACK or not 1 after a fault.
 pub fn answer_text(alloc: Global, given: &str) -> Result<Vec<u8>, Fault> {
     let request = request_in(alloc, given)?;
     let mut reader = Counted::new(request.as_slice());

@@ -1,4 +1,4 @@
-//! What endpoints claim, the ring of it, and the replicas of a token.
+//! Vectors of rings: claims of endpoints, their ring, and the replicas of a token.
 
 ghost use Rattle.std.specs.Prelude.{◌<◌, IfSome, length};
 
@@ -13,7 +13,7 @@ use std::alloc::Global;
 // The last endpoint there is, which claims nothing here: a table has an endpoint of its own.
 const OWN: ([u8; 4], u16) = ([255, 255, 255, 255], 65535);
 
-// A table that holds nothing but a node which claims nothing.
+// A table that holds only a node which claims nothing.
 fn empty_table(alloc: Global) -> Result<Table, Fault> {
     let (address, port) = OWN;
     let Some(own) = Endpoint::new(address, port) else {
@@ -44,7 +44,7 @@ fn states(alloc: Global, status: &str, tokens: &str) -> Result<Vec<State>, Fault
     Ok(states)
 }
 
-// What an endpoint of this generation sends of itself.
+// The delta that an endpoint of this generation sends of itself.
 fn delta(alloc: Global, generation: &str, status: &str, tokens: &str) -> Result<Delta, Fault> {
     let Some(generation) = Generation::from_bytes(generation.as_bytes()) else {
         return Err(Fault::BadText);
@@ -67,7 +67,7 @@ fn with_claim(alloc: Global, table: Table, claim: &[&str]) -> Result<Table, Faul
     Ok(table)
 }
 
-// The ring of what is claimed, four words an endpoint.
+// The ring of these claims, four words an endpoint.
 fn ring_of(alloc: Global, claims: &[&str]) -> Result<Ring, Fault> {
     let mut table = empty_table(alloc)?;
     for claim in claims.chunks(4) {
@@ -86,7 +86,7 @@ fn positions(alloc: Global, ring: &Ring) -> Result<String, Fault> {
     Ok(text)
 }
 
-// The token that a text is.
+// Reads the token in a text.
 fn token_in(alloc: Global, text: &str) -> Result<Token, Fault> {
     let tokens = read_tokens(alloc, text)?;
     match tokens.first() {
@@ -95,7 +95,7 @@ fn token_in(alloc: Global, text: &str) -> Result<Token, Fault> {
     }
 }
 
-// The replicas of a token, at most so many.
+// The replicas of a token, at most `rf` of them.
 fn replicas(alloc: Global, ring: &Ring, token: &str, rf: &str) -> Result<String, Fault> {
     let token = token_in(alloc, token)?;
     let rf = number_in(rf, u64::MAX)?;
@@ -107,7 +107,7 @@ fn replicas(alloc: Global, ring: &Ring, token: &str, rf: &str) -> Result<String,
     Ok(text)
 }
 
-// What is asked of a ring: `ring`, or `replicas`, a token and how many.
+// Answers a question about a ring: `ring`, or `replicas`, a token and a number.
 fn answer(alloc: Global, ring: &Ring, asked: &[&str]) -> Result<String, Fault> {
     if asked.len() == 1 {
         return positions(alloc, ring);
@@ -118,7 +118,7 @@ fn answer(alloc: Global, ring: &Ring, asked: &[&str]) -> Result<String, Fault> {
     replicas(alloc, ring, asked[1], asked[2])
 }
 
-// Where the words of the question begin.
+// Finds the place at which the words of the question begin.
 fn question_place(words: &[&str]) -> Option<usize>
     ensures { IfSome result (λ place. place < length words.now) }
 {
@@ -128,7 +128,7 @@ fn question_place(words: &[&str]) -> Option<usize>
     }
 }
 
-/// What is answered to a question about a ring, `none` where that is nothing.
+/// Answers a question about a ring; `none` if the answer is empty.
 pub fn ring_text(alloc: Global, given: &str) -> Result<String, Fault> {
     let words = words_in(alloc, given)?;
     let Some(place) = question_place(&words) else {

@@ -1,4 +1,4 @@
-//! Arrivals, and what is said of their endpoint at a moment.
+//! Vectors of silences: arrivals, and the verdict on their endpoint at a time.
 
 use crate::words::{number_in, place_of, words_in};
 use cg_silence::{Silence, Window};
@@ -34,7 +34,7 @@ fn window_of(alloc: Global, silence: Silence, arrivals: &[&str]) -> Result<Windo
     Ok(window)
 }
 
-/// The verdict on four settings and arrivals, at the moment behind `at`.
+/// Returns the verdict on four settings and arrivals, at the time after the word `at`.
 pub fn verdict_text(alloc: Global, given: &str) -> Result<String, Fault> {
     let words = words_in(alloc, given)?;
     let Some(place) = place_of(&words, "at") else {

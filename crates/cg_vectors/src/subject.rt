@@ -1,4 +1,4 @@
-//! What vectors are of.
+//! The subjects of vectors.
 
 use crate::files::{contents, printed, verdict};
 use crate::frames::read_of;
@@ -10,26 +10,26 @@ use cg_types::Fault;
 use std::alloc::Global;
 use std::rt::Files;
 
-/// What the vectors of a file are of.
+/// The subject of the vectors of a file.
 #[derive(Clone, Copy, Debug)]
 pub enum Subject {
-    /// Bytes, and what is read of them.
+    /// Bytes, and the messages and faults read in them.
     Frames,
     /// Keys and their tokens.
     Keys,
-    /// What endpoints claim, and the ring or the replicas of a token.
+    /// Claims of endpoints, and the ring or the replicas of a token.
     Rings,
-    /// Settings and arrivals, and the verdict at a moment.
+    /// Settings and arrivals, and the verdict at a time.
     Silences,
-    /// Requests to `answer`, and what is answered.
+    /// Requests to `answer`, and their answers.
     Answers,
-    /// Files of a script and of what it prints.
+    /// Files of a script and of the text that it prints.
     Scripts,
-    /// Files of journals and of what is said of them.
+    /// Files of journals and of the text of their audit.
     Journals,
 }
 
-/// What is found for what a vector gives. BadText where that can't be read; ReadFault where a file can't.
+/// Returns the text found for the input of a vector. BadText if the input can't be read; ReadFault if a file can't.
 pub fn found<R: Files + Alloc<A = Global>>(
     rt: &R,
     subject: Subject,
@@ -47,7 +47,7 @@ pub fn found<R: Files + Alloc<A = Global>>(
     }
 }
 
-/// What a vector expects: its own words, a line of them, or what stands in the file that they name.
+/// Returns the text that a vector expects: its own words, a line of them, or the contents of the file that they name.
 pub fn expected<R: Files + Alloc<A = Global>>(
     rt: &R,
     subject: Subject,

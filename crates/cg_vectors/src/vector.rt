@@ -3,17 +3,17 @@
 ghost use Rattle.std.specs.Prelude.{◌≡◌, ◌↔◌, ◌≤◌, ℕ, List, IsTrue, IfSome, IfNone, length};
 ghost use Rattle.cg_vectors.specs.Vector.{is_remark as is_remark_line, IsVector};
 
-// What stands between what a vector gives and what it expects.
+// The separator between the input of a vector and its expected text.
 const EQUALS: &[u8] = b" = ";
 
-/// A vector: what it gives, and what it expects.
+/// A vector: its input, and its expected text.
 #[derive(Clone, Copy, Debug)]
 pub struct Vector<'a> {
     pub given: &'a [u8],
     pub expected: &'a [u8],
 }
 
-/// Whether a line has no vector: it is empty, or a remark.
+/// Tests whether a line has no vector: it is empty, or a remark.
 pub fn is_remark(line: &[u8]) -> bool
     ensures { result ≡ is_remark_line line.now }
 {
@@ -23,7 +23,7 @@ pub fn is_remark(line: &[u8]) -> bool
     }
 }
 
-/// The vector of a line, cut where an equals sign between two spaces stands first.
+/// Reads the vector of a line, cut at the first equals sign between two spaces.
 pub fn vector_in(line: &[u8]) -> Option<Vector<'_>>
     ensures some { IfSome result (λ v. IsVector line.now v.given.now v.expected.now) }
     ensures first { IfSome result (λ v. (given expected : List ℕ) → IsVector line.now given expected
@@ -39,7 +39,7 @@ pub fn vector_in(line: &[u8]) -> Option<Vector<'_>>
     None
 }
 
-/// Whether what was found is what is expected.
+/// Tests whether the bytes found are the expected ones.
 pub fn is_same(found: &[u8], expected: &[u8]) -> bool
     ensures { IsTrue result ↔ (found.now ≡ expected.now) }
 {

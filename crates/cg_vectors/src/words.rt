@@ -5,12 +5,12 @@ ghost use Rattle.std.specs.Prelude.{◌<◌, ◌≤◌, IfOk, IfSome, length};
 use cg_types::{Fault, number};
 use std::alloc::Global;
 
-/// The words of a text.
+/// Returns the words of a text.
 pub fn words_in(alloc: Global, text: &str) -> Result<Vec<&str>, Fault> {
     Ok(text.split(' ').collect(alloc)?)
 }
 
-/// The number that a word is, at most this one. BadText where it is none.
+/// Reads the number in a word, which is at most `most`. BadText if there is none.
 pub fn number_in(word: &str, most: u64) -> Result<u64, Fault>
     ensures { IfOk result (λ number. number ≤ most) }
 {
@@ -20,14 +20,14 @@ pub fn number_in(word: &str, most: u64) -> Result<u64, Fault>
     }
 }
 
-/// Where a word stands first.
+/// Finds the first place of a word.
 pub fn place_of(words: &[&str], word: &str) -> Option<usize>
     ensures { IfSome result (λ place. place < length words.now) }
 {
     words.iter().position(|it| *it == word)
 }
 
-/// Adds a word, behind a space where it is not the first.
+/// Adds a word, after a space if it is not the first.
 pub fn add_word(text: &mut String, word: &str) -> Result<(), Fault> {
     if !text.is_empty() {
         text.push(' ')?;
