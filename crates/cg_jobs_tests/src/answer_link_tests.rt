@@ -1,5 +1,4 @@
-//! `answer` over links of which each call fails in turn, over links that move a byte a call, and over an input of one
-//! piece and of several.
+//! `answer` over links of which each call fails in turn or moves a byte, and over inputs of one chunk and of two.
 
 use cg_answering::answer;
 use cg_expect::{expect, expect_eq};
@@ -11,7 +10,7 @@ const INPUT: &[u8] = b"10.0.0.2:7000 5 c1\n000000080101026331010000\n";
 
 const ANSWER: &[u8] = b"000000190102000000010a0000021b5800000005000000000000000100\n";
 
-// Answers a byte a call, where the read of a number fails, or the write of a number: the text, the status, and the
+// Answers a byte a call, while the read of a number fails, or the write of a number: the text, the status, and the
 // failures that were counted at both links.
 fn answer_slowly(alloc: Global, read: u64, write: u64) -> (Vec<u8>, (u8, u64, u64)) {
     let mut reader = Counted::new(FailingLink::new(SlowLink::new(INPUT), read));
@@ -22,13 +21,14 @@ fn answer_slowly(alloc: Global, read: u64, write: u64) -> (Vec<u8>, (u8, u64, u6
     (written, (status, reader.failed(), failed))
 }
 
-// Whether such a run writes this text and has these numbers.
+// Tests whether such a run writes this text and has these numbers.
 fn gives(alloc: Global, read: u64, write: u64, due: &[u8], numbers: (u8, u64, u64)) -> bool {
     let (text, found) = answer_slowly(alloc, read, write);
     text.as_slice() == due && found == numbers
 }
 
-// Whether the run in which a write fails leaves a front of the answer, of one byte less than writes, and ends with 1.
+// Tests whether the run in which a write fails leaves a prefix of the answer, of one byte less than writes, and ends
+// with 1.
 fn stops(alloc: Global, write: u64) -> bool {
     let (text, found) = answer_slowly(alloc, 0, write);
     let is_front = ANSWER.starts_with(text.as_slice()) && text.len() as u64 + 1 == write;
@@ -50,7 +50,7 @@ fn each_call_fails_in_turn(rt: HostRuntime) -> Result<(), Fail> {
     expect!(gives(rt.alloc(), 0, 60, ANSWER, (0, 0, 0)))
 }
 
-// Whether an input is answered by this text, the status, and the reads that it took.
+// Answers an input: `true` if the text is the expected one, the status, and the number of reads.
 fn answered(alloc: Global, input: &[u8], due: &[u8]) -> (bool, u8, u64) {
     let mut reader = Counted::new(CountingLink::new(input));
     let mut writer = Counted::new(Vec::new(alloc));
@@ -69,7 +69,7 @@ fn text_of_256(alloc: Global, head: &str, version: u32, tail: &str) -> Result<St
     Ok(text)
 }
 
-// What becomes of a SYN with 256 digests: a request of each, from 0, and the node's own entry.
+// The answer to a SYN with 256 digests: a request of each, from 0, and the node's own entry.
 fn answered_256(alloc: Global) -> Result<(bool, u8, u64), AllocError> {
     let input = text_of_256(
         alloc,
@@ -82,7 +82,7 @@ fn answered_256(alloc: Global) -> Result<(bool, u8, u64), AllocError> {
     Ok(answered(alloc, input.as_bytes(), due.as_bytes()))
 }
 
-// 44 bytes are read in one piece, and 7,212 in two; a further read meets the end.
+// 44 bytes are read in one chunk, and 7,212 in two; a further read meets the end.
 #[test]
 fn an_input_of_a_piece_and_of_two(rt: HostRuntime) -> Result<(), Fail> {
     expect_eq!(answered(rt.alloc(), INPUT, ANSWER), (true, 0, 2))?;

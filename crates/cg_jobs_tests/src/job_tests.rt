@@ -1,4 +1,4 @@
-//! Words that name a job, words that don't, and words that ask for help.
+//! Words of the command line that name a job, that don't, and that ask for help.
 
 use cg_command::{Subcommand, job_of};
 use cg_expect::expect;
@@ -10,8 +10,8 @@ fn words_in(alloc: Global, line: &str) -> Result<Vec<&str>, AllocError> {
     line.split(' ').collect(alloc)
 }
 
-// Whether a line names this job, and as its files, in their order, the words behind the first two, of which there are so
-// many.
+// Tests whether a line names this job, and as its files, in their order, the words after the first two, of which there
+// are `files`.
 fn names(
     alloc: Global,
     line: &str,
@@ -46,7 +46,7 @@ fn words_name_jobs(rt: HostRuntime) -> Result<(), Fail> {
     Ok(())
 }
 
-// Whether a line is answered, in the place of a job, with this status and by a text that begins so and has this in it.
+// Tests whether a line names no job, and is answered with this status and by a text with this start and this part.
 fn is_told(
     alloc: Global,
     line: &str,

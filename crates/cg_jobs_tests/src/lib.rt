@@ -1,5 +1,6 @@
-//! What the program's jobs make of what they are given: words of the command line, links that fail in the middle of an answer
-//! or of a script, settings files, and the files that a node keeps. What they print over links that don't fail, cg_vectors tries.
+//! The program's jobs: words of the command line, failing links, settings files, and the files of a node.
+//!
+//! The vectors of cg_vectors have the texts that the jobs print over links that don't fail.
 #![tactic(auto)]
 
 #[cfg(test)]

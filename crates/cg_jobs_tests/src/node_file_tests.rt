@@ -11,7 +11,7 @@ use std::alloc::Global;
 use std::rt::Files;
 use std::test::Fail;
 
-// Where the settings of a file have the node listen, or why they are none.
+// The port at which the settings of a file have the node listen, or their fault.
 fn port_in<R: Files>(rt: &R, alloc: Global, file: &str) -> Result<u16, Fault> {
     let settings = settings_in(rt, alloc, file)?;
     Ok(settings.listen.port())
@@ -39,7 +39,7 @@ fn files_that_hold_no_settings(rt: HostRuntime) -> Result<(), Fail> {
     )
 }
 
-// Settings, and empty lines until they have so many bytes.
+// Settings, and empty lines until they have `length` bytes.
 fn settings_of_length(alloc: Global, length: usize) -> Result<Vec<u8>, Fail> {
     let mut bytes = FEW.as_bytes().to_vec(alloc)?;
     for _ in bytes.len()..length {

@@ -1,5 +1,4 @@
-//! The least and the greatest value of each key, the values on both sides of them, and values of another type; keys that are
-//! missing or have no meaning.
+//! Settings at both ends of their ranges, past them and of another type, and keys that are missing or unknown.
 
 use crate::samples::{NEEDED, fault_with};
 use cg_expect::expect_eq;

@@ -1,4 +1,4 @@
-//! Texts of settings, and what they are read as.
+//! Sample texts of settings, and their faults.
 
 use cg_settings_file::settings_of;
 use cg_types::Fault;
@@ -14,7 +14,7 @@ pub(crate) const NEEDED: [(&str, &str); 6] = [
     ("exchanges", "0"),
 ];
 
-/// The keys that are needed, with this value for this key, which is left out where the value is empty.
+/// The keys that are needed, with this value for this key, which is left out if the value is empty.
 pub(crate) fn text_with(alloc: Global, key: &str, value: &str) -> Result<String, AllocError> {
     let mut text = String::new(alloc);
     for (name, given) in NEEDED {
@@ -28,7 +28,7 @@ pub(crate) fn text_with(alloc: Global, key: &str, value: &str) -> Result<String,
     Ok(text)
 }
 
-/// Why the settings with this value for this key are refused, if they are.
+/// The fault by which the settings with this value for this key are refused, if they are.
 pub(crate) fn fault_with(
     alloc: Global,
     key: &str,

@@ -18,7 +18,7 @@ const STARTED_UNREAD: &[u8] = b"started 10.0.0.1:7000 9\nfault 14 ReadFault\n";
 
 const UNREAD: &[u8] = b"fault 14 ReadFault\n";
 
-// Whether the text is printed, with status 0, where each read gives a byte and each write takes one.
+// Tests whether the text is printed, with status 0, if each read gives a byte and each write takes one.
 fn prints_slowly(alloc: Global) -> bool {
     let mut reader = Counted::new(SlowLink::new(SCRIPT));
     let mut writer = Counted::new(SlowLink::new(Vec::new(alloc)));
@@ -26,7 +26,7 @@ fn prints_slowly(alloc: Global) -> bool {
     status == 0 && writer.into_link().into_link().as_slice() == TEXT
 }
 
-// What is written, and the status, where the read of this number fails and each read gives a byte.
+// The text that is written, and the status, if the read of this number fails and each read gives a byte.
 fn unread(alloc: Global, turn: u64) -> (Vec<u8>, u8) {
     let mut reader = Counted::new(FailingLink::new(SlowLink::new(SCRIPT), turn));
     let mut writer = Counted::new(Vec::new(alloc));
@@ -34,7 +34,7 @@ fn unread(alloc: Global, turn: u64) -> (Vec<u8>, u8) {
     (writer.into_link(), status)
 }
 
-// Whether that is a front of the text that ends with a line feed, or is empty, and then the fault.
+// Tests whether that is a prefix of the text that ends with a line feed, or is empty, and then the fault.
 fn is_cut(written: &[u8]) -> bool {
     let Some(front) = written.strip_suffix(UNREAD) else {
         return false;
@@ -61,7 +61,7 @@ fn a_failed_read_ends_the_script(rt: HostRuntime) -> Result<(), Fail> {
     expect!(prints_slowly(rt.alloc()))
 }
 
-// What is written, and the status, where the writer's call of this number fails.
+// The text that is written, and the status, if the writer's call of this number fails.
 fn unwritten(alloc: Global, turn: u64) -> (Vec<u8>, u8) {
     let mut reader = Counted::new(SCRIPT);
     let mut writer = Counted::new(FailingLink::new(Vec::new(alloc), turn));
@@ -69,7 +69,7 @@ fn unwritten(alloc: Global, turn: u64) -> (Vec<u8>, u8) {
     (writer.into_link().into_link(), status)
 }
 
-// How many reads were made, of a byte each, where the writer's call of this number fails.
+// The number of reads that were made, of a byte each, if the writer's call of this number fails.
 fn reads_before(alloc: Global, turn: u64) -> u64 {
     let mut reader = Counted::new(SlowLink::new(SCRIPT));
     let mut writer = Counted::new(FailingLink::new(Vec::new(alloc), turn));

@@ -6,10 +6,10 @@ use cg_sim::sim;
 use std::alloc::{AllocError, Global};
 use std::test::Fail;
 
-// How many bytes a script has.
+// The number of bytes of a script.
 const LENGTH: usize = 10_000_000;
 
-// A script that begins so, and then has letters up to its length.
+// A script with this start, and then letters up to its length.
 fn long_script(alloc: Global, start: &str) -> Result<Vec<u8>, AllocError> {
     let mut script = Vec::with_capacity(alloc, LENGTH)?;
     script.extend_from_slice(start.as_bytes())?;
@@ -19,7 +19,7 @@ fn long_script(alloc: Global, start: &str) -> Result<Vec<u8>, AllocError> {
     Ok(script)
 }
 
-// Whether such a script prints this text and ends well.
+// Tests whether such a script prints this text and ends well.
 fn prints(alloc: Global, start: &str, text: &[u8]) -> Result<bool, AllocError> {
     let script = long_script(alloc, start)?;
     let mut reader = Counted::new(script.as_slice());

@@ -6,7 +6,7 @@ use cg_settings_file::settings_of;
 use std::alloc::Global;
 use std::test::Fail;
 
-// Whether an array is read as these seeds, each with a space behind it.
+// Tests whether an array is read as these seeds, each with a space after it.
 fn is_read_as(alloc: Global, array: &str, due: &str) -> Result<bool, Fail> {
     let text = text_with(alloc, "seeds", array)?;
     let settings = settings_of(alloc, text.as_str())?;

@@ -30,8 +30,9 @@ max_gap = 60
 threshold = 1000
 ";
 
-// The numbers of settings: where the node listens, its seeds, its turns, the word that its random numbers begin with, and
-// by what it judges silence. None where they are no settings, or their texts are others: the cluster, and the two files.
+// The numbers of settings: the node's address and port, the number of its seeds, its turns, the seed of its random
+// words, and the four by which it judges silence. `None` if they are no settings, or if their texts are others: the
+// cluster, and the two files.
 fn numbers(
     read: Result<ServeSettings, Fault>,
     names: (&str, &str, &str),
@@ -91,7 +92,7 @@ fn each_key_is_read_or_has_its_default(rt: HostRuntime) -> Result<(), Fail> {
     )
 }
 
-// Why the bytes are refused, if they are.
+// The fault by which the bytes are refused, if they are.
 fn fault_of(alloc: Global, bytes: &[u8]) -> Option<Fault> {
     settings_of_bytes(alloc, bytes).err()
 }

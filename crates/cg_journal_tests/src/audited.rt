@@ -1,4 +1,4 @@
-//! `audit_files` over texts, with the status: one example of each kind, and what no file of vectors can be.
+//! `audit_files` over texts, with the status: one run, a stuck one, lives that do not rise, an unreadable line.
 
 use cg_auditing::audit_files;
 use cg_expect::expect_eq;
@@ -11,19 +11,19 @@ pub(crate) const A: &str = "life 10.0.0.1:7000 9 1000 2000 60000 18421 - c1\n\
 open\n\
 ack 1000 00000027010200010a0000011b58000000090000000000010a0000021b5800000005000000000000000100\n";
 
-/// B's.
+/// B's life in the first exchange.
 pub(crate) const B: &str = "life 10.0.0.2:7000 5 1000 2000 60000 18421 - c1\n\
 syn 0000001601010263310100010a0000011b580000000900000001\n\
 ack2 1000 00000017010300010a0000011b5800000009000000000000000100\n";
 
-/// What is said of the first exchange.
+/// The audit of the first exchange.
 pub(crate) const ONE_RUN: &str = "10.0.0.1:7000 9 0\n10.0.0.1:7000 9 1\n10.0.0.2:7000 5 0\n\
 10.0.0.2:7000 5 1\n10.0.0.1:7000 9 2\n10.0.0.2:7000 5 2\none run\n";
 
 // A life of B that did nothing.
 const B_5: &str = "life 10.0.0.2:7000 5 1000 2000 60000 18421 - c1\n";
 
-// What is written of journals, and the status.
+// The text of an audit of journals, and the status.
 fn said(alloc: Global, journals: &[&str]) -> Result<(String, u8), Fail> {
     let mut readers = Vec::new(alloc);
     for journal in journals {

@@ -13,8 +13,8 @@ use cg_links::Counted;
 use std::alloc::Global;
 use std::test::Fail;
 
-// What a history tells: its node's generation and how many owners it holds, the newest version where it began, the
-// records, and whether all callers are 0.
+// The numbers of a history: its node's generation, the number of owners that it holds, the newest version at the start,
+// the number of records, and `true` if all callers are 0.
 type Told = (u32, usize, u32, usize, bool);
 
 fn told(history: &History) -> Told {
@@ -33,7 +33,7 @@ fn told(history: &History) -> Told {
     )
 }
 
-// What the history of a text tells, and what is written of it; where it is to go on, once caller 7 made it beat.
+// The numbers of the history in a text, and its journal; if it is to go on, after caller 7 made it beat.
 fn written_again(alloc: Global, text: &str, goes_on: bool) -> Result<(Told, String), Fail> {
     let mut reader = Counted::new(text.as_bytes());
     let mut history = read_journal(alloc, &mut reader).ok().ok_or("a history")?;
@@ -59,7 +59,7 @@ const CAPITALS: &str = "life 10.0.0.1:7000 9 1000 2000 60000 18421 - c1\nset 3 4
 
 const SMALL: &str = "life 10.0.0.1:7000 9 1000 2000 60000 18421 - c1\nset 3 4a4b\n";
 
-// What is read, whether it goes on, what is told, and what is written.
+// The text that is read, `true` if it goes on, its numbers, and the text that is written.
 const WRITTEN: [(&str, bool, Told, &str); 6] = [
     (A, false, (9, 2, 1, 2, true), A),
     (B, false, (5, 2, 1, 2, true), B),

@@ -1,5 +1,6 @@
-//! Histories of worked examples; their journals, read and written again; the line that can't be read; links of which each
-//! call fails; and the status of an audit. What is said of journals stands among the vectors (docs/VECTORS.md).
+//! Histories and their journals: records, receipts, lines that can't be read, failing links, and audits.
+//!
+//! The vectors (docs/VECTORS.md) have the audits of journals.
 #![tactic(auto)]
 
 #[cfg(test)]

@@ -1,4 +1,4 @@
-//! Links that move a byte a call, of which each call fails in turn.
+//! Journals and audits over links that move a byte a call, of which each call fails in turn.
 
 use crate::audited::{A, B, ONE_RUN};
 use cg_auditing::audit_files;
@@ -10,7 +10,7 @@ use std::test::Fail;
 
 const TEXT: &str = "life 10.0.0.1:7000 9 1000 2000 60000 18421 - c1\nopen\nbeat\n";
 
-// What comes of reading, where the read of a number fails: the records, or the line and the fault; and how many failed.
+// Reads while the read of a number fails: the number of records, or the line and the fault; and the number of failures.
 fn read_slowly(alloc: Global, turn: u64) -> (Result<usize, (u64, u8)>, u64) {
     let mut reader = Counted::new(FailingLink::new(SlowLink::new(TEXT.as_bytes()), turn));
     let end = match read_journal(alloc, &mut reader) {
@@ -20,8 +20,8 @@ fn read_slowly(alloc: Global, turn: u64) -> (Result<usize, (u64, u8)>, u64) {
     (end, reader.failed())
 }
 
-// What is written, where the call of a number fails: how many bytes, whether they are a front of the text, the number of
-// the fault or 0, and whether all was flushed.
+// Writes while the call of a number fails: the number of bytes written, `true` if they are a prefix of the text, the
+// number of the fault or 0, and `true` if all was flushed.
 fn written_slowly(alloc: Global, turn: u64) -> Result<(usize, bool, u8, bool), Fail> {
     let mut reader = Counted::new(TEXT.as_bytes());
     let history = read_journal(alloc, &mut reader).ok().ok_or("a history")?;
@@ -62,8 +62,9 @@ fn journals_over_links_that_fail(rt: HostRuntime) -> Result<(), Fail> {
 // No call has this number.
 const NEVER: u64 = 1_000_000;
 
-// What is written of the first exchange, where the read of A's journal, the read of B's and the write of these numbers
-// fail: how many bytes, whether they are a front of what is due, whether they are the fault of a read, and the status.
+// Audits the first exchange while the read of A's journal, the read of B's and the write of these numbers fail: the
+// number of bytes written, `true` if they are a prefix of the expected text, `true` if they are the fault of a read,
+// and the status.
 fn said_slowly(alloc: Global, turns: (u64, u64, u64)) -> Result<(usize, bool, bool, u8), Fail> {
     let (opener, answerer, written) = turns;
     let mut readers = Vec::new(alloc);

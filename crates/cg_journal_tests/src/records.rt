@@ -1,4 +1,6 @@
-//! Histories of worked examples, and each call once with ample memory.
+//! Events that make receipts and records, and receipts that are confirmed or not.
+//!
+//! Each call is tried once, with ample memory.
 //!
 //! A is 10.0.0.1:7000 and B 10.0.0.2:7000; the cluster is c1. A history is A's at generation 9. That of the examples has
 //! two records: caller 1 sets key 1 to NORMAL, and then caller 2 beats.
@@ -18,7 +20,7 @@ fn begun(alloc: Global) -> Result<History, Fail> {
     Ok(History::begin(alloc, endpoint(A), generation(9), settings(alloc)?)?)
 }
 
-// What a node is handed here: a SYN of another cluster, an ACK2 of so many endpoints from B on, and others.
+// The events here: a SYN of another cluster, an ACK2 of a number of endpoints from B on, and others.
 #[derive(Clone, Copy)]
 enum Of {
     Set,
@@ -83,7 +85,7 @@ fn numbers(receipt: &Receipt) -> Numbers {
     (receipt.caller, receipt.number, at)
 }
 
-// How many owners a record puts, and whether the last of them is B.
+// The number of owners that a record puts, and `true` if the last of them is B.
 fn owners_put(item: &Item) -> (usize, bool) {
     let rows = item.puts.rows();
     let last = match rows.last() {
@@ -93,7 +95,7 @@ fn owners_put(item: &Item) -> (usize, bool) {
     (rows.len(), last)
 }
 
-// The receipt of a last event, or its fault; how many records there are behind it; and what the last record puts.
+// The receipt of a last event, or its fault; the number of records then; and the puts of the last record.
 type Told = (Result<Numbers, Fault>, usize, (usize, bool));
 
 fn told(alloc: Global, before: &[(Of, u32)], last: (Of, u32)) -> Result<Told, Fail> {
@@ -114,7 +116,7 @@ fn told(alloc: Global, before: &[(Of, u32)], last: (Of, u32)) -> Result<Told, Fa
 
 const TWO: &[(Of, u32)] = &[(Of::Set, 1), (Of::Beat, 2)];
 
-// The events before the last one, it, and what is told of it.
+// The events before the last one, the last one, and its outcome.
 const TOLD: [(&[(Of, u32)], (Of, u32), Told); 7] = [
     (&[], (Of::Set, 1), (Ok((1, 1, Some(2))), 1, (1, false))),
     (
@@ -149,7 +151,7 @@ fn events_make_receipts_and_records(rt: HostRuntime) -> Result<(), Fail> {
 
 // ---- confirming
 
-// What a receipt is of, the version of its reply, its caller and its number.
+// The event of a receipt, the version of its reply, its caller and its number.
 type Row = (Of, u32, u32, u64);
 
 fn receipts(alloc: Global, rows: &[Row]) -> Result<Vec<Receipt>, Fail> {
@@ -173,7 +175,7 @@ fn stray(confirmed: Result<(), Stray>) -> Option<(usize, u8)> {
     }
 }
 
-// The same of receipts that the records of the examples' history are asked about.
+// The same of receipts that the records of the examples' history are to confirm.
 fn stray_of(alloc: Global, rows: &[Row]) -> Result<Option<(usize, u8)>, Fail> {
     let receipts = receipts(alloc, rows)?;
     let history = history_of(alloc, TWO)?;
@@ -199,8 +201,8 @@ const STRAYS: [(&[Row], Option<(usize, u8)>); 9] = [
     (&[SET, (Of::Opening, 3, 2, 2)], Some((1, 16))),
 ];
 
-// Of so many beats by two callers in turn, how many records there are, and what is confirmed of all receipts, and of them
-// with the last one's number changed.
+// Of `count` beats by two callers in turn: the number of records, and the first unconfirmed receipt of all receipts,
+// and of them with the last one's number changed.
 fn confirmed_of(
     alloc: Global,
     count: u32,

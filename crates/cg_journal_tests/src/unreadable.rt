@@ -1,4 +1,4 @@
-//! Lines that can't be read, and the number that is told of them.
+//! Lines of journals that can't be read, and the number and the fault that are reported of each.
 
 use cg_auditing::Journals;
 use cg_expect::expect_eq;
@@ -7,8 +7,8 @@ use cg_links::Counted;
 use std::alloc::Global;
 use std::test::Fail;
 
-// The line in which reading ends and the number of the fault, or how many records were read: of a journal alone, and of
-// one of some journals, where the records are not told.
+// The line in which reading ends and the number of the fault, or the number of records that were read: of a journal
+// alone, and of one of some journals, which report no records.
 type End = (Result<usize, (u64, u8)>, Result<(), (u64, u8)>);
 
 fn end_of(alloc: Global, text: &[u8]) -> End {
@@ -24,7 +24,7 @@ fn end_of(alloc: Global, text: &[u8]) -> End {
     (alone, among_others)
 }
 
-// The same of a line between others, which stands there so many times on end.
+// The same of a part of a text, which is repeated `times` times between two others.
 fn end_of_line(
     alloc: Global,
     front: &str,
@@ -104,8 +104,8 @@ const LIVES: [&str; 16] = [
     "life 10.0.0.1:7000 9 1000 2000 60000 18421 - c1c1c1c1c1c1c1c1c1c1c1c1c1c1c1c1c1c1c1c1c1c1c1c1c\n",
 ];
 
-// What no line of a journal may be: words of no event, of another, without their texts, with frames of another kind and
-// with bytes behind a frame.
+// Lines that no journal may have: words of no event, of another, without their texts, with frames of another kind and
+// with bytes after a frame.
 const JUNK: [&str; 9] = [
     "",
     "lives",
@@ -118,7 +118,7 @@ const JUNK: [&str; 9] = [
     "ack2 1000 00000017010300010a0000011b580000000900000000000000010000",
 ];
 
-// Lines, what stands before and behind each, and its number.
+// Lines, the text before and after each, and its number.
 const UNREADABLE: [(&[&str], &str, &str, u64); 5] = [
     (&LINES, LIFE_AND_BEAT, "\nbeat\n", 3),
     (&LIVES, "", "", 1),

@@ -1,4 +1,4 @@
-//! An operator at the one seat of a board.
+//! An operator at the one seat of a board: a set, a refused event, the last receipt, a console with no line.
 
 ghost use Rattle.std.specs.Prelude.{◌≡◌, []};
 
@@ -20,7 +20,7 @@ use std::sync::Wait;
 use std::sync::ledger::Blank;
 use std::test::Fail;
 
-// What a seat's operator left.
+// The remains of a seat's operator.
 #[derive(Drop)]
 struct Worked<N: Name> {
     seat: Seat<N>,
@@ -49,7 +49,7 @@ fn work_at<N: Name, R: Wait, O: Operate>(
     }
 }
 
-/// What is left when an operator has ended: its fault, if any, and how many records were kept and receipts confirmed.
+/// The remains of an operator: its fault, if any, and the numbers of records kept and of receipts confirmed.
 pub(crate) type Left = (Option<Fault>, usize, usize);
 
 fn left_by<N: Name, R: Wait, O: Operate>(
@@ -82,7 +82,7 @@ fn left_by<N: Name, R: Wait, O: Operate>(
     Ok((ended.err(), records, confirmed))
 }
 
-/// What an operator leaves at A.
+/// The remains of an operator at A.
 pub(crate) fn left_after<R: Wait, O: Operate>(
     rt: &R,
     alloc: Global,

@@ -1,4 +1,4 @@
-//! Operators at the one seat of a board.
+//! Sample operators at the one seat of a board.
 
 ghost use Rattle.cg_seats.specs.Seats.{GoesOn};
 
@@ -25,7 +25,7 @@ fn syn_of_another_cluster(alloc: Global) -> Option<Event> {
     Some(Event::Syn { m })
 }
 
-// The number of the fault by which another cluster's SYN is refused, 0 where it is not.
+// The number of the fault by which another cluster's SYN is refused, or 0 if it is not.
 fn refuse<N: Name, R: Wait>(alloc: Global, gate: &mut SeatGate<'_, N, R>) -> u8
     ensures { GoesOn gate.old gate.new }
 {
@@ -38,10 +38,10 @@ fn refuse<N: Name, R: Wait>(alloc: Global, gate: &mut SeatGate<'_, N, R>) -> u8
     }
 }
 
-/// Sets key 3, learns what it was told, wants to learn it again, and reads.
+/// An operator that sets key 3, learns its `Told`, tries to learn it again, and reads.
 #[derive(Drop)]
 pub(crate) struct LearnsTwice {
-    /// Whether it was told at first, and then.
+    /// `true` if there was a `Told` at first, and then.
     pub(crate) told: (bool, bool),
     /// The version of key 3 that it read.
     pub(crate) version: Option<Version>,
@@ -63,14 +63,14 @@ impl Operate for LearnsTwice {
     }
 }
 
-/// Sets key 3, is refused, and ends by a fault.
+/// An operator that sets key 3, is refused, and ends by a fault.
 #[derive(Drop)]
 pub(crate) struct IsRefused {
-    /// Why it was refused.
+    /// The number of the fault by which it was refused.
     pub(crate) fault: u8,
-    /// How many receipts there were then, and the version of the last reply.
+    /// The number of receipts then, and the version of the last reply.
     pub(crate) left: (usize, Option<Version>),
-    /// Whether it was told then.
+    /// `true` if there was a `Told` then.
     pub(crate) told: bool,
 }
 
@@ -89,8 +89,8 @@ impl Operate for IsRefused {
     }
 }
 
-// Enters an event through the trait of all that events are entered through; the number of the fault by which it is
-// refused, 0 where it is not.
+// Enters an event through the trait that all events are entered through; returns the number of the fault by which it is
+// refused, or 0 if it is not.
 fn enter<N: Name, R: Wait>(alloc: Global, gate: &mut SeatGate<'_, N, R>, event: Event) -> u8
     ensures { GoesOn gate.old gate.new }
 {
@@ -100,7 +100,7 @@ fn enter<N: Name, R: Wait>(alloc: Global, gate: &mut SeatGate<'_, N, R>, event: 
     }
 }
 
-// The number of the last receipt, 0 where there is none.
+// The number of the last receipt, or 0 if there is none.
 fn last_number<E: Enter>(entering: &E) -> u64 {
     match entering.last() {
         Some(receipt) => receipt.number,
@@ -108,12 +108,12 @@ fn last_number<E: Enter>(entering: &E) -> u64 {
     }
 }
 
-/// Enters a Set of key 3, and is refused.
+/// An operator that enters a Set of key 3, and is then refused.
 #[derive(Drop)]
 pub(crate) struct Enters {
     /// The number of the last receipt at first, after the Set, and after the refusal.
     pub(crate) last: [u64; 3],
-    /// Why each was refused.
+    /// The numbers of the faults by which both were refused, 0 for none.
     pub(crate) faults: (u8, u8),
 }
 
@@ -140,7 +140,7 @@ impl Operate for Enters {
     }
 }
 
-/// Does the lines of a reader, and writes what is shown of them.
+/// An operator that does the lines of a reader, and writes the texts that they show.
 #[derive(Drop)]
 pub(crate) struct DoesLines<I, O> {
     pub(crate) reader: Counted<I>,

@@ -1,4 +1,4 @@
-//! The history that a board begins with.
+//! The sample history that a board begins with.
 
 ghost use Rattle.std.specs.Prelude.{◌≡◌, [], IfOk};
 

@@ -1,4 +1,4 @@
-//! What is done from seats, by operators and by a ticker, on one thread, and how a node that ran is put together.
+//! The work of operators and of a ticker at seats, on one thread, and a node put together after it ran.
 //!
 //! A is 10.0.0.1:7000, at generation 9; the cluster is c1.
 #![tactic(auto)]

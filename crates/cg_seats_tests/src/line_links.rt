@@ -13,7 +13,8 @@ const INPUT: &[u8] = b"set 3 x\ndigests\n";
 
 const TEXT: &[u8] = b"version 2\n10.0.0.1:7000 9 2\n";
 
-// What is written a byte a call, where the read of a number fails, or the write of a number, and what is left.
+// The text written a byte a call while the read of a number fails, or the write of a number, and the operator's
+// remains.
 fn told<R: Wait>(rt: &R, alloc: Global, read: u64, write: u64) -> Result<(Vec<u8>, Left), Fail> {
     let mut work = DoesLines {
         reader: Counted::new(FailingLink::new(SlowLink::new(INPUT), read)),
@@ -24,7 +25,7 @@ fn told<R: Wait>(rt: &R, alloc: Global, read: u64, write: u64) -> Result<(Vec<u8
     Ok((writer.into_link().into_link().into_link(), left))
 }
 
-// Whether a read that fails leaves the text of the lines that were read whole.
+// Tests whether a read that fails leaves the text of the lines that were read whole.
 fn is_cut<R: Wait>(rt: &R, alloc: Global, read: u64) -> Result<bool, Fail> {
     let (text, (fault, records, confirmed)) = told(rt, alloc, read, 0)?;
     let lines = if read <= 8 {
@@ -57,7 +58,7 @@ fn each_read_fails_in_turn(rt: HostRuntime) -> Result<(), Fail> {
     Ok(())
 }
 
-// Whether a write that fails leaves a front of the text, and the record of the line.
+// Tests whether a write that fails leaves a prefix of the text, and the record of the line.
 fn stops<R: Wait>(rt: &R, alloc: Global, write: u64) -> Result<bool, Fail> {
     let (text, (fault, records, confirmed)) = told(rt, alloc, 0, write)?;
     Ok(
@@ -70,7 +71,7 @@ fn stops<R: Wait>(rt: &R, alloc: Global, write: u64) -> Result<bool, Fail> {
 
 #[test]
 fn each_write_fails_in_turn(rt: HostRuntime) -> Result<(), Fail> {
-    // the writes of 10 bytes and of 18, and a flush behind each
+    // the writes of 10 bytes and of 18, and a flush after each
     for write in 1..31 {
         let stops = stops(&rt, rt.alloc(), write)?;
         expect!(stops, "write {write}")?;

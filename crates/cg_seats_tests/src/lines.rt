@@ -1,4 +1,4 @@
-//! Lines of an operator, and what is written of them.
+//! Lines of an operator and the texts that they show: sets, views, a quit, unreadable lines, long texts.
 
 use crate::board::{Left, left_after};
 use crate::board_operators::DoesLines;
@@ -8,7 +8,7 @@ use std::alloc::Global;
 use std::sync::Wait;
 use std::test::Fail;
 
-// What is written of an input, and what is left.
+// The text written of an input, and the operator's remains.
 fn told<R: Wait>(rt: &R, alloc: Global, input: &[u8]) -> Result<(Vec<u8>, Left), Fail> {
     let mut work = DoesLines {
         reader: Counted::new(input),
@@ -19,7 +19,7 @@ fn told<R: Wait>(rt: &R, alloc: Global, input: &[u8]) -> Result<(Vec<u8>, Left),
     Ok((writer.into_link(), left))
 }
 
-// Whether this is written of an input, and so many records are kept and confirmed, with no fault.
+// Tests whether this text is written of an input, and `records` records are kept and confirmed, with no fault.
 fn tells<R: Wait>(
     rt: &R,
     alloc: Global,
@@ -105,7 +105,7 @@ fn an_unreadable_line_shows_its_fault(rt: HostRuntime) -> Result<(), Fail> {
     Ok(())
 }
 
-// A line that sets a key to a text of so many bytes.
+// A line that sets a key to a text of `count` bytes.
 fn long_line(alloc: Global, count: usize) -> Result<Vec<u8>, Fail> {
     let mut line = Vec::new(alloc);
     line.extend_from_slice(b"set 3 ")?;

@@ -1,4 +1,4 @@
-//! The rounds that a ticker puts in.
+//! Rounds that a ticker puts in: two of two ticks, none of none, and one that is handed back.
 
 ghost use Rattle.std.specs.Prelude.{◌≡◌, []};
 ghost use Rattle.cg_rounds.specs.Ends.{PutsWhere, TakesWhere};
@@ -23,7 +23,7 @@ use std::sync::Wait;
 use std::sync::ledger::Blank;
 use std::test::Fail;
 
-// A clock that stands at a moment.
+// A clock that does not go on.
 #[derive(Clone, Copy)]
 struct Standing(u64);
 
@@ -33,14 +33,14 @@ impl Milliseconds for Standing {
     }
 }
 
-// What a ticker left, with the seat and its receipts.
+// The outcome of a ticker, with the seat and its receipts.
 #[derive(Drop)]
 struct Done<N: Name> {
     left: Left<N>,
     ticked: Ticked,
 }
 
-// Ticks so many times, with no pause, at the moment 1000 and with the words of seed 0.
+// Ticks `count` times, with no pause, at the time 1000 and with the words of seed 0.
 fn tick_at<N: Name, R: Wait + Clock>(
     rt: &R,
     alloc: Global,
@@ -70,7 +70,7 @@ fn tick_at<N: Name, R: Wait + Clock>(
     Done { left, ticked }
 }
 
-// The moment and the first word of a tick, 0 where it is none.
+// The time and the first word of a tick, 0 if it is none.
 fn moment_and_word(receipt: Option<&Receipt>) -> (u64, u64) {
     match receipt {
         Some(receipt) => match &receipt.event {
@@ -81,7 +81,7 @@ fn moment_and_word(receipt: Option<&Receipt>) -> (u64, u64) {
     }
 }
 
-// The number of the next round and how many digests its SYN has, 0 where none comes.
+// The number of the next round and the number of digests in its SYN, 0 if none comes.
 fn next_round<R: Wait>(rt: &R, from: &mut Taking) -> (u64, usize)
     ensures { TakesWhere from.new from.old }
 {
@@ -91,8 +91,8 @@ fn next_round<R: Wait>(rt: &R, from: &mut Taking) -> (u64, usize)
     }
 }
 
-// What is left by a ticker of so many ticks: what it answered, how many records there are and receipts are confirmed,
-// and the last receipt's moment and first word.
+// The remains of a ticker: its outcome, the numbers of records and of confirmed receipts, and the last receipt's time
+// and first word.
 #[derive(Clone, Copy, Debug, PartialEq, Eq)]
 struct Seen {
     ticked: Ticked,
@@ -157,7 +157,7 @@ fn left_after<R: Wait + Clock>(
     )
 }
 
-// What a ticker of two ticks leaves, and what is taken then: two rounds, and none.
+// The remains of a ticker of two ticks, and the rounds that are taken then: two, and none.
 fn two_rounds<R: Wait + Clock>(rt: &R, alloc: Global) -> Result<(Seen, [(u64, usize); 3]), Fail> {
     let (mut putting, mut taking) = rounds(alloc)?;
     let left = left_after(rt, alloc, &mut putting, 2)?;
@@ -184,7 +184,7 @@ fn two_ticks_make_two_rounds(rt: HostRuntime) -> Result<(), Fail> {
     expect_eq!(taken, [(1, 1), (2, 1), (0, 0)])
 }
 
-// What a ticker of five ticks leaves where nobody takes any round.
+// The remains of a ticker of five ticks if nobody takes any round.
 fn stopped<R: Wait + Clock>(rt: &R, alloc: Global) -> Result<Seen, Fail> {
     let (mut putting, taking) = rounds(alloc)?;
     let taken = taking.leave();
@@ -208,7 +208,7 @@ fn a_round_that_is_handed_back_stops_the_ticker(rt: HostRuntime) -> Result<(), F
     expect_eq!(left, due)
 }
 
-// What a ticker of no ticks leaves, and what is taken then: nothing.
+// The remains of a ticker of no ticks, and the round that is taken then: none.
 fn no_rounds<R: Wait + Clock>(rt: &R, alloc: Global) -> Result<(Seen, (u64, usize)), Fail> {
     let (mut putting, mut taking) = rounds(alloc)?;
     let left = left_after(rt, alloc, &mut putting, 0)?;

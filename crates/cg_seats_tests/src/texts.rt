@@ -1,4 +1,4 @@
-//! What is written of a change that those who read do not see yet.
+//! The text of a change that readers do not see yet.
 
 use cg_expect::expect_eq;
 use cg_orders::add_unpublished;

@@ -1,4 +1,4 @@
-//! What a node's workers begin with, put back together where none of them did anything.
+//! A node put together of workers that did nothing, or that were not all started.
 
 ghost use Rattle.std.specs.Prelude.{◌≡◌, []};
 
@@ -18,7 +18,7 @@ use std::sync::Wait;
 use std::sync::ledger::Blank;
 use std::test::Fail;
 
-// What is left: how many records and rounds there are; where there is no node, the fault by which it was not started.
+// The numbers of records and of rounds that are left; if there is no node, the fault by which it was not started.
 type Told = Result<(usize, usize), Option<Fault>>;
 
 fn told(left: Result<Ran, NotRun>) -> Told {

@@ -1,4 +1,4 @@
-//! One node alone, and nodes that can't begin.
+//! Lives of a node that serves alone, and lives that settings, files or a port in use prevent.
 
 use cg_expect::{expect, expect_eq};
 use cg_life_samples::{

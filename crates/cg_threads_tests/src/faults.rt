@@ -44,8 +44,8 @@ impl Listen for Connections {
     }
 }
 
-// What is left of B: how many records of a SYN, of an ACK2 and of a round, how many rounds its sender took, and whether
-// it holds an entry of A.
+// The remains of B: the numbers of records of a SYN, of an ACK2 and of a round, the number of rounds that its sender
+// took, and `true` if it holds an entry of A.
 #[derive(Clone, Copy, Debug, PartialEq, Eq)]
 struct Left {
     records: (u32, u32, u32),
@@ -61,8 +61,8 @@ fn left_of(left: &Ran) -> Left {
     }
 }
 
-// What is left of B, which begins a round and answers two exchanges; in the first one the call of a number fails. None
-// where its history does not confirm the receipts of all workers.
+// The remains of B, which begins a round and answers two exchanges; in the first one the call of a number fails. `None`
+// if its history does not confirm the receipts of all workers.
 fn left_after<R: Threads + Wait + Clock + Sync, O: Operate + Drop + Send>(
     rt: &R,
     alloc: Global,

@@ -1,4 +1,4 @@
-//! Connections over loopback.
+//! Sample connections over loopback.
 
 use crate::nodes::Side;
 use crate::waiting::{TURNS, is_raised, pause};
@@ -22,7 +22,7 @@ fn sides(stream: TcpStream) -> io::Result<(TcpStream, TcpStream)> {
     Ok((stream, twin))
 }
 
-// What listens on loopback for a node. It says that it was asked, and waits until the node's operator has read.
+// A listener on loopback for a node. It reports that it was asked, and waits until the node's operator has read.
 #[derive(Drop)]
 pub(crate) struct Listening<'a, R: Clock> {
     pub(crate) rt: &'a R,
@@ -60,7 +60,7 @@ impl<'a, R: Clock> Listen for Listening<'a, R> {
     }
 }
 
-// What dials over loopback.
+// A dialer over loopback.
 #[derive(Drop)]
 pub(crate) struct Dialing<'a, R: Net<Stream = TcpStream>> {
     pub(crate) rt: &'a R,
@@ -84,7 +84,7 @@ impl<'a, R: Net<Stream = TcpStream>> Dial for Dialing<'a, R> {
     }
 }
 
-// What nobody reaches, and what reaches nobody.
+// A listener that nobody reaches, and a dialer that reaches nobody.
 #[derive(Drop)]
 pub(crate) struct Nobody;
 
@@ -108,7 +108,7 @@ impl Dial for Nobody {
     }
 }
 
-// A clock that stands.
+// A clock that does not go on.
 #[derive(Drop)]
 pub(crate) struct Standing;
 
@@ -118,7 +118,7 @@ impl Milliseconds for Standing {
     }
 }
 
-// What listens at a free port of 127.0.0.1, and the endpoint of that port.
+// A listener at a free port of 127.0.0.1, and the endpoint of that port.
 pub(crate) fn bound<R: Net<Listener = TcpListener, Stream = TcpStream>>(
     rt: &R,
 ) -> io::Result<(TcpListener, Option<Endpoint>)> {

@@ -1,4 +1,6 @@
-//! Two nodes that run at once. The one's receiver waits for its operator, and neither can run in the other's place.
+//! Two nodes that run at once over loopback: each round is an exchange, and both lives are one run.
+//!
+//! The receiver of one waits for its operator, and neither can run in the other's place.
 
 use crate::links::{Dialing, Listening, Nobody, bound};
 use crate::nodes::{Side, kinds, ran, rounds, were_one_run};
@@ -42,7 +44,7 @@ fn answerer<R: Threads + Wait + Clock + Sync + Net<Listener = TcpListener, Strea
     ran(rt, alloc, side, listening, Nobody, operator)
 }
 
-// What is left of both, each in a thread of its own.
+// The remains of both, each node in a thread of its own.
 fn both<R: Threads + Wait + Clock + Sync + Net<Listener = TcpListener, Stream = TcpStream>>(
     rt: &R,
     alloc: Global,
@@ -57,9 +59,9 @@ fn both<R: Threads + Wait + Clock + Sync + Net<Listener = TcpListener, Stream = 
     )
 }
 
-// How many of A's rounds have the one peer B, and whether A's sender took just these; whether A's operator read what it
-// had set, and B's before a connection was accepted; whether B holds an entry of A, and the kinds of its records; and
-// whether both were one run.
+// The number of A's rounds with the one peer B, and `true` if A's sender took just these. `true` if A's operator read
+// the text that it had set, and if B's read before a connection was accepted. `true` if B holds an entry of A, and the
+// kinds of B's records. `true` if both were one run.
 #[derive(Clone, Copy, Debug, PartialEq, Eq)]
 struct Left {
     begun: usize,
@@ -87,7 +89,7 @@ fn left_of(alloc: Global, a: &Side, b: &Side, of_a: Ran, of_b: Ran) -> Result<Le
     })
 }
 
-// What is left where A begins so many rounds, and B answers as many exchanges.
+// The remains if A begins `count` rounds, and B answers as many exchanges.
 fn left_after<R: Threads + Wait + Clock + Sync + Net<Listener = TcpListener, Stream = TcpStream>>(
     rt: &R,
     alloc: Global,
@@ -103,7 +105,7 @@ fn left_after<R: Threads + Wait + Clock + Sync + Net<Listener = TcpListener, Str
     left_of(alloc, &a, &b, of_a, of_b)
 }
 
-// What is due then.
+// The expected remains.
 fn due(count: u32) -> Left {
     Left {
         begun: count as usize,

@@ -1,4 +1,4 @@
-//! Nodes that run, and what is left of them.
+//! Sample nodes that run, and their remains.
 
 ghost use Rattle.std.specs.Prelude.{◌≡◌, [], IfSome};
 
@@ -21,8 +21,8 @@ use std::sync::atomic::AtomicBool;
 use std::test::Fail;
 use std::thread::Threads;
 
-// A node that is to run: its endpoint and generation, its one seed, how many rounds it begins and exchanges it answers;
-// and what is seen of it as it runs.
+// A node that is to run: its endpoint and generation, its one seed, and the numbers of rounds that it begins and of
+// exchanges that it answers; with two flags that it raises as it runs.
 #[derive(Drop)]
 pub(crate) struct Side {
     pub(crate) own: Endpoint,
@@ -30,14 +30,14 @@ pub(crate) struct Side {
     pub(crate) seed: Endpoint,
     pub(crate) rounds: u32,
     pub(crate) exchanges: u32,
-    // Whether its listener was asked for a connection.
+    // `true` if its listener was asked for a connection.
     pub(crate) asked: AtomicBool,
-    // Whether its operator read what it was to read.
+    // `true` if its operator made its read.
     pub(crate) read: AtomicBool,
 }
 
 impl Side {
-    // A node of which nothing was seen yet.
+    // A node with no flag raised yet.
     pub(crate) fn new(
         own: Endpoint,
         start: u32,
@@ -67,7 +67,7 @@ fn begun(alloc: Global, side: &Side) -> Option<History>
     History::begin(alloc, side.own, generation(side.start), settings).ok()
 }
 
-// What is left of a node once it ran; none where it did not run, or its receipts are not confirmed.
+// The remains of a node that ran; `None` if it did not run, or its receipts are not confirmed.
 pub(crate) fn ran<
     R: Threads + Wait + Clock + Sync,
     L: Listen + Drop,
@@ -94,7 +94,7 @@ where
     run_node(rt, alloc, history, parts, turns).ok()
 }
 
-// The numbers of the rounds of a history, where each has this one peer.
+// The numbers of a history's records of which the round has this one peer.
 pub(crate) fn rounds(alloc: Global, history: &History, peer: Endpoint) -> Result<Vec<u64>, Fail> {
     let mut numbers = Vec::new(alloc);
     let mut number = 0u64;
@@ -109,7 +109,7 @@ pub(crate) fn rounds(alloc: Global, history: &History, peer: Endpoint) -> Result
     Ok(numbers)
 }
 
-// How many records of a history are of a SYN, of an ACK2, and of a round.
+// The numbers of records of a history that are of a SYN, of an ACK2, and of a round.
 pub(crate) fn kinds(history: &History) -> (u32, u32, u32) {
     let (mut syns, mut acks, mut rounds) = (0u32, 0u32, 0u32);
     for item in history.records() {
@@ -123,7 +123,7 @@ pub(crate) fn kinds(history: &History) -> (u32, u32, u32) {
     (syns, acks, rounds)
 }
 
-// Whether the lives of two endpoints were one run of the gossip.
+// Tests whether the lives of two endpoints were one run of the gossip.
 pub(crate) fn were_one_run(
     alloc: Global,
     (a, of_a): (Endpoint, History),

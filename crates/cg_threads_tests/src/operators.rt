@@ -1,4 +1,4 @@
-//! Operators of nodes that run.
+//! Sample operators of nodes that run.
 
 use crate::nodes::Side;
 use crate::waiting::is_raised;
@@ -12,7 +12,7 @@ use std::rt::Clock;
 use std::sync::Wait;
 use std::sync::atomic::Ordering;
 
-// Ends at once.
+// An operator that ends at once.
 #[derive(Drop)]
 pub(crate) struct Quits;
 
@@ -27,7 +27,8 @@ impl Operate for Quits {
     }
 }
 
-// Waits until a node's listener is asked for a connection, reads what is published, and says that it did.
+// An operator that waits until a node's listener is asked for a connection, reads the published table, and reports
+// that.
 #[derive(Drop)]
 pub(crate) struct ReadsOnce<'a, C: Clock> {
     pub(crate) clock: &'a C,
@@ -48,7 +49,7 @@ impl<'a, C: Clock> Operate for ReadsOnce<'a, C> {
     }
 }
 
-// Ends by a fault.
+// An operator that ends by a fault.
 #[derive(Drop)]
 pub(crate) struct Fails;
 
@@ -63,7 +64,7 @@ impl Operate for Fails {
     }
 }
 
-// Sets key 3, learns what it is told, and says that it read where it then reads the text at that version or a later one.
+// An operator that sets key 3, learns its `Told`, and reports a read of the text at that version or a later one.
 #[derive(Drop)]
 pub(crate) struct SetsAndReads<'a> {
     pub(crate) side: &'a Side,

@@ -1,4 +1,4 @@
-//! Each call of the channel of rounds, by one thread.
+//! The channel of rounds in one thread: rounds taken in their order, one handed back, and room for 16.
 
 use crate::numbered::{round, shown};
 use cg_expect::expect_eq;
@@ -8,7 +8,7 @@ use std::alloc::Global;
 use std::sync::Wait;
 use std::test::Fail;
 
-// What is taken of two rounds and the word that no more come, and whether both were put in.
+// The rounds taken of two and at the channel's end, and `true` if both were put in.
 fn two_taken<R: Wait>(rt: &R, alloc: Global) -> Result<([(u64, u16); 3], bool), Fail> {
     let (first, second) = (round(alloc, 5)?, round(alloc, 9)?);
     let (mut putting, mut taking) = rounds(alloc)?;
@@ -29,7 +29,7 @@ fn rounds_are_taken_in_their_order(rt: HostRuntime) -> Result<(), Fail> {
     expect_eq!(taken, ([(5, 5), (9, 9), (0, 0)], true))
 }
 
-// What is handed back of a round that is put in where nobody takes any more.
+// The round that is handed back if it is put in after the taker left.
 fn handed_back<R: Wait>(rt: &R, alloc: Global) -> Result<(u64, u16), Fail> {
     let late = round(alloc, 7)?;
     let (mut putting, taking) = rounds(alloc)?;
@@ -45,7 +45,7 @@ fn a_round_that_nobody_takes_is_handed_back(rt: HostRuntime) -> Result<(), Fail>
     expect_eq!(back, (7, 7))
 }
 
-// How many of so many rounds went in before any was taken, and how many of them came out in their order.
+// The number of rounds, of `count`, that went in before any was taken, and of those that came out in their order.
 fn held<R: Wait>(rt: &R, alloc: Global, count: u16) -> Result<(u16, u16), Fail> {
     let (mut putting, mut taking) = rounds(alloc)?;
     let mut put = 0u16;

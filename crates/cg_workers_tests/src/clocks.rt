@@ -1,4 +1,4 @@
-//! Readings of the system's clock, and of clocks that can't be read, one after the other.
+//! Clocks: one that fails shows its last time, one that never ran 0; whole seconds; the system's own.
 
 use cg_clock::{HostClock, Milliseconds, seconds_since_1970};
 use cg_expect::{expect, expect_eq};
@@ -8,7 +8,7 @@ use std::test::Fail;
 use std::time::Duration;
 use std::{io, thread};
 
-// A clock that is read at most so many times, and goes on by half a second at each.
+// A clock that is read at most `most` times, and goes on by half a second at each.
 #[derive(Drop)]
 struct ShortClock {
     readings: AtomicU64,

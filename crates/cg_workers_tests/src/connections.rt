@@ -1,4 +1,4 @@
-//! Words that are sent and answered, and peers that are late.
+//! Connections over the loopback: an answer, an endpoint in use, nobody there, silent and slow peers.
 
 use crate::ports::free_endpoint;
 use cg_expect::expect;
@@ -13,7 +13,7 @@ use std::test::Fail;
 use std::time::{Duration, Instant};
 use std::{io, thread};
 
-// Answers a word of three bytes by the same.
+// Answers three bytes with the same bytes.
 fn echo<L: Listen>(listener: &mut L) -> bool {
     let Ok(Some((mut reader, mut writer))) = listener.accept() else {
         return false;
@@ -22,7 +22,7 @@ fn echo<L: Listen>(listener: &mut L) -> bool {
     reader.read_exact(&mut word).is_ok() && writer.write_all(&word).is_ok()
 }
 
-// Sends a word of three bytes, and tells what came back.
+// Sends three bytes, and returns the answer.
 fn ask<D: Dial>(dialer: &mut D, to: Endpoint) -> Option<[u8; 3]> {
     let (mut reader, mut writer) = dialer.dial(to).ok()?;
     let mut word = [0u8; 3];
@@ -55,7 +55,7 @@ fn nobody_answers(rt: HostRuntime) -> Result<(), Fail> {
     expect!(dialer.dial(to).err() == Some(Fault::ReadFault))
 }
 
-// How many milliseconds a read of three bytes lasts that a peer does not send, and whether it failed.
+// Reads three bytes that a peer does not send: the milliseconds that it took, and `true` if the read failed.
 fn waited<R: Net<Stream = TcpStream> + Clock>(
     rt: &R,
     alloc: Global,
@@ -70,7 +70,7 @@ fn waited<R: Net<Stream = TcpStream> + Clock>(
     Ok((began.elapsed(rt)?.as_millis(), failed))
 }
 
-// Takes a connection and sends a byte every 300 ms, so often.
+// Takes a connection and sends `bytes` bytes, one every 300 ms.
 fn drip<R: Clock, L: Listen>(rt: &R, listener: &mut L, bytes: u32) {
     let Ok(Some((_reader, mut writer))) = listener.accept() else {
         return;
@@ -89,7 +89,7 @@ fn a_silent_peer_is_left_at_the_end(rt: HostRuntime) -> Result<(), Fail> {
     expect!(failed && lasted >= 199 && lasted < 30000, "{lasted}")
 }
 
-// Reads that come to no end before the connection's.
+// Reads a byte at a time until a read fails: the milliseconds that it took, and the number of bytes.
 fn dripped<R: Net<Stream = TcpStream> + Clock>(
     rt: &R,
     alloc: Global,

@@ -1,4 +1,4 @@
-//! Files that are read and replaced.
+//! Files read and replaced: whole, half written, too long, missing; and the generations that they keep.
 
 use cg_expect::expect;
 use cg_files::{Replacement, read_file, replace, store_generation, stored_generation};
@@ -9,12 +9,12 @@ use std::fs;
 use std::rt::Files;
 use std::test::Fail;
 
-// What is in a file, with its fault.
+// The bytes of a file, or its fault.
 fn found<R: Files>(rt: &R, alloc: Global, path: &str) -> Result<Option<Vec<u8>>, Fault> {
     read_file(rt, alloc, path, 64)
 }
 
-// Whether a file has these bytes.
+// Tests whether a file has these bytes.
 fn has<R: Files>(rt: &R, alloc: Global, path: &str, bytes: &[u8]) -> bool {
     match found(rt, alloc, path) {
         Ok(Some(read)) => read.as_slice() == bytes,
@@ -22,7 +22,7 @@ fn has<R: Files>(rt: &R, alloc: Global, path: &str, bytes: &[u8]) -> bool {
     }
 }
 
-// Whether there is no such file.
+// Tests whether there is no such file.
 fn is_missing<R: Files>(rt: &R, alloc: Global, path: &str) -> bool {
     match found(rt, alloc, path) {
         Ok(found) => found.is_none(),
@@ -91,7 +91,7 @@ fn a_folder_can_not_be_read(rt: HostRuntime) -> Result<(), Fail> {
     expect!(found(&rt, rt.alloc(), "/dev/null/x").err() == Some(Fault::ReadFault))
 }
 
-// Whether a file that holds these bytes keeps no generation for this cause.
+// Tests whether a file that holds these bytes keeps no generation, as `BadText`.
 fn refuses<R: Files>(rt: &R, alloc: Global, path: &str, bytes: &[u8]) -> bool {
     replace(rt, alloc, path, bytes).is_ok()
         && stored_generation(rt, alloc, path) == Err(Fault::BadText)

@@ -1,6 +1,7 @@
-//! Connections that come and rounds that are sent, over bytes in memory, with what workers stand on: the channel of the
-//! rounds, by one thread and by two, the random words, and the clocks. And what a node that serves stands on: connections
-//! over the loopback, each side on a thread, and files, in the folder where the tests run.
+//! The receiver and the sender over bytes in memory, and the parts that a node that serves is made of.
+//!
+//! These parts are the channel of the rounds, in one thread and in two, the random words, the clocks, connections over
+//! the loopback, each side on a thread, and files, in the folder where the tests run.
 #![tactic(auto)]
 
 #[cfg(test)]

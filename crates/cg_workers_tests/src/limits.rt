@@ -1,4 +1,4 @@
-//! The time that is given to an exchange.
+//! The time that an exchange may last: a third of the interval, and at least 100 ms.
 
 use cg_expect::expect_eq;
 use cg_sockets::laws::limits_have_their_values;

@@ -1,4 +1,4 @@
-//! Rounds of a number.
+//! Sample rounds with a number.
 
 use cg_messages::Syn;
 use cg_peers::Peers;
@@ -18,7 +18,7 @@ pub(crate) fn round(alloc: Global, number: u16) -> Result<Round, Fail> {
     })
 }
 
-/// The number of a round and the last two bytes of its first peer's address, both 0 where there is none.
+/// The number of a round and the last two bytes of its first peer's address, both 0 if there is none.
 pub(crate) fn shown(round: Option<Round>) -> (u64, u16) {
     let Some(round) = round else {
         return (0, 0);

@@ -1,4 +1,4 @@
-//! Endpoints at the loopback that are free.
+//! Sample endpoints at the loopback that are free.
 
 use cg_types::Endpoint;
 use std::net::{Net, TcpListener, TcpStream};

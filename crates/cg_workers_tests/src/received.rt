@@ -1,4 +1,4 @@
-//! Tests of connections that come in.
+//! Connections that come in: exchanges answered or broken, and the end of the receiver's work.
 
 use crate::samples::{SYN, SYN_AND_ACK2, Standing, owners, started};
 use cg_expect::expect_eq;
@@ -8,10 +8,10 @@ use cg_workers::{Listen, receiver};
 use std::alloc::Global;
 use std::test::Fail;
 
-// What one call of a listener comes to: a connection of which these bytes are read, none, or a fault.
+// The outcome of one call of a listener: a connection of which these bytes are read, none, or a fault.
 type Coming = Result<Option<&'static [u8]>, Fault>;
 
-// A listener that answers so, one call after the other, and then that no connection comes.
+// A listener with these outcomes, one call after the other, and then no connection.
 #[derive(Drop)]
 struct Script<'a> {
     alloc: Global,
@@ -35,7 +35,7 @@ impl<'a> Listen for Script<'a> {
     }
 }
 
-// How many connections came to B, how often it asked for one, and how many owners it holds at the end.
+// The number of connections that came to B, of its calls for one, and of owners that it holds at the end.
 fn received(
     alloc: Global,
     comings: &[Coming],

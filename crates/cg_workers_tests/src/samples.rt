@@ -1,4 +1,4 @@
-//! Nodes, frames and a clock.
+//! Sample nodes, frames and a clock.
 //!
 //! The exchange is that of A, 10.0.0.1:7000 in generation 9, with B, 10.0.0.2:7000 in generation 5, of the cluster c1.
 
@@ -27,12 +27,12 @@ pub(crate) fn started(alloc: Global, own: u16, start: u32) -> Result<NodeGate, F
     Ok(NodeGate::new(node))
 }
 
-// How many owners the node of a gate holds.
+// The number of owners that the node of a gate holds.
 pub(crate) fn owners(gate: &NodeGate) -> usize {
     gate.node().table().owners().len()
 }
 
-// A clock that stands.
+// A clock that does not go on.
 pub(crate) struct Standing(pub(crate) u64);
 
 impl Milliseconds for Standing {

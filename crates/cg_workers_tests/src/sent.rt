@@ -1,4 +1,4 @@
-//! Tests of rounds that are sent.
+//! Rounds that are sent: peers dialed, numbers returned, exchanges broken, and the end of the sender's work.
 
 use crate::samples::{ACK, SYN, Standing, owners, started};
 use cg_engine::NodeGate;
@@ -61,11 +61,12 @@ fn round(alloc: Global, number: u64, peers: &[u16]) -> Result<Round, Fail> {
     })
 }
 
-// The numbers that A answers for two rounds, whom it dialed, how many owners it holds at the end, and whether both
-// rounds were put in.
+// The numbers that A returns for two rounds, the peers that it dialed, the number of owners that it holds at the end,
+// and `true` if both rounds were put in.
 type Came = (Vec<u64>, Vec<Endpoint>, usize, bool);
 
-// What comes of two rounds at a gate, where B alone is reached: the numbers, whom it dialed, and whether both were put in.
+// The outcome of two rounds at a gate that reaches B alone: the numbers, the peers dialed, and `true` if both were put
+// in.
 fn sent_from<R: Wait>(
     rt: &R,
     alloc: Global,
@@ -103,7 +104,7 @@ fn sent<R: Wait>(
     Ok((numbers, dialed, owners(&gate), are_put))
 }
 
-// Whether these were dialed, in this order.
+// Tests whether these were dialed, in this order.
 fn are(dialed: &[Endpoint], due: &[u16]) -> bool {
     dialed.len() == due.len()
         && dialed
@@ -142,7 +143,7 @@ fn a_broken_exchange_ends_itself_alone(rt: HostRuntime) -> Result<(), Fail> {
     expect_eq!(held, 1)
 }
 
-// How many rounds A takes, of none and where nobody can put any in any more.
+// The number of rounds that A takes if there are none and nobody can put any in any more.
 fn taken<R: Wait>(rt: &R, alloc: Global) -> Result<usize, Fail> {
     let mut gate = started(alloc, A, 9)?;
     let mut dialer = Book {

@@ -1,4 +1,4 @@
-//! One thread puts in the rounds that another takes.
+//! Rounds that one thread puts in and another takes: all of them, and until the taker leaves.
 
 use crate::numbered::{round, shown};
 use cg_expect::{expect, expect_eq};
@@ -8,7 +8,7 @@ use std::sync::Wait;
 use std::test::Fail;
 use std::thread::{Threads, join};
 
-// Puts in the rounds of the numbers from 1 on, and says that no more come.
+// Puts in the rounds of the numbers from 1 on, and reports that no more come.
 fn put_all<R: Wait>(rt: &R, alloc: Global, putting: Putting, count: u16) -> Result<u16, Fail> {
     let mut putting = putting;
     let mut put = 0u16;
@@ -22,7 +22,7 @@ fn put_all<R: Wait>(rt: &R, alloc: Global, putting: Putting, count: u16) -> Resu
     Ok(put)
 }
 
-// Takes at most so many rounds, and counts those that come in their order.
+// Takes at most `most` rounds, and counts those that come in their order.
 fn take_all<R: Wait>(rt: &R, taking: Taking, most: u16) -> u16 {
     let mut taking = taking;
     let mut taken = 0u16;
@@ -34,7 +34,7 @@ fn take_all<R: Wait>(rt: &R, taking: Taking, most: u16) -> u16 {
     taken
 }
 
-// How many rounds one thread put in, and how many another took in their order.
+// The number of rounds that one thread put in, and of those that another took in their order.
 fn relayed<R: Threads + Wait + Sync>(
     rt: &R,
     alloc: Global,

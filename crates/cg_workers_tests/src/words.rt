@@ -1,4 +1,6 @@
-//! The random words of some seeds. What is expected comes of another program, after PCG's and rand's own description.
+//! The random words of some seeds.
+//!
+//! The expected words come from another program, which follows PCG's and rand's own description.
 
 use cg_expect::expect_eq;
 use cg_rounds::laws::words_are_the_generators;

@@ -1,5 +1,6 @@
-//! Audits of lives that were not read from journals: of starts alone, and of more endpoints than a table holds; and the
-//! messages that were sent. What is said of journals stands among the vectors (docs/VECTORS.md).
+//! Audits of lives that were not read from journals: starts alone, long chains, and messages that were sent.
+//!
+//! The vectors (docs/VECTORS.md) have the audits of journals.
 
 mod chains;
 mod made;

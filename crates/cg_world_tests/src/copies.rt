@@ -1,4 +1,6 @@
-//! Copies of actions, who starts, and what tells that memory is short, each once with ample memory.
+//! Copies of actions, the node that a start starts, and the fault that reports want of memory.
+//!
+//! Each call is tried once, with ample memory.
 
 use crate::scripts::{deliver, local, set_status, start};
 use cg_expect::expect_eq;
@@ -8,7 +10,7 @@ use cg_world::{Action, LocalEvent, is_out_of_memory};
 use std::alloc::Global;
 use std::test::Fail;
 
-// Whether the copy of an action is shown as the action is.
+// Tests whether the copy of an action is shown as the action is.
 fn is_copied(alloc: Global, action: Action) -> Result<bool, Fail> {
     let copy = action.copy()?;
     Ok(format!(in alloc; "{copy:?}")? == format!(in alloc; "{action:?}")?)

@@ -1,4 +1,4 @@
-//! Whole exchanges, as calls.
+//! Whole exchanges in a world: both nodes have to run, actions in between are kept, starts in between are found.
 
 ghost use Rattle.std.specs.Prelude.{◌≡◌, IsTrue};
 ghost use Rattle.std.specs.List.{list_any};
@@ -16,7 +16,7 @@ use std::test::Fail;
 
 type Held = Option<(u32, u32)>;
 
-// What A and B hold of A and of B, and how many messages were sent.
+// The entries of A and of B that A and B hold, and the number of messages that were sent.
 type AllHeld = ([Held; 2], [Held; 2], u64);
 
 fn all_held(world: &World) -> AllHeld {
@@ -27,22 +27,22 @@ fn all_held(world: &World) -> AllHeld {
     )
 }
 
-// Whether one of the actions starts the node of an endpoint.
+// Tests whether one of the actions starts the node of an endpoint.
 fn any_starts(actions: &[Action], endpoint: Endpoint) -> bool
     ensures { result ≡ list_any (starts endpoint) actions.now }
 {
     actions.iter().any(|action| action.starts(endpoint))
 }
 
-// Whether none of the actions starts one of two nodes.
+// Tests whether none of the actions starts one of two nodes.
 fn starts_neither(actions: &[Action], one: Endpoint, other: Endpoint) -> bool
     ensures { IsTrue result → NeverStarts one actions.now × NeverStarts other actions.now }
 {
     !any_starts(actions, one) && !any_starts(actions, other)
 }
 
-// What is held after an exchange of A and B, with lists of actions before each message is handed over, where these start
-// neither of the two.
+// The entries held after an exchange of A and B, with lists of actions before each message is handed over; `None` if
+// these start one of the two.
 fn exchanged(
     alloc: Global,
     world: World,
@@ -81,7 +81,8 @@ fn both_have_to_run(rt: HostRuntime) -> Result<(), Fail> {
     )
 }
 
-// A beats before the SYN is handed over, B before the ACK, and what was never sent is delivered to B, in vain.
+// A beats before the SYN is handed over, B before the ACK, and a message that was never sent is delivered to B, in
+// vain.
 #[test]
 fn what_is_done_in_between_is_kept(rt: HostRuntime) -> Result<(), Fail> {
     let both = two_nodes(rt.alloc())?;

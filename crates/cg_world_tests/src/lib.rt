@@ -1,5 +1,6 @@
-//! Tests of worlds, and of audits: exchanges, what a world shows, whether lives that were not read from journals were one
-//! run, and each call once with ample memory.
+//! Worlds and audits: exchanges, views of a world, runs, and lives that were not read from journals.
+//!
+//! Each call is tried once, with ample memory.
 #![tactic(auto)]
 
 #[cfg(test)]

@@ -1,4 +1,4 @@
-//! What a world shows of itself, what a run answers, and runs that memory may end.
+//! The messages, nodes, merged tables and compared digests of a world, and runs that memory may end.
 
 use crate::scripts::{act_all, deliver, local, start, three_nodes};
 use cg_expect::{expect, expect_eq};
@@ -11,7 +11,7 @@ use cg_world_laws::{equal_digests, merge_is_join};
 use std::alloc::Global;
 use std::test::Fail;
 
-// What the message of a number sends: the deltas of an ACK or ACK2, and the version that the first of them stands above.
+// The number of deltas in an ACK or ACK2, by the message's number, and the version that the first of them is above.
 fn sent_above(world: &World, number: u64) -> Option<(usize, Option<u32>)> {
     let deltas = match world.message(number)? {
         Message::Syn(_) => return None,
@@ -25,7 +25,7 @@ fn sent_above(world: &World, number: u64) -> Option<(usize, Option<u32>)> {
     Some((deltas.len(), above))
 }
 
-// How many messages were sent, and which of four numbers one has.
+// The number of messages that were sent, and for each of four numbers `true` if a message has it.
 fn messages(world: &World) -> (u64, [bool; 4]) {
     let are_there = [
         world.message(0).is_some(),
@@ -36,7 +36,7 @@ fn messages(world: &World) -> (u64, [bool; 4]) {
     (world.message_count(), are_there)
 }
 
-// Whether these three nodes run and no others.
+// Tests whether these three nodes run and no others.
 fn are_running(alloc: Global, world: &World) -> Result<bool, Fail> {
     let endpoints = world.endpoints(alloc)?;
     Ok(endpoints.as_slice() == [endpoint(A), endpoint(B), endpoint(C)].as_slice())
@@ -84,14 +84,14 @@ fn newest(table: &Table, of: u16) -> Option<u32> {
     Some(table.get(endpoint(of))?.newest().get())
 }
 
-// Whose table the merge of three is, and the newest versions that it holds of the three.
+// The owner of the merge of three tables, and the newest versions that it holds of the three.
 fn merged(alloc: Global, world: &World) -> Result<(Endpoint, [Option<u32>; 3]), Fault> {
     let table = merge_is_join(alloc, world, endpoint(A), endpoint(B), endpoint(C))?;
     let held = [newest(&table, A), newest(&table, B), newest(&table, C)];
     Ok((table.own(), held))
 }
 
-// What is said of the digests of two nodes, of a node's own, and of a node that does not run.
+// Comparisons of the digests of two nodes, of a node with itself, and with a node that does not run.
 fn compared(world: &World) -> [Result<bool, Fault>; 3] {
     [
         equal_digests(world, endpoint(A), endpoint(B)),
@@ -112,7 +112,7 @@ fn tables_merged_and_digests_compared(rt: HostRuntime) -> Result<(), Fail> {
     )
 }
 
-// How many of three nodes run.
+// The number of nodes, of three, that run.
 fn running(world: &World) -> usize {
     [A, B, C]
         .iter()
@@ -120,7 +120,7 @@ fn running(world: &World) -> usize {
         .count()
 }
 
-// Whether so many starts were done, or memory ended their run and those nodes run that started before.
+// Tests whether `starts` starts were done, or memory ended their run and the nodes that started before run.
 fn is_kept(world: &World, answers: &[Result<Shown, Fault>], starts: usize) -> bool {
     let done = answers.iter().filter(|answer| answer.is_ok()).count();
     let whole = done == starts || matches!(answers.last(), Some(Err(Fault::OutOfMemory)));
@@ -151,7 +151,7 @@ fn a_run_keeps_what_was_done(rt: HostRuntime) -> Result<(), Fail> {
     expect_eq!(kept, (true, true))
 }
 
-// The number of the message that an action sent, or why it was refused.
+// The number of the message that an action sent, or the fault by which it was refused.
 fn sent_by(answer: &Result<Shown, Fault>) -> Result<Option<u64>, Fault> {
     match answer {
         Ok(shown) => Ok(shown.sent),

@@ -1,4 +1,4 @@
-//! Lists of actions, and what a world shows of the nodes after them.
+//! Sample lists of actions, and the entries that nodes hold after them.
 
 use cg_core::Node;
 use cg_samples::{A, B, C, endpoint, generation, key, settings};
@@ -26,7 +26,7 @@ pub fn deliver(number: u64, to: u16, now: u64) -> Action {
     Action::Deliver { number, to, now }
 }
 
-// Whether what an action shows is shown by its copy, and is nothing where the action is a start and else something.
+// Tests whether the result of an action equals its copy, and is empty if and only if the action is a start.
 fn is_copied(alloc: Global, action: &Action, shown: &Shown) -> Result<bool, AllocError> {
     let copy = shown.copy(alloc)?;
     let nothing = Shown {
@@ -36,7 +36,7 @@ fn is_copied(alloc: Global, action: &Action, shown: &Shown) -> Result<bool, Allo
     Ok(copy == *shown && (copy == nothing) == matches!(action, Action::Start(..)))
 }
 
-// Does all of these actions, of which none is refused, and tells whether what they show is copied.
+// Does all of these actions, of which none is refused; returns `true` if their results are copied.
 pub fn act_all(alloc: Global, world: &mut World, actions: &[Action]) -> Result<bool, Fault> {
     let mut copied = true;
     for action in actions {

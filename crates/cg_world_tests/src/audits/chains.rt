@@ -1,4 +1,6 @@
-//! Chains of endpoints: each opens at generation 9, and all but the last are handed the SYN of the next one.
+//! Audits of chains of up to 300 endpoints: a SYN is handled once it was sent.
+//!
+//! Each endpoint opens at generation 9, and all but the last are handed the SYN of the next one.
 
 use crate::audits::made::{begun, said};
 use cg_audit::{LifeItem, Lives, audit, endpoints_differ};
@@ -54,7 +56,7 @@ fn chain(alloc: Global, count: u16) -> Result<Vec<Lives>, Fail> {
     Ok(all)
 }
 
-// What is said of a chain of two, and of it without the last one.
+// The audits of a chain of two, and of it without the last one.
 fn two_said(alloc: Global) -> Result<(String, String), Fail> {
     let all = chain(alloc, 2)?;
     let Some((_, rest)) = all.split_first() else {
@@ -63,7 +65,7 @@ fn two_said(alloc: Global) -> Result<(String, String), Fail> {
     Ok((said(alloc, &all)?, said(alloc, rest)?))
 }
 
-// How many items there are in the order of a chain, the fifth and the last.
+// The number of items in the order of a chain, its fifth item and its last.
 fn order(alloc: Global, count: u16) -> Result<(usize, Option<LifeItem>, Option<LifeItem>), Fail> {
     let all = chain(alloc, count)?;
     if !endpoints_differ(&all) {

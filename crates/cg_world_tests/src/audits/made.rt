@@ -1,4 +1,4 @@
-//! Histories that begin, and what is said of an audit of lives.
+//! Sample histories, and the audits of lives as texts.
 
 use cg_audit::{AuditFault, Lives, audit, endpoints_differ};
 use cg_history::History;
@@ -11,8 +11,8 @@ pub(crate) fn begun(alloc: Global, own: u16, number: u32) -> Result<History, Fai
     Ok(History::begin(alloc, endpoint(own), generation(number), settings(alloc)?)?)
 }
 
-/// `run` with its order, `stuck` with the heads, the name of a fault, or `twice` where two are of one endpoint. An item
-/// is printed as the last byte of the endpoint's address, the generation, and the number.
+/// Audits lives: `run` with its order, `stuck` with the heads, the name of a fault, or `twice` if two are of one
+/// endpoint. An item is printed as the last byte of the endpoint's address, the generation, and the number.
 pub(crate) fn said(alloc: Global, lives: &[Lives]) -> Result<String, Fail> {
     if !endpoints_differ(lives) {
         return Ok(String::from_str(alloc, "twice")?);

@@ -1,5 +1,6 @@
-//! Messages that are found among those that were sent: ACK2s about A, 10.0.0.1:7000, or B, 10.0.0.2:7000, with one
-//! delta that has a heartbeat alone.
+//! Messages that are found, and not found, among those that were sent.
+//!
+//! They are ACK2s about A, 10.0.0.1:7000, or B, 10.0.0.2:7000, with one delta that has a heartbeat alone.
 
 use cg_expect::expect_eq;
 use cg_messages::{Ack2, Message, OwnerDelta};
@@ -26,7 +27,7 @@ fn ack2s(alloc: Global) -> Result<Vec<Message>, Fail> {
     Ok(messages)
 }
 
-// Which are found of three messages, where two were sent, in their order.
+// For each of three messages `true` if it is found after two were sent, in their order.
 fn found_of(
     alloc: Global,
     room: usize,
@@ -39,7 +40,7 @@ fn found_of(
     Ok(asked.map(|message: &Message| sent.contains(message.lent())))
 }
 
-// Of an equal of the first that was sent, of the second, and of one that was not: which are found.
+// The same of an equal of the first that was sent, of the second, and of one that was not sent.
 fn found(alloc: Global, room: usize) -> Result<[bool; 3], Fail> {
     let messages = ack2s(alloc)?;
     let [first, second, third, equal] = messages.as_slice() else {

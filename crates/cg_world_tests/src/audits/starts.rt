@@ -1,4 +1,6 @@
-//! Audits of lives that did nothing, by the endpoints of A, 10.0.0.1:7000, and B, 10.0.0.2:7000, and their generations.
+//! Audits of lives that did nothing: one run, generations that do not rise, endpoints that are given twice.
+//!
+//! A is 10.0.0.1:7000, and B 10.0.0.2:7000; each life has a generation.
 
 use crate::audits::made::{begun, said};
 use cg_audit::Lives;
@@ -8,7 +10,7 @@ use cg_types::Endpoint;
 use std::alloc::Global;
 use std::test::Fail;
 
-// Lives of an endpoint, where each history began with a node of the endpoint and the generation that stand here.
+// Lives of an endpoint, of which each history began with a node of this endpoint and generation.
 fn lives(alloc: Global, own: u16, starts: &[(u16, u32)]) -> Result<Option<Lives>, Fail> {
     let mut histories = Vec::new(alloc);
     for (of, number) in starts {
@@ -17,7 +19,7 @@ fn lives(alloc: Global, own: u16, starts: &[(u16, u32)]) -> Result<Option<Lives>
     Ok(Lives::new(endpoint(own), histories))
 }
 
-// What is said of them, or `another` where some are no lives.
+// The audit of them, or `another` if some are no lives.
 fn said_of(alloc: Global, all: &[(u16, &[(u16, u32)])]) -> Result<String, Fail> {
     let mut made = Vec::new(alloc);
     for (own, starts) in all {
@@ -39,7 +41,7 @@ const SAID: [(&[(u16, &[(u16, u32)])], &str); 7] = [
     (&[(B, &[(A, 9)])], "another"),
 ];
 
-// Whose lives these are, and how many.
+// The endpoint of these lives, and their number.
 fn shown(alloc: Global) -> Result<(Endpoint, usize), Fail> {
     let lives = lives(alloc, B, &[(B, 5), (B, 6)])?.ok_or("lives")?;
     Ok((lives.endpoint(), lives.histories().len()))
