@@ -20,7 +20,7 @@ use std::sync::ledger::Blank;
 pub struct Begun<N: Name> {
     /// The node's history and views, behind a lock.
     pub shared: Shared<N>,
-    /// The seats at these.
+    /// The workers' seats at the history and the views.
     pub seats: Seats<N>,
     /// An empty list with room for the four seats, which are put back into it.
     pub list: Vec<Seat<N>>,

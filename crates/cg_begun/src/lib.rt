@@ -1,5 +1,4 @@
-//! The values that a node's workers begin with: the board and a seat at it for each, the views, and the channel of
-//! rounds.
+//! The values that a node's workers begin with: the board, a seat at it for each, the views, and the channel of rounds.
 #![tactic(auto)]
 
 mod begun;

@@ -1,5 +1,4 @@
-//! The program `cg`, for stored runs: of words that ask for help or the version, or can't be read, of `audit` over
-//! files, and of a script.
+//! The program `cg` for stored runs: of help, the version, words that can't be read, `audit` over files, and a script.
 //!
 //! It does the job of each of a few lines of words, after a line that shows them and before one with the status. Then
 //! it does the job of its own words, and ends with its status. It serves no node. Output on standard error is not among

@@ -16,7 +16,7 @@ generation_in text = behind_number text (cut_at 10 text)
 unfoldable pub text_of : ℕ → List ℕ
 text_of generation = decimal generation ++ codes "\n"
 
--- What is kept is read back.
+-- A generation that is kept is read back.
 abbrev pub KeptIsRead : Type 0
 KeptIsRead =
     (generation : ℕ) → 0 < generation → generation < NUMBER_LIMIT

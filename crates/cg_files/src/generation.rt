@@ -29,7 +29,7 @@ pub fn generation_in(bytes: &[u8]) -> Option<Generation>
     }
 }
 
-/// Writes the text of a generation: its number and a line feed.
+/// Returns the text of a generation: its number and a line feed.
 #[tactic(auto, unfolding(crate::specs::Generation::text_of))]
 pub fn generation_text(alloc: Global, generation: Generation) -> Result<String, AllocError>
     ensures { IfOk result (λ text. string_bytes text ≡ text_of generation) }

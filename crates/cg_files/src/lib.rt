@@ -1,7 +1,7 @@
 //! Files that a node that serves keeps: they are read up to a limit, and replaced whole.
 //!
-//! A file is replaced by a new one that was written beside it and synced, so that a crash leaves the old one or the new
-//! one, and never a part.
+//! A file is replaced by a new one that was written beside it and synced. So a crash leaves the old one or the new one,
+//! and never a part.
 #![tactic(auto)]
 
 mod generation;

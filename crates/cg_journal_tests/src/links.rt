@@ -62,9 +62,9 @@ fn journals_over_links_that_fail(rt: HostRuntime) -> Result<(), Fail> {
 // No call has this number.
 const NEVER: u64 = 1_000_000;
 
-// Audits the first exchange while the read of A's journal, the read of B's and the write of these numbers fail: the
-// number of bytes written, `true` if they are a prefix of the expected text, `true` if they are the fault of a read,
-// and the status.
+// Audits the first exchange while the read of A's journal, the read of B's and the write of these numbers fail. Returns
+// the number of bytes written, `true` if they are a prefix of the expected text, `true` if they are the fault of a
+// read, and the status.
 fn said_slowly(alloc: Global, turns: (u64, u64, u64)) -> Result<(usize, bool, bool, u8), Fail> {
     let (opener, answerer, written) = turns;
     let mut readers = Vec::new(alloc);

@@ -1,4 +1,4 @@
--- The remains of a node's workers: models and rules.
+-- The results of a node's workers: models and rules.
 use Rattle.std.specs.Prelude.{ℕ, ◌≡◌, Bool, true, false, List, map, refl}
 use Rattle.std.specs.Coded.{Coded, code_by, coded×, coded_ℕ, coded_list}
 use Rattle.std.specs.List.{All}
@@ -36,7 +36,7 @@ is_tick e = false
 abbrev pub is_any : Event → Bool
 is_any e = true
 
--- ---- remains
+-- ---- results
 
 -- the parts of a seat, and the receipts that it has counted
 pub record LeftValue : Type 0 where
@@ -63,7 +63,7 @@ pub record IsLeft (kind : Event → Bool) (caller parts : ℕ) (l : LeftValue) :
   pub same_parts : l.parts ≡ parts
   pub own_receipts : AreOf kind caller l.receipts
 
--- The remains of this end hold the rounds that were taken, and these are their numbers.
+-- The end that is left holds the rounds that were taken, and these are their numbers.
 pub record HasTaken (before : Taking) (taken : Taken) (numbers : List ℕ) : Type 0 where
   pub channel : IsLeftOf before taken
   pub are_of : numbers ≡ numbers_of (taken_in taken)
@@ -86,8 +86,8 @@ pub record AreOfWorkers (receiver sender ticker operator : List Receipt) : Type 
   pub of_ticker : AreOf is_tick TICKER ticker
   pub of_operator : AreOf is_any OPERATOR operator
 
--- These are the numbers of the rounds that were taken at the other end of the channel, where the rounds of the first of
--- the ticker's receipts were put in.
+-- These are the numbers of the rounds that were taken at the other end of the channel. The rounds that were put in
+-- there are those of the first of the ticker's receipts.
 pub record AreTaken (putting : Putting) (taken : Taken) (numbers : List ℕ) (ticker : List Receipt) : Type 0 where
   pub channel : WereTakenOf putting taken
   pub are_of : numbers ≡ numbers_of (taken_in taken)

@@ -1,4 +1,4 @@
-//! The remains of the workers: seats, receipts and ends of the channel.
+//! The results of the workers: seats, receipts and ends of the channel.
 
 ghost use Rattle.std.specs.Prelude.{◌≡◌, [], length};
 
@@ -71,7 +71,7 @@ pub struct Ticks<N: Name> {
     pub putting: Putting,
 }
 
-/// The remains of all workers, and `true` if all of them were started.
+/// The results of all workers, and `true` if all of them were started.
 #[derive(Drop)]
 pub struct Work<N: Name> {
     pub started: bool,

@@ -1,4 +1,4 @@
-//! The remains of each worker of a node: its seat, its receipts, and the ends of the channel that it used.
+//! The results of each worker of a node: its seat, its receipts, and the ends of the channel that it used.
 #![tactic(auto)]
 
 mod callers;

@@ -1,7 +1,8 @@
-//! Measures the work of a node: its steps, exchanges over links, histories and scripts. With no words it runs each case
-//! once and prints a digest of its results, which no clock and no machine changes. With the word `time` it measures
-//! each. With the word `keep` and a number it makes that number of records of heartbeats at a whole table, and keeps
-//! them to its end, so that their memory can be measured from outside.
+//! Measures the work of a node: its steps, exchanges over links, histories and scripts.
+//!
+//! With no words it runs each case once and prints a digest of its results, which no clock and no machine changes. With
+//! the word `time` it measures each. With the word `keep` and a number it makes that number of records of heartbeats at
+//! a whole table. It keeps them to its end, so that their memory can be measured from outside.
 #![tactic(auto)]
 
 mod cases;

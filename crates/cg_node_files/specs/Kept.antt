@@ -30,7 +30,7 @@ AreTold s = (bytes : List ℕ) × (length bytes ≤ SETTINGS_MOST) × (settings_
 abbrev pub IsOfAStart : ℕ → Type 0
 IsOfAStart generation = (stored : Option ℕ) × (seconds : ℕ) × (generation_at_start stored seconds ≡ Ok generation)
 
--- The expected generation is kept; or there is none, or it can't be kept.
+-- The expected generation is kept; or no generation is expected, or it can't be kept.
 abbrev pub KeepsOf : Result ℕ Fault → Result ℕ Fault → Type 0
 KeepsOf due kept =
     MatchResult kept (λ g. due ≡ Ok g)

@@ -31,8 +31,8 @@ fn keep_next<R: Files>(
     }
 }
 
-/// Returns the generation of the life that begins, after storing it in the file: one more than the file kept, or the
-/// seconds since 1970 if these are more.
+/// Returns the generation of the life that begins, after storing it in the file. It is one more than the file kept, or
+/// the seconds since 1970 if these are more.
 ///
 /// `ReadFault` if the file can't be read, `BadText` if it holds no generation, `VersionsSpent` if there is no greater
 /// one, `WriteFault` if it can't be kept; `OutOfMemory` if memory is refused.

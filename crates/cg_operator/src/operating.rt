@@ -103,8 +103,8 @@ fn operate_lines<N: Name, R: Wait, W: Write, I: Read>(
 /// if no memory was found to publish it. A line that can't be read shows `fault 2 BadText` or `fault 3 TooLong`, and a
 /// refused set `fault 4 VersionsSpent`.
 ///
-/// `OutOfMemory` if memory runs out, `ReadFault` if a read fails or 4,294,967,295 reads were made, `WriteFault` if the
-/// writer fails or takes no byte, `NoSuchNode` if there is nothing to read any more. With `OutOfMemory` and
+/// `OutOfMemory` if memory runs out; `ReadFault` if a read fails or 4,294,967,295 reads were made; `WriteFault` if the
+/// writer fails or takes no byte; `NoSuchNode` if there is nothing to read any more. With `OutOfMemory` and
 /// `WriteFault` the set of that line may have been done.
 pub fn operate<N: Name, R: Wait, I: Read, W: Write>(
     alloc: Global,

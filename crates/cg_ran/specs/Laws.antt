@@ -6,8 +6,8 @@ use Rattle.cg_records.specs.declared.item.Receipt.{Receipt}
 use Rattle.cg_records.specs.Confirming.{AreConfirmed}
 use Rattle.cg_ran.specs.Numbers.{numbers_in, numbers_on}
 
--- The receipts of a caller's events of a kind have, in their order, the numbers of the records of these, if confirmed
--- receipts are as many as the records.
+-- The receipts of a caller's events of a kind have the numbers of the records of these, in their order. This holds if
+-- confirmed receipts are as many as the records.
 abbrev pub ReceiptsHaveTheNumbers : Type 0
 ReceiptsHaveTheNumbers =
     (records : List Item) (receipts : List Receipt) (caller : ℕ) (kind : Event → Bool) → AreConfirmed records receipts

@@ -43,7 +43,7 @@ pub record IsRun (start : NodeValue) (h : HistoryValue) (rounds : List ℕ) : Ty
   pub are_first : IsPrefix rounds (numbers_in TICKER is_tick h.records)
 
 -- The history began at the start, and does not confirm all receipts of the workers, of which there are as many as
--- records: this is the first that it does not confirm.
+-- records. This is the first that it does not confirm.
 pub record IsUnconfirmed (start : NodeValue) (u : Unconfirmed) : Type 0 where
   pub base : u.history.base ≡ start
   pub receipts : List Receipt

@@ -1,4 +1,4 @@
-//! Putting together the remains of the workers.
+//! Putting together the results of the workers.
 
 ghost use Rattle.std.specs.Prelude.{◌≡◌, ◌+◌, ◌≤◌, ◌<◌, ◌++◌, [], true, length, vec_len, vec_capacity, IfOk, IfErr, MatchResult};
 ghost use Rattle.std.specs.List.{sum_by};
@@ -66,13 +66,13 @@ fn confirm_all<N: Name, R: Wait>(
     confirm_behind(history, before, operator)
 }
 
-/// Puts the seats of workers that have ended back together, and has the history confirm their receipts: the receiver's,
-/// the sender's, the ticker's and the operator's. Returns that history and the numbers of the rounds that the sender
-/// took.
+/// Puts the seats of workers that have ended back together, and has the history confirm their receipts. These are, in
+/// this order, the receiver's, the sender's, the ticker's and the operator's. Returns that history and the numbers of
+/// the rounds that the sender took.
 ///
 /// `Unstarted`, with OutOfMemory, if not all workers were started, whatever the history confirms. `Unconfirmed` has the
-/// history and the first receipt that it does not confirm: its fault, and its place, counted from 0 through all
-/// receipts in that order. `work` is the remains of this board's workers: all its parts, and both ends of one channel.
+/// history, and the fault and the place of the first receipt that it does not confirm. Places count from 0 through all
+/// receipts in that order. `work` has the results of this board's workers: all its parts, and both ends of one channel.
 /// `seats` is an empty list with room for four. It may wait for the lock.
 pub fn finish<N: Name, R: Wait>(
     rt: &R,

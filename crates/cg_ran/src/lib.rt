@@ -1,4 +1,4 @@
-//! The node that ran, put together from what its four workers leave.
+//! The node that ran, put together from the results of its four workers.
 //!
 //! `finish` puts the workers' seats back together and has the history confirm all receipts.
 #![tactic(auto)]

@@ -1,4 +1,4 @@
-//! The remains of a node that ran.
+//! The result of a node's run.
 
 use cg_history::History;
 use cg_locked::Unconfirmed;
@@ -16,7 +16,7 @@ pub struct Ran {
 /// A node that did not run, or whose history does not confirm its workers' receipts.
 #[derive(Drop)]
 pub enum NotRun {
-    /// The table's copy, the views, the board, the channel or a worker could not be made, for want of memory, and the
+    /// For want of memory the table's copy, the views, the board, the channel or a worker could not be made. The
     /// workers that were made have ended. A thread that is refused counts as memory: the fault is OutOfMemory.
     Unstarted(Fault),
     /// The history that is left, and the first receipt that it does not confirm.

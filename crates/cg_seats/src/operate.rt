@@ -12,7 +12,8 @@ use std::sync::Wait;
 
 /// An operator's work at a node: it reads by a pass, and has events done by a gate.
 pub trait Operate {
-    /// Works to its end. Its faults are `OutOfMemory`, `ReadFault`, `WriteFault` and `NoSuchNode` alone.
+    /// Does the operator's work, to its end. Its faults are `OutOfMemory`, `ReadFault`, `WriteFault` and `NoSuchNode`
+    /// alone.
     fn run<N: Name, R: Wait>(
         &mut self,
         alloc: Global,

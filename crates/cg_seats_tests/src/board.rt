@@ -20,7 +20,7 @@ use std::sync::Wait;
 use std::sync::ledger::Blank;
 use std::test::Fail;
 
-// The remains of a seat's operator.
+// The result of a seat's operator.
 #[derive(Drop)]
 struct Worked<N: Name> {
     seat: Seat<N>,
@@ -49,7 +49,7 @@ fn work_at<N: Name, R: Wait, O: Operate>(
     }
 }
 
-/// The remains of an operator: its fault, if any, and the numbers of records kept and of receipts confirmed.
+/// The result of an operator: its fault, if any, and the numbers of records kept and of receipts confirmed.
 pub(crate) type Left = (Option<Fault>, usize, usize);
 
 fn left_by<N: Name, R: Wait, O: Operate>(
@@ -82,7 +82,7 @@ fn left_by<N: Name, R: Wait, O: Operate>(
     Ok((ended.err(), records, confirmed))
 }
 
-/// The remains of an operator at A.
+/// The result of an operator at A.
 pub(crate) fn left_after<R: Wait, O: Operate>(
     rt: &R,
     alloc: Global,

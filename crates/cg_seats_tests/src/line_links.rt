@@ -13,8 +13,7 @@ const INPUT: &[u8] = b"set 3 x\ndigests\n";
 
 const TEXT: &[u8] = b"version 2\n10.0.0.1:7000 9 2\n";
 
-// The text written a byte a call while the read of a number fails, or the write of a number, and the operator's
-// remains.
+// The text written a byte a call while the read of a number fails, or the write of a number, and the operator's result.
 fn told<R: Wait>(rt: &R, alloc: Global, read: u64, write: u64) -> Result<(Vec<u8>, Left), Fail> {
     let mut work = DoesLines {
         reader: Counted::new(FailingLink::new(SlowLink::new(INPUT), read)),

@@ -8,7 +8,7 @@ use std::alloc::Global;
 use std::sync::Wait;
 use std::test::Fail;
 
-// The text written of an input, and the operator's remains.
+// The text written of an input, and the operator's result.
 fn told<R: Wait>(rt: &R, alloc: Global, input: &[u8]) -> Result<(Vec<u8>, Left), Fail> {
     let mut work = DoesLines {
         reader: Counted::new(input),

@@ -23,7 +23,7 @@ use std::sync::Wait;
 use std::sync::ledger::Blank;
 use std::test::Fail;
 
-// A clock that does not go on.
+// A clock that shows one time.
 #[derive(Clone, Copy)]
 struct Standing(u64);
 
@@ -91,7 +91,7 @@ fn next_round<R: Wait>(rt: &R, from: &mut Taking) -> (u64, usize)
     }
 }
 
-// The remains of a ticker: its outcome, the numbers of records and of confirmed receipts, and the last receipt's time
+// The result of a ticker: its outcome, the numbers of records and of confirmed receipts, and the last receipt's time
 // and first word.
 #[derive(Clone, Copy, Debug, PartialEq, Eq)]
 struct Seen {
@@ -157,7 +157,7 @@ fn left_after<R: Wait + Clock>(
     )
 }
 
-// The remains of a ticker of two ticks, and the rounds that are taken then: two, and none.
+// The result of a ticker of two ticks, and the rounds that are taken then: two, and none.
 fn two_rounds<R: Wait + Clock>(rt: &R, alloc: Global) -> Result<(Seen, [(u64, usize); 3]), Fail> {
     let (mut putting, mut taking) = rounds(alloc)?;
     let left = left_after(rt, alloc, &mut putting, 2)?;
@@ -184,7 +184,7 @@ fn two_ticks_make_two_rounds(rt: HostRuntime) -> Result<(), Fail> {
     expect_eq!(taken, [(1, 1), (2, 1), (0, 0)])
 }
 
-// The remains of a ticker of five ticks if nobody takes any round.
+// The result of a ticker of five ticks if nobody takes any round.
 fn stopped<R: Wait + Clock>(rt: &R, alloc: Global) -> Result<Seen, Fail> {
     let (mut putting, taking) = rounds(alloc)?;
     let taken = taking.leave();
@@ -208,7 +208,7 @@ fn a_round_that_is_handed_back_stops_the_ticker(rt: HostRuntime) -> Result<(), F
     expect_eq!(left, due)
 }
 
-// The remains of a ticker of no ticks, and the round that is taken then: none.
+// The result of a ticker of no ticks, and the round that is taken then: none.
 fn no_rounds<R: Wait + Clock>(rt: &R, alloc: Global) -> Result<(Seen, (u64, usize)), Fail> {
     let (mut putting, mut taking) = rounds(alloc)?;
     let left = left_after(rt, alloc, &mut putting, 0)?;

@@ -1,4 +1,4 @@
--- The lives of a node: their beginnings and their remains.
+-- The lives of a node: their beginnings and their results.
 use Rattle.std.specs.Prelude.{◌≡◌, ℕ, Option, Some, None, Result, Ok, Err, IfOk, IfErr, MatchResult, string_bytes}
 use Rattle.cg_types.specs.declared.fault.Fault.{Fault}
 use Rattle.cg_core.specs.Values.{NodeValue}
@@ -19,9 +19,9 @@ use Rattle.cg_serve.specs.declared.serving.Lived.{Lived}
 abbrev pub node_of : Birth → NodeValue
 node_of b = starting_node b.own b.generation b.settings
 
--- ---- its remains
+-- ---- its result
 
--- the remains of a run, or the fault by which none began
+-- the result of a run, or the fault by which none began
 abbrev pub left_after : Result Ran NotRun → Result Left Fault
 left_after (Ok r) = Ok (record { history = r.history; stray = None })
 left_after (Err (not_run.Unconfirmed u)) = Ok (record { history = u.history; stray = Some u.fault })
@@ -34,8 +34,8 @@ IsLeft start l =
     (ran : Result Ran NotRun) × IfOk ran (λ r. IsRun start r.history r.rounds.items) × IfErr ran (IsNotRun start)
     × (left_after ran ≡ Ok l)
 
--- A node lived by settings that a file held, at its own endpoint in the generation of a start, and its journal is to be
--- where they say.
+-- A node lived by settings that a file held, at its own endpoint in the generation of a start. The path of its journal
+-- is the one in the settings.
 pub record IsLived (l : Lived) : Type 0 where
   pub told : ServeValue
   pub are_told : AreTold told

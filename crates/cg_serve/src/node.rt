@@ -28,14 +28,14 @@ pub(crate) struct Birth {
     pub(crate) settings: Settings,
 }
 
-// The remains of a node that ran: its history, and the fault of the first receipt that this does not confirm.
+// The result of a node that ran: its history, and the fault of the first receipt that this does not confirm.
 #[derive(Drop)]
 pub(crate) struct Left {
     pub(crate) history: History,
     pub(crate) stray: Option<Fault>,
 }
 
-// Returns the remains of a run, if one began.
+// Returns the result of a run, if one began.
 fn left_of(ran: Result<Ran, NotRun>) -> Result<Left, Fault>
     ensures { result ≡ left_after ran }
 {

@@ -16,7 +16,7 @@ use std::rt::{Clock, Files};
 use std::sync::Wait;
 use std::thread::Threads;
 
-// A life that was lived: the remains of its node, and the path of its journal.
+// A life that was lived: the result of its node, and the path of its journal.
 #[derive(Drop)]
 struct Lived {
     left: Left,
@@ -94,8 +94,8 @@ fn ended<R: Files + Print>(rt: &R, alloc: Global, life: &Result<Lived, Fault>) -
     }
 }
 
-/// Lives as a node by the settings in a file, and returns the exit status: 0, or 1 after a fault, which is one line on
-/// standard output.
+/// Lives as a node by the settings in a file, and returns the exit status. The status is 0, or 1 after a fault, which
+/// is one line on standard output.
 ///
 /// A life ends once its rounds are done and sent, its exchanges were taken and its operator has ended. The first of
 /// these faults that comes ends it before it begins: the settings can't be read (`ReadFault`) or are none (`BadText`);

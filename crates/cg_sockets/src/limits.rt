@@ -5,10 +5,10 @@ ghost use Rattle.std.specs.Prelude.{◌≡◌, ◌/◌, max};
 /// The most milliseconds that an exchange lasts if another side began it.
 pub const RESPOND_LIMIT: u32 = 2000;
 
-/// The least milliseconds that dialing a peer and the exchange with it have.
+/// The fewest milliseconds for dialing a peer and the exchange with it.
 pub const LEAST_LIMIT: u32 = 100;
 
-/// The most times that a call is made that was interrupted.
+/// The most times that an interrupted call is made.
 pub const CALL_TRIES: u32 = 16;
 
 /// The most times that a connection is waited for if those that came could not be taken.

@@ -1,6 +1,6 @@
 //! A node's workers, in the caller's thread and three more, over one history.
 //!
-//! `run_node` starts four workers on the seats of one board: the receiver answers exchanges, the sender begins them,
+//! `run_node` starts four workers on the seats of one board. The receiver answers exchanges, the sender begins them,
 //! the ticker begins rounds, and the operator does its own work. They leave one history, which has a record of each of
 //! their receipts.
 #![tactic(auto)]

@@ -94,14 +94,14 @@ where
 
 /// Runs a node until its workers have ended, and takes its history back.
 ///
-/// The receiver answers up to `exchanges` connections, the ticker begins `rounds` rounds, `interval` milliseconds
-/// apart, the sender sends them, and the operator runs to its end. The receiver works in the caller's thread, each of
+/// The receiver answers up to `exchanges` connections. The ticker begins `rounds` rounds, `interval` milliseconds
+/// apart, and the sender sends them. The operator runs to its end. The receiver works in the caller's thread, each of
 /// the others in one of its own. An exchange that breaks ends itself alone, a fault of the listener or of the operator
 /// that worker alone. If the sender or the ticker stops for want of memory, the other ends too, with fewer rounds. No
 /// worker begins before all are started. The call waits until all have ended.
 ///
 /// `history` has no records yet. `Unstarted`, with OutOfMemory, if the copy of its table, the views, the board, the
-/// channel or a thread was refused: then nothing was done, and the history is gone. `Unconfirmed` if the history does
+/// channel or a thread was refused. Then nothing was done, and the history is gone. `Unconfirmed` if the history does
 /// not confirm all receipts.
 pub fn run_node<
     R: Threads + Wait + Clock + Sync,

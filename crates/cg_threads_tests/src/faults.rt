@@ -44,7 +44,7 @@ impl Listen for Connections {
     }
 }
 
-// The remains of B: the numbers of records of a SYN, of an ACK2 and of a round, the number of rounds that its sender
+// The result of B: the numbers of records of a SYN, of an ACK2 and of a round, the number of rounds that its sender
 // took, and `true` if it holds an entry of A.
 #[derive(Clone, Copy, Debug, PartialEq, Eq)]
 struct Left {
@@ -61,7 +61,7 @@ fn left_of(left: &Ran) -> Left {
     }
 }
 
-// The remains of B, which begins a round and answers two exchanges; in the first one the call of a number fails. `None`
+// The result of B, which begins a round and answers two exchanges; in the first one the call of a number fails. `None`
 // if its history does not confirm the receipts of all workers.
 fn left_after<R: Threads + Wait + Clock + Sync, O: Operate + Drop + Send>(
     rt: &R,

@@ -108,7 +108,7 @@ impl Dial for Nobody {
     }
 }
 
-// A clock that does not go on.
+// A clock that shows one time.
 #[derive(Drop)]
 pub(crate) struct Standing;
 

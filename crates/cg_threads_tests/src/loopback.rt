@@ -44,7 +44,7 @@ fn answerer<R: Threads + Wait + Clock + Sync + Net<Listener = TcpListener, Strea
     ran(rt, alloc, side, listening, Nobody, operator)
 }
 
-// The remains of both, each node in a thread of its own.
+// The results of both, each node in a thread of its own.
 fn both<R: Threads + Wait + Clock + Sync + Net<Listener = TcpListener, Stream = TcpStream>>(
     rt: &R,
     alloc: Global,
@@ -89,7 +89,7 @@ fn left_of(alloc: Global, a: &Side, b: &Side, of_a: Ran, of_b: Ran) -> Result<Le
     })
 }
 
-// The remains if A begins `count` rounds, and B answers as many exchanges.
+// The result if A begins `count` rounds, and B answers as many exchanges.
 fn left_after<R: Threads + Wait + Clock + Sync + Net<Listener = TcpListener, Stream = TcpStream>>(
     rt: &R,
     alloc: Global,
@@ -105,7 +105,7 @@ fn left_after<R: Threads + Wait + Clock + Sync + Net<Listener = TcpListener, Str
     left_of(alloc, &a, &b, of_a, of_b)
 }
 
-// The expected remains.
+// The expected result.
 fn due(count: u32) -> Left {
     Left {
         begun: count as usize,

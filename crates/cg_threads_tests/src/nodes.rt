@@ -1,4 +1,4 @@
-//! Sample nodes that run, and their remains.
+//! Sample nodes that run, and their results.
 
 ghost use Rattle.std.specs.Prelude.{◌≡◌, [], IfSome};
 
@@ -67,7 +67,7 @@ fn begun(alloc: Global, side: &Side) -> Option<History>
     History::begin(alloc, side.own, generation(side.start), settings).ok()
 }
 
-// The remains of a node that ran; `None` if it did not run, or its receipts are not confirmed.
+// The result of a node that ran; `None` if it did not run, or its receipts are not confirmed.
 pub(crate) fn ran<
     R: Threads + Wait + Clock + Sync,
     L: Listen + Drop,

@@ -27,8 +27,8 @@ impl Operate for Quits {
     }
 }
 
-// An operator that waits until a node's listener is asked for a connection, reads the published table, and reports
-// that.
+// An operator that waits until a node's listener is asked for a connection, reads the published table, and reports the
+// read.
 #[derive(Drop)]
 pub(crate) struct ReadsOnce<'a, C: Clock> {
     pub(crate) clock: &'a C,

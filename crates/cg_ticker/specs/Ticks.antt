@@ -70,9 +70,9 @@ abbrev pub missing : Bool → ℕ
 missing true = 1
 missing false = 0
 
--- There are more receipts, all of ticks at times that the clock showed: first those whose rounds were put in, then, if
--- the ticker stopped, one whose round was not. If it did not stop, ticks and refused ticks are as many as rounds were
--- wanted. If no tick was refused, the words of the ticks are the generator's.
+-- There are more receipts, all of ticks at times that the clock showed. First come those whose rounds were put in,
+-- then, if the ticker stopped, one whose round was not. If it did not stop, ticks and refused ticks are as many as
+-- rounds were wanted. If no tick was refused, the words of the ticks are the generator's.
 pub record Ticks (shows : ℕ → Type 0) (rounds : ℕ) (s : Stream) (had : List Receipt) (before : List Round)
     (left : Ticked) (has : List Receipt) (after : List Round) : Type 0 where
   pub passed : List Receipt

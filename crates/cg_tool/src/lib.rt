@@ -1,5 +1,6 @@
-//! The program's work over readers and writers: the words of the command line choose a job, which a crate of its own
-//! does. Serving is left to the program.
+//! The program's work, over readers and writers.
+//!
+//! The words of the command line choose a job, which a crate of its own does. Serving is left to the program.
 #![tactic(auto)]
 
 mod running;

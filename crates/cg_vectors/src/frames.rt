@@ -170,8 +170,9 @@ fn add_notes(alloc: Global, text: &mut String, frame: &[u8]) -> Result<(), Fault
 /// Reads the bytes that these digits spell: the messages, and then the first fault, or the number of bytes that the
 /// last frame lacks.
 ///
-/// A note follows if the same bytes, a byte at a time, give something else, if the messages are written otherwise than
-/// they were read, or if a single frame gives something else by itself, in two chunks or with zeros after it.
+/// A note follows if the same bytes, a byte at a time, give something else, or if the messages are written otherwise
+/// than they were read. A note follows too if a single frame gives something else by itself, in two chunks or with
+/// zeros after it.
 pub fn read_of(alloc: Global, digits: &str) -> Result<String, Fault> {
     let bytes = bytes_in(alloc, digits)?;
     let mut text = read_by(alloc, &bytes, bytes.len().max(1))?;

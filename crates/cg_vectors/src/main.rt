@@ -1,9 +1,8 @@
-//! Runs the conformance vectors of the folder `data`: files from which any implementation of this gossip can be tested
-//! (docs/VECTORS.md).
+//! Runs the conformance vectors of the folder `data`, with which any implementation can be tested (docs/VECTORS.md).
 //!
-//! It prints a line for each vector that does not hold, with its file, the number of its line and the text found
-//! instead of the expected one. For each file it prints the number of vectors that hold, and of all. The status is 1
-//! unless all hold.
+//! For each vector that does not hold it prints a line: its file, the number of its line and the text found instead of
+//! the expected one. For each file it prints the number of vectors that hold, and of all. The status is 1 unless all
+//! hold.
 #![tactic(auto)]
 
 mod checking;

@@ -1,4 +1,4 @@
-//! Messages as words.
+//! The messages of frames, as words.
 
 use cg_entry::{Digest, State};
 use cg_messages::{Ack, Ack2, Message, OwnerDelta, Request, Syn};

@@ -34,7 +34,7 @@ fn window_of(alloc: Global, silence: Silence, arrivals: &[&str]) -> Result<Windo
     Ok(window)
 }
 
-/// Returns the verdict on four settings and arrivals, at the time after the word `at`.
+/// Returns the verdict on four settings and arrivals, at the time after `at`.
 pub fn verdict_text(alloc: Global, given: &str) -> Result<String, Fault> {
     let words = words_in(alloc, given)?;
     let Some(place) = place_of(&words, "at") else {

@@ -1,4 +1,4 @@
-//! Words, which are parted by single spaces.
+//! The words of vectors, which are parted by single spaces.
 
 ghost use Rattle.std.specs.Prelude.{◌<◌, ◌≤◌, IfOk, IfSome, length};
 

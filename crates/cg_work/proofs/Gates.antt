@@ -60,7 +60,7 @@ module _ (kind : Event → Bool) where
       let O = λ (q : Receipt). q.caller ≡ c in
       All-cons (IsOf kind c) q qs (record { own = All-head O q qs own; fits = All-head F q qs fits }) (own_kind c qs (All-tail F q qs fits) (All-tail O q qs own))
 
-  -- the remains of a gate that had no receipts
+  -- the result of a gate that began with no receipts
   pub left_more : (caller parts : ℕ) (h : SeatValue) (l : LeftValue) → More kind (new_gate caller parts) h → l.parts ≡ h.parts → l.receipts ≡ h.receipts
       → seat.AreOf h.caller h.receipts → IsLeft kind caller parts l
   left_more caller parts h l x same_parts same_receipts own =

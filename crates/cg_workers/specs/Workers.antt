@@ -69,7 +69,7 @@ module _ {S R W L : Type 0} (does : S → Event → Reply → S → Type 0) (ref
     pub accepted : accepts s.0 (Ok (Some link)) t.0
     pub answered : Answered does refuses stays remaining contents shows link s.1 t.1
 
-  -- that many connections came, one after the other
+  -- `count` connections came, one after the other
   pub record AllCame (count : ℕ) (s t : L × S) : Type 0 where
     pub links : List (R × W)
     pub counted : length links ≡ count

@@ -1,7 +1,7 @@
 //! The receiver and the sender over bytes in memory, and the parts that a node that serves is made of.
 //!
-//! These parts are the channel of the rounds, in one thread and in two, the random words, the clocks, connections over
-//! the loopback, each side on a thread, and files, in the folder where the tests run.
+//! These parts are the channel of the rounds, in one thread and in two, the random words, and the clocks. Others are
+//! connections over the loopback, each side on a thread, and files, in the folder of the tests' run.
 #![tactic(auto)]
 
 #[cfg(test)]

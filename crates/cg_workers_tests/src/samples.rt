@@ -32,7 +32,7 @@ pub(crate) fn owners(gate: &NodeGate) -> usize {
     gate.node().table().owners().len()
 }
 
-// A clock that does not go on.
+// A clock that shows one time.
 pub(crate) struct Standing(pub(crate) u64);
 
 impl Milliseconds for Standing {
