@@ -32,7 +32,7 @@ abbrev pub is_tick : Event → Bool
 is_tick (event.Tick now words) = true
 is_tick e = false
 
--- an event of the operator
+-- an event of the operator, which may be any
 abbrev pub is_any : Event → Bool
 is_any e = true
 

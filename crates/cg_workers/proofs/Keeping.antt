@@ -44,8 +44,8 @@ event_at kind.Ack2 now (messages.Ack2 m) e due =
     let same : event.Ack2 now m ≡ e = cc in
     subst (IsEventAt kind.Ack2 now) same refl
 
--- Parameters: a gate's steps, refusals and rests, the times of a clock, and a relation that is kept: from each state to
--- itself, over two steps if over both, and by a refused event.
+-- Parameters: a gate's steps, its refusals and the states that these leave, the times of a clock, and a relation that
+-- is kept. It is kept from each state to itself, over two steps if over both, and by a refused event.
 module _ {S : Type 0} (does : S → Event → Reply → S → Type 0) (refuses : S → Event → Fault → Type 0) (stays : S → S → Type 0) (shows : ℕ → Type 0)
     (keeps : S → S → Type 0) (same : (s : S) → keeps s s) (both : (s u t : S) → keeps s u → keeps u t → keeps s t)
     (stayed : (s t : S) → stays s t → keeps s t) where

@@ -28,7 +28,8 @@ IsNoLink r = Unit {0}
 abbrev pub numbers_of : List Round → List ℕ
 numbers_of rounds = map (λ (r : Round). r.number) rounds
 
--- Parameters: a gate's steps, refusals and rests, a reader's rest, a writer's contents, and the times of a clock.
+-- Parameters: a gate's steps, its refusals and the states that these leave, a reader's rest, a writer's contents, and
+-- the times of a clock.
 module _ {S R W : Type 0} (does : S → Event → Reply → S → Type 0) (refuses : S → Event → Fault → Type 0)
     (stays : S → S → Type 0) (remaining : R → Option (List ℕ)) (contents : W → Option (List ℕ))
     (shows : ℕ → Type 0) where
