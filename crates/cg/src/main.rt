@@ -5,7 +5,7 @@ use cg_serve::serve;
 use cg_tool::{Ending, run};
 use std::process::ExitCode;
 
-/// Does the job that the words of the command line name.
+/// Runs the job that the words of the command line name.
 fn main(rt: HostRuntime) -> ExitCode {
     ExitCode::from(match run(&rt) {
         Ending::Status(status) => status,

@@ -1,14 +1,14 @@
 //! The program `cg` for stored runs: of help, the version, words that can't be read, `audit` over files, and a script.
 //!
-//! It does the job of each of a few lines of words, after a line that shows them and before one with the status. Then
-//! it does the job of its own words, and ends with its status. It serves no node. Output on standard error is not among
+//! It runs the job of each of a few lines of words, after a line that shows them and before one with the status. Then
+//! it runs the job of its own words, and ends with its status. It serves no node. Output on standard error is not among
 //! what it prints.
 #![tactic(auto)]
 
 use cg_tool::show_run;
 use std::process::ExitCode;
 
-/// Does the jobs of the lines, and then that of the words.
+/// Runs the jobs of the lines, and then that of the words.
 fn main(rt: HostRuntime) -> ExitCode {
     let lines = [
         "cg --help",

@@ -64,7 +64,7 @@ pub struct Sent<N: Name> {
     pub numbers: Vec<u64>,
 }
 
-/// The ticker's seat and receipts, and the end where it put its rounds in.
+/// The ticker's seat and receipts, and the end into which it put its rounds.
 #[derive(Drop)]
 pub struct Ticks<N: Name> {
     pub left: Left<N>,

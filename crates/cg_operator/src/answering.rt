@@ -99,7 +99,7 @@ fn set<N: Name, R: Wait>(
     }
 }
 
-// Does an order, and returns the text that it shows, or `None` if it is the end.
+// Carries out an order, and returns the text that it shows, or `None` if it is the end.
 fn obey<N: Name, R: Wait>(
     alloc: Global,
     gate: &mut SeatGate<'_, N, R>,
@@ -124,7 +124,7 @@ fn obey<N: Name, R: Wait>(
     }
 }
 
-/// Does the order of a line, and returns the text that it shows, or `None` if it is the end.
+/// Carries out the order in a line, and returns the text that it shows, or `None` if it is the end.
 pub(crate) fn answer<N: Name, R: Wait>(
     alloc: Global,
     gate: &mut SeatGate<'_, N, R>,

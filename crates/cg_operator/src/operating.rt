@@ -27,7 +27,7 @@ pub(crate) struct Operating<'a, 'b, N: Name, R: Wait, W> {
     pub has_quit: bool,
 }
 
-// Does a line, and writes the text that it shows. Returns `true` if a further line is to be read.
+// Carries out a line, and writes the text that it shows. Returns `true` if a further line is to be read.
 fn tell_line<N: Name, R: Wait, W: Write>(
     alloc: Global,
     gate: &mut SeatGate<'_, N, R>,
@@ -75,7 +75,7 @@ fn ended(has_quit: bool, fault: Fault) -> Result<(), Fault>
     if has_quit { Ok(()) } else { Err(fault) }
 }
 
-// Does the lines that a reader has left.
+// Carries out the lines that a reader has left.
 fn operate_lines<N: Name, R: Wait, W: Write, I: Read>(
     alloc: Global,
     operating: &mut Operating<'_, '_, N, R, W>,
@@ -95,8 +95,8 @@ fn operate_lines<N: Name, R: Wait, W: Write, I: Read>(
     }
 }
 
-/// Does the lines that a reader has left, one after the other, until `quit` or the end. The text that a line shows is
-/// written and flushed before the next line is done.
+/// Carries out the lines that a reader has left, one after the other, until `quit` or the end. The text that a line
+/// shows is written and flushed before the next line is done.
 ///
 /// `gossipinfo`, `ring`, `digests` and `replicas RF TEXT` show what the pass reads, with no lock. `set KEY TEXT` sets a
 /// key of the node. It shows `version N` once the pass has learnt the `Told` of the change, or `version N unpublished`

@@ -1,6 +1,6 @@
 //! Orders that an operator types as lines, and the texts that answer them.
 //!
-//! A line is read by its words; what is shown of a table is one text.
+//! A line is read by its words; a view of a table is one text.
 #![tactic(auto)]
 
 mod order;

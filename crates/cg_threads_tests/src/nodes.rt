@@ -94,7 +94,7 @@ where
     run_node(rt, alloc, history, parts, turns).ok()
 }
 
-// The numbers of a history's records of which the round has this one peer.
+// The numbers of a history's records whose round has this one peer.
 pub(crate) fn rounds(alloc: Global, history: &History, peer: Endpoint) -> Result<Vec<u64>, Fail> {
     let mut numbers = Vec::new(alloc);
     let mut number = 0u64;

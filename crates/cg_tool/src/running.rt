@@ -102,7 +102,7 @@ fn serves<R: Print>(rt: &R, alloc: Global, files: &[&str]) -> Ending {
     }
 }
 
-// Does a job over the standard streams and over files, except serving.
+// Runs a job over the standard streams and over files, except serving.
 fn done<R: Runtime>(rt: &R, alloc: Global, job: &Job) -> Ending {
     let mut reader = Counted::new(rt.reader());
     let mut writer = Counted::new(io::writer(rt));
@@ -123,7 +123,7 @@ fn unread<R: Print + Eprint>(rt: &R, error: &io::Error) -> u8 {
     MISUSED
 }
 
-// Does the job that the words name.
+// Runs the job that the words name.
 fn ran<R: Runtime>(rt: &R, alloc: Global, words: &[String]) -> Ending {
     let Ok(words) = texts(alloc, words) else {
         return Ending::Status(out_of_memory(rt));
@@ -134,7 +134,7 @@ fn ran<R: Runtime>(rt: &R, alloc: Global, words: &[String]) -> Ending {
     }
 }
 
-// Does the job that words name, of which the first is the program's name.
+// Runs the job that words name, of which the first is the program's name.
 pub(crate) fn run_words<R: Runtime>(
     rt: &R,
     alloc: Global,
@@ -151,7 +151,7 @@ fn words<R: Env + AllocGlobal>(rt: &R) -> io::Result<Vec<String>> {
     Ok(env::args(rt)?.collect(rt.alloc())?)
 }
 
-/// Does the job that the words of the command line name, over the standard streams and the named files. The first word
+/// Runs the job that the words of the command line name, over the standard streams and the named files. The first word
 /// is the program's name; with no further words the job is `answer`. A node is not served here: the caller serves it by
 /// the file that is returned. Help and the version go to standard output, with status 0. A fault of the command line
 /// goes to standard error, with status 2, as does a word that is not UTF-8. Want of memory before the work begins is

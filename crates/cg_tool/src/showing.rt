@@ -22,14 +22,14 @@ fn status_of(ending: Ending) -> u8 {
     }
 }
 
-// Does the job of a line of words.
+// Runs the job of a line of words.
 fn show<R: Runtime>(rt: &R, alloc: Global, line: &str) {
     let _ = println!(rt; "> {line}");
     let status = status_of(run_words(rt, alloc, words_in(alloc, line)));
     let _ = println!(rt; "< {status}");
 }
 
-/// Does the job of each line of words, after a line that shows them and before one with the status. Then it does the
+/// Runs the job of each line of words, after a line that shows them and before one with the status. Then it runs the
 /// job of the command line's words, and returns its status. If words ask to serve, no node is served, and the status is
 /// 2.
 pub fn show_run<R: Runtime + AllocGlobal>(rt: &R, lines: &[&str]) -> u8 {

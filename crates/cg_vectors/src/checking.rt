@@ -76,7 +76,8 @@ fn line_holds<R: Files + Print + Alloc<A = Global>>(
     }
 }
 
-/// Runs the vector of each line that is neither empty nor a remark.
+/// Runs the vector of each line that is neither empty nor a remark, and returns the numbers of those that hold and of
+/// all.
 pub fn check_lines<R: Files + Print + Alloc<A = Global>>(
     rt: &R,
     file: &str,
