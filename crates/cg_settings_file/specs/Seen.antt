@@ -19,7 +19,7 @@ settings_view s = record {
   random = s.random;
 }
 
--- The result is the expected value, or memory ran out before; it is BadText exactly if no value is expected.
+-- The result is the expected value, or memory ran out before, or it is BadText and no value is expected.
 abbrev pub Finds : {X Y : Type 0} → (X → Y) → Result X Fault → Option Y → Type 0
 Finds view found due =
     MatchResult found (λ x. due ≡ Some (view x)) (λ f. (f ≡ OutOfMemory) ⊎ ((f ≡ BadText) × (due ≡ None)))

@@ -108,8 +108,9 @@ fn settings_of_table(alloc: Global, table: &Table) -> Result<ServeSettings, Faul
 
 /// Reads the settings in a text, which is a TOML table.
 ///
-/// `BadText` if and only if the text is no TOML table or breaks one of these rules: each key has a meaning; no key that
-/// is needed is missing; each value is of its type and in its range. `OutOfMemory` if memory runs out on the way.
+/// `OutOfMemory` if memory runs out on the way. Else `BadText` if and only if the text is no TOML table or breaks one
+/// of these rules: each key has a meaning; no key that is needed is missing; each value is of its type and in its
+/// range.
 #[tactic(auto, unfolding(crate::specs::Settings::settings_in))]
 pub fn settings_of(alloc: Global, text: &str) -> Result<ServeSettings, Fault>
     ensures { Finds settings_view result (settings_in text.now) }
