@@ -6,8 +6,10 @@ top, TOP, and an absolute one stays as it is. Needs Python 3.8.
 import argparse
 import difflib
 import functools
+import itertools
 import os
 import re
+import signal
 import sys
 from collections import defaultdict
 from typing import Dict, Iterator, List, NamedTuple, Optional, Set, Tuple
@@ -24,6 +26,8 @@ class Words(argparse.ArgumentParser):
 
     def __init__(self, doc: str):
         super().__init__(prog=os.path.basename(sys.argv[0]))
+        # (a reader of the output may end before it, as head does)
+        signal.signal(signal.SIGPIPE, signal.SIG_DFL)
         self.doc = doc.strip()
 
     def format_help(self) -> str:
@@ -89,9 +93,10 @@ def root_of(crate: str) -> Optional[str]:
     return next((path for path in paths if is_file(path)), None)
 
 
-def first_line(path: str) -> str:
-    """Returns the first line of a file without the mark of a comment."""
-    return re.sub(r"^(//!|--)\s*", "", text_of(path).split("\n", 1)[0])
+def opening(path: str) -> str:
+    """Returns the first sentence of the comment that a file of code begins with."""
+    lines = itertools.takewhile(lambda line: line.startswith("//!"), text_of(path).split("\n"))
+    return first_sentence("\n".join(line[3:].strip() for line in lines))
 
 
 # --- Files of code --------------------------------------------------------------------------------------------------------------
@@ -507,3 +512,19 @@ def tests_of(crate: str) -> Iterator[Tuple[str, List[Item]]]:
         found = [it for it in items(path) if it.kind == "fn" and re.search(r"\btest\b", it.attributes)]
         if found:
             yield path, found
+
+
+# --- Data files beside the scripts ----------------------------------------------------------------------------------------------
+
+CallName = Tuple[str, str]
+
+
+def calls_named(path: str) -> Dict[CallName, Tuple[int, str]]:
+    """Returns what a data file says of calls, by crate and call: the line of the file, and the reason. Its lines are
+    `crate call: reason`, or `call` where only one crate has the call; a call that is nowhere keeps the crate that is written."""
+    found = {}
+    for number, head, reason in entries(path):
+        crate, _, name = head.rpartition(" ")
+        having = [it for it in crates() if any(call.full_name == name for call in public_calls(it))]
+        found[crate or (having[0] if len(having) == 1 else ""), name] = number, reason
+    return found
