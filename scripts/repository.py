@@ -383,8 +383,9 @@ def public_calls(crate: str) -> List[Item]:
 
 
 def is_law(item: Item) -> bool:
-    """Tests whether a function's contract is a law: it is in a module `laws`, or in a crate of laws."""
-    return item.module.split("::")[0] == "laws" or item.crate.endswith("_laws")
+    """Tests whether a function's contract is a law: it takes and returns nothing, or is in a module or a crate of laws."""
+    is_bare = re.search(r"\bfn \w+\(\)$", item.head) is not None
+    return is_bare or item.module.split("::")[0] == "laws" or item.crate.endswith("_laws")
 
 
 def first_sentence(doc: str) -> str:
@@ -397,8 +398,12 @@ def first_sentence(doc: str) -> str:
 # --- Definitions ----------------------------------------------------------------------------------------------------------------
 
 IMPORT = re.compile(r"use Rattle\.(\w+)\.(specs|proofs)\.([\w.\-]+?)(?:\.\{([^}]*)\}| as ([\w\-]+))?;?$", re.M)
-DECLARED = re.compile(r"^ *(?:(?:pub|abbrev|unfoldable)\s+)*(?:(?:record|data|module)\s+)?(?!use\b|mod\b)([^\s:(){}.=]+)(?: :| [({]|$)", re.M)
-KEYWORDS = {"pub", "abbrev", "unfoldable", "record", "data", "module", "where", "else", "--"}
+DECLARED = re.compile(
+    r"^ *(?:(?:(?:pub|abbrev|unfoldable) )+(?:(?:record|data|module) )?|(?:record|data|module) )(?!use\b|mod\b)([^\s:(){}]+)"
+    r"|^ *([^\s:(){}]+) :",
+    re.M,
+)
+KEYWORDS = {"", "pub", "abbrev", "unfoldable", "record", "data", "module", "where", "else", "--"}
 
 
 class Definition(NamedTuple):
@@ -413,7 +418,7 @@ class Definition(NamedTuple):
 def declared(path: str) -> Set[str]:
     """Returns the names that a file of definitions or lemmas declares: fields and constructors too, and what it hands on."""
     text = text_of(path)
-    names = {name for name in DECLARED.findall(text) if name not in KEYWORDS}
+    names = {name for pair in DECLARED.findall(text) for name in pair if name not in KEYWORDS}
     names |= {name for line in re.findall(r"^ +([A-Z]\w*(?: [A-Z]\w*)+) :", text, re.M) for name in line.split()}
     handed_on = re.findall(r"pub use [^{\n]*\{([^}]*)\}", text)
     return names | {name.split(" as ")[-1].strip() for names in handed_on for name in names.split(",")}
