@@ -61,7 +61,7 @@ def is_file(path: str) -> bool:
 
 
 def entries(path: str) -> List[Tuple[int, str, str]]:
-    """Returns the lines `HEAD: REST` of a data file as (line, HEAD, REST); empty ones and those with # at their start are none."""
+    """Returns the lines `HEAD: REST` of a data file as (line, HEAD, REST), without empty lines and those that begin with #."""
     lines = enumerate(text_of(path).split("\n"), 1)
     parts = [(number, line.partition(": ")) for number, line in lines if line.strip() and not line.startswith("#")]
     return [(number, head.strip(), rest.strip()) for number, (head, _, rest) in parts]
