@@ -3,57 +3,30 @@
 Shared by check-pages, map, promises and try-edits. It reads text alone and asks no prover. A path is one from the repository's
 top, TOP, and an absolute one stays as it is. Needs Python 3.8.
 """
-import argparse
-import difflib
 import functools
 import itertools
 import os
 import re
 import signal
-import sys
 from collections import defaultdict
 from typing import Dict, Iterator, List, NamedTuple, Optional, Set, Tuple
 
-TOP = os.path.dirname(os.path.dirname(os.path.abspath(__file__)))
+import command
+from command import TOP
+
 # Folders of edits, those that the gate tries first.
 EDIT_FOLDERS = ("edits", "further-edits", "must-fail")
 # The character that represents the end of a line in a text of an edit.
 LINE_END = "⏎"
 
 
-class Words(argparse.ArgumentParser):
-    """The words of a script: --help prints its whole docstring, and misuse is one line with status 2."""
-
-    def __init__(self, doc: str):
-        super().__init__(prog=os.path.basename(sys.argv[0]))
-        # (a reader of the output may end before it, as head does)
-        signal.signal(signal.SIGPIPE, signal.SIG_DFL)
-        self.doc = doc.strip()
-
-    def format_help(self) -> str:
-        return f"{self.doc}\n"
-
-    def error(self, message: str) -> None:
-        print(f"{self.prog}: {message}; --help says more", file=sys.stderr)
-        sys.exit(2)
-
-    def crates(self, names: List[str]) -> List[str]:
-        """Returns the crates named, or all if none is; a name that is none ends the script."""
-        for name in names:
-            if name not in crates():
-                self.error(no_crate(name))
-        return names or [*crates()]
-
-
-def no_crate(name: str) -> str:
-    """Returns the error of a name that is no crate's, with the names nearest to it."""
-    near = difflib.get_close_matches(name, crates(), 3, 0.5)
-    return f"no crate {name}; crates.txt lists " + (", ".join(near) if near else f"{len(crates())} others")
-
-
 def text_of(path: str) -> str:
-    with open(os.path.join(TOP, path), encoding="utf-8") as file:
-        return file.read()
+    return command.text_of(os.path.join(TOP, path))
+
+
+def end_with_reader() -> None:
+    """Lets a reader of the output end the script, as head does, without a traceback."""
+    signal.signal(signal.SIGPIPE, signal.SIG_DFL)
 
 
 def is_file(path: str) -> bool:
@@ -70,8 +43,7 @@ def entries(path: str) -> List[Tuple[int, str, str]]:
 @functools.lru_cache(None)
 def crates() -> Dict[str, List[str]]:
     """Returns the crates of crates.txt in its order, each with the libraries that it names."""
-    lines = [line.split(":") for line in text_of("crates.txt").split("\n") if ":" in line and not line.startswith("#")]
-    return {head.split()[0]: below.split() for head, below in lines}
+    return command.crates_listed()
 
 
 @functools.lru_cache(None)
