@@ -138,8 +138,8 @@ pub fn answer<R: Read, W: Write>(
         × Wrote
         (W.contents (link_of writer.old)) (W.contents (link_of writer.new))
         writer.old writer.new text status result }
-    // The text is the answer to all of the input, unless memory ran out, if no call of a link failed, no write took
-    // nothing and the bound on reads was not met.
+    // If no call of a link failed, no write took nothing and the bound on reads was not met, the text is the answer to
+    // all of the input, unless memory ran out.
     ensures honest { failed_of reader.new ≡ 0 → calls_of reader.new < MOST_READS
         → failed_of writer.new ≡ 0 → idle_of writer.new ≡ 0
         → IfSome (R.remaining (link_of reader.old)) (λ input.

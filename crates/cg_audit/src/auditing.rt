@@ -11,11 +11,11 @@ use cg_one_run::{heads_can_not_go, orders_are_runs, stuck_lives_are_no_run};
 use cg_types::Fault;
 use std::alloc::Global;
 
-/// Returns an order in which the lives of all endpoints can have been one run.
+/// Returns an order in which the lives of all endpoints can have been one run, or the heads that are left if there is
+/// none.
 ///
-/// At each turn the least endpoint goes whose next item can go. `Stuck` comes with the heads that are left if there is
-/// no such order. `NotRising` comes before that, if the generations of an endpoint do not rise; `OutOfMemory` only in
-/// place of an order or of heads.
+/// At each turn the least endpoint goes whose next item can go. The heads come with `Stuck`. `NotRising` comes before
+/// that, if the generations of an endpoint do not rise; `OutOfMemory` only in place of an order or of heads.
 ///
 /// No two of the lives may be of one endpoint (`endpoints_differ`). There may be more endpoints than a table holds, and
 /// lives may have settings of their own. For each item the audit takes one step for each endpoint. A step may look up,

@@ -44,7 +44,7 @@ fn lives_of(alloc: Global, groups: Vec<Group>) -> Result<Vec<Lives>, AllocError>
 }
 
 impl Journals {
-    /// Returns no journals.
+    /// Begins with no journals read.
     pub fn new(alloc: Global) -> Journals {
         Journals {
             groups: Vec::new(alloc),

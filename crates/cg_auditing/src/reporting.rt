@@ -49,7 +49,7 @@ fn stuck_text(alloc: Global, heads: &[LifeItem]) -> Result<String, AllocError>
 /// Returns the text that reports an audit, and the exit status.
 ///
 /// With status 0 the text is a line for each item of the order and `one run`. With status 1 it is a line for each head
-/// and that they are stuck, or a fault. `AllocError` if there is no memory for the text.
+/// and `fault 17 Stuck`, or the line of another fault. `AllocError` if there is no memory for the text.
 pub fn report(
     alloc: Global,
     audited: &Result<Order, AuditFault>,

@@ -43,7 +43,7 @@ pub fn generation_text(alloc: Global, generation: Generation) -> Result<String, 
 /// Reads the generation that a file keeps; `None` if there is no file.
 ///
 /// `BadText` if it holds anything else than one number and perhaps a line feed; `ReadFault` if it can't be read,
-/// `OutOfMemory` if memory is refused.
+/// `OutOfMemory` if memory is refused. The contract names these faults; no clause speaks of the file.
 pub fn stored_generation<R: Files>(
     rt: &R,
     alloc: Global,
@@ -61,9 +61,10 @@ pub fn stored_generation<R: Files>(
     }
 }
 
-/// Has a file keep a generation in place of the old one: after a crash it keeps the old one or the new one.
+/// Stores a generation in a file, in place of the old one.
 ///
-/// `WriteFault` if that fails, `OutOfMemory` if memory is refused.
+/// After a crash the file keeps the old one or the new one. `WriteFault` if storing fails, `OutOfMemory` if memory is
+/// refused. The contract names these faults; no clause speaks of the file.
 pub fn store_generation<R: Files>(
     rt: &R,
     alloc: Global,

@@ -52,7 +52,7 @@ fn read_up_to<L: Read + Drop>(alloc: Global, link: L, most: u32) -> Result<Vec<u
 /// Reads the bytes of a file; `None` if there is no file.
 ///
 /// `BadText` if it has more than `most` bytes, of which no more are read; `ReadFault` if it can't be opened or read,
-/// `OutOfMemory` if the bytes find no memory.
+/// `OutOfMemory` if the bytes find no memory. No clause says which bytes a file has.
 pub fn read_file<R: Files>(
     rt: &R,
     alloc: Global,

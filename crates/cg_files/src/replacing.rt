@@ -68,9 +68,11 @@ impl<F> Replacement<F> {
 }
 
 impl<F: OpenFile + Drop> Replacement<F> {
-    /// Puts the new file in the place of the one at the path, once all of it is on the disk. Then it syncs the folder,
-    /// so that no crash brings the old file back. `WriteFault` if that fails, `OutOfMemory` if memory is refused: the
-    /// file at the path may then be the old one or the new one.
+    /// Puts the new file in the place of the one at the path.
+    ///
+    /// It first syncs the new file, so that all of it is on the disk. At the end it syncs the folder, so that no crash
+    /// brings the old file back. `WriteFault` if a step fails, `OutOfMemory` if memory is refused: the file at the path
+    /// may then be the old one or the new one. The contract names these faults; no clause speaks of files or crashes.
     pub fn put<R: Files>(self, rt: &R, path: &str) -> Result<(), Fault>
         ensures { IfErr result (λ f. (f ≡ faults.OutOfMemory) ⊎ (f ≡ faults.WriteFault)) }
     {
@@ -94,9 +96,11 @@ fn put_in_place<R: Files, F: OpenFile + Drop>(
     fs::open(rt, folder_of(path))?.sync_all()
 }
 
-/// Replaces a file by these bytes, or makes it: after a crash it has the old bytes or the new ones.
+/// Replaces a file by these bytes, or makes it.
 ///
-/// `WriteFault` if that fails, `OutOfMemory` if memory is refused: then, too, it has the old bytes or the new ones.
+/// After a crash it has the old bytes or the new ones. `WriteFault` if replacing fails, `OutOfMemory` if memory is
+/// refused: then, too, it has the old bytes or the new ones. The contract names these faults; no clause speaks of the
+/// bytes.
 pub fn replace<R: Files>(rt: &R, alloc: Global, path: &str, bytes: &[u8]) -> Result<(), Fault>
     ensures { IfErr result (λ f. (f ≡ faults.OutOfMemory) ⊎ (f ≡ faults.WriteFault)) }
 {

@@ -61,7 +61,7 @@ impl History {
         &self.base
     }
 
-    /// The node after all records, to which they lead from the first one.
+    /// The node after all records, to which they lead from the `base` node.
     pub fn node(&self) -> &Node
         ensures value { result.now ≡ self.now.node }
         ensures replayed { IsReplayed self.now }

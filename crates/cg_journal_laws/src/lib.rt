@@ -7,8 +7,8 @@ mod event;
 
 pub use event::every_event_fits;
 
-/// A journal is read as a history that began as its first line says. It has a record for each other line, in order,
-/// with the line's event, for caller 0.
+/// A journal is read as a history that began as its first line says, with one record for each other line, in order. The
+/// record has the line's event, for caller 0.
 pub fn each_line_makes_one_record()
     ensures { ReadHistoriesAreOfTheirLines }
 {}
@@ -23,10 +23,11 @@ pub fn written_events_are_read()
     ensures { WrittenEventsAreRead }
 {}
 
-/// The text of a history is read as that history, each record for caller 0, and what was read is written as the same
-/// text.
+/// The text of a life's history is read as that history, each record for caller 0, and what was read is written as the
+/// same text.
 ///
-/// The history that was read has the same node that it began with, the same records, and the same node at its end.
+/// The law `lives_go_on` says which histories are lives. The history that was read has the same node that it began
+/// with, the same records, and the same node at its end.
 pub fn written_histories_are_read()
     ensures { WrittenHistoriesAreRead }
 {}

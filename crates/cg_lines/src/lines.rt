@@ -135,8 +135,8 @@ fn take_pieces<T: TakeLine, R: Read>(
     Err(Fault::ReadFault)
 }
 
-/// Hands over each line that the reader has left, without its line feed; the last line feed may be missing. It stops at
-/// the first line that is refused, with the fault of that.
+/// Hands over the lines that the reader has left, without their line feeds, up to the first that is refused. It stops
+/// there, with the fault of that line. The last line feed may be missing.
 ///
 /// `ReadFault` if a read fails or 4,294,967,295 reads were made, `OutOfMemory` if a line finds no room: then the lines
 /// that were whole before were taken.

@@ -125,7 +125,7 @@ pub struct SlowLink<L> {
 impl<L> SlowLink<L> {
     ghost use Rattle.cg_links.specs.Trials.{link_of_slow};
 
-    /// Wraps a link, to move a byte a call.
+    /// Wraps a link, to move at most one byte a call.
     pub fn new(link: L) -> SlowLink<L>
         ensures { link_of_slow result ≡ link }
     {

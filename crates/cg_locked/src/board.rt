@@ -57,7 +57,7 @@ impl<N: Name> Board<N> {
         }
     }
 
-    /// The history.
+    /// The node's history.
     pub fn history(&self) -> &History
         ensures value { result.now ≡ self.now.history }
         ensures start { result.now.base ≡ N.start }
@@ -147,7 +147,7 @@ impl<N: Name> Board<N> {
         Ok(self.publisher.tell())
     }
 
-    /// Enters an event, and then publishes all records by `catch_up`.
+    /// Applies an event as `enter` does, and then publishes all records by `catch_up` if memory is found.
     ///
     /// There is no `Told` if catching up found no memory: the record is kept all the same. The event is refused as by
     /// `enter`.

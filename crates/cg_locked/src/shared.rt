@@ -37,7 +37,8 @@ pub struct Shared<N: Name> {
 }
 
 impl<N: Name> Shared<N> {
-    /// Puts a new history and its publisher behind a lock, and makes the seats: 1 to 16, of callers 1, 2, and so on.
+    /// Puts a new history and its publisher behind a lock, and makes `seats` seats, 1 to 16, of callers 1, 2, and so
+    /// on.
     pub fn begin<R: Wait>(
         rt: &R,
         alloc: Global,
@@ -75,11 +76,12 @@ impl<N: Name> Shared<N> {
         self.board.lock(rt)
     }
 
-    /// Applies an event for the seat's caller, and publishes it: `Board::enter_and_tell`, with the board locked
-    /// meanwhile.
+    /// Applies an event for the seat's caller, by `Board::enter_and_tell` on the locked board, and publishes it if
+    /// memory is found.
     ///
     /// There is no `Told` if there was no memory to publish: the record is kept, and the next publication has it.
-    /// Nothing changes if the event is refused.
+    /// Nothing changes if the event is refused. Other threads may enter events before the lock is free, so the clause
+    /// `entry` is about some history of this node, and no clause says which history the board holds afterwards.
     pub fn submit<R: Wait>(
         &self,
         rt: &R,

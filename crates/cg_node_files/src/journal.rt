@@ -10,8 +10,10 @@ use cg_types::Fault;
 use std::alloc::Global;
 use std::rt::Files;
 
-/// Writes the journal of a history to a file, in place of its old text: after a crash it holds the old text or the new
-/// one. `WriteFault` if that fails, `OutOfMemory` if memory is refused.
+/// Writes the journal of a history to a file, in place of its old text.
+///
+/// After a crash the file holds the old text or the new one. `WriteFault` if writing fails, `OutOfMemory` if memory is
+/// refused. The contract names these faults; no clause speaks of the file.
 pub fn write_journal_to<R: Files>(
     rt: &R,
     alloc: Global,

@@ -18,7 +18,7 @@ pub fn stuck_lives_are_no_run()
     ensures { StuckLivesAreNoRun }
 {}
 
-/// No next item can go if turns find no order.
+/// None of the next items can go if turns find no order.
 ///
 /// The items gone are in an order as a run has it, and the next item of each endpoint is among the heads. No head can
 /// go.

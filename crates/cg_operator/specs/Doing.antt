@@ -52,7 +52,7 @@ module _ (start : NodeValue) where
   Does opening (Ok Quit) g p text h q = ⊥
   Does opening (Err f) g p text h q = (h ≡ g) × (q ≡ p) × (text ≡ fault_text f)
 
-  -- A line is answered with its text, or is the one that asks for the end.
+  -- A line is answered with its text, or is the one that requests the end.
   abbrev pub Answers : TableValue → Result Order Fault → SeatValue → List Put → Option (List ℕ) → SeatValue
       → List Put → Type 0
   Answers opening order g p None h q = (order ≡ Ok Quit) × (h ≡ g) × (q ≡ p)

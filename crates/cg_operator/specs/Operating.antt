@@ -63,7 +63,7 @@ module _ {W : Type 0} (holds : W → Option (List ℕ)) (start : NodeValue) (ope
   abbrev pub EndsAt : At W → List ℕ → At W → Fault → Type 0
   EndsAt s line t f = LacksMemory s t f ⊎ (ReadsNothing s line t f ⊎ WritesFront s line t f)
 
-  -- A line goes on with the next one, or asks for the end and does nothing.
+  -- A line goes on with the next one, or requests the end and does nothing.
   abbrev pub Goes : At W → List ℕ → At W → Bool → Type 0
   Goes s line t true = DoesLine s line t
   Goes s line t false = (order_in line ≡ Ok Quit) × (t ≡ s)
@@ -73,7 +73,7 @@ module _ {W : Type 0} (holds : W → Option (List ℕ)) (start : NodeValue) (ope
   TellsLine s line t result = MatchResult result (Goes s line t) (EndsAt s line t)
 
   module _ {R : Type 0} (before after : Option (List ℕ)) (old new : Counted R) (s t : At W) where
-    -- A line asked for the end: those before it were done, and those after it are not looked at.
+    -- A line requested the end: those before it were done, and those after it are not looked at.
     pub record Quits : Type 0 where
       pub text : List ℕ
       pub read : Consumes before after text

@@ -24,7 +24,7 @@ module _ {N R W : Type 0} (holds : W → Option (List ℕ)) (start : NodeValue) 
     pub quit : t.has_quit ≡ s.has_quit
     pub done : DoesLine holds start opening (at_of s) line (at_of t)
 
-  -- The line asked for the end.
+  -- The line requested the end.
   pub record QuitsStep (s : Operating N R W) (line : List ℕ) (t : Operating N R W) : Type 0 where
     pub quit : t.has_quit ≡ true
     pub asked : order_in line ≡ Ok Quit

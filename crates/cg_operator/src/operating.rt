@@ -18,7 +18,7 @@ use std::alloc::Global;
 use std::io::{Read, Write};
 use std::sync::Wait;
 
-// An operator between two lines, and `true` if a line asked for the end.
+// An operator between two lines, and `true` if a line requested the end.
 #[derive(Drop)]
 pub(crate) struct Operating<'a, 'b, N: Name, R: Wait, W> {
     pub gate: &'a mut SeatGate<'b, N, R>,
@@ -67,7 +67,7 @@ impl<'a, 'b, N: Name, R: Wait, W: Write> TakeLine for Operating<'a, 'b, N, R, W>
     }
 }
 
-// Returns the end of a reading that a line stopped: no fault if the line asked for the end.
+// Returns the end of a reading that a line stopped: no fault if the line requested the end.
 fn ended(has_quit: bool, fault: Fault) -> Result<(), Fault>
     ensures quit { has_quit ≡ true → result ≡ Ok tt }
     ensures fault { has_quit ≡ false → result ≡ Err fault }
@@ -95,8 +95,8 @@ fn operate_lines<N: Name, R: Wait, W: Write, I: Read>(
     }
 }
 
-/// Carries out the lines that a reader has left, one after the other, until `quit` or the end. The text that a line
-/// shows is written and flushed before the next line is done.
+/// Carries out the lines that a reader has left, one after the other, until `quit`, the end or a fault. The text that a
+/// line shows is written and flushed before the next line is done.
 ///
 /// `gossipinfo`, `ring`, `digests` and `replicas RF TEXT` show what the pass reads, with no lock. `set KEY TEXT` sets a
 /// key of the node. It shows `version N` once the pass has learnt the `Told` of the change, or `version N unpublished`

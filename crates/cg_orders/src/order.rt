@@ -3,7 +3,7 @@
 use cg_script::View;
 use cg_types::{StateKey, StateText};
 
-/// An order of the operator: what one line asks for.
+/// An order of the operator: the request of one line.
 #[derive(Debug, Drop)]
 pub enum Order {
     /// `gossipinfo`, `ring`, `digests` or `replicas RF TEXT`: shows something.

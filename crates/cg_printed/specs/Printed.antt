@@ -30,7 +30,7 @@ version_line version = codes "version " ++ (decimal version ++ codes "\n")
 unfoldable pub message_line : ℕ → Kind → List ℕ
 message_line number kind = codes "message " ++ (decimal number ++ (codes " " ++ (kind_name kind ++ codes "\n")))
 
--- an endpoint behind a space
+-- an endpoint after a space
 unfoldable pub peer_word : ℕ → List ℕ
 peer_word peer = codes " " ++ endpoint_text peer
 

@@ -9,7 +9,7 @@ use std::str::from_utf8_unchecked;
 // The bytes of the longest two: ten digits and a byte each.
 const LONGEST: usize = 22;
 
-// Puts a number and the byte after it before the bytes that begin at `end`, and returns the place where it begins.
+// Puts a number and the byte after it before the bytes that begin at `end`, and returns the place where they begin.
 fn put_number(number: u32, mark: u8, text: &mut [u8; LONGEST], end: usize) -> usize
     requires room { 11 ≤ end }
     requires within { end ≤ 22 }

@@ -15,7 +15,7 @@ pub(crate) fn add_number(text: &mut String, number: u64) -> Result<(), AllocErro
     text.push_str(buffer.format(number))
 }
 
-/// Adds an endpoint behind a space.
+/// Adds a space and an endpoint.
 #[tactic(auto, unfolding(crate::specs::Printed::peer_word))]
 pub(crate) fn add_peer(text: &mut String, peer: Endpoint) -> Result<(), AllocError>
     ensures { OnOk result (string_bytes text.new ≡ string_bytes text.old ++ peer_word peer) }

@@ -2,8 +2,8 @@
 
 ghost use Rattle.cg_ran.specs.Laws.{ReceiptsHaveTheNumbers};
 
-/// The receipts of a caller's events of a kind have the numbers of the records of these, in their order. This holds if
-/// confirmed receipts are as many as the records.
+/// The receipts of a caller's events of a kind have the numbers of the records of these, in their order, if confirmed
+/// receipts are as many as the records.
 pub fn receipts_have_the_numbers()
     ensures { ReceiptsHaveTheNumbers }
 {}

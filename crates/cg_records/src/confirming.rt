@@ -8,8 +8,8 @@ use crate::item::{Item, Receipt, Stray};
 use crate::marks::Marks;
 use cg_types::Fault;
 
-// Returns `true` if a receipt comes after the earlier ones of its caller, if each of those does. A number greater than
-// all of the caller's group shows it; else the nearest earlier receipt of the caller decides.
+// Returns `true` if a receipt comes after the earlier ones of its caller, given that each of those does. A number
+// greater than all of the caller's group shows it; else the nearest earlier receipt of the caller decides.
 fn follows(before: &[Receipt], marks: &Marks, receipt: &Receipt) -> bool
     requires order { AreInOrder before.now }
     requires marked { AreMarked marks.now before.now }

@@ -92,7 +92,7 @@ fn is_among(
 }
 
 impl<'a> Sent<'a> {
-    /// Returns no messages, with room for this number. More than these can be added too, in fuller buckets.
+    /// Makes an empty collection of messages, with room for `room` of them. More can be added too, in fuller buckets.
     pub fn none(alloc: Global, room: usize) -> Result<Sent<'a>, AllocError>
         ensures { IfOk result (λ s. s ≡ []) }
     {

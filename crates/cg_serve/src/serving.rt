@@ -94,8 +94,8 @@ fn ended<R: Files + Print>(rt: &R, alloc: Global, life: &Result<Lived, Fault>) -
     }
 }
 
-/// Lives as a node by the settings in a file, and returns the exit status. The status is 0, or 1 after a fault, which
-/// is one line on standard output.
+/// Lives as a node by the settings in a file, and returns the exit status. The status is 0, or 1 after a fault; each
+/// fault is one line on standard output.
 ///
 /// A life ends once its rounds are done and sent, its exchanges were taken and its operator has ended. The first of
 /// these faults that comes ends it before it begins: the settings can't be read (`ReadFault`) or are none (`BadText`);
@@ -105,6 +105,8 @@ fn ended<R: Files + Print>(rt: &R, alloc: Global, life: &Result<Lived, Fault>) -
 /// At the end it prints the fault of the first receipt that the history does not confirm, and writes the journal all
 /// the same; `WriteFault` if it can't. A fault of a worker ends that worker; it is not printed, and does not change the
 /// status.
+///
+/// The clauses are about the status and a life that fits it; they do not say what is read, printed or written.
 pub fn serve<R>(rt: &R, alloc: Global, file: &str) -> u8
 where
     R: Threads

@@ -4,7 +4,7 @@ ghost use Rattle.std.specs.Prelude.{ℕ, List};
 ghost use Rattle.cg_settings_file.specs.Laws.{LimitValues, AreDistinct};
 ghost use Rattle.cg_settings_file.specs.Seeds.{distinct};
 
-/// The values of the limits and of the defaults.
+/// The limits are 1,000,000 rounds or exchanges and 60,000 ms; the default interval is 1,000 ms, the default seed 0.
 pub fn limits_have_their_values()
     ensures { LimitValues }
 {}

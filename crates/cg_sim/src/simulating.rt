@@ -110,8 +110,8 @@ pub fn sim<R: Read, W: Write>(alloc: Global, reader: &mut Counted<R>, writer: &m
         (R.remaining (link_of reader.old)) (R.remaining (link_of reader.new))
         (W.contents (link_of writer.old)) (W.contents (link_of writer.new))
         reader.old reader.new writer.old writer.new result }
-    // The text is the one that all of the script prints, unless memory ran out, if no call of a link failed, no write
-    // took nothing and the bound on reads was not met.
+    // If no call of a link failed, no write took nothing and the bound on reads was not met, the text is the one that
+    // all of the script prints, unless memory ran out.
     ensures honest { failed_of reader.new ≡ 0 → calls_of reader.new < MOST_READS
         → failed_of writer.new ≡ 0 → idle_of writer.new ≡ 0
         → IfSome (R.remaining (link_of reader.old)) (λ script.

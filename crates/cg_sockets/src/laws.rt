@@ -2,8 +2,7 @@
 
 ghost use Rattle.cg_sockets.specs.Limits.{LimitValues};
 
-/// An exchange that a peer began lasts 2,000 ms at most; one that a node begins has 100 ms at least. An interrupted
-/// call is made 16 times at most. A connection is waited for 600 times at most, with 100 ms between two tries.
+/// `RESPOND_LIMIT` is 2,000 ms, `LEAST_LIMIT` 100 ms, `CALL_TRIES` 16, `ACCEPT_TRIES` 600 and `ACCEPT_PAUSE` 100 ms.
 pub fn limits_have_their_values()
     ensures { LimitValues }
 {}

@@ -17,8 +17,9 @@ pub const ACCEPT_TRIES: u32 = 600;
 /// Milliseconds between two such tries.
 pub const ACCEPT_PAUSE: u32 = 100;
 
-/// Returns the milliseconds for dialing a peer and the exchange with it, by those between two rounds. They are a third,
-/// so that three peers that are gone do not hold up the next round, and at least `LEAST_LIMIT`.
+/// Returns the milliseconds for dialing a peer and the exchange with it, given those between two rounds: a third of
+/// these, and at least `LEAST_LIMIT`. So three peers that are gone do not hold up the next round, unless `LEAST_LIMIT`
+/// is more than the third.
 pub fn limit_for(interval: u32) -> u32
     ensures { result ≡ max (interval / 3) LEAST_LIMIT }
 {

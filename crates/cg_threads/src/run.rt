@@ -103,6 +103,8 @@ where
 /// `history` has no records yet. `Unstarted`, with OutOfMemory, if the copy of its table, the views, the board, the
 /// channel or a thread was refused. Then nothing was done, and the history is gone. `Unconfirmed` if the history does
 /// not confirm all receipts.
+///
+/// The clauses are about the history, the receipts and the rounds taken; they do not say how much work is done.
 pub fn run_node<
     R: Threads + Wait + Clock + Sync,
     L: Listen + Drop,

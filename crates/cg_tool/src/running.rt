@@ -97,7 +97,7 @@ fn serves<R: Print>(rt: &R, alloc: Global, files: &[&str]) -> Ending {
             Ok(file) => Ending::Serve(file),
             Err(_) => Ending::Status(out_of_memory(rt)),
         },
-        // Never so: the command line asks for one.
+        // Never true: the command line requires one.
         _ => Ending::Status(MISUSED),
     }
 }

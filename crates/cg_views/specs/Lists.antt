@@ -30,8 +30,8 @@ opened_with t = record { opening = t; published = []; pending = [] }
 abbrev pub are_all : PublisherValue → List Put
 are_all p = p.published ++ p.pending
 
--- Puts may follow in a table if, one after the other, each is later than what is held and the own one goes on from it.
--- The table with them is within its limit.
+-- Puts may follow in a table if, one after the other, each is later than what is held, the own one goes on from it, and
+-- the table with them is within its limit.
 pub record MayFollow (t : TableValue) (puts : List Put) : Type 0 where
   pub order : keep_order t puts ≡ true
   pub room : map.len (with_puts t puts).entries ≤ MEMBER_LIMIT

@@ -17,7 +17,7 @@ use std::marker::{Model, PhantomData};
 use std::ops::Deref;
 use std::sync::Arc;
 
-/// The puts that were published when the publisher told them. A contract sees the puts.
+/// The puts that were published at a call of `Publisher::tell`. A contract sees these puts.
 #[derive(Drop)]
 pub struct Told<N: Naming> {
     front: Front,

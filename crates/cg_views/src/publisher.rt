@@ -147,7 +147,8 @@ fn publish_out<N: Naming, R: Wait>(
     }
 }
 
-/// Makes a publisher of a table, and 1 to 16 passes. It returns `AllocError` if one of its parts finds no memory.
+/// Makes a publisher of a table, and `readers` passes, 1 to 16. It returns `AllocError` if one of its parts finds no
+/// memory.
 pub fn views<N: Naming>(
     alloc: Global,
     opened: Opened,

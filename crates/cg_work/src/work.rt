@@ -30,7 +30,9 @@ fn left_of<N: Name, R: Wait>(gate: SeatGate<'_, N, R>) -> Left<N>
     Left::of(seat, receipts)
 }
 
-/// Does the receiver's work: it answers up to `exchanges` connections. A fault of the listener ends it.
+/// Does the receiver's work if all workers were started, and returns its seat with its receipts.
+///
+/// It answers up to `exchanges` connections, and a fault of the listener ends it.
 pub fn receive<N: Name, R: Wait, L: Listen + Drop, C: Milliseconds>(
     rt: &R,
     alloc: Global,
@@ -51,7 +53,9 @@ pub fn receive<N: Name, R: Wait, L: Listen + Drop, C: Milliseconds>(
     left_of(gate)
 }
 
-/// Does the sender's work: it sends the rounds that come through the channel, until that ends.
+/// Does the sender's work if all workers were started, and returns its seat with its receipts and the rounds taken.
+///
+/// It sends the rounds that come through the channel, until that ends.
 pub fn send<N: Name, R: Wait, D: Dial + Drop, C: Milliseconds>(
     rt: &R,
     alloc: Global,
@@ -83,7 +87,10 @@ pub fn send<N: Name, R: Wait, D: Dial + Drop, C: Milliseconds>(
     }
 }
 
-/// Does the ticker's work: it begins the rounds of these turns, and puts each into the channel.
+/// Does the ticker's work if all workers were started, and returns its seat with its receipts and its end of the
+/// channel.
+///
+/// It begins the rounds of these turns, and puts each into the channel.
 pub fn tick<N: Name, R: Wait + Clock, C: Milliseconds, G: Rng + Drop>(
     rt: &R,
     alloc: Global,
@@ -123,7 +130,7 @@ pub fn tick<N: Name, R: Wait + Clock, C: Milliseconds, G: Rng + Drop>(
     }
 }
 
-/// Does the operator's work, to its end.
+/// Does the operator's work, to its end, if all workers were started, and returns its seat with its receipts.
 pub fn operate<N: Name, R: Wait, C: Milliseconds, O: Operate + Drop>(
     rt: &R,
     alloc: Global,
