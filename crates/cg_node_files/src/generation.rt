@@ -31,8 +31,8 @@ fn keep_next<R: Files>(
     }
 }
 
-/// Returns the generation of the life that begins: one more than a stored one, 1 if none is stored, or the seconds since
-/// 1970 if these are more.
+/// Returns the generation of the life that begins: one more than a stored one, 1 if none is stored, or the seconds
+/// since 1970 if these are more.
 ///
 /// The stored one is read from the file, and the file keeps the new one from then on. The clauses name the rule and the
 /// faults; no clause speaks of the file.

@@ -5,7 +5,7 @@ use std::alloc::Global;
 use std::io;
 use std::rt::Runtime;
 
-// The words of a line, which are parted by single spaces.
+// The words of a line, which single spaces separate.
 fn words_in(alloc: Global, line: &str) -> io::Result<Vec<String>> {
     let mut words = Vec::new(alloc);
     for word in line.split(' ') {
