@@ -8,7 +8,7 @@ pub fn words_are_the_generators()
     ensures { WordsAreTheGenerators }
 {}
 
-/// The channel has room for `ROOM` rounds, which is 16.
+/// `ROOM`, the number of rounds for which the channel has room, is 16.
 pub fn room_has_its_value()
     ensures { RoomHasItsValue }
 {}
