@@ -90,10 +90,10 @@ impl TakeLine for Progress {
 /// Reads a journal: the history that its first line begins, after the events of the other lines. The node does these
 /// one after the other for caller 0, so a history that was written is read with its settings and its records.
 ///
-/// The fault has the line in which reading ended. `BadText` if that line can't be read, if its frame is bad, incomplete,
-/// of another kind or not all of the line, or if the node refuses its event. `BadText` also if there is no line.
-/// `ReadFault` if a read fails or 4,294,967,295 reads were made, `OutOfMemory` if memory runs out in the line; then no
-/// line before it is unreadable. The memory is that of the history and of the longest line.
+/// The fault has the line in which reading ended. `BadText` if that line can't be read, if its frame is bad,
+/// incomplete, of another kind or not all of the line, or if the node refuses its event. `BadText` also if there is no
+/// line. `ReadFault` if a read fails or 4,294,967,295 reads were made, `OutOfMemory` if memory runs out in the line;
+/// then no line before it is unreadable. The memory is that of the history and of the longest line.
 pub fn read_journal<R: Read>(alloc: Global, reader: &mut Counted<R>) -> Result<History, Unread>
     ensures { Reads (R.remaining (link_of reader.old)) (R.remaining (link_of reader.new))
         reader.old reader.new result }
