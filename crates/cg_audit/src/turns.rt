@@ -18,7 +18,7 @@ use cg_sent::Sent;
 use cg_types::Endpoint;
 use std::alloc::{AllocError, Global};
 
-// Returns `true` if a message, if there is one, was sent.
+// Returns `true` if there is no message, or if it was sent.
 fn can_go(handled: Option<Lent<'_>>, sent: &Sent<'_>) -> bool
     ensures { result ≡ goes sent.now (option_map lent_message handled.entry) }
 {

@@ -9,7 +9,7 @@ ghost use Rattle.cg_audit_laws.specs.RunHeadline.{RunsHaveTheHeadline, BegunHist
 
 /// The headline is true of the table at the end of each endpoint's last life, if the lives are one run.
 ///
-/// The table holds the furthest entry of each owner: of its own one, and of those to which the deltas led that it took
+/// The table holds of each owner the furthest of the node's own entry and of those to which the deltas led that it took
 /// since its start. Each was its owner's own, whole, at one past time. So equal sets give equal tables, and equal
 /// digests give equal tables and rings.
 pub fn runs_have_the_headline()

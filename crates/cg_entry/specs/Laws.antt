@@ -44,7 +44,7 @@ SpelledDeltasAreTaken =
 
 -- The facts of the part that the entry at one place has above the version at another one.
 pub record IsDeltaOfPlaces (history : List EntryValue) (from to : ℕ) (delta : Option DeltaValue) : Type 0 where
-  -- it is there exactly if the first place is later
+  -- it is there exactly if the place `to` is past the place `from`
   pub exists : IsSome delta ↔ (from < to)
   -- it spells the span from one place to the other
   pub spells : (d : DeltaValue) → delta ≡ Some d

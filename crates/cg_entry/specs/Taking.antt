@@ -37,7 +37,7 @@ absorption e d =
     else if nat_lt (newest e) d.above then Gap
     else Taken (advanced_entry e d)
 
--- the outcome of a delta at what is held
+-- the outcome of a delta, by what is held of its endpoint
 abbrev pub meeting : Option EntryValue → DeltaValue → Absorbed
 meeting None d = taken_or_gap (whole_entry d)
 meeting (Some e) d = absorption e d

@@ -1,4 +1,4 @@
--- The names of outcomes, and the code by which `==` of what holds one tells values apart.
+-- The names of outcomes, and the code by which `==` of their holders distinguishes values.
 use Rattle.std.specs.Prelude.{ℕ, zero, suc, ◌≡◌, List, codes, refl}
 use Rattle.std.specs.Coded.{Coded, code_by, coded_ℕ}
 use Rattle.cg_entry.specs.declared.took.Took.{Took}

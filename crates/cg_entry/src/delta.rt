@@ -194,8 +194,9 @@ impl Delta {
             && self.states.list().is_same(other.states.list())
     }
 
-    /// The same delta, which shares its list of states. A list that was given to `new` or `try_new` is not shared. Then
-    /// the copy shares the texts alone, and `AllocError` comes if a new list finds no memory.
+    /// The same delta, which shares the list of states or at least their texts. A list that was given to `new` or
+    /// `try_new` is not shared. Then the copy shares the texts alone, and `AllocError` comes if a new list finds no
+    /// memory.
     pub fn copy(&self, alloc: Global) -> Result<Delta, AllocError>
         ensures { IfOk result (λ d. d ≡ self.now) }
     {

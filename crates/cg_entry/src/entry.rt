@@ -217,7 +217,7 @@ impl Entry {
         meet(alloc, Some(self), delta)
     }
 
-    /// The start of the endpoint that the entry belongs to.
+    /// The entry's generation: the number of the endpoint's start that it belongs to.
     pub fn generation(&self) -> Generation
         ensures { result ≡ self.now.generation }
     {

@@ -22,7 +22,7 @@ pub fn syn_is_answered()
 {}
 
 /// An ACK that is taken moves the holder, owner by owner, as the spans that it spells do. The ACK2 sends the spans from
-/// each place that is asked from to the holder's new place.
+/// the places that the requests name to the holder's new places.
 pub fn ack_is_taken()
     ensures { AckIsTaken }
 {}
@@ -32,7 +32,7 @@ pub fn ack2_is_taken()
     ensures { Ack2IsTaken }
 {}
 
-/// The requests, deltas and grants by places lie in the owner's history.
+/// The requests, spans and grants that the rules give by places lie in the owner's history.
 pub fn rules_stand()
     ensures { RulesStand }
 {}

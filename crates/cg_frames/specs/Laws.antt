@@ -104,7 +104,7 @@ TwoPiecesAreOne layouts =
     ≡ with_front (cut_of_piece layouts s first).messages
     (cut_of_piece layouts (cut_of_piece layouts s first).rest second)
 
--- A chunk that is no longer than the lack gives at most one message, and then nothing is held.
+-- A chunk that is no longer than what is lacking gives at most one message; if it gives one, nothing is held then.
 abbrev pub OneAtATime : List Layout → Type 0
 OneAtATime layouts =
     (held piece : List ℕ) → NeedsMore layouts held → length piece ≤ lack_of held

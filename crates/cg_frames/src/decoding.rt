@@ -34,7 +34,7 @@ fn fault_at(size: usize, misread: Misread) -> Fault
     }
 }
 
-// Reads as `read_inside`: all faults are found before memory is requested.
+// Reads as `read_inside` does: all faults are found before memory is requested.
 fn read_checked(alloc: Global, layout: &Layout, inside: &[u8]) -> Result<Message, Fault>
     requires short { length inside.now < 2 ^ 32 }
     requires layout { IsRead layout.now }
@@ -51,7 +51,7 @@ fn read_checked(alloc: Global, layout: &Layout, inside: &[u8]) -> Result<Message
     }
 }
 
-// Reads as `read_inside`, in one pass: if memory is short, a second one decides whether a fault comes first.
+// Reads as `read_inside` does, in one pass: if memory is short, a second one decides whether a fault comes first.
 fn read_at_once(alloc: Global, layout: &Layout, inside: &[u8]) -> Result<Message, Fault>
     requires short { length inside.now < 2 ^ 32 }
     requires layout { IsRead layout.now }
@@ -82,8 +82,8 @@ fn read_inside(alloc: Global, layout: &Layout, inside: &[u8]) -> Result<Message,
     }
 }
 
-/// Reads as `decode`, in one layout that messages can hold, of any byte: a frame of another byte is a `BadFrame` of
-/// `Layout`.
+/// Reads a message as `decode` does, in one layout that messages can hold, of any byte. A frame of another byte is a
+/// `BadFrame` of `Layout`.
 #[tactic(auto, unfolding(crate::specs::Reading::frame_at))]
 pub fn decode_in(
     alloc: Global,
@@ -113,7 +113,7 @@ pub fn decode_in(
     Ok(Some((message, 4 + size)))
 }
 
-/// Reads as `decode`, in any layouts that messages can hold, distinguished by their bytes.
+/// Reads a message as `decode` does, in any layouts that messages can hold, distinguished by their bytes.
 pub fn decode_among(
     alloc: Global,
     layouts: &[Layout],

@@ -214,8 +214,8 @@ fn put_message(out: &mut Vec<u8>, message: Lent<'_>) -> Result<(), AllocError>
     Ok(())
 }
 
-/// Writes as `encode_lent`, in any layout that allows what messages hold. The message fits it, so its length fits into
-/// four bytes.
+/// Writes a message as `encode_lent` does, in any layout that allows what messages hold. The message fits it, so its
+/// length fits into four bytes.
 pub fn encode_in(alloc: Global, layout: &Layout, message: Lent<'_>) -> Result<Bytes, AllocError>
     requires layout { IsLayout layout.now }
     requires written { IsWritten layout.now }
@@ -243,7 +243,7 @@ pub fn encode(alloc: Global, message: &Message) -> Result<Bytes, AllocError>
     encode_lent(alloc, message.lent())
 }
 
-/// Writes as `encode`, of a borrowed message: a holder of one in another form writes it without a copy.
+/// Writes a borrowed message as `encode` does: the holder of a message in another form writes it without a copy.
 pub fn encode_lent(alloc: Global, message: Lent<'_>) -> Result<Bytes, AllocError>
     ensures written { IfOk result (λ b. b ≡ spelling.frame WRITTEN (lent_message message.entry)) }
     ensures fits { Fits WRITTEN (lent_message message.entry) }

@@ -76,7 +76,7 @@ pub fn two_pieces_are_one()
     ensures { (layouts : List Layout) → TwoPiecesAreOne layouts }
 {}
 
-/// A chunk that is no longer than the lack gives at most one message, and then nothing is held.
+/// A chunk that is no longer than what is lacking gives at most one message. If it gives one, nothing is held then.
 pub fn one_at_a_time()
     ensures { (layouts : List Layout) → OneAtATime layouts }
 {}

@@ -16,7 +16,7 @@ pub fn records_replay()
 {}
 
 /// The puts of the records lead from the table that the history began with to the node's, each later than what was
-/// held. The own entry goes on from the first one, and the node is one that a member may be.
+/// held. The own entry keeps its generation and its keys, and the node's table is one that a member may hold.
 pub fn puts_of_records_lead()
     ensures { PutsOfRecordsLead }
 {}
@@ -38,7 +38,7 @@ pub fn confirmed_stand_once()
     ensures { ConfirmedStandOnce }
 {}
 
-/// Each record has a confirmed receipt if these are as many as the records.
+/// Each record has a confirmed receipt if there are as many confirmed receipts as records.
 pub fn each_record_has_its_receipt()
     ensures { EachRecordHasItsReceipt }
 {}

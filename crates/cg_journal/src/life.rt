@@ -11,10 +11,10 @@ use cg_silence::Silence;
 use cg_types::{Endpoint, Fault, Generation, cut, number};
 use std::alloc::Global;
 
-/// The greatest number among the settings of a line. The limits of silence have lesser bounds, which are checked later.
+/// The greatest number among the settings of a line. The settings of silence have lesser limits, tested later.
 const GREATEST_SETTING: u64 = 4294967295;
 
-// Reads a generation, and returns the text after the space that follows it too.
+// Reads a generation, and returns it with the text after the space that follows it.
 #[tactic(auto, unfolding(crate::specs::Reading::generation_before))]
 fn generation_before(words: &[u8]) -> Option<(Generation, &[u8])>
     ensures { option_map (λ p. (p.0, p.1.now)) result ≡ spec.generation_before words.now }
@@ -26,7 +26,7 @@ fn generation_before(words: &[u8]) -> Option<(Generation, &[u8])>
     Some((generation, rest))
 }
 
-// Reads a number among the settings, and returns the text after the space that follows it too.
+// Reads a number among the settings, and returns it with the text after the space that follows it.
 #[tactic(auto, unfolding(crate::specs::Reading::setting_before))]
 fn setting_before(words: &[u8]) -> Option<(u32, &[u8])>
     ensures { option_map (λ p. (p.0, p.1.now)) result ≡ spec.setting_before words.now }
@@ -38,7 +38,7 @@ fn setting_before(words: &[u8]) -> Option<(u32, &[u8])>
     Some((setting as u32, rest))
 }
 
-// Reads the limits of silence, and returns the text after the space that follows them too.
+// Reads the settings of silence, and returns them with the text after the space that follows them.
 #[tactic(auto, unfolding(crate::specs::Reading::silence_before))]
 fn silence_before(words: &[u8]) -> Option<(Silence, &[u8])>
     ensures { option_map (λ p. (p.0, p.1.now)) result ≡ spec.silence_before words.now }

@@ -18,7 +18,8 @@ use cg_types::Fault;
 use std::alloc::Global;
 use std::io::Read;
 
-/// The part of a journal that was read: the history, once its first line was read, and the lines read, up to 2^64 - 1.
+/// The part of a journal that was read: the history, once its first line was read, and the number of lines read, up to
+/// 2^64 - 1.
 #[derive(Drop)]
 pub(crate) struct Progress {
     pub history: Option<History>,

@@ -1,4 +1,4 @@
-//! Laws of journals, each the contract of an empty function, and the law that they hold of each event in hand.
+//! Laws of journals, each the contract of an empty function, and the law that each event in hand meets their premise.
 #![tactic(auto)]
 
 ghost use Rattle.cg_journal_laws.specs.Laws.{ReadHistoriesAreOfTheirLines, FrontsAreRead, WrittenEventsAreRead, WrittenHistoriesAreRead, LivesGoOn, ReadHistoriesAreReadAgain};

@@ -113,7 +113,7 @@ pub fn merges_are_joined()
     ensures { MergesAreJoined }
 {}
 
-/// No delivery and no merge finds a table full while owners are few: a table holds no more than have started.
+/// No delivery and no merge finds a table full while owners are few: no table holds more owners than have started.
 pub fn tables_find_room()
     ensures { TablesFindRoom }
 {}

@@ -134,8 +134,8 @@ fn add_endpoint(text: &mut String, endpoint: Endpoint) -> Result<(), AllocError>
     writeln!(text, "{endpoint}")
 }
 
-/// Adds a line for each of the endpoints that keep this token, at most `rf` of them, in the order of the walk round the
-/// ring.
+/// Adds a line for each of the endpoints that keep the keys of this token, at most `rf` of them, in the order of the
+/// walk round the ring.
 pub fn add_replicas(
     alloc: Global,
     text: &mut String,

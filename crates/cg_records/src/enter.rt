@@ -14,7 +14,7 @@ pub trait Enter {
     // the receipts of the events done, the first one first
     ghost receipts: { Self → List ReceiptValue };
 
-    // the part that no event changes: the caller of the events, and the count of callers among which they are counted
+    // the part that no event changes: the caller of the events, and the parts of the share that counts them
     ghost seat: { Self → ℕ × ℕ };
 
     /// Has an event done, and keeps its receipt after the earlier ones. A refused event changes nothing.

@@ -11,13 +11,13 @@ pub const GREATEST: u64 = u64::MAX;
 /// A view of a node, which a script's line shows.
 #[derive(Clone, Copy, Debug, PartialEq, Eq)]
 pub enum View {
-    /// The states that the node holds of each endpoint.
+    /// The entry that the node holds of each endpoint.
     Gossipinfo,
     /// The positions of its ring.
     Ring,
     /// The generation and the newest version that the node holds of each endpoint.
     Digests,
-    /// The endpoints that keep the data of this token, at most `rf` of them.
+    /// The endpoints that keep the keys of this token, at most `rf` of them.
     Replicas { token: Token, rf: u64 },
 }
 

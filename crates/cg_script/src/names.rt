@@ -10,7 +10,7 @@ use cg_types::{Cluster, Fault};
 use hex::FromHexError;
 use std::alloc::Global;
 
-/// Reads a cluster's name, of 1 to 48 bytes, and returns the cluster with it.
+/// Reads a cluster's name, of 1 to 48 bytes, and returns the cluster of that name.
 pub fn cluster_named(alloc: Global, name: &[u8]) -> Result<Cluster, Fault>
     ensures { Finds (λ c. c) result (readable (cluster_of name.now PARTITIONER)) }
 {

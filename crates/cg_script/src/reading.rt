@@ -27,7 +27,7 @@ pub fn count_in(text: &[u8]) -> Option<u64>
     number(text, GREATEST)
 }
 
-/// Reads an endpoint, and returns the text after the space that follows it too.
+/// Reads an endpoint, and returns it with the text after the space that follows it.
 #[tactic(auto, unfolding(crate::specs::Words::endpoint_before))]
 pub fn endpoint_before(words: &[u8]) -> Option<(Endpoint, &[u8])>
     ensures { option_map (λ p. (p.0, p.1.now)) result ≡ text_endpoint_before words.now }
@@ -39,7 +39,7 @@ pub fn endpoint_before(words: &[u8]) -> Option<(Endpoint, &[u8])>
     Some((endpoint, rest))
 }
 
-/// Reads a number of at most `GREATEST`, and returns the text after the space that follows it too.
+/// Reads a number of at most `GREATEST`, and returns it with the text after the space that follows it.
 #[tactic(auto, unfolding(crate::specs::Words::count_before))]
 pub fn count_before(words: &[u8]) -> Option<(u64, &[u8])>
     ensures { option_map (λ p. (p.0, p.1.now)) result ≡ text_count_before words.now }
@@ -51,7 +51,7 @@ pub fn count_before(words: &[u8]) -> Option<(u64, &[u8])>
     Some((count, rest))
 }
 
-/// Reads a key, and returns the text after the space that follows it too.
+/// Reads a key, and returns it with the text after the space that follows it.
 #[tactic(auto, unfolding(crate::specs::Words::key_before))]
 pub fn key_before(words: &[u8]) -> Option<(StateKey, &[u8])>
     ensures { option_map (λ p. (p.0, p.1.now)) result ≡ text_key_before words.now }

@@ -20,8 +20,8 @@ fn cluster(alloc: Global) -> Result<Cluster, AllocError>
     }
 }
 
-/// Returns the settings of a script's nodes: the cluster `sim`, these seeds, and the default limits of silence. `None`
-/// if the seeds don't rise strictly, or are more than `SEED_LIMIT`.
+/// Returns the settings of a script's nodes: the cluster `sim`, these seeds, and the default settings of silence.
+/// `None` if the seeds don't rise strictly, or are more than `SEED_LIMIT`.
 pub fn settings_with(alloc: Global, seeds: Vec<Endpoint>) -> Result<Option<Settings>, AllocError>
     ensures valid { IfOk result (λ s. IsSome s ↔ IsSettings (settings_of_seeds seeds.items)) }
     ensures value { IfOk result (λ s. IfSome s (λ s. s ≡ settings_of_seeds seeds.items)) }

@@ -2,7 +2,7 @@
 
 ghost use Rattle.cg_settings.specs.Laws.{LimitsAreThese};
 
-/// The most seeds of a node are this number.
+/// `SEED_LIMIT`, the most seeds of a node, is 16.
 pub fn limits_are_these()
     ensures { LimitsAreThese }
 {}

@@ -97,7 +97,7 @@ impl Window {
     /// elapsed time. It takes no memory.
     pub fn arrived(&mut self, now: u64)
         ensures step { self.new ≡ record self.old { shown = after_arrival self.old.silence (Some self.old.shown) now } }
-        // For all arrivals before, the window now shows what a window shows of them and this one.
+        // If the window showed some arrivals, it now shows them and this one.
         ensures every { (arrivals : List ℕ) → Shows self.old arrivals → Shows self.new (arrivals ++ now ∷ []) }
     {
         let gap = gap(self.silence, self.last, now);

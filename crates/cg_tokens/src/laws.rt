@@ -2,7 +2,7 @@
 
 ghost use Rattle.cg_tokens.specs.Laws.{LimitsAreThese};
 
-/// The greatest token, the digits of a token, and the most tokens of an endpoint are these numbers.
+/// `TOKEN_LIMIT` is 2 to the 127, `TOKEN_DIGITS` is 32, and `TOKEN_COUNT_LIMIT` is 16.
 pub fn limits_are_these()
     ensures { LimitsAreThese }
 {}

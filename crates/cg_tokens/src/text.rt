@@ -118,7 +118,7 @@ pub fn tokens_in(alloc: Global, text: &[u8]) -> Result<Option<Vec<Token>>, Alloc
 /// text is BadText, which is found before memory is taken; OutOfMemory comes only if the text is one of tokens.
 pub fn read_tokens(alloc: Global, text: &str) -> Result<Vec<Token>, Fault>
     ensures answer { Answers (λ tokens. tokens.items) (read_as (tokens_of text.now)) result }
-    // The text is the one that the tokens write.
+    // The text is the one that is written for the tokens.
     ensures ok { IfOk result (λ tokens. text.now ≡ tokens_text tokens.items) }
     // A text that is refused is not the text of any tokens.
     ensures bad { result ≡ Err BadText → (tokens : List ℕ) → AreTokens tokens → text.now ≢ tokens_text tokens }

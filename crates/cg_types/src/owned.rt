@@ -9,7 +9,7 @@ use crate::endpoint::Endpoint;
 pub trait Owned {
     ghost owner_of: { Self → ℕ };
 
-    /// The endpoint that it is about.
+    /// The endpoint that this is about.
     fn owner(&self) -> Endpoint
         ensures { result ≡ owner_of self.now };
 }

@@ -37,7 +37,7 @@ impl Versions {
         Versions { last: 0 }
     }
 
-    /// A generator that gives the versions after one.
+    /// A generator whose last version given is `version`: it gives those after it.
     pub fn after(version: Version) -> Versions
         ensures { result ≡ version }
     {

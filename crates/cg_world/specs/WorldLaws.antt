@@ -40,8 +40,8 @@ pub record IsNumbered (c : WorldValue) (action : Action) : Type 0 where
 abbrev pub MessagesAreNumbered : Type 0
 MessagesAreNumbered = (c : WorldValue) (action : Action) → IsNumbered c action
 
--- A tick's world by the world after a beat: the tick is refused if the beat is, by the same fault; if the beat is done,
--- the tick is the opening after the beat.
+-- The results of a beat and of a tick in one world: the tick is refused if the beat is, by the same fault; if the beat
+-- is done, the tick is the opening after the beat.
 pub record IsBeatAndOpening (node : ℕ) (beat tick : Result WorldValue Fault) : Type 0 where
   pub refused : fault_of tick ≡ fault_of beat
   pub done : (d : WorldValue) → beat ≡ Ok d → tick ≡ acting d (Local node Opening)
@@ -102,7 +102,7 @@ DeliveriesFindRoom =
     (settings : SettingsValue) (actions : List Action) (number to now : ℕ) (fault : Fault)
     → acting (run settings actions) (Deliver number to now) ≡ Err fault → (fault ≡ NoSuchMessage) ⊎ (fault ≡ NoSuchNode)
 
--- The delivery of a message that was sent to a node that runs is done.
+-- A delivery is done if its message was sent and the node that it is handed to runs.
 abbrev pub DeliveriesAreDone : Type 0
 DeliveriesAreDone =
     (settings : SettingsValue) (actions : List Action) (number to now : ℕ)

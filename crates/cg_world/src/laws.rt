@@ -36,7 +36,7 @@ pub fn headline()
 {}
 
 /// Each node's table is the join of its own newest entry and of the entries to which the deltas led that it took since
-/// its start. Each entry in it is its owner's whole entry at one past place, and there are no more than owners that
+/// its start. Each entry in it is its owner's whole entry at one past place, and it has no more entries than owners
 /// started.
 pub fn tables_are_the_join()
     ensures { TablesAreTheJoin }
@@ -66,7 +66,7 @@ pub fn merges_of_nodes_are_the_join()
 
 // ---- single actions, and the worlds after them
 
-/// The nodes after one more action are those that it leaves of the nodes after the actions before it.
+/// The world after a list of actions and one more is what the last action makes of the world after the list.
 pub fn actions_one_by_one()
     ensures { ActionsOneByOne }
 {}
@@ -112,9 +112,9 @@ pub fn settings_stay()
     ensures { SettingsStay }
 {}
 
-/// The nodes refuse what the places refuse, by the same fault. They refuse changes by spent versions, and starts in a
-/// generation that does not rise or of one node too many. They refuse messages that were never sent, and local events
-/// of and deliveries to a node that does not run.
+/// The nodes refuse what the places refuse, by the same fault. They refuse changes by a node whose versions are spent,
+/// and starts in a generation that does not rise or of one node too many. They refuse deliveries of messages that were
+/// never sent, and local events of a node that does not run, or deliveries to it.
 pub fn refusals_agree()
     ensures { RefusalsAgree }
 {}

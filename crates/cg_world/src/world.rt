@@ -135,10 +135,10 @@ impl World {
         self.nodes.act(alloc, action)
     }
 
-    /// Does a list of actions from the empty world, and returns the world after them with an answer for each. An answer
-    /// is the action's outcome, or the fault with which it is refused, and then the run goes on. An action that finds
-    /// no memory ends the run: its `OutOfMemory` is the last answer, and the world is the one before it, after the
-    /// actions that were done.
+    /// Does actions from the empty world, up to the first that finds no memory, and returns the world and the answers.
+    /// An answer is the action's outcome, or the fault with which it is refused, and then the run goes on. An action
+    /// that finds no memory ends the run: its `OutOfMemory` is the last answer, and the world is the one before it,
+    /// after the actions that were done.
     ///
     /// `OutOfMemory` comes in place of a world only if the list of answers could not be made, before the first action:
     /// the rest is `run_in`, which can't fail.

@@ -18,10 +18,11 @@ mod merging;
 pub use exchanges::exchange_reaches_join;
 pub use merging::{equal_digests, merge_is_join};
 
-/// An exchange between two nodes that run takes both tables to the merge of what the two held, or past it.
+/// An exchange between two nodes that run takes both tables to the merge of what the two held, or past it, unless one
+/// restarts meanwhile.
 ///
 /// The merge is that of what the opener held when it opened and the answerer when it answered. One more merge with that
-/// changes neither table. Other actions may come between its messages, but no start of the two.
+/// changes neither table. Any other actions may come between its messages.
 pub fn exchanges_end_at_the_join()
     ensures { ExchangesEndAtTheJoin }
 {}
