@@ -26,7 +26,7 @@ pub trait Gate {
     // the reply of the last event done
     ghost last: { Self → Option ReplyValue };
 
-    /// Does an event. The last reply is then that of the event, and of the event's kind.
+    /// Does an event, and keeps its reply, of the event's kind, as the last one.
     ///
     /// It is refused by `OutOfMemory`, `VersionsSpent`, `TableFull` and `OtherCluster` alone. So no refusal can be
     /// taken for a fault of a link or a frame.

@@ -28,7 +28,7 @@ is_taken Gap = false
 abbrev pub advanced_entry : EntryValue → DeltaValue → EntryValue
 advanced_entry e d = record { generation = e.generation; heartbeat = d.heartbeat; states = overlay e.states d.states }
 
--- the first case that fits
+-- the outcome of a delta at an entry of its owner: the first case that fits
 abbrev pub absorption : EntryValue → DeltaValue → Absorbed
 absorption e d =
     if nat_lt d.generation e.generation then Old
