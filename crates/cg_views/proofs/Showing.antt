@@ -74,9 +74,13 @@ admits book opening x views h = record {
 
 -- ---- the publisher
 
-last_in : (s : ShownValue) (os : List ShownValue) (o : ShownValue) → fold latest s (os ++ o ∷ []) ≡ o
+pub last_in : (s : ShownValue) (os : List ShownValue) (o : ShownValue) → fold latest s (os ++ o ∷ []) ≡ o
 last_in s [] o = refl
 last_in s (x ∷ os) o = last_in x os o
+
+-- All operations lead to the table of the last one.
+pub shows_last : (shown : ShownValue) (before all : List ShownValue) (o last : ShownValue) → all ≡ before ++ o ∷ [] → o ≡ last → fold latest shown all ≡ last
+shows_last shown before all o last more same = ap (fold latest shown) more ∙ last_in shown before o ∙ same
 
 -- the puts of a prefix with one operation more
 pub more_puts : (front : FrontValue) (ps : List Put) → joined (front.all ++ ps ∷ []) ≡ joined front.all ++ ps
@@ -87,25 +91,24 @@ abbrev pub with_operation : List Put → FrontValue → FrontValue
 with_operation ps front = record { of = front.of; all = front.all ++ ps ∷ [] }
 
 -- the newest table is the one to which all appended puts lead
-pub stands : (book : Book) (opening : TableValue) (shown : ShownValue) (pending : List ShownValue) (last : ShownValue) (head : Book) → IsPublisher book opening shown pending last head
+pub stands : (book : Book) (opening : TableValue) (shown last : ShownValue) (head : Book) → IsPublisher book opening shown last head
     → last.table ≡ with_puts opening (are_all (publisher_of opening shown.front last.front))
-stands book opening shown pending last head i = i.last_sound.table_is ∙ ap (with_puts opening) (sym (all_joined shown.front.all last.front.all i.begins))
+stands book opening shown last head i = i.last_sound.table_is ∙ ap (with_puts opening) (sym (all_joined shown.front.all last.front.all i.begins))
 
 -- an operation more is pending
-pub appends : (book : Book) (opening : TableValue) (shown shown' : ShownValue) (pending pending' : List ShownValue) (last next op : ShownValue) (head : Book) (ps : List Put) → IsPublisher book opening shown pending last head
-    → shown' ≡ shown → pending' ≡ pending ++ op ∷ [] → op ≡ next → next.table ≡ with_puts last.table ps → next.front ≡ with_operation ps last.front
-    → keep_order last.table ps ≡ true → IsPublisher book opening shown' pending' next head
-appends book opening shown shown' pending pending' last next op head ps i same more op_is table_is front_is order =
+pub appends : (book : Book) (opening : TableValue) (shown last next : ShownValue) (head : Book) (ps : List Put) → IsPublisher book opening shown last head
+    → next.table ≡ with_puts last.table ps → next.front ≡ with_operation ps last.front
+    → keep_order last.table ps ≡ true → IsPublisher book opening shown next head
+appends book opening shown last next head ps i table_is front_is order =
     let all : joined next.front.all ≡ joined last.front.all ++ ps = ap (λ (f : FrontValue). joined f.all) front_is ∙ more_puts last.front ps in
     let rest : keep_order (with_puts opening (joined last.front.all)) ps ≡ true = ap (λ (t : TableValue). keep_order t ps) (sym i.last_sound.table_is) ∙ order in record {
-      shown_sound = subst (IsSound book opening) (sym same) i.shown_sound;
+      shown_sound = i.shown_sound;
       last_sound = record {
         of_book = ap (λ (f : FrontValue). f.of) front_is ∙ i.last_sound.of_book;
         table_is = table_is ∙ ap (λ t. with_puts t ps) i.last_sound.table_is ∙ sym (with_puts-append opening (joined last.front.all) ps) ∙ ap (with_puts opening) (sym all);
         order = ap (keep_order opening) all ∙ keep_order-append opening (joined last.front.all) ps i.last_sound.order rest;
       };
-      leads = ap (fold latest shown') more ∙ last_in shown' pending op ∙ op_is;
-      begins = subst (λ (s : ShownValue). IsPrefix s.front.all next.front.all) (sym same) (subst (λ (f : FrontValue). IsPrefix shown.front.all f.all) (sym front_is) (begins_more shown.front.all last.front.all (ps ∷ []) i.begins));
+      begins = subst (λ (f : FrontValue). IsPrefix shown.front.all f.all) (sym front_is) (begins_more shown.front.all last.front.all (ps ∷ []) i.begins);
       head_is = i.head_is;
     }
 
@@ -117,16 +120,14 @@ shows_appended opening shown last ps p =
     ap (λ l. record { opening = opening; published = joined shown.all; pending = l }) pending
 
 -- the pending operations are shown
-pub publishes : (book : Book) (opening : TableValue) (shown shown' : ShownValue) (pending pending' : List ShownValue) (last : ShownValue) (head : Book) → IsPublisher book opening shown pending last head
-    → shown' ≡ fold latest shown pending → pending' ≡ [] → IsPublisher book opening shown' pending' last head
-publishes book opening shown shown' pending pending' last head i is none =
-    let same : shown' ≡ last = is ∙ i.leads in record {
-      shown_sound = subst (IsSound book opening) (sym same) i.last_sound;
-      last_sound = i.last_sound;
-      leads = ap (fold latest shown') none ∙ same;
-      begins = subst (λ (s : ShownValue). IsPrefix s.front.all last.front.all) (sym same) (begins_itself last.front.all);
-      head_is = i.head_is;
-    }
+pub publishes : (book : Book) (opening : TableValue) (shown shown' last : ShownValue) (head : Book) → IsPublisher book opening shown last head
+    → shown' ≡ last → IsPublisher book opening shown' last head
+publishes book opening shown shown' last head i same = record {
+  shown_sound = subst (IsSound book opening) (sym same) i.last_sound;
+  last_sound = i.last_sound;
+  begins = subst (λ (s : ShownValue). IsPrefix s.front.all last.front.all) (sym same) (begins_itself last.front.all);
+  head_is = i.head_is;
+}
 
 -- all operations are published then
 pub shows_published : (opening : TableValue) (shown shown' last : FrontValue) → IsPrefix shown.all last.all → shown' ≡ last → publisher_of opening shown' last ≡ all_published (publisher_of opening shown last)

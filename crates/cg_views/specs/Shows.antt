@@ -1,5 +1,5 @@
 -- Shown tables with their operations, and what a publisher has beside them.
-use Rattle.std.specs.Prelude.{◌≡◌, true, List, drop, length, refl, fold}
+use Rattle.std.specs.Prelude.{◌≡◌, true, List, drop, length, refl}
 use mathlib.Core.List.{IsPrefix}
 use Rattle.std.specs.Coded.{Coded, code_by, coded×}
 use Rattle.logbook.specs.Pages.{Book}
@@ -30,12 +30,10 @@ publisher_of opening shown last = record {
   pending = joined (drop (length shown.all) last.all);
 }
 
--- The pending operations lead from the shown table to the last appended one.
-pub record IsPublisher (book : Book) (opening : TableValue) (shown : ShownValue) (pending : List ShownValue)
-    (last : ShownValue) (head : Book) : Type 0 where
+-- The shown operations are a prefix of the appended ones.
+pub record IsPublisher (book : Book) (opening : TableValue) (shown last : ShownValue) (head : Book) : Type 0 where
   pub shown_sound : IsSound book opening shown
   pub last_sound : IsSound book opening last
-  pub leads : fold latest shown pending ≡ last
   pub begins : IsPrefix shown.front.all last.front.all
   pub head_is : head ≡ book
 

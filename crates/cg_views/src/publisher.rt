@@ -16,7 +16,7 @@ use left_right::reader::Reader;
 use left_right::writer::Writer;
 use std::alloc::{AllocError, Global};
 use std::marker::Model;
-use std::sync::Wait;
+use std::sync::{Arc, Wait};
 
 /// The publisher of a table. A contract sees the table that the views open with, the published puts, and the pending
 /// ones. `close` ends it.
@@ -27,7 +27,6 @@ pub struct Publisher<N: Naming> {
 }
 
 impl<N: Naming> Model for Publisher<N> {
-    ghost use Rattle.std.specs.Prelude.{drop};
     ghost use Rattle.cg_views.specs.Lists.{PublisherValue, publisher_code};
     ghost use Rattle.cg_views.specs.Shows.{publisher_of, IsPublisher};
 
@@ -38,8 +37,7 @@ impl<N: Naming> Model for Publisher<N> {
     ghost view = { λ p. publisher_of N.opening p.writer.desk.shown.value.front p.last.front };
 
     ghost invariant = { λ p.
-        IsPublisher N.book N.opening p.writer.desk.shown.value (drop p.writer.behind p.writer.log.items) p.last
-        p.book.head.book };
+        IsPublisher N.book N.opening p.writer.desk.shown.value p.last p.book.head.book };
 }
 
 impl<N: Naming> Publisher<N> {
@@ -52,27 +50,22 @@ impl<N: Naming> Publisher<N> {
         self.last.may_follow(puts)
     }
 
-    // Makes one operation of these puts.
+    // Makes one operation of these puts. All that can be refused comes before the book is told of it, so that what is
+    // refused leaves the book as it was.
     fn add(&mut self, alloc: Global, puts: &Puts) -> Result<(), AllocError>
         requires { MayAppend self.old puts.now }
         ensures ok { OnOk result (self.new ≡ appended puts.now self.old) }
         ensures err { OnErr result (self.new ≡ self.old) }
     {
         let table = self.last.table_with(alloc, puts)?;
-        let mut after = self.last.front();
-        if after.len() >= 1 << 62 || !after.add(&self.book, puts) {
+        let table = Arc::new(alloc, table)?;
+        let mut front = self.last.front();
+        if front.len() >= 1 << 62 || !front.add(&self.book, puts) {
             // The publisher alone adds to its book, so this never happens, though no proof rules it out.
             return Err(AllocError);
         }
-        let next = Shown::of(alloc, table, after)?;
-        let operation = next.again()?;
-        match self.writer.append(operation) {
-            Ok(()) => {
-                self.last = next;
-                Ok(())
-            }
-            Err(_) => Err(AllocError),
-        }
+        self.last = Shown { table, front };
+        Ok(())
     }
 
     /// Makes one operation of a put, which is then pending. `may_append` says whether it may. If it is refused, for
@@ -139,7 +132,18 @@ fn publish_out<N: Naming, R: Wait>(
     ensures ok { OnOk result.1 (result.0 ≡ all_published publisher) }
     ensures err { OnErr result.1 (result.0 ≡ publisher) }
 {
-    let Publisher { writer, last, book } = publisher;
+    let Publisher {
+        mut writer,
+        last,
+        book,
+    } = publisher;
+    let Ok(operation) = last.again() else {
+        return (Publisher { writer, last, book }, Err(AllocError));
+    };
+    match writer.append(operation) {
+        Ok(()) => {}
+        Err(_) => return (Publisher { writer, last, book }, Err(AllocError)),
+    }
     let (writer, result) = writer.publish_as::<Sees<N>, R>(rt);
     match result {
         Ok(()) => (Publisher { writer, last, book }, Ok(())),

@@ -8,5 +8,5 @@ use Rattle.cg_views.proofs.publisher.Publisher.may_append.Goals as goal
 
 pub returns : goal.returns
 returns g c =
-    let at = stands _ _ _ _ _ _ c.self.invariant ∙ ap (λ (p : PublisherValue). with_puts p.opening (are_all p)) c.self.view_is in
+    let at = stands _ _ _ _ _ c.self.invariant ∙ ap (λ (p : PublisherValue). with_puts p.opening (are_all p)) c.self.view_is in
     subst (λ (t : TableValue). IsTrue c.may_follow.result ↔ MayFollow t c.args.puts.now) at c.may_follow.ensures
