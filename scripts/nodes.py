@@ -5,24 +5,25 @@ import select
 import socket
 import subprocess
 import sys
+import threading
 import time
 
-TOP = os.path.dirname(os.path.dirname(os.path.abspath(__file__)))
+from programs import built
 
 # An unreadable line: what is shown of it ends what is shown of the line before.
 MARK, SHOWN = b"end\n", b"fault 2 BadText\n"
 
 
 def program():
-    """The built program, or the one that CG names."""
-    path = os.environ.get("CG", os.path.join(TOP, "crates/cg/out/cg"))
+    """The program that CG names, or the one of crates/cg, which is built first if need be."""
+    path = os.environ.get("CG") or built("cg")
     if not os.access(path, os.X_OK):
-        sys.exit("no program at %s: build it by (cd crates/cg && rt run < stdin)" % path)
-    return path
+        sys.exit(f"no program at {path}, which CG names: leave CG unset, and rt ci builds crates/cg/out/cg")
+    return os.path.abspath(path)
 
 
 class Late(Exception):
-    """Something did not come in its time."""
+    """The error of a wait that lasted too long."""
 
 
 class Node:
@@ -48,22 +49,25 @@ class Node:
         )
 
     def ask(self, line, seconds=10):
-        """What a line shows."""
+        """Returns what a line shows."""
         end = time.monotonic() + seconds
-        self.process.stdin.write(line.encode() + b"\n" + MARK)
+        try:
+            self.process.stdin.write(line.encode() + b"\n" + MARK)
+        except BrokenPipeError:
+            raise Late(f"{self.listen}: ended before {line!r}") from None
         while not (self.held == SHOWN or self.held.endswith(b"\n" + SHOWN)):
             left = end - time.monotonic()
             if left <= 0 or not select.select([self.process.stdout], [], [], left)[0]:
-                raise Late("%s: no answer to %r, only %r" % (self.listen, line, self.held))
+                raise Late(f"{self.listen}: no answer to {line!r}, only {self.held!r}")
             read = os.read(self.process.stdout.fileno(), 1 << 16)
             if not read:
-                raise Late("%s: ended at %r, with %r" % (self.listen, line, self.held))
+                raise Late(f"{self.listen}: ended at {line!r}, with {self.held!r}")
             self.held += read
         text, self.held = self.held[: -len(SHOWN)].decode(), b""
         return text
 
     def newest(self):
-        """By endpoint, the generation and the newest version that it holds."""
+        """Returns by endpoint the generation and the newest version that it holds."""
         held = {}
         for line in self.ask("digests").splitlines():
             endpoint, generation, version = line.split()
@@ -71,8 +75,8 @@ class Node:
         return held
 
     def memory(self):
-        """The most kibibytes that the process held."""
-        with open("/proc/%d/status" % self.process.pid) as status:
+        """Returns the most kibibytes that the process held."""
+        with open(f"/proc/{self.process.pid}/status") as status:
             return next(int(line.split()[1]) for line in status if line.startswith("VmHWM"))
 
     def kill(self):
@@ -85,12 +89,12 @@ class Node:
         self.process.stdin.close()
 
     def end(self, seconds):
-        """Waits for the end of a node that was told to quit, and answers its status. Its receiver ends once it has taken as
-        many connections as its settings say: so they are opened here until the process has gone."""
+        """Waits for the end of a node after `quit`, and returns its status. Its receiver ends once it has taken as many
+        connections as its settings say, so they are opened here until the process has gone."""
         end = time.monotonic() + seconds
         while self.process.poll() is None:
             if time.monotonic() > end:
-                raise Late("%s: has not ended" % self.listen)
+                raise Late(f"{self.listen}: has not ended")
             try:
                 socket.create_connection((self.host, self.port), timeout=1).close()
             except OSError:
@@ -99,7 +103,7 @@ class Node:
 
 
 def wait_until(is_so, seconds, what):
-    """Waits until something is so, and answers how long that took."""
+    """Waits until a condition holds, and returns how many seconds that took."""
     begin = time.monotonic()
     while not is_so():
         if time.monotonic() - begin > seconds:
@@ -108,8 +112,36 @@ def wait_until(is_so, seconds, what):
     return time.monotonic() - begin
 
 
+def rings_are_equal(cluster):
+    """Tests whether all nodes show the same ring, with a token of each."""
+    shown = [node.ask("ring") for node in cluster]
+    return shown[0].count("\n") == len(cluster) and all(ring == shown[0] for ring in shown)
+
+
+def end_all(cluster, seconds):
+    """Ends all nodes at the same time, and waits at most that many seconds for each."""
+    failed = []
+
+    def end(node):
+        try:
+            if node.end(seconds) != 0:
+                failed.append(f"{node.listen}: status {node.process.returncode}")
+        except Late as late:
+            failed.append(str(late))
+
+    for node in cluster:
+        node.quit()
+    threads = [threading.Thread(target=end, args=(node,)) for node in cluster]
+    for thread in threads:
+        thread.start()
+    for thread in threads:
+        thread.join()
+    if failed:
+        raise Late("; ".join(failed))
+
+
 def audit(journals):
-    """The last line that an audit of journals writes."""
-    told = subprocess.run([program(), "audit"] + journals, stdout=subprocess.PIPE, timeout=600)
-    lines = told.stdout.decode().splitlines()
+    """Returns the last line that an audit of journals writes."""
+    audited = subprocess.run([program(), "audit"] + journals, stdout=subprocess.PIPE, timeout=600)
+    lines = audited.stdout.decode().splitlines()
     return lines[-1] if lines else "nothing"
