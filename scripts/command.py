@@ -22,14 +22,14 @@ def crates_listed():
 
 
 class Words(argparse.ArgumentParser):
-    """The words of a script's command line. The script's doc is its help, and the first line of it its usage."""
+    """The words of a script's command line. The script's doc is its help."""
 
     def __init__(self, doc):
-        self.doc = doc.rstrip()
-        super().__init__(usage=self.doc.split("\n")[0][len("usage: "):], allow_abbrev=False)
+        super().__init__(allow_abbrev=False)
+        self.doc = doc
 
     def format_help(self):
-        return f"{self.doc}\n"
+        return f"{self.doc.rstrip()}\n"
 
     def error(self, message):
         """Ends the script with one line and status 2."""
