@@ -1,5 +1,6 @@
 """Nodes that serve, each a process, as scripts/three-nodes and scripts/cluster run them. Every wait has an end."""
 
+import contextlib
 import os
 import select
 import socket
@@ -22,8 +23,8 @@ def program():
     return os.path.abspath(path)
 
 
-class Late(Exception):
-    """The error of a wait that lasted too long."""
+class Failed(Exception):
+    """The error of a node that ended, or of a wait that lasted too long."""
 
 
 class Node:
@@ -54,14 +55,14 @@ class Node:
         try:
             self.process.stdin.write(line.encode() + b"\n" + MARK)
         except BrokenPipeError:
-            raise Late(f"{self.listen}: ended before {line!r}") from None
+            raise Failed(f"{self.listen}: ended before {line!r}") from None
         while not (self.held == SHOWN or self.held.endswith(b"\n" + SHOWN)):
             left = end - time.monotonic()
             if left <= 0 or not select.select([self.process.stdout], [], [], left)[0]:
-                raise Late(f"{self.listen}: no answer to {line!r}, only {self.held!r}")
+                raise Failed(f"{self.listen}: no answer to {line!r}, only {self.held!r}")
             read = os.read(self.process.stdout.fileno(), 1 << 16)
             if not read:
-                raise Late(f"{self.listen}: ended at {line!r}, with {self.held!r}")
+                raise Failed(f"{self.listen}: ended at {line!r}, with {self.held!r}")
             self.held += read
         text, self.held = self.held[: -len(SHOWN)].decode(), b""
         return text
@@ -85,7 +86,9 @@ class Node:
             self.process.wait()
 
     def quit(self):
-        self.process.stdin.write(b"quit\n")
+        # (it may have ended)
+        with contextlib.suppress(BrokenPipeError):
+            self.process.stdin.write(b"quit\n")
         self.process.stdin.close()
 
     def end(self, seconds):
@@ -94,7 +97,7 @@ class Node:
         end = time.monotonic() + seconds
         while self.process.poll() is None:
             if time.monotonic() > end:
-                raise Late(f"{self.listen}: has not ended")
+                raise Failed(f"{self.listen}: has not ended after {seconds} s")
             try:
                 socket.create_connection((self.host, self.port), timeout=1).close()
             except OSError:
@@ -107,7 +110,7 @@ def wait_until(is_so, seconds, what):
     begin = time.monotonic()
     while not is_so():
         if time.monotonic() - begin > seconds:
-            raise Late(what)
+            raise Failed(f"{what} after {seconds} s")
         time.sleep(0.01)
     return time.monotonic() - begin
 
@@ -126,8 +129,8 @@ def end_all(cluster, seconds):
         try:
             if node.end(seconds) != 0:
                 failed.append(f"{node.listen}: status {node.process.returncode}")
-        except Late as late:
-            failed.append(str(late))
+        except Failed as why:
+            failed.append(str(why))
 
     for node in cluster:
         node.quit()
@@ -137,7 +140,7 @@ def end_all(cluster, seconds):
     for thread in threads:
         thread.join()
     if failed:
-        raise Late("; ".join(failed))
+        raise Failed("; ".join(failed))
 
 
 def audit(journals):

@@ -57,9 +57,10 @@ def built(name):
         log = f"{tempfile.gettempdir()}/{'-'.join(command)}.log"
         print(f"{short} {why}: {' '.join(command)} makes it and prints to {log}. It takes {how_long}.", file=sys.stderr, flush=True)
         with open(log, "w", encoding="utf-8") as out:
-            subprocess.run(command, cwd=TOP, stdin=subprocess.DEVNULL, stdout=out, stderr=subprocess.STDOUT)
+            status = subprocess.run(command, cwd=TOP, stdin=subprocess.DEVNULL, stdout=out, stderr=subprocess.STDOUT).returncode
         why = lack_of(name, program)
-        if not why:
+        # (an rt ci NAME that works on a copy may leave no program here)
+        if status or not why:
             break
     if why:
         sys.exit(f"{short} {why}, and {' '.join(command)} did not make it: see {log}")
