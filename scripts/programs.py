@@ -48,9 +48,10 @@ def ways_to_build(name):
 
 
 @functools.lru_cache(maxsize=None)
-def built(name):
-    """Returns the path of a crate's program. If the program is missing or older than its sources, `rt ci` makes it first."""
-    program = f"{TOP}/crates/{name}/out/{name}"
+def built(name, ending=""):
+    """Returns the path of a crate's program, with the ending _tests of its tests. If it is missing or older than its sources,
+    `rt ci` makes it first."""
+    program = f"{TOP}/crates/{name}/out/{name}{ending}"
     short = os.path.relpath(program, TOP)
     why = lack_of(name, program)
     for command, how_long in ways_to_build(name) if why else []:
