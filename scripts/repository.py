@@ -86,7 +86,7 @@ HEAD = re.compile(
     r"(fn|struct|enum|trait|impl|mod|use|const|static|type|ghost|macro_rules!)\s*(?:\b(\w+))?"
 )
 IMPL = re.compile(r"(?:(?:\w+::)*(\w+)\s*(<.*>)?\s+for\s+)?&?(?:'\w+\s+)?(?:\w+::)*(\w+)")
-# What comes behind the arguments of a function: a clause, a bracket, or the end.
+# The end of a function's arguments: a clause, a bracket, or nothing.
 BEHIND = re.compile(r"\b(requires|ensures)\b(?:\s+(\w+))?\s*(?=\{)|[(\[{;]")
 
 

@@ -226,7 +226,7 @@ fn set(node: &Table) -> Table {
     after
 }
 
-/// What a node does with one heartbeat of another endpoint, one of its own, and one set.
+/// A node's work at one heartbeat of another endpoint, one of its own, and one set.
 fn nodes(mode: Mode, tag: &str, states: usize, text: usize) {
     let node = joined(states, text);
     let newer = beaten(table(255, 256, states, text), 3, |_| true);

@@ -516,7 +516,7 @@ pub fn exchanged(opener: &Table, answerer: &Table) -> (Table, Table) {
     (opener, take_ack2(answerer, &m).unwrap().0)
 }
 
-/// What one side of an exchange over links is after it, and what it wrote.
+/// One side of an exchange over links after it, and the bytes that it wrote.
 pub type Part = (Table, Vec<u8>);
 
 /// The opener's part: it reads the frame of an ACK.
@@ -536,7 +536,7 @@ fn answered(own: &Table, mut input: &[u8]) -> Part {
     (take_ack2(own, &m).unwrap().0, written)
 }
 
-/// What each side reads in an exchange: the opener the ACK, the answerer the SYN and the ACK2.
+/// The bytes that each side reads in an exchange: the opener the ACK, the answerer the SYN and the ACK2.
 pub fn inputs(opener: &Table, answerer: &Table) -> (Vec<u8>, Vec<u8>) {
     let m = syn(opener, &cluster());
     let ack = answer_syn(answerer, &cluster(), &m).unwrap();

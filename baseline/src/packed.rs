@@ -374,7 +374,7 @@ pub fn write_syn(table: &Table, cluster: &[u8], out: &mut Vec<u8>) {
     finish(out);
 }
 
-/// What the receiver of a SYN does about one endpoint.
+/// The answer of a SYN's receiver about one endpoint.
 enum Due {
     Nothing,
     Ask(u32),
