@@ -14,7 +14,7 @@ from typing import Dict, Iterator, List, NamedTuple, Optional, Set, Tuple
 import command
 from command import TOP
 
-# Folders of edits, those that the gate tries first.
+# Folders of edits. The gate tries those in edits/ and must-fail/.
 EDIT_FOLDERS = ("edits", "further-edits", "must-fail")
 # The character that represents the end of a line in a text of an edit.
 LINE_END = "⏎"
