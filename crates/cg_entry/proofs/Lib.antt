@@ -14,3 +14,8 @@ pub mod TakenLemmas
 pub mod SpellingLemmas
 pub mod SpellingLaws
 pub mod StandingLemmas
+pub mod BlockLemmas
+pub mod PushLemmas
+pub mod CutLemmas
+pub mod ReadLemmas
+pub mod HeldLemmas

@@ -5,6 +5,7 @@ pub mod Took
 pub mod Entry
 pub mod Contents
 pub mod Held
+pub mod Block
 pub mod Taking
 pub mod History
 pub mod Place
@@ -12,4 +13,5 @@ pub mod Spelling
 pub mod Laws
 pub use Rattle.cg_types.specs.Answer
 pub use Rattle.cg_types.specs.Numbers
+pub use Rattle.cg_types.specs.Rising
 pub use Rattle.cg_version.specs.Version

@@ -1,9 +1,9 @@
 //! Deltas: the part of an entry that a message carries.
 
-ghost use Rattle.std.specs.Prelude.{◌≡◌, ◌↔◌, IsTrue, IfSome, IfOk, IsOk, is_some, nat_lt, []};
+ghost use Rattle.std.specs.Prelude.{◌≡◌, ◌↔◌, IsTrue, IfSome, IfOk, IsOk, is_some, nat_lt, [], Some, slice_get, length, ◌<◌};
 ghost use Rattle.std.specs.FinMap as map;
 ghost use Rattle.cg_types.specs.Numbers.{IsVersionHeld};
-ghost use Rattle.cg_entry.specs.State.{KeysRise, pairs, all_newer as all_newer_of, delta_of_parts, makes_delta, delta_from};
+ghost use Rattle.cg_entry.specs.State.{pair, all_newer as all_newer_of, delta_of_parts, makes_delta, delta_from};
 ghost use Rattle.cg_entry.specs.Contents.{IsDeltaOfEntry};
 ghost use Rattle.cg_entry.specs.Entry.{greatest, text_bytes, IsDelta};
 
@@ -146,7 +146,7 @@ impl Delta {
     pub fn newest(&self) -> Version
         ensures { result ≡ greatest self.now.heartbeat self.now.states }
     {
-        self.states.list().greatest(self.heartbeat)
+        self.states.greatest(self.heartbeat)
     }
 
     /// The same delta, whose list of states its copies, and the entries that take it, will share. Without states it
@@ -163,7 +163,7 @@ impl Delta {
     pub fn text_bytes(&self) -> usize
         ensures { result ≡ text_bytes self.now.states }
     {
-        self.states.list().text_bytes()
+        self.states.text_bytes()
     }
 
     pub(crate) fn held(&self) -> &Held
@@ -172,15 +172,23 @@ impl Delta {
         &self.states
     }
 
-    /// The states, rising by key. The contract also states that the delta is in range.
-    pub fn states(&self) -> &[State]
-        ensures value { pairs result.now ≡ map.entries self.now.states }
-        ensures rise { KeysRise result.now }
+    /// The number of states. The contract also states that the delta is in range.
+    pub fn count(&self) -> usize
+        ensures value { result ≡ length (map.entries self.now.states) }
         ensures valid { IsDeltaOfEntry self.now }
     {
         let _generation = self.generation.get();
         let _heartbeat = self.heartbeat.get();
-        self.states.list().as_slice()
+        self.states.show();
+        self.states.len()
+    }
+
+    /// The state with this number in the order of the keys, from 0.
+    pub fn state_at(&self, place: usize) -> &State
+        requires { place < length (map.entries self.now.states) }
+        ensures { slice_get (map.entries self.now.states) place ≡ Some (pair result.now) }
+    {
+        self.states.at(place)
     }
 
     /// Tests whether both are the same delta: in generation, the version that it is above, heartbeat version and
@@ -191,7 +199,7 @@ impl Delta {
         other.generation == self.generation
             && self.above == other.above
             && self.heartbeat == other.heartbeat
-            && self.states.list().is_same(other.states.list())
+            && self.states.is_same(&other.states)
     }
 
     /// The same delta, which shares the list of states or at least their texts. A list that was given to `new` or

@@ -1,13 +1,13 @@
 //! Entries: all that is held of one endpoint.
 
-ghost use Rattle.std.specs.Prelude.{◌≡◌, ◌↔◌, true, IsTrue, IfOk, IfErr, OnOk, OnErr, IsOk, Some, None, Ok, option_copied};
+ghost use Rattle.std.specs.Prelude.{◌≡◌, ◌↔◌, true, IsTrue, IfOk, IfErr, OnOk, OnErr, IsOk, Some, None, Ok, option_copied, slice_get, length, ◌<◌};
 ghost use Rattle.std.specs.FinMap as map;
 ghost use Rattle.std.specs.Option.{option_map};
 ghost use Rattle.cg_types.specs.Answer.{Answers, AnswersExactly};
 ghost use Rattle.cg_version.specs.Version.{next_version};
 ghost use Rattle.cg_entry.specs.Contents.{IsEntry};
 ghost use Rattle.cg_entry.specs.Entry.{newest, newer_than, delta_above, starting_entry, entry_after_beat, with_state, is_later as is_later_of};
-ghost use Rattle.cg_entry.specs.State.{KeysRise, pairs};
+ghost use Rattle.cg_entry.specs.State.{pair};
 ghost use Rattle.cg_entry.specs.Taking.{whole_entry, taken_or_gap, advanced_entry, absorption, is_taken, meeting as met_of, IsTakenEntry, IfTaken};
 
 use crate::delta::Delta;
@@ -96,7 +96,7 @@ impl Entry {
     fn of_parts(generation: Generation, heartbeat: Version, states: Held) -> Entry
         ensures { result ≡ record { generation = generation; heartbeat = heartbeat; states = states } }
     {
-        let newest = states.list().greatest(heartbeat);
+        let newest = states.greatest(heartbeat);
         Entry {
             generation,
             heartbeat,
@@ -131,7 +131,7 @@ impl Entry {
     {
         let version = versions.next()?;
         self.heartbeat = version;
-        self.newest = self.states.list().greatest(version);
+        self.newest = self.states.greatest(version);
         Ok(version)
     }
 
@@ -154,7 +154,7 @@ impl Entry {
         let mut after = *versions;
         let version = after.next()?;
         self.states.put(State { key, version, text })?;
-        self.newest = self.states.list().greatest(self.heartbeat);
+        self.newest = self.states.greatest(self.heartbeat);
         *versions = after;
         Ok(version)
     }
@@ -163,21 +163,29 @@ impl Entry {
     pub fn get(&self, key: StateKey) -> Option<(&StateText, Version)>
         ensures { option_map (λ s. record { text = s.0.now; version = s.1 }) result ≡ map.get self.now.states key }
     {
-        match self.states.list().get(key) {
+        match self.states.get(key) {
             Some(state) => Some((&state.text, state.version)),
             None => None,
         }
     }
 
-    /// The states, rising by key. The contract also states that the entry is in range.
-    pub fn states(&self) -> &[State]
-        ensures value { pairs result.now ≡ map.entries self.now.states }
-        ensures rise { KeysRise result.now }
+    /// The number of states. The contract also states that the entry is in range.
+    pub fn count(&self) -> usize
+        ensures value { result ≡ length (map.entries self.now.states) }
         ensures valid { IsEntry self.now }
     {
         let _generation = self.generation.get();
         let _heartbeat = self.heartbeat.get();
-        self.states.list().as_slice()
+        self.states.show();
+        self.states.len()
+    }
+
+    /// The state with this number in the order of the keys, from 0.
+    pub fn state_at(&self, place: usize) -> &State
+        requires { place < length (map.entries self.now.states) }
+        ensures { slice_get (map.entries self.now.states) place ≡ Some (pair result.now) }
+    {
+        self.states.at(place)
     }
 
     // The entry with a delta of its generation.
@@ -244,7 +252,7 @@ impl Entry {
     {
         other.generation == self.generation
             && self.heartbeat == other.heartbeat
-            && self.states.list().is_same(other.states.list())
+            && self.states.is_same(&other.states)
     }
 
     /// Tests whether the entry is later than another of this endpoint: of a greater generation, or of the same one with

@@ -1,12 +1,17 @@
-//! The states of an entry or of a delta, in one list that its copies share.
+//! The states of an entry or a delta: in a block that copies share, or in the list that a delta was made of.
 
-ghost use Rattle.std.specs.Prelude.{◌≡◌, IfOk, IsOk, OnOk, OnErr};
+ghost use Rattle.std.specs.Prelude.{◌≡◌, ◌<◌, ◌↔◌, IsTrue, IfOk, IfSome, IsOk, OnOk, OnErr, Some, option_copied, slice_get};
 ghost use Rattle.std.specs.FinMap as map;
-ghost use Rattle.cg_entry.specs.Entry.{newer_than, overlay};
-ghost use Rattle.cg_entry.specs.State.{value_at_key};
+ghost use Rattle.cg_entry.specs.Entry.{greatest, newer_than, overlay, text_bytes as text_bytes_of};
+ghost use Rattle.cg_entry.specs.State.{pair, value_at_key};
+ghost use Rattle.cg_entry.specs.Contents.{AreStates};
+ghost use Rattle.std.specs.Option.{option_map};
+ghost use Rattle.std.specs.Arc.{arc_value};
 
+use crate::block::Block;
 use crate::state::State;
 use crate::states::States;
+use cg_types::{StateKey, Version};
 use std::alloc::{AllocError, Global};
 use std::marker::Model;
 use std::ops::Deref;
@@ -16,7 +21,7 @@ use std::sync::Arc;
 #[derive(Debug, Drop)]
 enum Kept {
     Own(States),
-    Shared(Arc<States, Global>),
+    Shared(Arc<Block, Global>),
 }
 
 #[derive(Debug, Drop)]
@@ -37,6 +42,12 @@ impl Model for Held {
     ghost view = { λ h. held_states h.kept };
 }
 
+fn is_same_state(ours: &State, theirs: &State) -> bool
+    ensures { IsTrue result ↔ (ours.now ≡ theirs.now) }
+{
+    ours == theirs
+}
+
 impl Held {
     pub(crate) fn own(states: States) -> Held
         ensures { result ≡ states }
@@ -52,89 +63,236 @@ impl Held {
         Held::own(States::empty(alloc))
     }
 
-    fn of(alloc: Global, states: States) -> Result<Held, AllocError>
-        ensures { IfOk result (λ h. h ≡ states) }
+    fn of(alloc: Global, block: Block) -> Result<Held, AllocError>
+        ensures { IfOk result (λ h. h ≡ block) }
     {
         Ok(Held {
-            kept: Kept::Shared(Arc::new(alloc, states)?),
+            kept: Kept::Shared(Arc::new(alloc, block)?),
         })
     }
 
-    pub(crate) fn list(&self) -> &States
-        ensures { result.now ≡ self.now }
-    {
+    fn allocator(&self) -> Result<Global, AllocError> {
         match &self.kept {
-            Kept::Own(states) => states,
-            Kept::Shared(states) => states.deref(),
+            Kept::Own(states) => states.allocator(),
+            Kept::Shared(block) => block.deref().allocator(),
         }
     }
 
-    // Shares the list if it is shared already; an own one that is empty takes no memory.
+    // The number of states.
+    pub(crate) fn len(&self) -> usize
+        ensures { result ≡ map.len self.now }
+    {
+        match &self.kept {
+            Kept::Own(states) => states.len(),
+            Kept::Shared(block) => block.deref().len(),
+        }
+    }
+
+    // The state with this number in the order of the keys, from 0.
+    pub(crate) fn at(&self, place: usize) -> &State
+        requires { place < map.len self.now }
+        ensures { slice_get (map.entries self.now) place ≡ Some (pair result.now) }
+    {
+        match &self.kept {
+            Kept::Own(states) => states.at(place),
+            Kept::Shared(block) => block.deref().at(place),
+        }
+    }
+
+    // The state of a key, if there is one.
+    pub(crate) fn get(&self, key: StateKey) -> Option<&State>
+        ensures value { option_map value_at_key (option_copied result) ≡ map.get self.now key }
+        ensures key { IfSome result (λ s. s.now.key ≡ key) }
+    {
+        match &self.kept {
+            Kept::Own(states) => states.get(key),
+            Kept::Shared(block) => block.deref().get(key),
+        }
+    }
+
+    // The greatest of the heartbeat and the versions of the states.
+    pub(crate) fn greatest(&self, heartbeat: Version) -> Version
+        ensures { result ≡ greatest heartbeat self.now }
+    {
+        match &self.kept {
+            Kept::Own(states) => states.greatest(heartbeat),
+            Kept::Shared(block) => block.deref().greatest(heartbeat),
+        }
+    }
+
+    // The number of bytes of the texts.
+    pub(crate) fn text_bytes(&self) -> usize
+        ensures { result ≡ text_bytes_of self.now }
+    {
+        match &self.kept {
+            Kept::Own(states) => states.text_bytes(),
+            Kept::Shared(block) => block.deref().text_bytes(),
+        }
+    }
+
+    // Reads the states; the read shows that they are in range.
+    pub(crate) fn show(&self)
+        ensures { AreStates self.now }
+    {
+        match &self.kept {
+            Kept::Own(states) => states.show(),
+            Kept::Shared(block) => block.deref().show(),
+        }
+    }
+
+    // Tests whether there is no state.
+    fn is_empty(&self) -> bool
+        ensures { IsTrue result ↔ (self.now ≡ map.empty) }
+    {
+        self.len() == 0
+    }
+
+    // Tests whether both hold the same states.
+    pub(crate) fn is_same(&self, other: &Held) -> bool
+        ensures { IsTrue result ↔ (self.now ≡ other.now) }
+    {
+        if self.len() != other.len() {
+            return false;
+        }
+        for place in 0..self.len() {
+            if !is_same_state(self.at(place), other.at(place)) {
+                return false;
+            }
+        }
+        true
+    }
+
+    // Shares the block if there is one; an own list that is empty takes no memory.
     pub(crate) fn copy(&self, alloc: Global) -> Result<Held, AllocError>
         ensures { IfOk result (λ h. h ≡ self.now) }
     {
+        if self.is_empty() {
+            return Ok(Held::none(alloc));
+        }
         match &self.kept {
-            Kept::Own(states) if states.is_empty() => Ok(Held::none(alloc)),
-            Kept::Own(states) => Held::of(alloc, states.copy(alloc)?),
-            Kept::Shared(states) => Ok(Held {
-                kept: Kept::Shared(Arc::try_clone(states)?),
+            Kept::Own(states) => Held::of(alloc, states.block(alloc)?),
+            Kept::Shared(block) => Ok(Held {
+                kept: Kept::Shared(Arc::try_clone(block)?),
             }),
         }
     }
 
-    // The same states in a list that copies share; one that is empty takes no memory.
+    // The same states in a block that copies share; one that is empty takes no memory.
     pub(crate) fn shared(self, alloc: Global) -> Result<Held, AllocError>
         ensures value { IfOk result (λ h. h ≡ self) }
         ensures bare { self ≡ map.empty → IsOk result }
     {
-        if self.list().is_empty() {
+        if self.is_empty() {
             return Ok(self);
         }
         match self.kept {
-            Kept::Own(states) => Held::of(alloc, states),
-            Kept::Shared(states) => Ok(Held {
-                kept: Kept::Shared(states),
+            Kept::Own(states) => Held::of(alloc, states.block(alloc)?),
+            Kept::Shared(block) => Ok(Held {
+                kept: Kept::Shared(block),
             }),
         }
     }
 
-    // Puts a state, in place of one with its key, into a list of its own.
+    // The state of a key in `newer`, or else in these.
+    fn shown<'a>(&'a self, newer: &'a Held, key: StateKey) -> Option<&'a State>
+        ensures value { option_map value_at_key (option_copied result) ≡ map.get (overlay self.now newer.now) key }
+        ensures key { IfSome result (λ s. s.now.key ≡ key) }
+    {
+        match newer.get(key) {
+            Some(state) => Some(state),
+            None => self.get(key),
+        }
+    }
+
+    // A new block of `newer`, and at every other key of these.
+    fn laid_under(&self, alloc: Global, newer: &Held) -> Result<Block, AllocError>
+        ensures { IfOk result (λ b. b ≡ overlay self.now newer.now) }
+    {
+        self.show();
+        newer.show();
+        let mut block = Block::with_room(alloc, self.len().max(newer.len()))?;
+        for number in 0..17 {
+            match StateKey::new(number) {
+                Some(key) => match self.shown(newer, key) {
+                    Some(state) => block.push(state.copy()?)?,
+                    None => {}
+                },
+                None => {}
+            }
+        }
+        Ok(block)
+    }
+
+    // Puts a state, in place of one with its key, into a block of its own.
     pub(crate) fn put(&mut self, state: State) -> Result<(), AllocError>
         ensures ok { OnOk result (self.new ≡ map.insert self.old state.key (value_at_key state)) }
         ensures err { OnErr result (self.new ≡ self.old) }
     {
-        let (alloc, states) = self.list().with(state)?;
-        *self = Held::of(alloc, states)?;
+        let alloc = self.allocator()?;
+        let one = Held::own(States::one(alloc, state)?);
+        *self = Held::of(alloc, self.laid_under(alloc, &one)?)?;
         Ok(())
     }
 
-    // The states with a version greater than `above`.
+    // The states with a version greater than `above`. If none is, it takes no memory; if each is, a block is shared.
     pub(crate) fn newer_than(&self, alloc: Global, above: u32) -> Result<Held, AllocError>
         ensures value { IfOk result (λ h. h ≡ newer_than above self.now) }
         ensures bare { newer_than above self.now ≡ map.empty → IsOk result }
     {
-        let states = self.list();
-        let count = states.count_newer(above);
-        if count == 0 {
-            return Ok(Held::none(alloc));
+        match &self.kept {
+            Kept::Own(states) => newer_of_list(alloc, states, above),
+            Kept::Shared(block) => newer_of_block(alloc, block, above),
         }
-        if count == states.len() {
-            return self.copy(alloc);
+    }
+
+    // Tests whether each key is in `newer`, so that none of these shows beside it.
+    fn is_covered(&self, newer: &Held) -> bool
+        ensures { IsTrue result → overlay self.now newer.now ≡ newer.now }
+    {
+        for place in 0..self.len() {
+            if newer.get(self.at(place).key).is_none() {
+                return false;
+            }
         }
-        Held::of(alloc, states.newer_than(alloc, above, count)?)
+        true
     }
 
     // Those of `newer`, and at every other key these. If one list shows all of that, it is shared.
     pub(crate) fn overlay(&self, alloc: Global, newer: &Held) -> Result<Held, AllocError>
         ensures { IfOk result (λ h. h ≡ overlay self.now newer.now) }
     {
-        let (ours, theirs) = (self.list(), newer.list());
-        if theirs.is_empty() {
+        if newer.is_empty() {
             return self.copy(alloc);
         }
-        if ours.is_covered(theirs) {
+        if self.is_covered(newer) {
             return newer.copy(alloc);
         }
-        Held::of(alloc, ours.overlay(alloc, theirs)?)
+        Held::of(alloc, self.laid_under(alloc, newer)?)
     }
+}
+
+fn newer_of_list(alloc: Global, states: &States, above: u32) -> Result<Held, AllocError>
+    ensures value { IfOk result (λ h. h ≡ newer_than above states.now) }
+    ensures bare { newer_than above states.now ≡ map.empty → IsOk result }
+{
+    if states.count_newer(above) == 0 {
+        return Ok(Held::none(alloc));
+    }
+    let newer = states.block(alloc)?.newer_than(alloc, above)?;
+    Held::of(alloc, newer)
+}
+
+fn newer_of_block(alloc: Global, block: &Arc<Block, Global>, above: u32) -> Result<Held, AllocError>
+    ensures value { IfOk result (λ h. h ≡ newer_than above (arc_value block.now)) }
+    ensures bare { newer_than above (arc_value block.now) ≡ map.empty → IsOk result }
+{
+    if !block.deref().has_newer(above) {
+        return Ok(Held::none(alloc));
+    }
+    if block.deref().is_newer(above) {
+        return Ok(Held {
+            kept: Kept::Shared(Arc::try_clone(block)?),
+        });
+    }
+    Held::of(alloc, block.deref().newer_than(alloc, above)?)
 }

@@ -6,12 +6,14 @@
 //! Protocols" (2008).
 #![tactic(auto)]
 
+mod block;
 mod delta;
 mod digest;
 mod entry;
 mod held;
 /// Laws of histories and deltas.
 pub mod laws;
+mod places;
 mod state;
 mod states;
 mod took;

@@ -1,15 +1,14 @@
 //! A finite map from keys to texts with their versions, kept in the order of the keys.
 
-ghost use Rattle.std.specs.Prelude.{◌≡◌, ◌<◌, ◌^◌, ◌==◌, ◌↔◌, IsTrue, IfOk, OnOk, OnErr, count_by, find, is_some, length, nat_lt, option_copied};
+ghost use Rattle.std.specs.Prelude.{◌≡◌, ◌<◌, ◌^◌, ◌==◌, IfOk, IfSome, Some, count_by, find, length, nat_lt, option_copied, slice_get};
 ghost use Rattle.std.specs.FinMap as map;
-ghost use Rattle.std.specs.FinMap.Entries.{put};
 ghost use Rattle.std.specs.Option.{option_map};
-ghost use Rattle.std.specs.Ordering.{nat_cmp};
-ghost use Rattle.std.specs.List.{AllByRecursion, list_all};
+ghost use Rattle.std.specs.List.{AllByRecursion};
 ghost use Rattle.cg_entry.specs.Contents.{IsState, AreStates};
-ghost use Rattle.cg_entry.specs.Entry.{greatest, newer_than, overlay, text_bytes as text_bytes_of};
-ghost use Rattle.cg_entry.specs.State.{KeysRise, keys_rise as keys_rise_of, pair, pairs, count_below, listed_bytes, value_at_key};
+ghost use Rattle.cg_entry.specs.Entry.{greatest, newer_than, text_bytes as text_bytes_of};
+ghost use Rattle.cg_entry.specs.State.{KeysRise, keys_rise as keys_rise_of, pair, pairs, listed_bytes, value_at_key};
 
+use crate::block::Block;
 use crate::state::State;
 use cg_types::{StateKey, Version};
 use std::alloc::{AllocError, Global};
@@ -47,38 +46,10 @@ pub(crate) fn keys_rise(items: &[State]) -> bool
 
 // The state of a key, if there is one.
 fn state_of(items: &[State], key: StateKey) -> Option<&State>
-    ensures { option_copied result ≡ find (λ s. s.key == key) items.now }
+    ensures value { option_copied result ≡ find (λ s. s.key == key) items.now }
+    ensures key { IfSome result (λ s. s.now.key ≡ key) }
 {
     items.iter().find(|state| state.key == key)
-}
-
-// The first place whose key is not below the key.
-fn place_of(items: &[State], key: StateKey) -> usize
-    ensures { result ≡ count_below key (pairs items.now) }
-{
-    let mut at = 0;
-    for state in items {
-        if state.key >= key {
-            return at;
-        }
-        at += 1;
-    }
-    at
-}
-
-// Puts a state in its place, in place of one with its key.
-fn put_state(items: &mut Vec<State>, state: State) -> Result<(), AllocError>
-    ensures ok { OnOk result
-        (pairs items.new.items ≡ put nat_cmp state.key (value_at_key state) (pairs items.old.items)) }
-    ensures err { OnErr result (items.new.items ≡ items.old.items) }
-{
-    let at = place_of(items, state.key);
-    if at < items.len() && items[at].key == state.key {
-        items[at] = state;
-    } else {
-        items.insert(at, state)?;
-    }
-    Ok(())
 }
 
 // Reads a state; the read shows that it is in range.
@@ -113,26 +84,6 @@ fn size_of_texts(items: &[State]) -> usize
         bytes += text_size(state);
     }
     bytes
-}
-
-// Copies states into a list with the room that is given.
-fn copies(alloc: Global, items: &[State], room: usize) -> Result<Vec<State>, AllocError>
-    ensures { IfOk result (λ v. v.items ≡ items.now) }
-{
-    let mut copies = Vec::with_capacity(alloc, room)?;
-    for state in items {
-        copies.push(state.copy()?)?;
-    }
-    Ok(copies)
-}
-
-// Tests whether each key of these is in another list.
-fn keys_stand_in(items: &[State], other: &[State]) -> bool
-    ensures { result ≡ list_all (λ s. is_some (find (λ t. t.key == s.key) other.now)) items.now }
-{
-    items
-        .iter()
-        .all(|state| state_of(other, state.key).is_some())
 }
 
 // Counts the states with a version greater than `above`.
@@ -209,82 +160,48 @@ impl States {
         count_newer(&self.items, above)
     }
 
-    // The states with a version greater than `above`, in a list with the room that is given.
-    pub(crate) fn newer_than(
-        &self,
-        alloc: Global,
-        above: u32,
-        room: usize,
-    ) -> Result<States, AllocError>
-        ensures { IfOk result (λ s. s ≡ newer_than above self.now) }
+    // Reads the states; the read shows that they are in range.
+    pub(crate) fn show(&self)
+        ensures { AreStates self.now }
     {
-        let mut items = Vec::with_capacity(alloc, room)?;
-        for state in &self.items {
-            if state.version.get() > above {
-                items.push(state.copy()?)?;
-            }
-        }
-        Ok(States::of(items))
-    }
-
-    pub(crate) fn copy(&self, alloc: Global) -> Result<States, AllocError>
-        ensures { IfOk result (λ s. s ≡ self.now) }
-    {
-        Ok(States {
-            items: copies(alloc, &self.items, self.items.len())?,
-            text_bytes: self.text_bytes,
-        })
+        let _states = self.as_slice();
     }
 
     // The state of a key, if there is one.
     pub(crate) fn get(&self, key: StateKey) -> Option<&State>
-        ensures { option_map value_at_key (option_copied result) ≡ map.get self.now key }
+        ensures value { option_map value_at_key (option_copied result) ≡ map.get self.now key }
+        ensures key { IfSome result (λ s. s.now.key ≡ key) }
     {
         state_of(&self.items, key)
     }
 
-    // Tests whether there is no state.
-    pub(crate) fn is_empty(&self) -> bool
-        ensures { IsTrue result ↔ (self.now ≡ map.empty) }
+    // A list of one state.
+    pub(crate) fn one(alloc: Global, state: State) -> Result<States, AllocError>
+        ensures { IfOk result (λ s. s ≡ map.insert map.empty state.key (value_at_key state)) }
     {
-        self.items.as_slice().is_empty()
+        let mut items = Vec::with_capacity(alloc, 1)?;
+        items.push(state)?;
+        Ok(States::from_rising(items))
     }
 
-    // A copy with a state put, in place of one with its key, and the allocator of both.
-    pub(crate) fn with(&self, state: State) -> Result<(Global, States), AllocError>
-        ensures { IfOk result (λ x. x.1 ≡ map.insert self.now state.key (value_at_key state)) }
+    // The same states in a block.
+    pub(crate) fn block(&self, alloc: Global) -> Result<Block, AllocError>
+        ensures { IfOk result (λ b. b ≡ self.now) }
     {
-        show_state(&state);
-        let alloc = self.items.allocator().clone()?;
-        let mut items = copies(alloc, &self.items, self.items.len() + 1)?;
-        put_state(&mut items, state)?;
-        Ok((alloc, States::of(items)))
+        Block::of(alloc, &self.items)
     }
 
-    // Tests whether each key is in `newer`, so that nothing of these shows beside it.
-    pub(crate) fn is_covered(&self, newer: &States) -> bool
-        ensures { IsTrue result → overlay self.now newer.now ≡ newer.now }
-    {
-        self.items.len() <= newer.items.len() && keys_stand_in(&self.items, &newer.items)
+    pub(crate) fn allocator(&self) -> Result<Global, AllocError> {
+        self.items.allocator().clone()
     }
 
-    // Those of `newer`, and at every other key these.
-    pub(crate) fn overlay(&self, alloc: Global, newer: &States) -> Result<States, AllocError>
-        ensures { IfOk result (λ s. s ≡ overlay self.now newer.now) }
+    // The state with this number, from 0.
+    pub(crate) fn at(&self, place: usize) -> &State
+        requires { place < map.len self.now }
+        ensures { slice_get (map.entries self.now) place ≡ Some (pair result.now) }
     {
-        let room = self.items.len() + newer.items.len();
-        let mut items = copies(alloc, &self.items, room)?;
-        for state in &newer.items {
-            put_state(&mut items, state.copy()?)?;
-        }
-        Ok(States::of(items))
-    }
-
-    // Tests whether both are the same map.
-    pub(crate) fn is_same(&self, other: &States) -> bool
-        ensures { IsTrue result ↔ (self.now ≡ other.now) }
-    {
-        self.items.as_slice() == other.items.as_slice()
+        let items = self.items.as_slice();
+        &items[place]
     }
 
     // The states, in the order of the keys.

@@ -46,7 +46,7 @@ fn parts_of(delta: &Delta) -> Parts {
         delta.above(),
         delta.heartbeat().get(),
         delta.newest().get(),
-        delta.states().len(),
+        delta.count(),
     )
 }
 
@@ -138,7 +138,7 @@ fn parts_of_bare(alloc: Global, heartbeat: u32) -> Option<(u32, u32, u32, usize)
         delta.generation().get(),
         delta.above(),
         delta.heartbeat().get(),
-        delta.states().len(),
+        delta.count(),
     ))
 }
 
@@ -223,10 +223,10 @@ fn a_set_and_a_beat(rt: HostRuntime) -> Result<(), Fail> {
 
 // The key, version and text of the only state.
 fn only_state(entry: &Entry) -> Option<(u8, u32, &str)> {
-    match entry.states() {
-        [state] => Some(parts_of_state(state)),
-        _ => None,
+    if entry.count() != 1 {
+        return None;
     }
+    Some(parts_of_state(entry.state_at(0)))
 }
 
 #[test]

@@ -6,12 +6,9 @@ use Rattle.cg_types.proofs.RisingLemmas.{rise_sorted}
 use Rattle.std.specs.List.{AllByRecursion, filter}
 use Rattle.std.specs.FinMap.{entries, entries_sorted, from_sorted, entries-from_sorted, same_entries_map}
 use Rattle.std.specs.Ordering.{nat_cmp}
-use Rattle.std.proofs.lemmas.List.{length-map}
 use Rattle.std.proofs.lemmas.Bool.{ltb-true, lt-ltb}
 use Rattle.cg_entry.specs.declared.digest.Digest.{Digest}
 use Rattle.cg_entry.specs.Versioned.{Versioned, States}
-use Rattle.cg_entry.specs.State.{pairs}
-use Rattle.cg_entry.specs.declared.state.State.{State}
 use Rattle.cg_entry.specs.Entry.{newer_than}
 use Rattle.cg_entry.proofs.DeltaLemmas.{entries-newer_than}
 use Rattle.cg_messages.specs.declared.owner_delta.OwnerDelta.{OwnerDelta}
@@ -31,11 +28,10 @@ use Rattle.cg_frames.proofs.SpelledIsReadLemmas.{length_keys}
 use Rattle.cg_entry.proofs.FewLemmas.{states_few}
 
 -- there are no more states than keys
-pub few_states : (d : OwnerDelta) (ss : List State) → IsOwnerDelta d → pairs ss ≡ entries d.delta.states → length ss ≤ STATE_LIMIT
-few_states d ss is same =
+pub few_entries : (d : OwnerDelta) → IsOwnerDelta d → length (entries d.delta.states) ≤ STATE_LIMIT
+few_entries d is =
     let es = entries d.delta.states in
-    let few = states_few IsState (λ e state. state.key) es is.delta.states (rise_sorted es (entries_sorted d.delta.states)) in
-    omega (arith, few, ap length same, length-map {A = State} {B = ℕ × Versioned})
+    states_few IsState (λ e state. state.key) es is.delta.states (rise_sorted es (entries_sorted d.delta.states))
 
 -- ---- a layout that allows what messages hold can spell each of them
 

@@ -1,7 +1,8 @@
 //! Messages written as frames.
 
 ghost use Rattle.std.specs.Prelude.{◌≡◌, ◌++◌, ◌∷◌, [], ◌<◌, ◌^◌, length, IfOk, OnOk};
-ghost use Rattle.cg_entry.specs.State.{pair, pairs};
+ghost use Rattle.std.specs.FinMap as map;
+ghost use Rattle.cg_entry.specs.State.{pair};
 ghost use Rattle.std.specs.List.{AllByRecursion, flat_map};
 ghost use Rattle.cg_messages.specs.declared.message.Message.TheVariants as messages;
 ghost use Rattle.cg_messages.specs.Contents.{IsOwnerDelta};
@@ -15,7 +16,7 @@ use crate::fits::message_fits;
 use crate::layout::{Layout, WRITTEN};
 use crate::lengths::message_length;
 use bytes::{BufMut, Bytes};
-use cg_entry::{Digest, State};
+use cg_entry::{Delta, Digest, State};
 use cg_messages::{Ack, Ack2, Lent, Message, OwnerDelta, Request, Syn};
 use cg_types::{Cluster, Endpoint};
 use std::alloc::{AllocError, Global};
@@ -118,11 +119,13 @@ fn put_state(out: &mut Vec<u8>, state: &State) -> Result<(), AllocError>
     Ok(())
 }
 
-fn put_states(out: &mut Vec<u8>, states: &[State]) -> Result<(), AllocError>
-    ensures { OnOk result (out.new.items ≡ out.old.items ++ flat_map spelling.state (pairs states.now)) }
+// In the order of the keys.
+fn put_states(out: &mut Vec<u8>, delta: &Delta) -> Result<(), AllocError>
+    ensures { OnOk result
+        (out.new.items ≡ out.old.items ++ flat_map spelling.state (map.entries delta.now.states)) }
 {
-    for state in states {
-        put_state(out, state)?;
+    for place in 0..delta.count() {
+        put_state(out, delta.state_at(place))?;
     }
     Ok(())
 }
@@ -152,15 +155,15 @@ fn put_delta(out: &mut Vec<u8>, delta: &OwnerDelta) -> Result<(), AllocError>
     requires { IsOwnerDelta delta.now }
     ensures { OnOk result (out.new.items ≡ out.old.items ++ spelling.delta delta.now) }
 {
-    let states = delta.delta.states();
+    let count = delta.delta.count();
     out.put_slice(&delta_head(
         delta.endpoint,
         delta.delta.generation().get(),
         delta.delta.above(),
         delta.delta.heartbeat().get(),
-        states.len() as u8,
+        count as u8,
     ))?;
-    put_states(out, states)?;
+    put_states(out, &delta.delta)?;
     Ok(())
 }
 

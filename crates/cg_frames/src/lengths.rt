@@ -26,7 +26,7 @@ fn delta_length(delta: &OwnerDelta) -> usize
     requires { length (spelling.delta delta.now) < 2 ^ 32 }
     ensures { result ≡ length (spelling.delta delta.now) }
 {
-    19 + 7 * delta.delta.states().len() + delta.delta.text_bytes()
+    19 + 7 * delta.delta.count() + delta.delta.text_bytes()
 }
 
 fn deltas_length(deltas: &[OwnerDelta]) -> usize

@@ -47,7 +47,7 @@ impl Part for OwnerDelta {
 
     fn show(&self) {
         let _port = self.endpoint.port();
-        let _states = self.delta.states();
+        let _count = self.delta.count();
     }
 }
 

@@ -55,8 +55,8 @@ fn add_states(text: &mut String, entry: &Entry) -> Result<(), AllocError>
     ensures { OnOk result (string_bytes text.new
         ≡ string_bytes text.old ++ flat_map state_line (map.entries entry.now.states)) }
 {
-    for state in entry.states() {
-        add_state(text, state)?;
+    for place in 0..entry.count() {
+        add_state(text, entry.state_at(place))?;
     }
     Ok(())
 }

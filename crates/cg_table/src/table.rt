@@ -79,7 +79,7 @@ fn show(row: &Row<Entry>)
     ensures { IsOwnerRow row.now }
 {
     let _port = row.endpoint().port();
-    let _states = row.value().states();
+    let _count = row.value().count();
 }
 
 // Shows that each row is in range. It takes no memory and changes nothing.

@@ -44,8 +44,8 @@ fn add_delta_head(text: &mut String, owned: &OwnerDelta) -> Result<(), AllocErro
 
 fn add_delta(alloc: Global, text: &mut String, owned: &OwnerDelta) -> Result<(), AllocError> {
     add_delta_head(text, owned)?;
-    for state in owned.delta.states() {
-        add_state(alloc, text, state)?;
+    for place in 0..owned.delta.count() {
+        add_state(alloc, text, owned.delta.state_at(place))?;
     }
     Ok(())
 }

@@ -23,16 +23,15 @@ fn keeps_key(entry: &Entry, state: &State) -> bool
     }
 }
 
-fn keeps_each(entry: &Entry, states: &[State]) -> bool
-    ensures { result ≡ list_all (λ s. is_held_from s.version (map.get entry.now.states s.key)) states.now }
-{
-    states.iter().all(|state| keeps_key(entry, state))
-}
-
 fn keeps_keys(before: &Entry, after: &Entry) -> bool
     ensures { result ≡ keeps_keys_of before.now.states after.now.states }
 {
-    keeps_each(after, before.states())
+    for place in 0..before.count() {
+        if !keeps_key(after, before.state_at(place)) {
+            return false;
+        }
+    }
+    true
 }
 
 // Returns `true` if a row is later than what is held and, if it is the table's own, goes on from it.

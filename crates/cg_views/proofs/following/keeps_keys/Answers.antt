@@ -1,13 +1,34 @@
-use Rattle.std.proofs.Common.{ℕ, Bool, sym, ap, ◌∙◌}
+use Rattle.std.proofs.Common.{◌∙◌, ℕ, Bool, List, sym, ap, arith, take, get_or}
 use Rattle.std.specs.List.{list_all}
 use Rattle.std.specs.FinMap as map
-use Rattle.std.proofs.lemmas.List.Folds.{list_all-map}
+use Rattle.std.proofs.lemmas.List.{take_all}
+use Rattle.std.proofs.lemmas.List.Folds.{list_all_more, list_all_at}
+use Rattle.std.proofs.lemmas.Option.{slice_get_within, get_or_from_slice_get}
+use Rattle.cg_types.proofs.RisingLemmas.{both}
 use Rattle.cg_entry.specs.State.{pair}
 use Rattle.cg_entry.specs.Versioned.{Versioned}
 use Rattle.cg_table.specs.Puts.{is_held_from}
 use Rattle.cg_views.proofs.following.keeps_keys.Goals as goal
 
+pub loop-place-preserved : goal.loop-place-preserved
+loop-place-preserved c =
+    let kept : ℕ × Versioned → Bool = λ e. is_held_from e.1.version (map.get c.args.after.now.states e.0) in
+    let es : List (ℕ × Versioned) = map.entries c.args.before.now.states in
+    let s : ℕ × Versioned = pair c.state_at.result.now in
+    list_all_more kept es c.loop-place.place s (slice_get_within es c.loop-place.place s c.state_at.ensures)
+    ∙ both (list_all kept (take c.loop-place.place es)) (kept (get_or es c.loop-place.place s)) c.loop-place.invariant
+    (ap kept (get_or_from_slice_get es c.loop-place.place s s c.state_at.ensures) ∙ sym c.keeps_key.ensures ∙ c.if-not-keeps_key.false)
+
+pub returns-then-not-keeps_key : goal.returns-then-not-keeps_key
+returns-then-not-keeps_key c =
+    let kept : ℕ × Versioned → Bool = λ e. is_held_from e.1.version (map.get c.args.after.now.states e.0) in
+    let es : List (ℕ × Versioned) = map.entries c.args.before.now.states in
+    let s : ℕ × Versioned = pair c.state_at.result.now in
+    sym (list_all_at kept es c.loop-place.place s (slice_get_within es c.loop-place.place s c.state_at.ensures)
+    (ap kept (get_or_from_slice_get es c.loop-place.place s s c.state_at.ensures) ∙ sym c.if-not-keeps_key.ensures))
+
 pub returns : goal.returns
 returns c =
-    let kept : ℕ × Versioned → Bool = λ s. is_held_from s.1.version (map.get c.args.after.now.states s.0) in
-    c.keeps_each.ensures ∙ sym (list_all-map kept pair c.states.result.now) ∙ ap (list_all kept) c.states.ensures.value
+    let kept : ℕ × Versioned → Bool = λ e. is_held_from e.1.version (map.get c.args.after.now.states e.0) in
+    let es : List (ℕ × Versioned) = map.entries c.args.before.now.states in
+    sym (ap (list_all kept) (sym (take_all c.loop-place.place es (omega (arith, c.loop-place-test.false, c.count-place-end.ensures.value)))) ∙ c.loop-place.invariant)

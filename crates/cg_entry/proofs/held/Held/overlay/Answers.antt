@@ -1,6 +1,5 @@
-use Rattle.std.proofs.Common.{◌∙◌, sym}
 use Rattle.cg_entry.proofs.PutLemmas.{overlay_none}
 use Rattle.cg_entry.proofs.held.Held.overlay.Goals as goal
 
 pub returns-then-is_empty : goal.returns-then-is_empty
-returns-then-is_empty c = rw (sym c.list-theirs.ensures ∙ c.is_empty.ensures.0 c.if-is_empty.true, overlay_none c.args.self.now) c.copy.ensures
+returns-then-is_empty c = rw (c.is_empty.ensures.0 c.if-is_empty.true, overlay_none c.args.self.now) c.copy.ensures

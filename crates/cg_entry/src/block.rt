@@ -1,0 +1,262 @@
+//! Blocks of states: a vector that rises by version, then key, and the places by key.
+
+ghost use Rattle.std.specs.Prelude.{◌≡◌, ◌<◌, ◌≤◌, ◌^◌, IfOk, IfSome, IsOk, OnOk, OnErr, length, nat_lt, option_copied, true, false, slice_get, Some};
+ghost use Rattle.std.specs.FinMap as map;
+ghost use Rattle.std.specs.FinMap.Entries.{find as find_entry};
+ghost use Rattle.std.specs.Option.{option_map};
+ghost use Rattle.std.specs.Ordering.{nat_cmp};
+ghost use Rattle.std.specs.List.{AllByRecursion, AllWithin};
+ghost use Rattle.std.specs.List.Sorted.{IsNonDecreasingBy};
+ghost use Rattle.cg_entry.specs.Contents.{AreStates, IsState};
+ghost use Rattle.cg_entry.specs.Entry.{greatest, newer_than, text_bytes as text_bytes_of};
+ghost use Rattle.cg_entry.specs.State.{KeysRise, listed_bytes, pair, pairs, value_at_key};
+ghost use Rattle.cg_entry.specs.Block.{bytes_at, picked, state_at};
+
+use crate::places::Places;
+use crate::state::State;
+use cg_types::{StateKey, Version};
+use std::alloc::{AllocError, Global};
+use std::marker::Model;
+
+// A finite map from keys to texts with their versions.
+#[derive(Debug, Drop)]
+pub(crate) struct Block {
+    items: Vec<State>,
+    places: Places,
+    text_bytes: usize,
+}
+
+impl Model for Block {
+    ghost use Rattle.std.specs.Ordering.{nat_cmp};
+    ghost use Rattle.std.specs.FinMap as map;
+    ghost use Rattle.cg_entry.specs.Versioned.{Versioned, states_code};
+
+    ghost Value = { map.FinMap nat_cmp Versioned };
+
+    ghost coded = { states_code };
+
+    ghost use Rattle.cg_entry.specs.State.{pairs};
+    ghost use Rattle.cg_entry.specs.Block.{picked, IsBlock};
+
+    ghost view = { λ b. map.from_sorted (pairs (picked b.items.items b.places)) };
+
+    ghost invariant = { λ b. IsBlock b.items.items b.places b.text_bytes };
+}
+
+// The first place whose state is newer, by halving.
+fn first_above(items: &[State], above: u32) -> usize
+    requires { IsNonDecreasingBy (λ s. s.version) items.now }
+    ensures within { result ≤ length items.now }
+    ensures older { AllWithin (λ s. nat_lt above s.version ≡ false) items.now 0 result }
+    ensures newer { AllWithin (λ s. nat_lt above s.version ≡ true) items.now result (length items.now) }
+{
+    items.partition_point(|state| state.version.get() <= above)
+}
+
+// The key at a place; 0 at none.
+fn key_at(items: &[State], place: u8) -> u8
+    ensures { result ≡ (state_at items.now place).key }
+{
+    match items.get(place as usize) {
+        Some(state) => state.key.get(),
+        None => 0,
+    }
+}
+
+// The state of a key, by halving over the places.
+fn find<'a>(items: &'a [State], places: &[u8], key: StateKey) -> Option<&'a State>
+    requires rise { KeysRise (picked items.now places.now) }
+    requires within { AllByRecursion (λ p. p < length items.now) places.now }
+    ensures value { option_map value_at_key (option_copied result)
+        ≡ find_entry nat_cmp key (pairs (picked items.now places.now)) }
+    ensures key { IfSome result (λ s. s.now.key ≡ key) }
+{
+    match places.binary_search_by_key(&key.get(), |place| key_at(items, *place)) {
+        Ok(at) => Some(&items[places[at] as usize]),
+        Err(_) => None,
+    }
+}
+
+// Reads a state; the read shows that it is in range.
+fn show_state(state: &State)
+    ensures { IsState (pair state.now) }
+{
+    let _key = state.key.get();
+    let _version = state.version.get();
+    let _text = state.text.as_str();
+}
+
+fn text_size(state: &State) -> usize
+    ensures { result ≡ length state.now.text }
+{
+    state.text.as_str().len()
+}
+
+// The number of bytes of the text at a place; 0 at none.
+fn size_at(items: &[State], place: u8) -> usize
+    ensures { result ≡ length (state_at items.now place).text }
+{
+    match items.get(place as usize) {
+        Some(state) => text_size(state),
+        None => 0,
+    }
+}
+
+// The number of bytes of the texts at places.
+fn size_of(items: &[State], places: &[u8]) -> usize
+    requires { bytes_at items.now places.now < 2 ^ 32 }
+    ensures { result ≡ bytes_at items.now places.now }
+{
+    let mut bytes = 0;
+    for place in places {
+        bytes += size_at(items, *place);
+    }
+    bytes
+}
+
+fn copies(alloc: Global, items: &[State]) -> Result<Vec<State>, AllocError>
+    ensures { IfOk result (λ v. v.items ≡ items.now) }
+{
+    let mut copies = Vec::with_capacity(alloc, items.len())?;
+    for state in items {
+        copies.push(state.copy()?)?;
+    }
+    Ok(copies)
+}
+
+impl Block {
+    pub(crate) fn empty(alloc: Global) -> Block
+        ensures { result ≡ map.empty }
+    {
+        Block {
+            items: Vec::new(alloc),
+            places: Places::none(),
+            text_bytes: 0,
+        }
+    }
+
+    // Adds a state whose key comes after all.
+    pub(crate) fn push(&mut self, state: State) -> Result<(), AllocError>
+        requires { AllByRecursion (λ e. e.0 < state.key) (map.entries self.old) }
+        ensures ok { OnOk result (self.new ≡ map.insert self.old state.key (value_at_key state)) }
+        ensures err { OnErr result (self.new ≡ self.old) }
+    {
+        show_state(&state);
+        let size = text_size(&state);
+        let at = first_above(&self.items, state.version.get());
+        let mut places = self.places.bumped(at as u8);
+        places.push(at as u8);
+        self.items.insert(at, state)?;
+        self.places = places;
+        self.text_bytes += size;
+        Ok(())
+    }
+
+    // The number of states.
+    pub(crate) fn len(&self) -> usize
+        ensures { result ≡ map.len self.now }
+    {
+        self.places.as_slice().len()
+    }
+
+    // The state of a key, if there is one.
+    pub(crate) fn get(&self, key: StateKey) -> Option<&State>
+        ensures value { option_map value_at_key (option_copied result) ≡ map.get self.now key }
+        ensures key { IfSome result (λ s. s.now.key ≡ key) }
+    {
+        find(&self.items, self.places.as_slice(), key)
+    }
+
+    // The state with this number in the order of the keys, from 0.
+    pub(crate) fn at(&self, place: usize) -> &State
+        requires { place < map.len self.now }
+        ensures { slice_get (map.entries self.now) place ≡ Some (pair result.now) }
+    {
+        let places = self.places.as_slice();
+        let items = self.items.as_slice();
+        &items[places[place] as usize]
+    }
+
+    // The states with a version greater than `above`: the vector's end, in the order of the keys by the places that
+    // are left.
+    pub(crate) fn newer_than(&self, alloc: Global, above: u32) -> Result<Block, AllocError>
+        ensures { IfOk result (λ b. b ≡ newer_than above self.now) }
+    {
+        let from = first_above(&self.items, above);
+        let items = copies(alloc, &self.items[from..])?;
+        let places = self.places.lowered(from as u8);
+        let text_bytes = size_of(&items, places.as_slice());
+        Ok(Block {
+            items,
+            places,
+            text_bytes,
+        })
+    }
+
+    // A block without states, with room for this number.
+    pub(crate) fn with_room(alloc: Global, room: usize) -> Result<Block, AllocError>
+        ensures { IfOk result (λ b. b ≡ map.empty) }
+    {
+        Ok(Block {
+            items: Vec::with_capacity(alloc, room)?,
+            places: Places::none(),
+            text_bytes: 0,
+        })
+    }
+
+    // The states of a list in the order of the keys.
+    pub(crate) fn of(alloc: Global, items: &[State]) -> Result<Block, AllocError>
+        requires { KeysRise items.now }
+        ensures { IfOk result (λ b. b ≡ map.from_sorted (pairs items.now)) }
+    {
+        let mut block = Block::with_room(alloc, items.len())?;
+        for state in items {
+            block.push(state.copy()?)?;
+        }
+        Ok(block)
+    }
+
+    pub(crate) fn allocator(&self) -> Result<Global, AllocError> {
+        self.items.allocator().clone()
+    }
+
+    // The number of bytes of the texts.
+    pub(crate) fn text_bytes(&self) -> usize
+        ensures { result ≡ text_bytes_of self.now }
+    {
+        self.text_bytes
+    }
+
+    // The greatest of the heartbeat and the versions of the states; of those the last is the greatest.
+    pub(crate) fn greatest(&self, heartbeat: Version) -> Version
+        ensures { result ≡ greatest heartbeat self.now }
+    {
+        let items = self.items.as_slice();
+        if items.is_empty() {
+            return heartbeat;
+        }
+        heartbeat.max(items[items.len() - 1].version)
+    }
+
+    // Tests whether a state is newer than `above`.
+    pub(crate) fn has_newer(&self, above: u32) -> bool
+        ensures none { result ≡ false → newer_than above self.now ≡ map.empty }
+        ensures some { newer_than above self.now ≡ map.empty → result ≡ false }
+    {
+        first_above(&self.items, above) < self.items.as_slice().len()
+    }
+
+    // Tests whether each state is newer than `above`.
+    pub(crate) fn is_newer(&self, above: u32) -> bool
+        ensures { result ≡ true → newer_than above self.now ≡ self.now }
+    {
+        first_above(&self.items, above) == 0
+    }
+
+    // Reads the states; the read shows that they are in range.
+    pub(crate) fn show(&self)
+        ensures { AreStates self.now }
+    {
+        let _count = self.places.as_slice().len();
+    }
+}

@@ -1,0 +1,82 @@
+//! Lists of at most 16 places, without memory of their own.
+
+ghost use Rattle.std.specs.Prelude.{◌≡◌, ◌<◌, ◌≤◌, ◌-◌, ◌++◌, [], ◌∷◌, length, map, nat_le};
+ghost use Rattle.std.specs.List.{filter, AllByRecursion};
+ghost use Rattle.cg_entry.specs.Block.{bumped, lowered};
+
+use std::marker::Model;
+
+// At most 16 numbers, which are places in a vector.
+#[derive(Debug, Drop)]
+pub(crate) struct Places {
+    slots: [u8; 16],
+    count: u8,
+}
+
+impl Model for Places {
+    ghost use Rattle.std.specs.Prelude.{List, ℕ, take, ◌≤◌};
+    ghost use Rattle.std.specs.Coded.{coded_list, coded_ℕ};
+
+    ghost Value = { List ℕ };
+
+    ghost coded = { coded_list coded_ℕ };
+
+    ghost view = { λ p. take p.count p.slots };
+
+    ghost invariant = { λ p. p.count ≤ 16 };
+}
+
+impl Places {
+    pub(crate) fn none() -> Places
+        ensures { result ≡ [] }
+    {
+        Places {
+            slots: [0; 16],
+            count: 0,
+        }
+    }
+
+    pub(crate) fn as_slice(&self) -> &[u8]
+        ensures value { result.now ≡ self.now }
+        ensures few { length result.now ≤ 16 }
+    {
+        &self.slots[..self.count as usize]
+    }
+
+    pub(crate) fn push(&mut self, place: u8)
+        requires { length self.old < 16 }
+        ensures { self.new ≡ self.old ++ place ∷ [] }
+    {
+        self.slots[self.count as usize] = place;
+        self.count += 1;
+    }
+
+    // The places from `from` on, in a vector that begins there.
+    pub(crate) fn lowered(&self, from: u8) -> Places
+        ensures { result ≡ lowered from self.now }
+    {
+        let mut lower = Places::none();
+        for place in self.as_slice() {
+            if *place >= from {
+                lower.push(*place - from);
+            }
+        }
+        lower
+    }
+
+    // The same places, once an element is put at `at`.
+    pub(crate) fn bumped(&self, at: u8) -> Places
+        requires { AllByRecursion (λ p. p < 16) self.now }
+        ensures { result ≡ bumped at self.now }
+    {
+        let mut higher = Places::none();
+        for place in self.as_slice() {
+            if *place >= at {
+                higher.push(*place + 1);
+            } else {
+                higher.push(*place);
+            }
+        }
+        higher
+    }
+}
