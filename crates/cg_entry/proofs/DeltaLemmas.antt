@@ -4,10 +4,10 @@ use Rattle.std.specs.Prelude.{count_by, max, not, ◌||◌, ◌&&◌, ◌==◌, 
 use Rattle.std.specs.Result.{result_ok}
 use Rattle.std.specs.List.{filter}
 use Rattle.std.specs.Ordering.{nat_cmp}
-use Rattle.std.specs.FinMap.{entries, entries_sorted, from_sorted, empty, empty_of_len, len, len-entries, len-empty, same_entries_map}
+use Rattle.std.specs.FinMap.{entries, entries_sorted, from_sorted, empty, empty_of_len, len, len-entries, len-empty}
 use Rattle.std.proofs.lemmas.Bool.{ltb-true, ltb-false, lt-ltb, le-ltb, leb-true, leb-false}
 use Rattle.std.proofs.lemmas.Bool.Decides.{nat_tests}
-use Rattle.std.proofs.lemmas.List.Sums.{length-filter, count_by-le-length}
+use Rattle.std.proofs.lemmas.List.Sums.{length-filter}
 use Rattle.cg_types.proofs.RisingLemmas.{entries_rising, rise_sorted, rise_filter, both, first_of, second_of}
 use Rattle.cg_entry.specs.declared.state.State.{State}
 use Rattle.cg_types.specs.declared.fault.Cause.{Cause}
@@ -149,28 +149,11 @@ bare_is_delta v heartbeat lt =
     let some : v < greatest heartbeat (from_sorted (pairs [])) = rw (sym (greatest-pairs heartbeat [] refl)) lt in
     subst (λ (s : States). IsDelta v heartbeat s) nothing_listed (listed_is_delta v heartbeat [] refl refl some)
 
-pub none_listed : (items : List State) (states : States) → KeysRise items → from_sorted {R = nat_cmp} (pairs items) ≡ states → states ≡ empty → length items ≡ 0
-none_listed items states rise seen none = len-pairs items states rise seen ∙ ap len none ∙ len-empty nat_cmp Versioned
-
 pub len-newer_than : (v : ℕ) (given items : List State) (states : States) → given ≡ items → KeysRise items → from_sorted {R = nat_cmp} (pairs items) ≡ states
     → count_by (λ (s : State). nat_lt v s.version) given ≡ len (newer_than v states)
 len-newer_than v given items states same rise seen =
     ap (count_by (λ (s : State). nat_lt v s.version)) same ∙ sym (length-filter (λ (s : State). nat_lt v s.version) items)
     ∙ len-pairs (newer v items) (newer_than v states) (newer_rise v items rise) (newer_than-pairs v items rise ∙ ap (newer_than v) seen)
-
--- if all are counted, all are kept
-filter_all : {X : Type 0} (p : X → Bool) (xs : List X) → length (filter p xs) ≡ length xs → filter p xs ≡ xs
-filter_all p [] e = refl
-filter_all p (x ∷ xs) e =
-    elim (p x) as (λ b. length (cond b (x ∷ filter p xs) (filter p xs)) ≡ suc (length xs) → cond b (x ∷ filter p xs) (filter p xs) ≡ x ∷ xs) [
-      | true ↦ λ e. ap (λ ys. x ∷ ys) (filter_all p xs (omega arith))
-      | false ↦ λ e. absurd (omega (arith, length-filter p xs, count_by-le-length p xs))
-    ] e
-
-pub all_newer_than : (v : ℕ) (states : States) → len (newer_than v states) ≡ len states → newer_than v states ≡ states
-all_newer_than v states e =
-    let kept = filter_all (is_newer v) (entries states) (ap length (sym (entries-newer_than v states)) ∙ sym (len-entries (newer_than v states)) ∙ e ∙ len-entries states) in
-    same_entries_map (newer_than v states) states (entries-newer_than v states ∙ kept)
 
 pub none_newer_than : (v : ℕ) (states : States) → len (newer_than v states) ≡ 0 → newer_than v states ≡ empty
 none_newer_than v states e = empty_of_len (newer_than v states) e

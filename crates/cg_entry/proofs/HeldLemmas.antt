@@ -148,11 +148,6 @@ covered_all old new i all le =
     let whole = subst (λ es. AllByRecursion (λ (e : ℕ × Versioned). is_some (get new e.0) ≡ true) es) (take_all i (entries old) (omega (arith, le, len-entries old))) all in
     overlay_covered old new (λ q none. get-entries old q ∙ absent new q (entries old) whole none)
 
-pub covered_next : (old new : States) (i : ℕ) (s : State) → AllByRecursion (λ (e : ℕ × Versioned). is_some (get new e.0) ≡ true) (take i (entries old)) → slice_get (entries old) i ≡ Some (pair s) → is_some (get new s.key) ≡ true
-    → AllByRecursion (λ (e : ℕ × Versioned). is_some (get new e.0) ≡ true) (take (i + 1) (entries old))
-covered_next old new i s all is some =
-    subst (λ es. AllByRecursion (λ (e : ℕ × Versioned). is_some (get new e.0) ≡ true) es) (sym (take_next (entries old) i (pair s) is)) (all_push (λ (e : ℕ × Versioned). is_some (get new e.0) ≡ true) (take i (entries old)) (pair s) all some)
-
 -- the entry at a place of a list
 pub listed_at : (given items : List State) (m : States) (i : ℕ) (s : State) → given ≡ items → KeysRise items → finmap.from_sorted {R = nat_cmp} (pairs items) ≡ m → i < length given → s ≡ get_or given i s → slice_get (entries m) i ≡ Some (pair s)
 listed_at given items m i s same rise seen lt is =

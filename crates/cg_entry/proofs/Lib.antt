@@ -19,3 +19,4 @@ pub mod PushLemmas
 pub mod CutLemmas
 pub mod ReadLemmas
 pub mod HeldLemmas
+pub mod OrderLemmas

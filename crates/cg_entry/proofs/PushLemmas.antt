@@ -73,9 +73,6 @@ few_places (suc n) ps all =
 
 -- ---- what is picked after an insert
 
-bump : ℕ → ℕ → ℕ
-bump at p = cond (nat_le at p) (suc p) p
-
 module _ (xs : List State) (at : ℕ) (s : State) (le : at ≤ length xs) where
   bumped_at : (p : ℕ) → state_at (insert xs at s) (cond (nat_le at p) (suc p) p) ≡ state_at xs p
   bumped_at p =
@@ -276,7 +273,3 @@ pushed given xs ps bytes at v s states b seen same is_version le older newer is 
       block = block_put xs ps bytes at s b here old new is behind;
       view = view_put xs ps bytes at s b here old new is behind states seen;
     }
-
-pub all_small : (n m : ℕ) (ps : List ℕ) → n ≤ m → AllByRecursion (λ p. p < n) ps → AllByRecursion (λ p. p < m) ps
-all_small n m [] le all = tt
-all_small n m (p ∷ ps) le all = (omega (arith, all.0), all_small n m ps le all.1)

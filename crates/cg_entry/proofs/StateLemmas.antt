@@ -1,12 +1,12 @@
 -- States in a list, and their map.
-use Rattle.std.proofs.Common.{◌≡◌, ℕ, ◌≤◌, ◌==◌, Bool, true, false, find, Some, arith, cond, List, [], ◌∷◌, map, length, take, drop, None, refl, sym, ap, ◌∙◌, nat_lt}
+use Rattle.std.proofs.Common.{◌≡◌, ℕ, ◌≤◌, ◌==◌, Bool, true, false, find, Some, arith, cond, List, [], ◌∷◌, map, length, drop, None, refl, sym, ap, ◌∙◌, nat_lt}
 use Rattle.std.specs.List.{filter}
 use Rattle.std.specs.Ordering.{nat_cmp, eq_by_cmp}
 use Rattle.std.specs.Option.{option_map}
 use Rattle.std.specs.FinMap.Entries.{find as find_entry}
 use Rattle.std.proofs.lemmas.Bool.Decides.{nat_tests}
 use Rattle.std.specs.FinMap.{get, entries, from_sorted}
-use Rattle.std.proofs.lemmas.List.{take_all, drop_all}
+use Rattle.std.proofs.lemmas.List.{drop_all}
 use Rattle.cg_types.specs.Rising.{Rises}
 use Rattle.cg_types.proofs.RisingLemmas.{keys_of, entries_rising, get_rising, filter_rising, rise_filter}
 use Rattle.cg_entry.specs.declared.state.State.{State}
@@ -42,13 +42,10 @@ newer_than-pairs v items h = rw (pairs-filter v items) (filter_rising (λ s. nat
 pub greatest-pairs : (n : ℕ) (items : List State) → KeysRise items → greatest_of n (pairs items) ≡ greatest n (from_sorted (pairs items))
 greatest-pairs n items h = ap (greatest_of n) (sym (entries-pairs items h))
 
--- ---- the ends of loops
+-- ---- states that are newer, and the greatest version
 
 abbrev pub newer : ℕ → List State → List State
 newer v items = filter (λ s. nat_lt v s.version) items
-
-pub newer_whole : (v i : ℕ) (made xs all : List State) → length xs ≤ i → made ≡ newer v (take i xs) → xs ≡ all → made ≡ newer v all
-newer_whole v i made xs all le so_far same = so_far ∙ ap (newer v) (take_all i xs le ∙ same)
 
 pub greatest_whole : (n most i : ℕ) (xs all : List State) (states : States) → length xs ≤ i → greatest_of most (pairs (drop i xs)) ≡ greatest_of n (pairs xs) → xs ≡ all → KeysRise all → from_sorted {R = nat_cmp} (pairs all) ≡ states → most ≡ greatest n states
 greatest_whole n most i xs all states le so_far same rise is =
@@ -74,26 +71,3 @@ pub get-pairs : (q : ℕ) (given items : List State) (states : States) → given
     → option_map value_at_key (find (λ (t : State). t.key == q) given) ≡ get states q
 get-pairs q given items states same rise seen =
     ap (λ (ss : List State). option_map value_at_key (find (λ (t : State). t.key == q) ss)) same ∙ find-pairs q items ∙ sym (get_rising (pairs items) q (pairs_rise items rise)) ∙ ap (λ (m : States). get m q) seen
-
--- ---- lists with the same map
-
-pair_is : (a b : State) → pair a ≡ pair b → a ≡ b
-pair_is a b e = ap (λ (p : ℕ × Versioned). record { key = p.0; version = p.1.version; text = p.1.text }) e
-
-front_is : {X : Type 0} (x y : X) (xs ys : List X) → (x ∷ xs) ≡ (y ∷ ys) → (x ≡ y) × (xs ≡ ys)
-front_is x y xs ys e = (cc, cc)
-
-none_is : {X : Type 0} (x : X) (xs : List X) → (x ∷ xs) ≡ [] → ⊥
-none_is x xs e = cc
-
-pairs_is : (xs ys : List State) → pairs xs ≡ pairs ys → xs ≡ ys
-pairs_is [] [] e = refl
-pairs_is [] (y ∷ ys) e = absurd (none_is (pair y) (pairs ys) (sym e))
-pairs_is (x ∷ xs) [] e = absurd (none_is (pair x) (pairs xs) e)
-pairs_is (x ∷ xs) (y ∷ ys) e =
-    let parts = front_is (pair x) (pair y) (pairs xs) (pairs ys) e in
-    (λ i. pair_is x y parts.0 i ∷ pairs_is xs ys parts.1 i)
-
--- two lists with one map are one list, if the keys rise
-pub same_items : (xs ys : List State) (m n : States) → KeysRise xs → KeysRise ys → from_sorted {R = nat_cmp} (pairs xs) ≡ m → from_sorted {R = nat_cmp} (pairs ys) ≡ n → m ≡ n → xs ≡ ys
-same_items xs ys m n rx ry mx my e = pairs_is xs ys (sym (entries-pairs xs rx) ∙ ap entries (mx ∙ e ∙ sym my) ∙ entries-pairs ys ry)

@@ -1,4 +1,9 @@
--- States in a vector that rises by version, and their places by key.
+-- Blocks of states: a vector in the order of the versions, and the places of its states in the order of the keys.
+--
+-- The states newer than a version are the vector's end, so that a delta copies that end and compares no others. Messages
+-- and readers go by key: there the places tell where each state stands. Nothing is sorted. States come in the order of
+-- their keys, and each goes behind all that are not newer, while its place goes behind the other places. When a front of
+-- the vector is dropped, the places that are left are still in the order of the keys.
 use Rattle.std.specs.Prelude.{ℕ, suc, ◌≡◌, ◌-◌, ◌<◌, true, List, [], map, length, sum_by, nat_le, slice_index_or, if◌then◌else◌}
 use Rattle.std.specs.List.{filter, AllByRecursion}
 use Rattle.std.specs.List.Sorted.{IsNonDecreasingBy}
@@ -11,7 +16,7 @@ use Rattle.cg_entry.specs.State.{pairs, listed_bytes, KeysRise}
 abbrev pub no_state : State
 no_state = record { key = 0; version = 0; text = [] }
 
--- the state at a place
+-- the state at a place, counted from 0
 abbrev pub state_at : List State → ℕ → State
 state_at items p = slice_index_or items p no_state
 
@@ -19,25 +24,26 @@ state_at items p = slice_index_or items p no_state
 abbrev pub picked : List State → List ℕ → List State
 picked items places = map (state_at items) places
 
--- how many bytes the texts at places have
+-- the number of bytes of the texts at places
 abbrev pub bytes_at : List State → List ℕ → ℕ
 bytes_at items places = sum_by (λ p. length (state_at items p).text) places
 
--- places where what stood before from was taken out
+-- the places that are left once all before `from` are dropped
 abbrev pub lowered : ℕ → List ℕ → List ℕ
 lowered from places = map (λ p. p - from) (filter (nat_le from) places)
 
--- places where something was put at a place
+-- the same places once a state is inserted at `at`
 abbrev pub bumped : ℕ → List ℕ → List ℕ
 bumped at places = map (λ p. (if nat_le at p then suc p else p)) places
 
--- the versions do not fall, and the keys of equal ones rise
+-- The versions do not fall, and the keys of equal versions rise.
 pub record IsRisen (items : List State) : Type 0 where
   pub versions : IsNonDecreasingBy (λ s. s.version) items
   pub keys : (i j : ℕ) → i < j → j < length items
       → (state_at items i).version ≡ (state_at items j).version → (state_at items i).key < (state_at items j).key
 
--- The vector rises, its places are in the order of the keys, and each of its states stands at one of them.
+-- The vector is in the order of the versions, and the places take its states in the order of their keys. Each place is
+-- in the vector, each state is at one of the places, and all are in range, with so many bytes of texts.
 pub record IsBlock (items : List State) (places : List ℕ) (bytes : ℕ) : Type 0 where
   pub risen : IsRisen items
   pub rise : KeysRise (picked items places)

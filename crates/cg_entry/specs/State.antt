@@ -1,5 +1,5 @@
 -- States in a list, as a finite map.
-use Rattle.std.specs.Prelude.{◌≡◌, ℕ, suc, Bool, ◌&&◌, ◌||◌, not, ◌==◌, List, [], ◌∷◌, length, map, sum_by, nat_lt, nat_le, None, Result, Ok, Err, if◌then◌else◌}
+use Rattle.std.specs.Prelude.{◌≡◌, ℕ, Bool, ◌&&◌, ◌||◌, not, ◌==◌, List, length, map, sum_by, nat_lt, nat_le, None, Result, Ok, Err, if◌then◌else◌}
 use Rattle.std.specs.FinMap.{from_sorted}
 use Rattle.cg_types.specs.declared.fault.Cause.{Cause}
 use Rattle.cg_types.specs.declared.fault.Cause.TheVariants as cause
@@ -62,8 +62,3 @@ delta_from generation above heartbeat items =
     else if not (keys_rise items) then Err cause.Order
     else if nat_le (greatest heartbeat (from_sorted (pairs items))) above then Err cause.Empty
     else Ok (delta_of_parts generation above heartbeat items)
-
--- the number of entries before the first key that is not below k
-abbrev pub count_below : ℕ → List (ℕ × Versioned) → ℕ
-count_below k [] = 0
-count_below k (e ∷ es) = if nat_lt e.0 k then suc (count_below k es) else 0

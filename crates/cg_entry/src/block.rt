@@ -9,7 +9,7 @@ ghost use Rattle.std.specs.List.{AllByRecursion, AllWithin};
 ghost use Rattle.std.specs.List.Sorted.{IsNonDecreasingBy};
 ghost use Rattle.cg_entry.specs.Contents.{AreStates, IsState};
 ghost use Rattle.cg_entry.specs.Entry.{greatest, newer_than, text_bytes as text_bytes_of};
-ghost use Rattle.cg_entry.specs.State.{KeysRise, listed_bytes, pair, pairs, value_at_key};
+ghost use Rattle.cg_entry.specs.State.{IsStateList, KeysRise, pair, pairs, value_at_key};
 ghost use Rattle.cg_entry.specs.Block.{bytes_at, picked, state_at};
 
 use crate::places::Places;
@@ -43,13 +43,24 @@ impl Model for Block {
     ghost invariant = { λ b. IsBlock b.items.items b.places b.text_bytes };
 }
 
-// The first place whose state is newer, by halving.
+// The first place whose state is newer than `above`. The ends are looked at before it is halved: mostly no state is
+// newer, or each.
 fn first_above(items: &[State], above: u32) -> usize
     requires { IsNonDecreasingBy (λ s. s.version) items.now }
     ensures within { result ≤ length items.now }
     ensures older { AllWithin (λ s. nat_lt above s.version ≡ false) items.now 0 result }
     ensures newer { AllWithin (λ s. nat_lt above s.version ≡ true) items.now result (length items.now) }
 {
+    let count = items.len();
+    if count == 0 {
+        return 0;
+    }
+    if items[count - 1].version.get() <= above {
+        return count;
+    }
+    if above < items[0].version.get() {
+        return 0;
+    }
     items.partition_point(|state| state.version.get() <= above)
 }
 
@@ -143,11 +154,11 @@ impl Block {
     {
         show_state(&state);
         let size = text_size(&state);
+        let count = self.items.as_slice().len();
         let at = first_above(&self.items, state.version.get());
-        let mut places = self.places.bumped(at as u8);
-        places.push(at as u8);
         self.items.insert(at, state)?;
-        self.places = places;
+        self.places.make_room(at as u8, count as u8);
+        self.places.push(at as u8);
         self.text_bytes += size;
         Ok(())
     }
@@ -204,7 +215,21 @@ impl Block {
         })
     }
 
-    // The states of a list in the order of the keys.
+    // States whose versions do not fall as their keys rise, in the vector that they are in.
+    pub(crate) fn in_order(items: Vec<State>, text_bytes: usize) -> Block
+        requires listed { IsStateList items.items text_bytes }
+        requires versions { IsNonDecreasingBy (λ s. s.version) items.items }
+        ensures { result ≡ map.from_sorted (pairs items.items) }
+    {
+        let count = items.as_slice().len();
+        Block {
+            items,
+            places: Places::first(count as u8),
+            text_bytes,
+        }
+    }
+
+    // Copies of the states of a list, which rises by key.
     pub(crate) fn of(alloc: Global, items: &[State]) -> Result<Block, AllocError>
         requires { KeysRise items.now }
         ensures { IfOk result (λ b. b ≡ map.from_sorted (pairs items.now)) }

@@ -186,7 +186,7 @@ impl Held {
             return Ok(self);
         }
         match self.kept {
-            Kept::Own(states) => Held::of(alloc, states.block(alloc)?),
+            Kept::Own(states) => Held::of(alloc, states.into_block(alloc)?),
             Kept::Shared(block) => Ok(Held {
                 kept: Kept::Shared(block),
             }),

@@ -1,7 +1,7 @@
 //! Lists of at most 16 places, without memory of their own.
 
 ghost use Rattle.std.specs.Prelude.{◌≡◌, ◌<◌, ◌≤◌, ◌-◌, ◌++◌, [], ◌∷◌, length, map, nat_le};
-ghost use Rattle.std.specs.List.{filter, AllByRecursion};
+ghost use Rattle.std.specs.List.{filter, range_with_len, AllByRecursion};
 ghost use Rattle.cg_entry.specs.Block.{bumped, lowered};
 
 use std::marker::Model;
@@ -33,6 +33,17 @@ impl Places {
         Places {
             slots: [0; 16],
             count: 0,
+        }
+    }
+
+    // The places of a vector of `count` elements, in its own order.
+    pub(crate) fn first(count: u8) -> Places
+        requires { count ≤ 16 }
+        ensures { result ≡ range_with_len 0 count }
+    {
+        Places {
+            slots: [0, 1, 2, 3, 4, 5, 6, 7, 8, 9, 10, 11, 12, 13, 14, 15],
+            count,
         }
     }
 
@@ -78,5 +89,17 @@ impl Places {
             }
         }
         higher
+    }
+
+    // The same places, once an element is put at `at` in a vector of `count`: behind all, none is moved.
+    pub(crate) fn make_room(&mut self, at: u8, count: u8)
+        requires few { count ≤ 16 }
+        requires within { AllByRecursion (λ p. p < count) self.old }
+        ensures { self.new ≡ bumped at self.old }
+    {
+        if count <= at {
+            return;
+        }
+        *self = self.bumped(at);
     }
 }

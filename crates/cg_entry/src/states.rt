@@ -1,9 +1,10 @@
 //! A finite map from keys to texts with their versions, kept in the order of the keys.
 
-ghost use Rattle.std.specs.Prelude.{◌≡◌, ◌<◌, ◌^◌, ◌==◌, IfOk, IfSome, Some, count_by, find, length, nat_lt, option_copied, slice_get};
+ghost use Rattle.std.specs.Prelude.{◌≡◌, ◌<◌, ◌^◌, ◌==◌, true, IfOk, IfSome, Some, count_by, find, length, nat_lt, option_copied, slice_get};
 ghost use Rattle.std.specs.FinMap as map;
 ghost use Rattle.std.specs.Option.{option_map};
 ghost use Rattle.std.specs.List.{AllByRecursion};
+ghost use Rattle.std.specs.List.Sorted.{IsNonDecreasingBy};
 ghost use Rattle.cg_entry.specs.Contents.{IsState, AreStates};
 ghost use Rattle.cg_entry.specs.Entry.{greatest, newer_than, text_bytes as text_bytes_of};
 ghost use Rattle.cg_entry.specs.State.{KeysRise, keys_rise as keys_rise_of, pair, pairs, listed_bytes, value_at_key};
@@ -42,6 +43,13 @@ pub(crate) fn keys_rise(items: &[State]) -> bool
     ensures { result ≡ keys_rise_of items.now }
 {
     items.is_sorted_by(|state, next| state.key < next.key)
+}
+
+// Tests whether the versions do not fall.
+fn versions_rise(items: &[State]) -> bool
+    ensures { result ≡ true → IsNonDecreasingBy (λ s. s.version) items.now }
+{
+    items.is_sorted_by(|state, next| state.version <= next.version)
 }
 
 // The state of a key, if there is one.
@@ -189,6 +197,16 @@ impl States {
         ensures { IfOk result (λ b. b ≡ self.now) }
     {
         Block::of(alloc, &self.items)
+    }
+
+    // The same states in a block. If their versions do not fall, the list is its vector; else they are copied.
+    pub(crate) fn into_block(self, alloc: Global) -> Result<Block, AllocError>
+        ensures { IfOk result (λ b. b ≡ self) }
+    {
+        if versions_rise(&self.items) {
+            return Ok(Block::in_order(self.items, self.text_bytes));
+        }
+        self.block(alloc)
     }
 
     pub(crate) fn allocator(&self) -> Result<Global, AllocError> {

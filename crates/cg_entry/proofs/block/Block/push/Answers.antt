@@ -1,6 +1,7 @@
-use Rattle.std.proofs.Common.{length, ap, arith}
+use Rattle.std.proofs.Common.{length, ap, arith, List}
+use Rattle.cg_entry.specs.declared.state.State.{State}
 use Rattle.cg_entry.proofs.BlockLemmas.{bumped_few}
-use Rattle.cg_entry.proofs.PushLemmas.{pushed, all_small}
+use Rattle.cg_entry.proofs.PushLemmas.{pushed}
 use Rattle.cg_entry.proofs.block.Block.push.Goals as goal
 
 pub overflow_cast-at : goal.overflow_cast-at
@@ -8,10 +9,18 @@ overflow_cast-at c =
     let p = pushed c.deref.result.now c.self.inside.items.items c.self.inside.places c.self.inside.text_bytes c.first_above-at.result c.get.result c.args.state c.args.self.now c.self.invariant c.self.view_is c.deref.ensures.value c.get.ensures.value c.first_above-at.ensures.within c.first_above-at.ensures.older c.first_above-at.ensures.newer c.show_state.ensures c.requires in
     omega (arith, p.within, p.few)
 
-pub bumped-places-requires : goal.bumped-places-requires
-bumped-places-requires c =
+pub overflow_cast-count : goal.overflow_cast-count
+overflow_cast-count c =
     let p = pushed c.deref.result.now c.self.inside.items.items c.self.inside.places c.self.inside.text_bytes c.first_above-at.result c.get.result c.args.state c.args.self.now c.self.invariant c.self.view_is c.deref.ensures.value c.get.ensures.value c.first_above-at.ensures.within c.first_above-at.ensures.older c.first_above-at.ensures.newer c.show_state.ensures c.requires in
-    all_small (length c.self.inside.items.items) 16 c.self.inside.places (omega (arith, p.few)) c.self.invariant.within
+    omega (arith, p.few, ap (λ (xs : List State). length xs) c.as_slice-count.ensures.value)
+
+pub make_room-requires-clause-few : goal.make_room-requires-clause-few
+make_room-requires-clause-few c =
+    let p = pushed c.deref.result.now c.self.inside.items.items c.self.inside.places c.self.inside.text_bytes c.first_above-at.result c.get.result c.args.state c.args.self.now c.self.invariant c.self.view_is c.deref.ensures.value c.get.ensures.value c.first_above-at.ensures.within c.first_above-at.ensures.older c.first_above-at.ensures.newer c.show_state.ensures c.requires in
+    omega (arith, p.few, ap (λ (xs : List State). length xs) c.as_slice-count.ensures.value)
+
+pub make_room-requires-clause-within : goal.make_room-requires-clause-within
+make_room-requires-clause-within c = rw c.as_slice-count.ensures.value c.self.invariant.within
 
 pub overflow_cast-at-2 : goal.overflow_cast-at-2
 overflow_cast-at-2 c =
@@ -21,7 +30,7 @@ overflow_cast-at-2 c =
 pub push-requires : goal.push-requires
 push-requires c =
     let p = pushed c.deref.result.now c.self.inside.items.items c.self.inside.places c.self.inside.text_bytes c.first_above-at.result c.get.result c.args.state c.args.self.now c.self.invariant c.self.view_is c.deref.ensures.value c.get.ensures.value c.first_above-at.ensures.within c.first_above-at.ensures.older c.first_above-at.ensures.newer c.show_state.ensures c.requires in
-    omega (arith, p.few_places, ap length c.bumped-places.ensures, bumped_few c.first_above-at.result c.self.inside.places)
+    omega (arith, p.few_places, ap length c.make_room.ensures, bumped_few c.first_above-at.result c.self.inside.places)
 
 pub overflow_add-self : goal.overflow_add-self
 overflow_add-self c =
@@ -31,9 +40,9 @@ overflow_add-self c =
 pub invariant_of-self-2 : goal.invariant_of-self-2
 invariant_of-self-2 c =
     let p = pushed c.deref.result.now c.self.inside.items.items c.self.inside.places c.self.inside.text_bytes c.first_above-at.result c.get.result c.args.state c.args.self.now c.self.invariant c.self.view_is c.deref.ensures.value c.get.ensures.value c.first_above-at.ensures.within c.first_above-at.ensures.older c.first_above-at.ensures.newer c.show_state.ensures c.requires in
-    rw (c.in_ok-insert.ensures.items, c.push.ensures, c.bumped-places.ensures, c.text_size-size.ensures) p.block
+    rw (c.in_ok-insert.ensures.items, c.push.ensures, c.make_room.ensures, c.text_size-size.ensures) p.block
 
 pub returns-clause-ok : goal.returns-clause-ok
 returns-clause-ok c =
     let p = pushed c.deref.result.now c.self.inside.items.items c.self.inside.places c.self.inside.text_bytes c.first_above-at.result c.get.result c.args.state c.args.self.now c.self.invariant c.self.view_is c.deref.ensures.value c.get.ensures.value c.first_above-at.ensures.within c.first_above-at.ensures.older c.first_above-at.ensures.newer c.show_state.ensures c.requires in
-    rw (c.in_ok-insert.ensures.items, c.push.ensures, c.bumped-places.ensures) p.view
+    rw (c.in_ok-insert.ensures.items, c.push.ensures, c.make_room.ensures) p.view
