@@ -119,7 +119,7 @@ fn put_state(out: &mut Vec<u8>, state: &State) -> Result<(), AllocError>
     Ok(())
 }
 
-// In the order of the keys.
+// Writes the states of a delta, in the order of their keys.
 fn put_states(out: &mut Vec<u8>, delta: &Delta) -> Result<(), AllocError>
     ensures { OnOk result
         (out.new.items ≡ out.old.items ++ flat_map spelling.state (map.entries delta.now.states)) }
