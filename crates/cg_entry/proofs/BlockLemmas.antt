@@ -1,4 +1,4 @@
--- What holds of a block's states and places.
+-- A block's states and places: rows by key, a search among them, and the entry at a place.
 use Rattle.std.proofs.Common.{◌≡◌, ℕ, zero, suc, ◌-◌, ◌<◌, ◌≤◌, true, false, cond, List, [], ◌∷◌, map, length, take, drop, get_or, Some, None, Result, Ok, Err, refl, sym, ap, subst, ◌∙◌, arith, nat_lt, length-drop}
 use Rattle.std.specs.Prelude.{nat_le, slice_get}
 use Rattle.std.specs.List.{filter, AllByRecursion}
@@ -17,7 +17,7 @@ use Rattle.cg_entry.specs.Versioned.{Versioned, States}
 use Rattle.cg_entry.proofs.DeltaLemmas.{len-pairs}
 use Rattle.cg_entry.specs.Block.{no_state, state_at, picked, lowered, bumped}
 
--- what holds of each holds at a place
+-- a fact of each member of a list is one of the member at a place
 pub each_at : {X : Type 0} (P : X → Type 0) (xs : List X) (i : ℕ) (d : X) → AllByRecursion P xs → i < length xs → P (get_or xs i d)
 each_at P [] i d all lt = absurd (omega arith)
 each_at P (x ∷ xs) zero d all lt = all.0
@@ -88,7 +88,7 @@ pub bumped_few : (at : ℕ) (ps : List ℕ) → length (bumped at ps) ≡ length
 bumped_few at [] = refl
 bumped_few at (p ∷ ps) = ap suc (bumped_few at ps)
 
--- ---- what a search finds
+-- ---- the state that a search finds
 
 module _ (items : List State) (k : ℕ) (ps : List ℕ) (at : ℕ) (rise : KeysRise (picked items ps)) where
   abbrev rows : List (ℕ × Versioned)
@@ -125,13 +125,13 @@ entry_at items ps states i rise seen lt =
     ap (λ (xs : List (ℕ × Versioned)). slice_get xs i) es ∙ slice_get-get_or (pairs (picked items ps)) i (row items 0) (omega (arith, lt, length-rows items ps))
     ∙ ap (λ (e : ℕ × Versioned). Some e) (row_at items ps i 0 (row items 0) lt)
 
--- what an index at a place reads
+-- the state that an index at a place reads
 pub read_at : (items : List State) (p q : ℕ) (s : State) → s ≡ get_or items q s → q ≡ p → p < length items → state_at items p ≡ s
 read_at items p q s is same lt = get_or_any items p (no_state) s lt ∙ ap (λ (n : ℕ). get_or items n s) (sym same) ∙ sym is
 
 pub at_found : (r : Result ℕ ℕ) (at n : ℕ) → r ≡ Ok at → IsSearchInRange r n → at < n
 at_found r at n is within = subst (λ r. IsSearchInRange r n) is within
 
--- what `&items[n..]` is
+-- the value of `&items[n..]`
 pub rest_from : (xs : List State) (n : ℕ) → take (length xs - n) (drop n xs) ≡ drop n xs
 rest_from xs n = take_all (length xs - n) (drop n xs) (omega (arith, length-drop n xs))

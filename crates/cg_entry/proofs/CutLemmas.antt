@@ -82,7 +82,7 @@ pub few_states : (xs : List State) (ps : List ℕ) (bytes : ℕ) → IsBlock xs 
 few_states xs ps bytes b =
     omega (arith, few_places (length xs) ps b.whole, states_few IsState (λ e is. is.key) (pairs (picked xs ps)) b.valid (pairs_rise (picked xs ps) b.rise), length-rows xs ps)
 
--- what a cut leaves
+-- the block that a cut leaves
 pub record Cut (xs : List State) (ps : List ℕ) (above from : ℕ) (states : States) : Type 0 where
   pub within : AllByRecursion (λ p. p < length (drop from xs)) (lowered from ps)
   pub few : bytes_at (drop from xs) (lowered from ps) < 2 ^ 32

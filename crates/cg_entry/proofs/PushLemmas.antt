@@ -71,7 +71,7 @@ few_places zero ps all = omega arith
 few_places (suc n) ps all =
     omega (arith, without_one n ps (all n (omega arith)), few_places n (filter (λ p. not (p == n)) ps) (λ i lt. among_others n i ps lt (all i (omega arith))))
 
--- ---- what is picked after an insert
+-- ---- the states that are picked after an insert
 
 module _ (xs : List State) (at : ℕ) (s : State) (le : at ≤ length xs) where
   bumped_at : (p : ℕ) → state_at (insert xs at s) (cond (nat_le at p) (suc p) p) ≡ state_at xs p
@@ -122,7 +122,7 @@ whole_put n at ps all le i lt =
           among_front i at (bumped at ps) (subst (λ k. is_among (bumped at ps) k ≡ true) raised (among_bumped at (i - 1) ps (all (i - 1) (omega arith))))
     ]
 
--- what holds of each state that is picked holds at each place
+-- a fact of each state that is picked is one of the state at each place
 all_picked : (P : ℕ × Versioned → Type 0) (xs : List State) (i : ℕ) (ps : List ℕ) → is_among ps i ≡ true → AllByRecursion P (pairs (picked xs ps)) → P (pair (state_at xs i))
 all_picked P xs i [] e all = absurd cc
 all_picked P xs i (p ∷ ps) e all =
@@ -244,7 +244,7 @@ module _ (xs : List State) (ps : List ℕ) (bytes at : ℕ) (s : State) (b : IsB
       (subst (λ es. AllByRecursion IsState es) (sym (map-append pair (picked xs ps) (s ∷ []))) (all_push IsState (pairs (picked xs ps)) (pair s) b.valid is)) in
       omega (arith, few, bytes_put)
 
--- what a push leaves
+-- the block that a push leaves
 pub record Pushed (xs : List State) (ps : List ℕ) (bytes at : ℕ) (s : State) (states : States) : Type 0 where
   pub within : at ≤ length xs
   pub few : length xs < STATE_LIMIT

@@ -1,4 +1,4 @@
--- What is read of a block, and what is made of a list in the order of the keys.
+-- Readers of a block, and a block made of a list in the order of the keys.
 use Rattle.std.proofs.Common.{◌≡◌, ℕ, zero, suc, ◌+◌, ◌-◌, ◌<◌, ◌≤◌, ◌==◌, true, false, List, [], ◌∷◌, ◌++◌, map, length, take, drop, get_or, Option, Some, None, refl, sym, ap, subst, ◌∙◌, arith, nat_lt, inl, inr, eqb-true, length-drop}
 use Rattle.std.specs.Prelude.{nat_le, max}
 use Rattle.std.specs.List.{AllByRecursion}
@@ -25,7 +25,7 @@ use Rattle.cg_entry.proofs.CutLemmas.{Cut}
 
 -- ---- the greatest version is the last one
 
--- what holds of the state at each place holds of each row
+-- a fact of the state at each place is one of each row
 pub each_row : (P : ℕ × Versioned → Type 0) (xs : List State) (n : ℕ) → ((p : ℕ) → p < n → P (pair (state_at xs p))) → (ps : List ℕ) → AllByRecursion (λ p. p < n) ps → AllByRecursion P (pairs (picked xs ps))
 each_row P xs n is [] all = tt
 each_row P xs n is (p ∷ ps) all = (is p all.0, each_row P xs n is ps all.1)
