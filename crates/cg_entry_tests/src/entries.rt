@@ -270,6 +270,65 @@ fn above_by_version(rt: HostRuntime) -> Result<(), Fail> {
     expect_eq!(above_when_beaten(alloc, 3)?, None)
 }
 
+// ---- parts of entries by version
+
+// Sets a key.
+fn set_one(entry: &mut Entry, number: u8, text: StateText) -> Result<(), Fault> {
+    let mut versions = Versions::after(entry.newest());
+    entry.set(&mut versions, key(number), text)?;
+    Ok(())
+}
+
+// Key 3 at 2, a beat, key 2 at 4 and key 1 at 5: the versions fall as the keys rise.
+fn falling_entry(alloc: Global) -> Result<Entry, Fail> {
+    let mut entry = entry_at_start(alloc, 9);
+    set_one(&mut entry, 3, StateText::new(alloc, "N")?)?;
+    entry.beat(&mut Versions::after(entry.newest()))?;
+    set_one(&mut entry, 2, StateText::new(alloc, "N")?)?;
+    set_one(&mut entry, 1, StateText::new(alloc, "N")?)?;
+    Ok(entry)
+}
+
+// The key of the state with this number, from 0; 0 if there is none.
+fn key_in(delta: &Delta, number: usize) -> u8 {
+    if number < delta.count() {
+        return delta.state_at(number).key.get();
+    }
+    0
+}
+
+// The heartbeat version, the number of states, and the first two keys.
+type Keys = (u32, usize, u8, u8);
+
+// The keys in an entry's delta above a version.
+fn keys_above(alloc: Global, entry: &Entry, version: u32) -> Result<Option<Keys>, Fail> {
+    match entry.above(alloc, version)? {
+        Some(delta) => Ok(Some((
+            delta.heartbeat().get(),
+            delta.count(),
+            key_in(&delta, 0),
+            key_in(&delta, 1),
+        ))),
+        None => Ok(None),
+    }
+}
+
+fn falling_above(alloc: Global, version: u32) -> Result<Option<Keys>, Fail> {
+    let entry = falling_entry(alloc)?;
+    keys_above(alloc, &entry, version)
+}
+
+// Version 3 is that of the heartbeat, between two states. Above 4 the heartbeat is older than all that is carried.
+#[test]
+fn versions_that_fall(rt: HostRuntime) -> Result<(), Fail> {
+    let alloc = rt.alloc();
+    expect_eq!(falling_above(alloc, 1)?, Some((3, 3, 1, 2)))?;
+    expect_eq!(falling_above(alloc, 2)?, Some((3, 2, 1, 2)))?;
+    expect_eq!(falling_above(alloc, 3)?, Some((3, 2, 1, 2)))?;
+    expect_eq!(falling_above(alloc, 4)?, Some((3, 1, 1, 0)))?;
+    expect_eq!(falling_above(alloc, 5)?, None)
+}
+
 // The entry that a whole delta carries.
 fn carried(alloc: Global, whole: &Delta) -> Result<Entry, Fail> {
     match Entry::of_delta(alloc, whole)? {
@@ -282,6 +341,34 @@ fn carried(alloc: Global, whole: &Delta) -> Result<Entry, Fail> {
 fn held_entry(alloc: Global) -> Result<Entry, Fail> {
     let whole = delta((9, 0, 1), one_state(alloc, 1, 2)?)?;
     carried(alloc, &whole)
+}
+
+// Generation 9 at heartbeat 1 with keys 1 and 2 both at 4, which no member writes.
+fn doubled_entry(alloc: Global) -> Result<Entry, Fail> {
+    let whole = delta((9, 0, 1), two_states(alloc, (1, 4), (2, 4))?)?;
+    carried(alloc, &whole)
+}
+
+fn doubled_above(alloc: Global, version: u32) -> Result<Option<Keys>, Fail> {
+    let entry = doubled_entry(alloc)?;
+    keys_above(alloc, &entry, version)
+}
+
+// The same once it has set key 3.
+fn doubled_and_set_above(alloc: Global, version: u32) -> Result<Option<Keys>, Fail> {
+    let mut entry = doubled_entry(alloc)?;
+    set_one(&mut entry, 3, StateText::new(alloc, "N")?)?;
+    keys_above(alloc, &entry, version)
+}
+
+#[test]
+fn one_version_at_two_keys(rt: HostRuntime) -> Result<(), Fail> {
+    let alloc = rt.alloc();
+    expect_eq!(doubled_above(alloc, 3)?, Some((1, 2, 1, 2)))?;
+    expect_eq!(doubled_above(alloc, 4)?, None)?;
+    expect_eq!(doubled_and_set_above(alloc, 3)?, Some((1, 3, 1, 2)))?;
+    expect_eq!(doubled_and_set_above(alloc, 4)?, Some((1, 1, 3, 0)))?;
+    expect_eq!(doubled_and_set_above(alloc, 5)?, None)
 }
 
 // An entry whose newest version is the last.
