@@ -10,8 +10,8 @@ use Rattle.std.specs.FinMap.{from_sorted, from_entries, same_map, nat_cmp-IsAnti
 use Rattle.std.specs.FinMap.Entries.{find}
 use Rattle.std.proofs.lemmas.Option.{same_Some}
 use Rattle.std.proofs.lemmas.Cmp.{then_total, on_total, back_total}
-use Rattle.std.proofs.lemmas.List.Sorted.{sorted_far, ranks_by, All-permutation, Contains-permutation, IsPermutation-sym}
-use Rattle.std.proofs.lemmas.List.Elements.{All-nil, All-cons, All-head, All-tail, All-contains}
+use Rattle.std.proofs.lemmas.List.Sorted.{sorted_far, ranks_by, Contains-permutation, IsPermutation-sym}
+use Rattle.std.proofs.lemmas.List.Elements.{All-nil, All-cons, All-head, All-tail, All-contains, Contains-get_or}
 use Rattle.std.proofs.lemmas.List.Sums.{AllPass-from_list_all, list_all-from_AllPass}
 use Rattle.std.proofs.lemmas.Bool.{eqb-true, eqb-false, false≢true, lt-ltb, ltb-false}
 use Rattle.std.proofs.lemmas.Bool.Decides.{nat_tests}
@@ -19,7 +19,8 @@ use Rattle.cg_types.specs.Rising.{Rises, rise_past, is_past}
 use Rattle.cg_types.proofs.RisingLemmas.{both, get_rising, same_tied}
 use Rattle.cg_map.specs.Rows.{keys_of}
 use Rattle.cg_ring.specs.declared.claims.Claim.{Claim}
-use Rattle.cg_ring.specs.Claims.{beats, wins, position, rank, is_last, first_claims}
+use Rattle.cg_ring.specs.Claims.{beats, wins, position, rank, goes_before, is_last, first_claims}
+use Rattle.cg_ring.specs.Moving.{AreTheSame}
 
 -- ---- ranks
 
@@ -37,7 +38,7 @@ lt_in_turn Equal Greater c = refl
 lt_in_turn Greater b c = refl
 
 -- one claim comes before another by its token, or for one token by beating it
-before-rank : (c d : Claim) → is_lt (rank c d) ≡ (nat_lt c.token d.token || (c.token == d.token && beats c d))
+pub before-rank : (c d : Claim) → is_lt (rank c d) ≡ goes_before c d
 before-rank c d =
     lt_in_turn (nat_cmp c.token d.token) (nat_cmp d.generation c.generation) (nat_cmp c.endpoint d.endpoint)
     ∙ rw (lesser c.token d.token, tied c.token d.token, lesser d.generation c.generation, tied d.generation c.generation, lesser c.endpoint d.endpoint) refl
@@ -227,33 +228,41 @@ unbeaten_wins cs c h k d lt = let e = get_or cs k d in passes_unbeaten c e (beat
 one_endpoint : (c d : Claim) → beats c d ≡ false → beats d c ≡ false → c.endpoint ≡ d.endpoint
 one_endpoint c d a b = grind (arith, nat_tests)
 
-module _ (cs sorted : List Claim) (moved : IsPermutation cs sorted) (h : InOrder sorted) (t : ℕ) where
+-- a fact of all claims is one of each of those among them
+all_among : (P : Claim → Type 0) (xs ys : List Claim) → ((c : Claim) → Contains xs c → Contains ys c) → All P ys → All P xs
+all_among P xs ys there all k d lt = All-contains P ys (get_or xs k d) all (there (get_or xs k d) (Contains-get_or xs k d lt))
+
+module _ (cs sorted : List Claim) (same : AreTheSame cs sorted) (h : InOrder sorted) (t : ℕ) where
   agree : (a b : Option ℕ) → found t (map position sorted) ≡ a → found t (map position (filter (wins cs) cs)) ≡ b → a ≡ b
   agree None None x y = refl
   agree (Some e) None x y =
       let g = first_unbeaten t e sorted h x in
-      let won = wins_unbeaten cs g.claim (All-permutation (λ d. d.token ≡ g.claim.token → beats d g.claim ≡ false) sorted cs (IsPermutation-sym cs sorted moved) g.so) in
-      let here = Contains-permutation sorted cs g.claim (IsPermutation-sym cs sorted moved) g.held in
+      let won = wins_unbeaten cs g.claim (all_among (λ d. d.token ≡ g.claim.token → beats d g.claim ≡ false) cs sorted (λ c. (same c).0) g.so) in
+      let here = (same g.claim).1 g.held in
       absurd (All-contains (λ d. wins cs d ≡ true → d.token ≡ t → ⊥) cs g.claim (none_found (wins cs) t cs y) here won g.of_token)
   agree None (Some f) x y =
       let g = kept_found (wins cs) t f cs y in
-      absurd (All-contains (λ d. d.token ≡ t → ⊥) sorted g.claim (absent t sorted x) (Contains-permutation cs sorted g.claim moved g.held) g.of_token)
+      absurd (All-contains (λ d. d.token ≡ t → ⊥) sorted g.claim (absent t sorted x) ((same g.claim).0 g.held) g.of_token)
   agree (Some e) (Some f) x y =
       let g = first_unbeaten t e sorted h x in
       let k = kept_found (wins cs) t f cs y in
-      let there = Contains-permutation cs sorted k.claim moved k.held in
-      let here = Contains-permutation sorted cs g.claim (IsPermutation-sym cs sorted moved) g.held in
+      let there = (same k.claim).0 k.held in
+      let here = (same g.claim).1 g.held in
       let under = All-contains (λ d. d.token ≡ g.claim.token → beats d g.claim ≡ false) sorted k.claim g.so there (k.of_token ∙ sym g.of_token) in
       let over = All-contains (λ d. d.token ≡ k.claim.token → beats d k.claim ≡ false) cs g.claim (unbeaten_wins cs k.claim k.so) here (g.of_token ∙ sym k.of_token) in
       ap Some (sym g.endpoint ∙ one_endpoint g.claim k.claim over under ∙ k.endpoint)
 
-module _ (cs sorted : List Claim) (moved : IsPermutation cs sorted) (up : IsSorted rank sorted) where
-  pub heads_valid : Rises (keys_of (first_claims None sorted))
-  heads_valid = heads_rise None sorted (in_order sorted up) (λ k d lt. tt)
+pub heads_valid : (sorted : List Claim) → IsSorted rank sorted → Rises (keys_of (first_claims None sorted))
+heads_valid sorted up = heads_rise None sorted (in_order sorted up) (λ k d lt. tt)
 
-  -- the heads of sorted claims are the winners
-  pub heads_winners : from_sorted {R = nat_cmp} (first_claims None sorted) ≡ from_entries {R = nat_cmp} (map position (filter (wins cs) cs))
-  heads_winners = same_map nat_cmp_total nat_cmp-IsAntisymmetric _ _ (λ t.
-      get_rising (first_claims None sorted) t heads_valid ∙ found-heads None t sorted refl
-      ∙ agree cs sorted moved (in_order sorted up) t (found t (map position sorted)) (found t (map position (filter (wins cs) cs))) refl refl
-      ∙ sym (get-from_entries nat_cmp_total (map position (filter (wins cs) cs)) t))
+-- a list in another order has the same claims
+pub permuted : (cs sorted : List Claim) → IsPermutation cs sorted → AreTheSame cs sorted
+permuted cs sorted moved c = (Contains-permutation cs sorted c moved, Contains-permutation sorted cs c (IsPermutation-sym cs sorted moved))
+
+-- the heads of the same claims, sorted, are the winners
+pub heads_winners : (cs sorted : List Claim) → AreTheSame cs sorted → IsSorted rank sorted
+    → from_sorted {R = nat_cmp} (first_claims None sorted) ≡ from_entries {R = nat_cmp} (map position (filter (wins cs) cs))
+heads_winners cs sorted same up = same_map nat_cmp_total nat_cmp-IsAntisymmetric _ _ (λ t.
+    get_rising (first_claims None sorted) t (heads_valid sorted up) ∙ found-heads None t sorted refl
+    ∙ agree cs sorted same (in_order sorted up) t (found t (map position sorted)) (found t (map position (filter (wins cs) cs))) refl refl
+    ∙ sym (get-from_entries nat_cmp_total (map position (filter (wins cs) cs)) t))

@@ -1,3 +1,5 @@
 pub mod RingLemmas
 pub mod ClaimLemmas
 pub mod RingLaws
+pub mod OwnerLemmas
+pub mod MovingLemmas

@@ -20,12 +20,8 @@ use Rattle.cg_table.specs.Values.{Entries}
 use Rattle.cg_ring.specs.declared.claims.Claim.{Claim}
 use Rattle.cg_ring.specs.Claims.{claims_of, claims, wins, position, is_member, text_at}
 use Rattle.cg_tokens.specs.Text.{tokens_of}
+use Rattle.cg_ring.specs.Moving.{claims_by}
 use Rattle.cg_ring.specs.Laws.{ClaimsAlike, KeptClaimsAreAlike, RingStays}
-
--- the claims of an endpoint by the entry held of it
-abbrev claims_by : ℕ → Option EntryValue → List Claim
-claims_by k None = []
-claims_by k (Some e) = claims_of (k, e)
 
 none_found : (k : ℕ) (es : List (ℕ × EntryValue)) → rise_past (Some k) (keys_of es) ≡ true → find nat_cmp k es ≡ None
 none_found k es h = find_past k k es ((eq_by_cmp_equiv nat_cmp_total).refl k) h
@@ -54,12 +50,12 @@ module _ (k : ℕ) (v : EntryValue) where
   put_same last (e ∷ es) rise same =
       put_by last e es (nat_cmp k e.0) refl rise same (put_same (Some e.0) es (second_of (is_past last e.0) (rise_past (Some e.0) (keys_of es)) rise))
 
-  claims_stay : (m : Entries) → claims_of (k, v) ≡ claims_by k (get m k) → claims (insert m k v) ≡ claims m
+  pub claims_stay : (m : Entries) → claims_of (k, v) ≡ claims_by k (get m k) → claims (insert m k v) ≡ claims m
   claims_stay m same =
       ap (flat_map claims_of) (entries-insert nat_cmp_total m k v)
       ∙ put_same None (entries m) (rise_sorted (entries m) (entries_sorted m)) (same ∙ ap (claims_by k) (get-entries m k))
 
-  alike : (held : Option EntryValue) → ClaimsAlike held v → claims_of (k, v) ≡ claims_by k held
+  pub alike : (held : Option EntryValue) → ClaimsAlike held v → claims_of (k, v) ≡ claims_by k held
   alike None none = ap (map (λ (t : ℕ). record { token = t; endpoint = k; generation = v.generation })) none
   alike (Some e) same = λ i. map (λ (t : ℕ). record { token = t; endpoint = k; generation = same.0 i }) (same.1 i)
 

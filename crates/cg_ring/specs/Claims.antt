@@ -1,11 +1,12 @@
 -- Claims to tokens, and the claims that win.
-use Rattle.std.specs.Prelude.{ℕ, ◌==◌, Bool, false, ◌&&◌, ◌||◌, not, nat_lt, List, [], ◌∷◌, map, codes, Option, Some, None, unwrap_or, if◌then◌else◌}
-use Rattle.std.specs.List.{flat_map, list_all, before_first}
+use Rattle.std.specs.Prelude.{ℕ, ◌==◌, Bool, false, ◌&&◌, ◌||◌, not, nat_lt, List, [], ◌∷◌, ◌++◌, map, codes, Option, Some, None, unwrap_or, if◌then◌else◌}
+use Rattle.std.specs.List.{filter, flat_map, list_all, before_first}
 use Rattle.std.specs.Ordering.{nat_cmp, ordering_then}
 use Rattle.std.specs.declared.cmp.Ordering.{Ordering}
 use Rattle.std.specs.Str.{bytes_eq}
 use Rattle.std.specs.FinMap as table
 use Rattle.cg_types.specs.declared.limits.TheConstants.{STATUS_KEY, TOKENS_KEY}
+use Rattle.cg_types.specs.Rising.{is_among}
 use Rattle.cg_entry.specs.Versioned.{Versioned, States}
 use Rattle.cg_entry.specs.Values.{EntryValue}
 use Rattle.cg_table.specs.Values.{Entries}
@@ -70,6 +71,33 @@ abbrev pub rank : Claim → Claim → Ordering
 rank c d =
     ordering_then (ordering_then (nat_cmp c.token d.token) (nat_cmp d.generation c.generation))
     (nat_cmp c.endpoint d.endpoint)
+
+-- one claim comes before another: by its token, or for one token by beating it
+abbrev pub goes_before : Claim → Claim → Bool
+goes_before c d = nat_lt c.token d.token || (c.token == d.token && beats c d)
+
+-- ---- claims that are moved
+
+-- the claims of all endpoints but these
+abbrev pub without : List ℕ → List Claim → List Claim
+without owners cs = filter (λ c. not (is_among owners c.endpoint)) cs
+
+-- the sorted claims that come before another one
+abbrev pub before : Claim → List Claim → List Claim
+before c [] = []
+before c (d ∷ ds) = if goes_before d c then d ∷ before c ds else []
+
+-- the others, from there on
+abbrev pub behind : Claim → List Claim → List Claim
+behind c [] = []
+behind c (d ∷ ds) = if goes_before d c then behind c ds else d ∷ ds
+
+-- two lists of sorted claims, as one
+abbrev pub merge : List Claim → List Claim → List Claim
+merge [] ds = ds
+merge (c ∷ cs) ds = before c ds ++ c ∷ merge cs (behind c ds)
+
+-- ---- the first of each token
 
 -- a test that a token is the last one
 abbrev pub is_last : Option ℕ → ℕ → Bool

@@ -1,5 +1,7 @@
 pub mod Claims
 pub mod Ring
+pub mod Values
+pub mod Moving
 pub mod Laws
 pub use Rattle.cg_types.specs.Numbers
 pub use Rattle.cg_types.specs.Rising

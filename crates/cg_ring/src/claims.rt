@@ -1,16 +1,17 @@
 //! Claims to tokens: who has which.
 
 ghost use Rattle.std.specs.Prelude.{◌≡◌, ◌++◌, IfOk, OnOk, map, codes, option_copied};
-ghost use Rattle.std.specs.List.{before_first};
+ghost use Rattle.std.specs.List.{before_first, flat_map};
 ghost use Rattle.std.specs.Str.{bytes_eq};
 ghost use Rattle.std.specs.List.Sorted.{IsPermutation, IsSorted};
 ghost use Rattle.cg_types.specs.Numbers.{IsKey};
+ghost use Rattle.cg_types.specs.Rising.{Rises, is_among};
+ghost use Rattle.cg_map.specs.Rows.{keys_of};
 ghost use Rattle.cg_tokens.specs.Text.{is_comma};
-ghost use Rattle.cg_ring.specs.Claims.{text_at, is_member as is_member_of, claimed_tokens, claim, claims_of, claims, rank, keeps_claims as keeps_claims_of};
+ghost use Rattle.cg_ring.specs.Claims.{text_at, is_member as is_member_of, claimed_tokens, claim, claims_of, rank, goes_before as goes_before_of, without, before, behind, merge, keeps_claims as keeps_claims_of};
 
 use cg_entry::Entry;
 use cg_map::Row;
-use cg_table::Table;
 use cg_tokens::{Token, first_piece, tokens_in};
 use cg_types::{Endpoint, Generation, STATUS_KEY, StateKey, TOKENS_KEY};
 use std::alloc::{AllocError, Global};
@@ -94,33 +95,133 @@ fn claimed_tokens(alloc: Global, entry: &Entry) -> Result<Vec<Token>, AllocError
 }
 
 // Adds the claims of one endpoint.
-fn add_claims(alloc: Global, claims: &mut Vec<Claim>, owner: &Row<Entry>) -> Result<(), AllocError>
-    ensures { OnOk result (claims.new.items ≡ claims.old.items ++ claims_of owner.now) }
+fn add_claims(
+    alloc: Global,
+    claims: &mut Vec<Claim>,
+    owner: Endpoint,
+    entry: &Entry,
+) -> Result<(), AllocError>
+    ensures { OnOk result (claims.new.items ≡ claims.old.items ++ claims_of (owner, entry.now)) }
 {
-    let tokens = claimed_tokens(alloc, owner.value())?;
+    let tokens = claimed_tokens(alloc, entry)?;
     for token in &tokens {
         claims.push(Claim {
             token: *token,
-            endpoint: owner.endpoint(),
-            generation: owner.value().generation(),
+            endpoint: owner,
+            generation: entry.generation(),
         })?;
     }
     Ok(())
 }
 
-/// All claims of a table.
-pub(crate) fn all_claims(alloc: Global, table: &Table) -> Result<Vec<Claim>, AllocError>
-    ensures { IfOk result (λ all. all.items ≡ claims table.now.entries) }
+/// The claims of one endpoint, sorted.
+pub(crate) fn claims_by(
+    alloc: Global,
+    owner: Endpoint,
+    entry: &Entry,
+) -> Result<Vec<Claim>, AllocError>
+    ensures permutation { IfOk result (λ v. IsPermutation (claims_of (owner, entry.now)) v.items) }
+    ensures sorted { IfOk result (λ v. IsSorted rank v.items) }
+{
+    let mut fresh = Vec::new(alloc);
+    add_claims(alloc, &mut fresh, owner, entry)?;
+    Ok(sort_claims(fresh))
+}
+
+// Tests whether one claim comes before another: by its token, or for one token by beating it.
+fn goes_before(one: &Claim, other: &Claim) -> bool
+    ensures { result ≡ goes_before_of one.now other.now }
+{
+    if one.token != other.token {
+        return one.token < other.token;
+    }
+    other.generation < one.generation
+        || (other.generation == one.generation && one.endpoint < other.endpoint)
+}
+
+// Adds the sorted claims that come before a claim, and returns the others.
+fn add_before<'a>(
+    made: &mut Vec<Claim>,
+    rest: &'a [Claim],
+    claim: &Claim,
+) -> Result<&'a [Claim], AllocError>
+    ensures added { OnOk result (made.new.items ≡ made.old.items ++ before claim.now rest.now) }
+    ensures left { IfOk result (λ r. r.now ≡ behind claim.now rest.now) }
+{
+    let mut left = rest;
+    while let Some((first, others)) = left.split_first() {
+        if !goes_before(first, claim) {
+            return Ok(left);
+        }
+        made.push(*first)?;
+        left = others;
+    }
+    Ok(left)
+}
+
+// Tests whether an endpoint is one of owners that rise, by halving.
+fn is_one_of(owners: &[Endpoint], endpoint: Endpoint) -> bool
+    requires { Rises owners.now }
+    ensures { result ≡ is_among owners.now endpoint }
+{
+    owners.binary_search(&endpoint).is_ok()
+}
+
+/// Sorted claims without those of some owners, and with others that are sorted, in one walk over both.
+pub(crate) fn merged(
+    alloc: Global,
+    claims: &[Claim],
+    owners: &[Endpoint],
+    fresh: &[Claim],
+) -> Result<Vec<Claim>, AllocError>
+    requires { Rises owners.now }
+    ensures { IfOk result (λ v. v.items ≡ merge (without owners.now claims.now) fresh.now) }
+{
+    let mut made = Vec::with_capacity(alloc, claims.len() + fresh.len())?;
+    let mut rest = fresh;
+    for claim in claims {
+        if !is_one_of(owners, claim.endpoint) {
+            rest = add_before(&mut made, rest, claim)?;
+            made.push(*claim)?;
+        }
+    }
+    made.extend_from_slice(rest)?;
+    Ok(made)
+}
+
+// The claims of the owners of rows.
+fn all_claims(alloc: Global, rows: &[Row<Entry>]) -> Result<Vec<Claim>, AllocError>
+    ensures { IfOk result (λ all. all.items ≡ flat_map claims_of rows.now) }
 {
     let mut all = Vec::new(alloc);
-    for owner in table.owners() {
-        add_claims(alloc, &mut all, owner)?;
+    for row in rows {
+        add_claims(alloc, &mut all, row.endpoint(), row.value())?;
     }
     Ok(all)
 }
 
-/// The same claims, sorted by their tokens, and those of one token with the winner first.
-pub(crate) fn sort_claims(mut claims: Vec<Claim>) -> Vec<Claim>
+/// The claims of the owners of rows, sorted.
+pub(crate) fn claims_of_rows(alloc: Global, rows: &[Row<Entry>]) -> Result<Vec<Claim>, AllocError>
+    ensures permutation { IfOk result (λ v. IsPermutation (flat_map claims_of rows.now) v.items) }
+    ensures sorted { IfOk result (λ v. IsSorted rank v.items) }
+{
+    let all = all_claims(alloc, rows)?;
+    Ok(sort_claims(all))
+}
+
+/// The owners of rows.
+pub(crate) fn owners_of(alloc: Global, rows: &[Row<Entry>]) -> Result<Vec<Endpoint>, AllocError>
+    ensures { IfOk result (λ v. v.items ≡ keys_of rows.now) }
+{
+    let mut owners = Vec::with_capacity(alloc, rows.len())?;
+    for row in rows {
+        owners.push(row.endpoint())?;
+    }
+    Ok(owners)
+}
+
+// The same claims, sorted by their tokens, and those of one token with the winner first.
+fn sort_claims(mut claims: Vec<Claim>) -> Vec<Claim>
     ensures permutation { IsPermutation claims.items result.items }
     ensures sorted { IsSorted rank result.items }
 {

@@ -3,5 +3,5 @@ use Rattle.std.specs.List.{flat_map}
 use Rattle.cg_ring.specs.Claims.{claims_of}
 use Rattle.cg_ring.proofs.claims.all_claims.Given as goal
 
-abbrev pub invariant-loop-owner : goal.invariant-loop-owner
-invariant-loop-owner l = l.all.items ++ flat_map claims_of (drop l.owner-index l.owner-items) ≡ flat_map claims_of l.owner-items
+abbrev pub invariant-loop-row : goal.invariant-loop-row
+invariant-loop-row l = l.all.items ++ flat_map claims_of (drop l.row-index l.rows) ≡ flat_map claims_of l.rows
