@@ -1,15 +1,15 @@
 -- The puts of a step are the new rows of the owners whose entry it changed.
 use Rattle.std.proofs.Common.{◌≡◌, ℕ, Bool, true, false, cond, List, [], ◌∷◌, map, Option, Some, None, refl, sym, ap, subst, ◌∙◌}
 use Rattle.std.specs.Prelude.{◌==◌, is_some, unwrap_or}
-use Rattle.std.specs.List.{filter, filter_map, cons_option}
+use Rattle.std.specs.List.{filter_map, cons_option}
 use Rattle.std.specs.Option.{option_map}
 use Rattle.std.specs.Ordering.{nat_cmp, eq_by_cmp}
 use Rattle.std.specs.Cmp.{nat_cmp_total, eq_by_cmp_equiv}
 use Rattle.std.specs.FinMap.{get, insert, get-insert}
 use Rattle.std.specs.FinMap.Entries.{find}
 use Rattle.std.proofs.lemmas.Option.{same_Some}
-use Rattle.cg_types.specs.Rising.{is_past, rise_past, Rises}
-use Rattle.cg_types.proofs.RisingLemmas.{both, first_of, second_of, rise_earlier, same_tied}
+use Rattle.cg_types.specs.Rising.{rise_past, Rises}
+use Rattle.cg_types.proofs.RisingLemmas.{same_tied}
 use Rattle.cg_map.specs.Map.{put_each}
 use Rattle.cg_entry.specs.declared.entry.Absorbed.{Absorbed}
 use Rattle.cg_entry.specs.declared.entry.Absorbed.TheVariants as absorbed
@@ -44,7 +44,7 @@ use Rattle.cg_events.specs.Handed.{deltas_in}
 use Rattle.cg_core.specs.Changes.{taken_owners, changed_owners}
 use Rattle.cg_core.proofs.OrderLemmas.{met_ahead, beaten_later, given_later}
 use Rattle.cg_core.proofs.PutLemmas.{only_put}
-use Rattle.cg_core.proofs.StepLemmas.{then_gave, AreLed, ack_led, ack2_led}
+use Rattle.cg_core.proofs.StepLemmas.{then_gave, AreLed, ack_led, ack2_led, filtered_rise}
 
 -- ---- the own row
 
@@ -145,18 +145,8 @@ puts_are_the_changed_rows n (event.Ack2 now ack2) after answer held rise is =
 
 -- ---- the owners rise
 
-taken_rise : (last : Option ℕ) (os : List Outcome) → rise_past last (endpoints_of_outcomes os) ≡ true → rise_past last (taken_owners os) ≡ true
-taken_rise last [] rise = refl
-taken_rise last (o ∷ os) rise =
-    let here = first_of (is_past last o.endpoint) (rise_past (Some o.endpoint) (endpoints_of_outcomes os)) rise in
-    let rest = second_of (is_past last o.endpoint) (rise_past (Some o.endpoint) (endpoints_of_outcomes os)) rise in
-    elim (was_taken o.took) as (λ b. rise_past last (map (λ (o : Outcome). o.endpoint) (cond b (o ∷ filter (λ (o : Outcome). was_taken o.took) os) (filter (λ (o : Outcome). was_taken o.took) os))) ≡ true) [
-      | true ↦ both _ _ here (taken_rise (Some o.endpoint) os rest)
-      | false ↦ taken_rise last os (rise_earlier last o.endpoint (endpoints_of_outcomes os) here rest)
-    ]
-
 led_rise : (t : TableValue) (ds : List OwnerDelta) (after : TableValue) (os : List Outcome) → AreLed t ds after os → Rises (endpoints_of_deltas ds) → Rises (taken_owners os)
-led_rise t ds after os led rise = taken_rise None os (ap (λ (os : List Outcome). rise_past None (endpoints_of_outcomes os)) led.outcomes ∙ outcomes_rise t ds rise)
+led_rise t ds after os led rise = filtered_rise (λ (o : Outcome). was_taken o.took) None os (ap (λ (os : List Outcome). rise_past None (endpoints_of_outcomes os)) led.outcomes ∙ outcomes_rise t ds rise)
 
 abbrev OwnersRise : NodeValue → NodeValue × Reply → Type 0
 OwnersRise n x = Rises (changed_owners n.table.own x.1)

@@ -118,7 +118,7 @@ fn add_position(text: &mut String, token: Token, endpoint: Endpoint) -> Result<(
 
 /// Adds a line for each position of a ring, rising by token: the token and the endpoint that has it.
 pub fn add_ring(text: &mut String, ring: &Ring) -> Result<(), AllocError>
-    ensures { OnOk result (string_bytes text.new ≡ string_bytes text.old ++ ring_lines ring.now) }
+    ensures { OnOk result (string_bytes text.new ≡ string_bytes text.old ++ ring_lines ring.now.positions) }
 {
     for (token, endpoint) in ring.positions() {
         add_position(text, *token, *endpoint)?;
@@ -143,7 +143,7 @@ pub fn add_replicas(
     token: Token,
     rf: usize,
 ) -> Result<(), AllocError>
-    ensures { OnOk result (string_bytes text.new ≡ string_bytes text.old ++ replica_lines ring.now token rf) }
+    ensures { OnOk result (string_bytes text.new ≡ string_bytes text.old ++ replica_lines ring.now.positions token rf) }
 {
     let replicas = ring.replicas(alloc, token, rf)?;
     for endpoint in &replicas {
