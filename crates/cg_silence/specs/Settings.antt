@@ -1,5 +1,5 @@
 -- Settings of silence that are refused, each with its fault.
-use Rattle.std.specs.Prelude.{ℕ, not, Result, Ok, Err, if◌then◌else◌}
+use Rattle.std.specs.Prelude.{not, Result, Ok, Err, if◌then◌else◌}
 use Rattle.std.specs.Int.{is_in_range}
 use Rattle.cg_silence.specs.declared.limits.TheConstants.{WINDOW_LIMIT, GAP_LIMIT, THRESHOLD_LIMIT}
 use Rattle.cg_silence.specs.declared.fault.SilenceFault.{SilenceFault}

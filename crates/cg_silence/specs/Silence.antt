@@ -58,10 +58,11 @@ after_arrival s (Some w) now = heard_after s w now
 abbrev pub is_over : ℕ → ℕ → ℕ → ℕ → Bool
 is_over threshold elapsed count total = nat_lt (threshold * total) (elapsed * count * THRESHOLD_UNIT)
 
+-- the verdict by the last arrival, and the number and sum of the gaps that are kept
+abbrev pub judged : ℕ → Option ℕ → ℕ → ℕ → ℕ → Verdict
+judged threshold None count total now = Unheard
+judged threshold (Some last) count total now = if is_over threshold (now - last) count total then Silent else Alive
+
 -- the verdict on an endpoint whose window shows this
 abbrev pub verdict : SilenceValue → Shown → ℕ → Verdict
-verdict s w now = judged w.last
-  where
-    judged : Option ℕ → Verdict
-    judged None = Unheard
-    judged (Some last) = if is_over s.threshold (now - last) (length w.gaps) (sum w.gaps) then Silent else Alive
+verdict s w now = judged s.threshold w.last (length w.gaps) (sum w.gaps) now

@@ -1,5 +1,6 @@
 -- Values of silence's settings and windows, as contracts see them.
-use Rattle.std.specs.Prelude.{ℕ, ◌≡◌, ◌<◌, ◌≤◌, List, length, sum, Option, All, refl}
+use Rattle.std.specs.Prelude.{ℕ, ◌≡◌, ◌<◌, ◌≤◌, List, ◌++◌, length, sum, Option, All, refl}
+use Rattle.circular_buffer.specs.Buffer.{keep_last}
 use Rattle.std.specs.Coded.{Coded, code_by, coded×, coded_ℕ, coded_list, coded_option}
 use Rattle.cg_silence.specs.declared.limits.TheConstants.{WINDOW_LIMIT, GAP_LIMIT, THRESHOLD_LIMIT, DEFAULT_WINDOW, DEFAULT_INITIAL_GAP, DEFAULT_MAX_GAP, DEFAULT_THRESHOLD}
 
@@ -46,6 +47,14 @@ pub record IsWindow (s : SilenceValue) (gaps : List ℕ) (capacity total : ℕ) 
   pub few : length gaps ≤ s.window
   pub small : All (λ g. g ≤ s.max_gap) gaps
   pub summed : total ≡ sum gaps
+
+-- The shared gaps and the few behind them are no more than there is room for, none is over the settings' greatest, and
+-- the total is the sum of those shown.
+pub record IsSharedWindow (s : SilenceValue) (past tail : List ℕ) (total : ℕ) : Type 0 where
+  pub settings : IsSilence s
+  pub few : length past ≤ s.window
+  pub small : All (λ g. g ≤ s.max_gap) (past ++ tail)
+  pub summed : total ≡ sum (keep_last s.window (past ++ tail))
 
 -- the codes that models of values with these require
 abbrev pub silence_code : Coded SilenceValue

@@ -9,7 +9,9 @@ mod fault;
 /// Laws of the limits and defaults.
 pub mod laws;
 mod limits;
+mod shared;
 mod silence;
+mod tail;
 mod verdict;
 mod window;
 
@@ -18,6 +20,7 @@ pub use limits::{
     DEFAULT_INITIAL_GAP, DEFAULT_MAX_GAP, DEFAULT_THRESHOLD, DEFAULT_WINDOW, GAP_LIMIT,
     THRESHOLD_LIMIT, THRESHOLD_UNIT, WINDOW_LIMIT,
 };
+pub use shared::SharedWindow;
 pub use silence::Silence;
 pub use verdict::Verdict;
 pub use window::Window;

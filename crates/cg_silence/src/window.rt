@@ -2,7 +2,7 @@
 
 ghost use Rattle.std.specs.Prelude.{◌≡◌, ◌+◌, ◌*◌, ◌<◌, ◌≤◌, ◌^◌, ℕ, List, [], ◌∷◌, ◌++◌, length, sum, IfOk, Some};
 ghost use Rattle.circular_buffer.specs.Buffer.{buffer, keep_last};
-ghost use Rattle.cg_silence.specs.Silence.{Shows, after_arrival, gap as gap_of, latest as latest_of, verdict, is_over as is_over_of};
+ghost use Rattle.cg_silence.specs.Silence.{Shows, after_arrival, gap as gap_of, latest as latest_of, verdict, judged as judged_of, is_over as is_over_of};
 
 use crate::limits::THRESHOLD_UNIT;
 use crate::silence::Silence;
@@ -33,7 +33,7 @@ impl Model for Window {
 }
 
 // The gap that an arrival at `now` makes after the last one.
-fn gap(silence: Silence, last: Option<u64>, now: u64) -> u64
+pub(crate) fn gap(silence: Silence, last: Option<u64>, now: u64) -> u64
     ensures { result ≡ gap_of silence last now }
 {
     match last {
@@ -43,7 +43,7 @@ fn gap(silence: Silence, last: Option<u64>, now: u64) -> u64
 }
 
 // The last arrival after one at `now`.
-fn latest(last: Option<u64>, now: u64) -> u64
+pub(crate) fn latest(last: Option<u64>, now: u64) -> u64
     ensures { result ≡ latest_of last now }
 {
     match last {
@@ -77,6 +77,27 @@ fn is_over(threshold: u32, elapsed: u64, count: usize, total: u64) -> bool
     let waited = elapsed as u128 * weight as u128;
     let allowed = threshold as u128 * total as u128;
     waited > allowed
+}
+
+// The verdict at `now` on an endpoint of which `count` gaps are kept, with this sum.
+pub(crate) fn judged(
+    threshold: u32,
+    last: Option<u64>,
+    count: usize,
+    total: u64,
+    now: u64,
+) -> Verdict
+    requires few { count < 2 ^ 32 }
+    ensures { result ≡ judged_of threshold last count total now }
+{
+    let Some(last) = last else {
+        return Verdict::Unheard;
+    };
+    if is_over(threshold, now.saturating_sub(last), count, total) {
+        Verdict::Silent
+    } else {
+        Verdict::Alive
+    }
 }
 
 impl Window {
@@ -124,22 +145,13 @@ impl Window {
     pub fn verdict(&self, now: u64) -> Verdict
         ensures { result ≡ verdict self.now.silence self.now.shown now }
     {
-        match self.last {
-            None => Verdict::Unheard,
-            Some(last) => {
-                let elapsed = now.saturating_sub(last);
-                if is_over(
-                    self.silence.threshold(),
-                    elapsed,
-                    self.gaps.len(),
-                    self.total,
-                ) {
-                    Verdict::Silent
-                } else {
-                    Verdict::Alive
-                }
-            }
-        }
+        judged(
+            self.silence.threshold(),
+            self.last,
+            self.gaps.len(),
+            self.total,
+            now,
+        )
     }
 
     /// The same window.

@@ -1,7 +1,7 @@
 //! Vectors of silences: arrivals, and the verdict on their endpoint at a time.
 
 use crate::words::{number_in, place_of, words_in};
-use cg_silence::{Silence, Window};
+use cg_silence::{SharedWindow, Silence, Verdict, Window};
 use cg_types::Fault;
 use std::alloc::Global;
 
@@ -34,6 +34,23 @@ fn window_of(alloc: Global, silence: Silence, arrivals: &[&str]) -> Result<Windo
     Ok(window)
 }
 
+// The window that is shared, after these arrivals.
+fn shared_of(alloc: Global, silence: Silence, arrivals: &[&str]) -> Result<SharedWindow, Fault> {
+    let mut window = SharedWindow::new(alloc, silence)?;
+    for arrival in arrivals {
+        window = window.after(alloc, number_in(arrival, u64::MAX)?)?;
+    }
+    Ok(window)
+}
+
+// The name of a verdict on which both windows agree.
+fn agreed(window: Verdict, shared: Verdict) -> Result<&'static str, Fault> {
+    if window != shared {
+        return Err(Fault::Stuck);
+    }
+    Ok(window.name())
+}
+
 /// Returns the verdict on four settings and arrivals, at the time after `at`.
 pub fn verdict_text(alloc: Global, given: &str) -> Result<String, Fault> {
     let words = words_in(alloc, given)?;
@@ -45,6 +62,7 @@ pub fn verdict_text(alloc: Global, given: &str) -> Result<String, Fault> {
     }
     let silence = silence_in(&words[..4])?;
     let window = window_of(alloc, silence, &words[4..place])?;
-    let verdict = window.verdict(number_in(words[place + 1], u64::MAX)?);
-    Ok(verdict.name().to_string(alloc)?)
+    let shared = shared_of(alloc, silence, &words[4..place])?;
+    let now = number_in(words[place + 1], u64::MAX)?;
+    Ok(agreed(window.verdict(now), shared.verdict(now))?.to_string(alloc)?)
 }

@@ -13,7 +13,7 @@ use cg_entry::Took;
 use cg_lists::push_some;
 use cg_map::{Row, SharedMap};
 use cg_messages::Outcome;
-use cg_silence::{Silence, Verdict, Window};
+use cg_silence::{SharedWindow, Silence, Verdict};
 use cg_types::Endpoint;
 use std::alloc::{AllocError, Global};
 use std::marker::Model;
@@ -23,7 +23,7 @@ use std::marker::Model;
 #[derive(Drop)]
 pub struct Windows {
     silence: Silence,
-    windows: SharedMap<Window>,
+    windows: SharedMap<SharedWindow>,
 }
 
 /// A contract sees the settings of the windows, and what each shows.
@@ -57,21 +57,19 @@ pub fn any_taken(outcomes: &[Outcome]) -> bool
 fn hear(
     alloc: Global,
     silence: Silence,
-    held: Option<&Window>,
+    held: Option<&SharedWindow>,
     now: u64,
-) -> Result<Window, AllocError>
+) -> Result<SharedWindow, AllocError>
     requires { (w : WindowValue) → option_copied held ≡ Some w → w.silence ≡ silence }
     ensures { IfOk result (λ w. w ≡ record {
       silence = silence;
       shown = after_arrival silence (option_map (λ w. w.shown) (option_copied held.entry)) now;
     }) }
 {
-    let mut window = match held {
-        Some(window) => window.copy(alloc)?,
-        None => Window::new(alloc, silence)?,
-    };
-    window.arrived(now);
-    Ok(window)
+    match held {
+        Some(window) => window.after(alloc, now),
+        None => SharedWindow::new(alloc, silence)?.after(alloc, now),
+    }
 }
 
 impl Windows {
@@ -96,7 +94,12 @@ impl Windows {
     }
 
     // The window of an endpoint after one more arrival.
-    fn after_one(&self, alloc: Global, endpoint: Endpoint, now: u64) -> Result<Window, AllocError>
+    fn after_one(
+        &self,
+        alloc: Global,
+        endpoint: Endpoint,
+        now: u64,
+    ) -> Result<SharedWindow, AllocError>
         ensures { IfOk result (λ w. w ≡ window_after self.now now endpoint) }
     {
         Ok(hear(alloc, self.silence, self.windows.get(endpoint), now)?)
@@ -108,7 +111,7 @@ impl Windows {
         alloc: Global,
         outcome: &Outcome,
         now: u64,
-    ) -> Result<Option<Row<Window>>, AllocError>
+    ) -> Result<Option<Row<SharedWindow>>, AllocError>
         ensures { IfOk result (λ r. r ≡ arrival self.now now outcome.now) }
     {
         if !was_taken(outcome) {

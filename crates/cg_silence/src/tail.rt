@@ -1,0 +1,61 @@
+//! The last few gaps of a window, without memory of their own.
+
+ghost use Rattle.std.specs.Prelude.{◌≡◌, ◌<◌, ◌≤◌, ◌++◌, [], ◌∷◌, length};
+
+use std::marker::Model;
+
+/// The most gaps in a tail.
+pub(crate) const TAIL_ROOM: usize = 32;
+
+// At most `TAIL_ROOM` gaps, the oldest first.
+#[derive(Drop)]
+pub(crate) struct Tail {
+    slots: [u32; TAIL_ROOM],
+    count: usize,
+}
+
+impl Model for Tail {
+    ghost use Rattle.std.specs.Prelude.{List, ℕ, take, ◌≤◌};
+    ghost use Rattle.cg_silence.specs.declared.tail.TheConstants.{TAIL_ROOM};
+
+    ghost Value = { List ℕ };
+
+    ghost view = { λ t. take t.count t.slots };
+
+    ghost invariant = { λ t. t.count ≤ TAIL_ROOM };
+}
+
+impl Tail {
+    pub(crate) fn none() -> Tail
+        ensures { result ≡ [] }
+    {
+        Tail {
+            slots: [0; TAIL_ROOM],
+            count: 0,
+        }
+    }
+
+    pub(crate) fn as_slice(&self) -> &[u32]
+        ensures value { result.now ≡ self.now }
+        ensures few { length result.now ≤ TAIL_ROOM }
+    {
+        &self.slots[..self.count]
+    }
+
+    pub(crate) fn copy(&self) -> Tail
+        ensures { result ≡ self.now }
+    {
+        Tail {
+            slots: self.slots,
+            count: self.count,
+        }
+    }
+
+    pub(crate) fn push(&mut self, gap: u32)
+        requires { length self.old < TAIL_ROOM }
+        ensures { self.new ≡ self.old ++ gap ∷ [] }
+    {
+        self.slots[self.count] = gap;
+        self.count += 1;
+    }
+}
