@@ -2,7 +2,7 @@
 
 use cg_expect::expect_eq;
 use cg_frames::{Message, decode, encode, encode_lent, every_message_fits};
-use cg_types::Fault;
+use cg_types::{Cause, Fault};
 use std::alloc::Global;
 use std::test::Fail;
 
@@ -64,6 +64,23 @@ fn wants_more(rt: HostRuntime) -> Result<(), Fail> {
         (EMPTY_SYN, Some(12)),
     ] {
         expect_eq!(size_of(rt.alloc(), bytes)?, size)?;
+    }
+    Ok(())
+}
+
+#[test]
+fn announced_members_have_to_come(rt: HostRuntime) -> Result<(), Fail> {
+    // 256 digests, 256 requests and 256 deltas, of which none comes
+    for (bytes, place) in [
+        (b"\0\0\0\x08\x01\x01\x02c1\x01\x01\0".as_slice(), 12),
+        (b"\0\0\0\x04\x01\x02\x01\0", 8),
+        (b"\0\0\0\x04\x01\x03\x01\0", 8),
+    ] {
+        let cause = Cause::Short;
+        expect_eq!(
+            size_of(rt.alloc(), bytes),
+            Err(Fault::BadFrame { place, cause })
+        )?;
     }
     Ok(())
 }

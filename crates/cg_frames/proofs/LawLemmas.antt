@@ -19,13 +19,13 @@ use Rattle.cg_entry.specs.declared.digest.Digest.{Digest}
 use Rattle.cg_messages.specs.declared.owner_delta.OwnerDelta.{OwnerDelta}
 use Rattle.cg_messages.specs.declared.message.Message.{Message}
 use Rattle.cg_messages.specs.declared.message.Message.TheVariants.{Syn, Ack, Ack2}
+use Rattle.cg_messages.specs.declared.kind.Kind.{Kind}
+use Rattle.cg_messages.specs.Kind.{kind_of}
 use Rattle.cg_messages.specs.Members.{endpoints_of_requests, endpoints_of_deltas}
 use Rattle.cg_messages.specs.Values.{RequestValue, SynValue}
 use Rattle.cg_frames.specs.declared.layout.Layout.{Layout}
 use Rattle.cg_frames.specs.declared.layout.TheConstants.{LAYOUT_1, LAYOUTS}
 use Rattle.cg_frames.specs.declared.misread.Misread.{Misread}
-use Rattle.cg_frames.specs.declared.reader.Kind.{Kind}
-use Rattle.cg_frames.specs.declared.reader.Kind.TheVariants as kinds
 use Rattle.cg_types.specs.ResultSteps.{◌>>=◌}
 use Rattle.cg_frames.specs.Fields.{Field}
 use Rattle.cg_frames.specs.Reading.{whole_field, as_message, layout_at, kind_from, kind_at, of_kind, syn_at, inside_at, frame_at, ack_at, ack2_at}
@@ -120,11 +120,6 @@ inside_short layout m fits = fields_short layout m (fields_of layout m fits)
 -- a body that is read, whatever follows, is read to its end
 ended_again : {A : Type 0} (tag : A → Message) (at : List ℕ → Field A) (x : A) (bytes : List ℕ) → at (bytes ++ []) ≡ Ok (x, []) → as_message tag (whole_field (at bytes)) ≡ Ok (tag x)
 ended_again {A = A} tag at x bytes read = ap (λ (r : Field A). as_message tag (whole_field r)) (ap at (sym (append-nil bytes)) ∙ read)
-
-abbrev kind_of : Message → Kind
-kind_of (Syn m) = kinds.Syn
-kind_of (Ack m) = kinds.Ack
-kind_of (Ack2 m) = kinds.Ack2
 
 body_again : (layout : Layout) (m : Message) → layout.text < 2 ^ 16 → layout.members < 2 ^ 16 → FitsFields layout m → of_kind layout (kind_of m) (body m) ≡ Ok m
 body_again layout (Syn m) text wide fits = ended_again Syn (syn_at layout) m (body (Syn m)) (syn_again layout m [] wide fits)

@@ -15,14 +15,14 @@ use Rattle.cg_messages.specs.declared.message.Message.TheVariants.{Syn, Ack, Ack
 use Rattle.cg_messages.specs.Values.{RequestValue, SynValue, AckValue, Ack2Value}
 use Rattle.cg_frames.specs.declared.layout.Layout.{Layout}
 use Rattle.cg_frames.specs.declared.misread.Misread.{Misread}
-use Rattle.cg_frames.specs.declared.reader.Kind.{Kind}
-use Rattle.cg_frames.specs.declared.reader.Kind.TheVariants as kinds
+use Rattle.cg_messages.specs.declared.kind.Kind.{Kind}
+use Rattle.cg_messages.specs.declared.kind.Kind.TheVariants as kinds
 use Rattle.cg_types.specs.ResultSteps.{◌>>=◌}
 use Rattle.cg_frames.specs.Fields.{Field, number_at}
 use Rattle.cg_frames.specs.Lists.{digest_at, request_at, delta_at, listed_requests_at, listed_deltas_at}
 use Rattle.cg_frames.specs.Reading.{syn_at, ack_at, ack2_at, whole_field, as_message, layout_at, kind_from, kind_at, of_kind, inside_at, frame_at}
 use Rattle.cg_frames.specs.Choosing.{due, frame_among, IsOneOf, AreRead}
-use Rattle.cg_frames.specs.Spelling.{four_bytes, digest, request, delta, cluster, members, kind, body, inside, frame}
+use Rattle.cg_frames.specs.Spelling.{four_bytes, digest, request, delta, cluster, members, number_of_kind, kind, body, inside, frame}
 use Rattle.cg_messages.specs.Contents.{IsDigest, IsRequest}
 use Rattle.cg_frames.specs.Layouts.{IsRead}
 use Rattle.cg_frames.proofs.FitsFields.{FitsFields, FitsDelta, FitsSyn, FitsAck, FitsAck2}
@@ -112,32 +112,27 @@ layout_read layout bytes p h =
     let g = goes_on_by (a.0.0 == layout.byte) fault (Ok a.0) p a.2 in
     subst (λ (q : ℕ × List ℕ). (q.0 ≡ layout.byte) × (number_at w8 bytes ≡ Ok q)) (ok_is a.0 p g.1) (eqb-true a.0.0 layout.byte g.0, a.1)
 
-abbrev number : Kind → ℕ
-number kinds.Syn = 1
-number kinds.Ack = 2
-number kinds.Ack2 = 3
+kind_was : (n : ℕ) (of : Kind) (rest : List ℕ) (p : Kind × List ℕ) → n ≡ number_of_kind of → ◌≡◌ {A = Field Kind} (Ok (of, rest)) (Ok p) → (n ≡ number_of_kind p.0) × (rest ≡ p.1)
+kind_was n of rest p is e = subst (λ (q : Kind × List ℕ). (n ≡ number_of_kind q.0) × (rest ≡ q.1)) (ok_is (of, rest) p e) (is, refl)
 
-kind_was : (n : ℕ) (of : Kind) (rest : List ℕ) (p : Kind × List ℕ) → n ≡ number of → ◌≡◌ {A = Field Kind} (Ok (of, rest)) (Ok p) → (n ≡ number p.0) × (rest ≡ p.1)
-kind_was n of rest p is e = subst (λ (q : Kind × List ℕ). (n ≡ number q.0) × (rest ≡ q.1)) (ok_is (of, rest) p e) (is, refl)
-
-kind_is : (bytes : List ℕ) (n : ℕ) (rest : List ℕ) (p : Kind × List ℕ) → kind_from bytes n rest ≡ Ok p → (n ≡ number p.0) × (rest ≡ p.1)
+kind_is : (bytes : List ℕ) (n : ℕ) (rest : List ℕ) (p : Kind × List ℕ) → kind_from bytes n rest ≡ Ok p → (n ≡ number_of_kind p.0) × (rest ≡ p.1)
 kind_is bytes n rest p h =
     let syn : Field Kind = Ok (kinds.Syn, rest) in
     let ack : Field Kind = Ok (kinds.Ack, rest) in
     let ack2 : Field Kind = Ok (kinds.Ack2, rest) in
     let none : Field Kind = Err (record { cause = causes.Kind; left = length bytes }) in
-    elim (n == 1) as (λ b. (n == 1) ≡ b → cond b syn (cond (n == 2) ack (cond (n == 3) ack2 none)) ≡ Ok p → (n ≡ number p.0) × (rest ≡ p.1)) [
+    elim (n == 1) as (λ b. (n == 1) ≡ b → cond b syn (cond (n == 2) ack (cond (n == 3) ack2 none)) ≡ Ok p → (n ≡ number_of_kind p.0) × (rest ≡ p.1)) [
       | true ↦ λ one h. kind_was n kinds.Syn rest p (eqb-true n 1 one) h
-      | false ↦ λ other h. elim (n == 2) as (λ b. (n == 2) ≡ b → cond b ack (cond (n == 3) ack2 none) ≡ Ok p → (n ≡ number p.0) × (rest ≡ p.1)) [
+      | false ↦ λ other h. elim (n == 2) as (λ b. (n == 2) ≡ b → cond b ack (cond (n == 3) ack2 none) ≡ Ok p → (n ≡ number_of_kind p.0) × (rest ≡ p.1)) [
         | true ↦ λ two h. kind_was n kinds.Ack rest p (eqb-true n 2 two) h
-        | false ↦ λ other h. elim (n == 3) as (λ b. (n == 3) ≡ b → cond b ack2 none ≡ Ok p → (n ≡ number p.0) × (rest ≡ p.1)) [
+        | false ↦ λ other h. elim (n == 3) as (λ b. (n == 3) ≡ b → cond b ack2 none ≡ Ok p → (n ≡ number_of_kind p.0) × (rest ≡ p.1)) [
           | true ↦ λ three h. kind_was n kinds.Ack2 rest p (eqb-true n 3 three) h
           | false ↦ λ other h. absurd cc
         ] refl h
       ] refl h
     ] refl h
 
-kind_read : (bytes : List ℕ) (k : Kind) (rest : List ℕ) → kind_at bytes ≡ Ok (k, rest) → number_at w8 bytes ≡ Ok (number k, rest)
+kind_read : (bytes : List ℕ) (k : Kind) (rest : List ℕ) → kind_at bytes ≡ Ok (k, rest) → number_at w8 bytes ≡ Ok (number_of_kind k, rest)
 kind_read bytes k rest h =
     let a = bind_ok (number_at w8 bytes) (λ n. kind_from bytes n.0 n.1) (k, rest) h in
     let is = kind_is bytes a.0.0 a.0.1 (k, rest) a.2 in
@@ -157,7 +152,7 @@ body_found tag layout at found number behind m is small h =
     subst (λ (m : Message). KindFound layout number behind m) t.2
     (record { is = is t.0; whole = f.0.whole ∙ ap (λ (ys : List ℕ). body (tag t.0) ++ ys) (no_bytes e.0 e.2) ∙ append-nil (body (tag t.0)); fits = f.1 })
 
-kind_found : (layout : Layout) (k : Kind) (behind : List ℕ) (m : Message) → AreBytes behind → of_kind layout k behind ≡ Ok m → KindFound layout (number k) behind m
+kind_found : (layout : Layout) (k : Kind) (behind : List ℕ) (m : Message) → AreBytes behind → of_kind layout k behind ≡ Ok m → KindFound layout (number_of_kind k) behind m
 kind_found layout kinds.Syn behind m small h = body_found Syn layout (syn_at layout) (syn_found layout) 1 behind m (λ x. refl) small h
 kind_found layout kinds.Ack behind m small h = body_found Ack layout (ack_at layout) (ack_found layout) 2 behind m (λ x. refl) small h
 kind_found layout kinds.Ack2 behind m small h = body_found Ack2 layout (ack2_at layout) (ack2_found layout) 3 behind m (λ x. refl) small h
@@ -172,9 +167,9 @@ inside_found layout bytes m small h =
     let b = bind_ok (kind_at a.0.1) (λ kind. of_kind layout kind.0 kind.1) m a.2 in
     let l = layout_read layout bytes a.0 a.1 in
     let first = byte_found bytes a.0.0 a.0.1 small l.1 in
-    let second = byte_found a.0.1 (number b.0.0) b.0.1 first.0.bytes_behind (kind_read a.0.1 b.0.0 b.0.1 b.1) in
+    let second = byte_found a.0.1 (number_of_kind b.0.0) b.0.1 first.0.bytes_behind (kind_read a.0.1 b.0.0 b.0.1 b.1) in
     let k = kind_found layout b.0.0 b.0.1 m second.0.bytes_behind b.2 in
-    record { spelled = two_before bytes a.0.1 b.0.1 (body m) a.0.0 layout.byte (number b.0.0) (kind m) first.0.whole second.0.whole l.0 k.is k.whole; fits = k.fits }
+    record { spelled = two_before bytes a.0.1 b.0.1 (body m) a.0.0 layout.byte (number_of_kind b.0.0) (kind m) first.0.whole second.0.whole l.0 k.is k.whole; fits = k.fits }
 
 -- ---- a frame
 

@@ -7,11 +7,12 @@ use Rattle.cg_types.specs.declared.fault.Fault.TheVariants as faults
 use Rattle.cg_types.specs.ResultSteps.{◌>>=◌}
 use Rattle.cg_messages.specs.declared.message.Message.{Message}
 use Rattle.cg_messages.specs.declared.message.Message.TheVariants as messages
+use Rattle.cg_messages.specs.declared.kind.Kind.{Kind}
+use Rattle.cg_messages.specs.declared.kind.Kind.TheVariants as kinds
 use Rattle.cg_messages.specs.Values.{SynValue, AckValue, Ack2Value}
 use Rattle.cg_frames.specs.declared.layout.Layout.{Layout}
 use Rattle.cg_frames.specs.declared.misread.Misread.{Misread}
-use Rattle.cg_frames.specs.declared.reader.Kind.{Kind}
-use Rattle.cg_frames.specs.declared.reader.Kind.TheVariants as kinds
+use Rattle.cg_frames.specs.Spelling.{number_of_kind}
 pub use Rattle.cg_frames.specs.Fields.{Field, wrong, bytes_at, number_at, count_at, endpoint_from, endpoint_at, ranged_at, generation_at, version_at, heartbeat_at, held_at, version_above_at, plain_at, name_at, key_from, key_at, state_count_at, text_at}
 pub use Rattle.cg_frames.specs.Lists.{digest_at, request_at, state_at, rising_at, digests_at, requests_at, states_at, carries, delta_from, delta_at, deltas_at, listed_requests_at, listed_deltas_at}
 pub use Rattle.cg_frames.specs.Readers.{Reads, part_of_field, behind, Passes, Fails, GivesField, FindsEnd, Checks, GivesWhole}
@@ -55,9 +56,9 @@ layout_at layout bytes = do
 -- the kind of a message, by its number
 abbrev pub kind_from : List ℕ → ℕ → List ℕ → Field Kind
 kind_from bytes number rest =
-    if number == 1 then Ok (kinds.Syn, rest)
-    else if number == 2 then Ok (kinds.Ack, rest)
-    else if number == 3 then Ok (kinds.Ack2, rest)
+    if number == number_of_kind kinds.Syn then Ok (kinds.Syn, rest)
+    else if number == number_of_kind kinds.Ack then Ok (kinds.Ack, rest)
+    else if number == number_of_kind kinds.Ack2 then Ok (kinds.Ack2, rest)
     else wrong causes.Kind bytes
 
 abbrev pub kind_at : List ℕ → Field Kind

@@ -10,6 +10,9 @@ use Rattle.cg_entry.specs.declared.digest.Digest.{Digest}
 use Rattle.cg_messages.specs.declared.owner_delta.OwnerDelta.{OwnerDelta}
 use Rattle.cg_messages.specs.declared.message.Message.{Message}
 use Rattle.cg_messages.specs.declared.message.Message.TheVariants.{Syn, Ack, Ack2}
+use Rattle.cg_messages.specs.declared.kind.Kind.{Kind}
+use Rattle.cg_messages.specs.declared.kind.Kind.TheVariants as kinds
+use Rattle.cg_messages.specs.Kind.{kind_of}
 use Rattle.cg_messages.specs.Values.{RequestValue}
 use Rattle.cg_frames.specs.declared.layout.Layout.{Layout}
 
@@ -49,10 +52,13 @@ members one xs = two_bytes (length xs) ++ flat_map one xs
 abbrev pub cluster : ClusterValue → List ℕ
 cluster c = length c.name ∷ (c.name ++ (c.partitioner ∷ []))
 
+abbrev pub number_of_kind : Kind → ℕ
+number_of_kind kinds.Syn = 1
+number_of_kind kinds.Ack = 2
+number_of_kind kinds.Ack2 = 3
+
 abbrev pub kind : Message → ℕ
-kind (Syn m) = 1
-kind (Ack m) = 2
-kind (Ack2 m) = 3
+kind m = number_of_kind (kind_of m)
 
 abbrev pub body : Message → List ℕ
 body (Syn m) = cluster m.cluster ++ members digest m.digests

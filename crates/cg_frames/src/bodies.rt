@@ -10,8 +10,8 @@ use crate::deltas::{check_deltas, deltas_of};
 use crate::layout::Layout;
 use crate::lists::{check_digests, check_requests, digests_of, requests_of};
 use crate::misread::{Misread, ReadError};
-use crate::reader::{Kind, Reader};
-use cg_messages::{Ack, Ack2, Message, OwnerDelta, Request, Syn};
+use crate::reader::Reader;
+use cg_messages::{Ack, Ack2, Kind, Message, OwnerDelta, Request, Syn};
 use cg_types::{Cluster, Fault};
 use std::alloc::Global;
 

@@ -134,7 +134,8 @@ pub fn decode_among(
 /// are not looked at. `BadFrame` has the first cause that is met, and its offset, in bytes from the first byte of the
 /// length; it is found whatever memory there is. `OutOfMemory` comes only if the frame has no fault. For a frame of
 /// more than 8,192 bytes after its length, no memory is requested before all faults are ruled out. A shorter one may
-/// take room for what is announced and read before its fault is found, and gives it back.
+/// take memory for members that came before its fault, and gives it back. In frames of every length room is taken only
+/// for members that the bytes left can hold, never for a number that is announced.
 pub fn decode(alloc: Global, bytes: &[u8]) -> Result<Option<(Message, usize)>, Fault>
     ensures exact { Answers (λ x. x) (frame_among LAYOUTS bytes.now) result }
     ensures more { frame_among LAYOUTS bytes.now ≡ Ok None → result ≡ Ok None }

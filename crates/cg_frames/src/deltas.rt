@@ -6,6 +6,7 @@ ghost use Rattle.cg_frames.specs.Layouts.{IsRead};
 ghost use Rattle.cg_frames.specs.Reading as spec;
 
 use crate::layout::Layout;
+use crate::lengths::{DELTA_LEAST, STATE_LEAST};
 use crate::misread::{Misread, ReadError};
 use crate::reader::Reader;
 use cg_entry::{Delta, State};
@@ -127,7 +128,7 @@ fn states_of(
     requires { IsRead layout.now }
     ensures { spec.GivesField (λ v. v.items) result reader.new (spec.states_at layout.now above count None reader.old) }
 {
-    let mut states = Vec::with_capacity(alloc, usize::from(count))?;
+    let mut states = Vec::with_capacity(alloc, reader.room(usize::from(count), STATE_LEAST))?;
     let mut last: Option<StateKey> = None;
     for _ in 0..count {
         let state = state_of(alloc, layout, above, reader, last)?;
@@ -184,7 +185,7 @@ pub(crate) fn deltas_of(
     requires { IsRead layout.now }
     ensures { spec.GivesField (λ v. v.items) result reader.new (spec.deltas_at layout.now count None reader.old) }
 {
-    let mut deltas = Vec::with_capacity(alloc, usize::from(count))?;
+    let mut deltas = Vec::with_capacity(alloc, reader.room(usize::from(count), DELTA_LEAST))?;
     let mut last: Option<Endpoint> = None;
     for _ in 0..count {
         let delta = delta_of(alloc, layout, reader, last)?;

@@ -8,25 +8,34 @@ ghost use Rattle.cg_frames.specs.Spelling as spelling;
 use cg_entry::Digest;
 use cg_messages::{Ack, Ack2, Lent, OwnerDelta, Request, Syn};
 
+/// The length of a digest, and that of a request.
+pub(crate) const MEMBER_LENGTH: usize = 14;
+
+/// The least length of a delta: its length without its states.
+pub(crate) const DELTA_LEAST: usize = 19;
+
+/// The least length of a state: its length without its text.
+pub(crate) const STATE_LEAST: usize = 7;
+
 fn digests_length(digests: &[Digest]) -> usize
     requires { length (spelling.members spelling.digest digests.now) < 2 ^ 32 }
     ensures { result ≡ length (spelling.members spelling.digest digests.now) }
 {
-    2 + 14 * digests.len()
+    2 + MEMBER_LENGTH * digests.len()
 }
 
 fn requests_length(requests: &[Request]) -> usize
     requires { length (spelling.members spelling.request requests.now) < 2 ^ 32 }
     ensures { result ≡ length (spelling.members spelling.request requests.now) }
 {
-    2 + 14 * requests.len()
+    2 + MEMBER_LENGTH * requests.len()
 }
 
 fn delta_length(delta: &OwnerDelta) -> usize
     requires { length (spelling.delta delta.now) < 2 ^ 32 }
     ensures { result ≡ length (spelling.delta delta.now) }
 {
-    19 + 7 * delta.delta.count() + delta.delta.text_bytes()
+    DELTA_LEAST + STATE_LEAST * delta.delta.count() + delta.delta.text_bytes()
 }
 
 fn deltas_length(deltas: &[OwnerDelta]) -> usize

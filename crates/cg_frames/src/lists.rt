@@ -3,6 +3,7 @@
 ghost use Rattle.std.specs.Prelude.{None};
 ghost use Rattle.cg_frames.specs.Reading as spec;
 
+use crate::lengths::MEMBER_LENGTH;
 use crate::misread::{Misread, ReadError};
 use crate::reader::Reader;
 use cg_entry::Digest;
@@ -30,7 +31,7 @@ pub(crate) fn digests_of(
 ) -> Result<Vec<Digest>, ReadError>
     ensures { spec.GivesField (λ v. v.items) result reader.new (spec.digests_at count None reader.old) }
 {
-    let mut digests = Vec::with_capacity(alloc, usize::from(count))?;
+    let mut digests = Vec::with_capacity(alloc, reader.room(usize::from(count), MEMBER_LENGTH))?;
     let mut last: Option<Endpoint> = None;
     for _ in 0..count {
         let digest = reader.digest(last)?;
@@ -60,7 +61,7 @@ pub(crate) fn requests_of(
 ) -> Result<Vec<Request>, ReadError>
     ensures { spec.GivesField (λ v. v.items) result reader.new (spec.requests_at count None reader.old) }
 {
-    let mut requests = Vec::with_capacity(alloc, usize::from(count))?;
+    let mut requests = Vec::with_capacity(alloc, reader.room(usize::from(count), MEMBER_LENGTH))?;
     let mut last: Option<Endpoint> = None;
     for _ in 0..count {
         let request = reader.request(last)?;

@@ -1,6 +1,6 @@
 //! Fields at the start of the rest of a frame, read with no memory.
 
-ghost use Rattle.std.specs.Prelude.{◌≡◌, ◌<◌, ◌≤◌, true, length, IfOk};
+ghost use Rattle.std.specs.Prelude.{◌≡◌, ◌<◌, ◌≤◌, ◌/◌, true, length, min, IfOk};
 ghost use Rattle.cg_types.specs.Text.{plain};
 ghost use Rattle.cg_types.specs.declared.limits.TheConstants.{NAME_LIMIT, NUMBER_LIMIT};
 ghost use Rattle.std.specs.Int.{w8, w16, w32};
@@ -9,19 +9,11 @@ ghost use Rattle.cg_frames.specs.Reading as spec;
 use crate::layout::Layout;
 use crate::misread::Misread;
 use cg_entry::Digest;
-use cg_messages::Request;
+use cg_messages::{Kind, Request};
 use cg_types::{
     Cause, Endpoint, Generation, NAME_LIMIT, NUMBER_LIMIT, STATE_LIMIT, StateKey, Version, is_plain,
 };
 use std::marker::Model;
-
-/// The kinds of messages, which the numbers 1, 2 and 3 name.
-#[derive(Clone, Copy, Debug, PartialEq, Eq)]
-pub enum Kind {
-    Syn,
-    Ack,
-    Ack2,
-}
 
 /// The rest of a frame.
 #[derive(Drop)]
@@ -48,6 +40,15 @@ impl<'a> Reader<'a> {
         ensures { result ≡ length self.now }
     {
         self.rest.len()
+    }
+
+    /// The number of members of a list to take room for: as many as are announced, but no more than the bytes that are
+    /// left can hold, if each has at least this many.
+    pub(crate) fn room(&self, count: usize, least: usize) -> usize
+        requires { 0 < least }
+        ensures { result ≡ min count (length self.now / least) }
+    {
+        count.min(self.rest.len() / least)
     }
 
     /// Tests whether nothing is left.
@@ -101,7 +102,7 @@ impl<'a> Reader<'a> {
         Ok(byte)
     }
 
-    /// Reads the kind of the message.
+    /// Reads the kind of the message, which the number 1, 2 or 3 names.
     pub(crate) fn kind(&mut self) -> Result<Kind, Misread>
         ensures { spec.Reads (λ x. x) result self.new (spec.kind_at self.old) }
     {
