@@ -101,8 +101,7 @@ fn gather(text: &[u8]) -> Option<ArrayVec<Token, TOKEN_COUNT_LIMIT>>
     Some(tokens)
 }
 
-/// Reads the tokens of a text, if it is one of tokens, as `read_tokens` does. It takes memory only for such a text;
-/// `AllocError` if there is none.
+/// Reads the tokens of a text, if it is one of tokens, as `read_tokens` does. `AllocError` comes only for such a text.
 pub fn tokens_in(alloc: Global, text: &[u8]) -> Result<Option<Vec<Token>>, AllocError>
     ensures ok { IfOk result (λ tokens. option_map (λ v. v.items) tokens ≡ tokens_of text.now) }
     ensures err { OnErr result (IsSome (tokens_of text.now)) }
@@ -115,7 +114,7 @@ pub fn tokens_in(alloc: Global, text: &[u8]) -> Result<Option<Vec<Token>>, Alloc
 
 /// Reads the tokens of an endpoint from a text, as its state `TOKENS` has it. That is 1 to `TOKEN_COUNT_LIMIT` tokens
 /// of 32 lower-case hexadecimal digits, each greater than the one before it, with one comma between them. Any other
-/// text is BadText, which is found before memory is taken; OutOfMemory comes only if the text is one of tokens.
+/// text is BadText, whatever memory there is; OutOfMemory comes only if the text is one of tokens.
 pub fn read_tokens(alloc: Global, text: &str) -> Result<Vec<Token>, Fault>
     ensures answer { Answers (λ tokens. tokens.items) (read_as (tokens_of text.now)) result }
     // The text is the one that is written for the tokens.
