@@ -122,7 +122,7 @@ impl<N: Name> Board<N> {
             appended,
             ..
         } = self;
-        publisher.append_all(alloc, puts)?;
+        publisher.append_puts(alloc, puts)?;
         *appended += 1;
         Ok(())
     }

@@ -1,5 +1,5 @@
 -- Puts of whole entries, one after the other, and the rows of some owners.
-use Rattle.std.proofs.Common.{◌≡◌, ℕ, true, false, List, [], ◌∷◌, ◌++◌, Option, Some, None, refl, sym, ap, ◌∙◌, arith}
+use Rattle.std.proofs.Common.{◌≡◌, ℕ, Bool, true, false, cond, List, [], ◌∷◌, ◌++◌, Option, Some, None, refl, sym, ap, ◌∙◌, arith}
 use Rattle.std.specs.Prelude.{⊤}
 use Rattle.std.specs.Option.{option_map, option_or}
 use Rattle.std.specs.Ordering.{nat_cmp, eq_by_cmp}
@@ -19,7 +19,7 @@ use Rattle.cg_entry.specs.Entry.{is_later}
 use Rattle.cg_entry.proofs.KeyLemmas.{find-filter}
 use Rattle.cg_table.specs.Values.{TableValue, Entries}
 use Rattle.cg_table.specs.Merge.{is_ahead, later_entries}
-use Rattle.cg_table.specs.Puts.{Put, with_put, with_puts, row_at, rows_at, is_in_order, keep_order}
+use Rattle.cg_table.specs.Puts.{Put, rising_puts, with_put, with_puts, row_at, rows_at, is_in_order, keep_order}
 use Rattle.cg_table.proofs.MergeLemmas.{get-put_each, later_rise}
 
 -- ---- puts in two parts
@@ -96,3 +96,9 @@ held_past last (p ∷ ps) m rise =
 -- rows that rise and are put are held
 pub put_each-held : (rows : List Put) (m : Entries) → Rises (keys_of rows) → AreHeld (put_each rows m) rows
 put_each-held rows m rise = held_past None rows m rise
+
+-- ---- puts of a list
+
+-- a list whose owners rise gives its puts
+pub rising_is : (ps : List Put) (o : Option (List Put)) → o ≡ rising_puts ps → Rises (keys_of ps) → o ≡ Some ps
+rising_is ps o is rise = is ∙ ap (λ (b : Bool). cond b (Some ps) None) rise

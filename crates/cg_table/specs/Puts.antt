@@ -1,9 +1,11 @@
 -- Puts of whole entries, which lead from a table to a later one.
-use Rattle.std.specs.Prelude.{ℕ, ◌==◌, Bool, true, false, ◌&&◌, ◌||◌, not, nat_le, List, [], ◌∷◌, Option, Some, None}
+use Rattle.std.specs.Prelude.{ℕ, ◌==◌, Bool, true, false, ◌&&◌, ◌||◌, not, nat_le, List, [], ◌∷◌, Option, Some, None, if◌then◌else◌}
 use Rattle.std.specs.Coded.{Coded, coded×, coded_ℕ, coded_list}
 use Rattle.std.specs.List.{list_all, filter_map}
 use Rattle.std.specs.Option.{option_map}
 use Rattle.std.specs.FinMap as map
+use Rattle.cg_types.specs.Rising.{rise_past}
+use Rattle.cg_map.specs.Rows.{keys_of}
 use Rattle.cg_map.specs.Map.{put_each}
 use Rattle.cg_entry.specs.Versioned.{Versioned, States}
 use Rattle.cg_entry.specs.Values.{EntryValue, entry_code}
@@ -17,6 +19,10 @@ Put = ℕ × EntryValue
 -- the code that a model of puts requires
 abbrev pub puts_code : Coded (List Put)
 puts_code = coded_list (coded× coded_ℕ entry_code)
+
+-- the puts of a list, if its owners rise
+abbrev pub rising_puts : List Put → Option (List Put)
+rising_puts ps = if rise_past None (keys_of ps) then Some ps else None
 
 -- The puts that lead from a table to a later one: the owners whose entry changed, rising, each with the whole new
 -- entry. An entry changes only to a later one.

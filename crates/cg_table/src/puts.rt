@@ -1,9 +1,9 @@
 //! Owners with whole new entries, which lead from a table to a later one.
 
-ghost use Rattle.std.specs.Prelude.{◌≡◌, ◌↔◌, ◌∷◌, [], IsTrue, IfOk, option_copied};
-ghost use Rattle.cg_types.specs.Rising.{Rises};
+ghost use Rattle.std.specs.Prelude.{◌≡◌, ◌↔◌, ◌∷◌, [], false, None, Ok, IsTrue, IfOk, option_copied};
+ghost use Rattle.cg_types.specs.Rising.{Rises, rise_past};
 ghost use Rattle.cg_map.specs.Rows.{keys_of};
-ghost use Rattle.cg_table.specs.Puts.{rows_at};
+ghost use Rattle.cg_table.specs.Puts.{rows_at, rising_puts};
 
 use crate::table::{Table, are_same_rows};
 use cg_entry::Entry;
@@ -68,6 +68,26 @@ fn share_some(row: Option<&Row<Entry>>) -> Result<Option<Row<Entry>>, AllocError
     }
 }
 
+/// Tests whether the owners of puts rise strictly, as those of a list of puts do. It takes no memory.
+pub fn puts_rise(puts: &[(Endpoint, Entry)]) -> bool
+    ensures { result ≡ rise_past None (keys_of puts.now) }
+{
+    puts.is_sorted_by(|put, next| put.0 < next.0)
+}
+
+// A row of each put, in their order.
+fn rows_of(alloc: Global, puts: Vec<(Endpoint, Entry)>) -> Result<Vec<Row<Entry>>, AllocError>
+    ensures { IfOk result (λ rows. rows.items ≡ puts.items) }
+{
+    let mut rows = Vec::with_capacity(alloc, puts.len())?;
+    for put in puts {
+        let (owner, entry) = put;
+        let row = Row::new(alloc, owner, entry)?;
+        rows.push(row)?;
+    }
+    Ok(rows)
+}
+
 impl Puts {
     /// A list of no puts. It takes no memory.
     pub fn none(alloc: Global) -> Puts
@@ -85,6 +105,19 @@ impl Puts {
         let mut rows = Vec::with_capacity(alloc, 1)?;
         rows.push(Row::new(alloc, owner, entry)?)?;
         Ok(Puts { rows })
+    }
+
+    /// Makes a list of puts; `None` if the owners do not rise strictly, whatever memory there is. `AllocError` if the
+    /// list or a row finds no memory.
+    pub fn of(alloc: Global, puts: Vec<(Endpoint, Entry)>) -> Result<Option<Puts>, AllocError>
+        ensures due { IfOk result (λ made. made ≡ rising_puts puts.items) }
+        ensures none { rise_past None (keys_of puts.items) ≡ false → result ≡ Ok None }
+    {
+        if !puts_rise(&puts) {
+            return Ok(None);
+        }
+        let rows = rows_of(alloc, puts)?;
+        Ok(Some(Puts { rows }))
     }
 
     /// Makes puts of what a table holds of some owners, which have to rise, as `endpoints_rise` tests. It shares the

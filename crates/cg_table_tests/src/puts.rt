@@ -1,8 +1,10 @@
 //! Puts: lists of owners with whole entries, compared and copied.
 
+use cg_entry::Entry;
 use cg_expect::expect_eq;
 use cg_samples::{bare_entry, endpoint};
-use cg_table::Puts;
+use cg_table::{Puts, puts_rise};
+use cg_types::Endpoint;
 use std::alloc::Global;
 use std::test::Fail;
 
@@ -65,4 +67,37 @@ fn puts_of_another_owner_or_entry_are_not_the_same(rt: HostRuntime) -> Result<()
     let generation = are_same(alloc, put, (1, 8, 3))?;
     let heartbeat = are_same(alloc, put, (1, 9, 4))?;
     expect_eq!((owner, generation, heartbeat), (false, false, false))
+}
+
+// Owners with bare entries of generation 9, each at its own number.
+fn listed(alloc: Global, owners: &[u16]) -> Result<Vec<(Endpoint, Entry)>, Fail> {
+    let mut puts = Vec::new(alloc);
+    for owner in owners {
+        puts.push((endpoint(*owner), bare_entry(alloc, 9, u32::from(*owner))?))?;
+    }
+    Ok(puts)
+}
+
+// Whether these owners rise, and the puts of a list of them, if they do.
+fn puts_of(alloc: Global, owners: &[u16]) -> Result<(bool, Option<Seen>), Fail> {
+    let list = listed(alloc, owners)?;
+    let rise = puts_rise(&list);
+    match Puts::of(alloc, list)? {
+        Some(puts) => Ok((rise, Some(seen(&puts)))),
+        None => Ok((rise, None)),
+    }
+}
+
+#[test]
+fn puts_of_a_list_rise(rt: HostRuntime) -> Result<(), Fail> {
+    for (owners, puts) in [
+        ([].as_slice(), Some((0, None))),
+        (&[3], Some((1, Some((3, 9, 3))))),
+        (&[1, 2, 5], Some((3, Some((1, 9, 1))))),
+        (&[2, 2], None),
+        (&[1, 3, 2], None),
+    ] {
+        expect_eq!(puts_of(rt.alloc(), owners)?, (puts.is_some(), puts))?;
+    }
+    Ok(())
 }

@@ -2,6 +2,8 @@
 
 ghost use Rattle.std.specs.Prelude.{◌≡◌, ◌∷◌, ◌<◌, ◌≤◌, ◌↔◌, [], vec_len, IfOk, IfSome, IsTrue, OnOk, OnErr};
 ghost use Rattle.std.specs.List.{All};
+ghost use Rattle.cg_types.specs.Rising.{Rises};
+ghost use Rattle.cg_map.specs.Rows.{keys_of};
 ghost use Rattle.left_right.specs.Sides.{view};
 ghost use Rattle.cg_views.specs.Lists.{MayAppend, appended, opened_with, all_published};
 
@@ -79,10 +81,28 @@ impl<N: Naming> Publisher<N> {
         self.add(alloc, &put)
     }
 
-    /// Makes one operation of all these puts, which are then pending. `may_append` says whether they may; no puts
-    /// always may, and make an operation too. If it is refused, for want of memory, nothing changes, and the list is
-    /// gone.
-    pub fn append_all(&mut self, alloc: Global, puts: Puts) -> Result<(), AllocError>
+    /// Makes one operation of all these puts, an owner with an entry each, which are then pending. The owners have to
+    /// rise, as `puts_rise` tests, and `may_append` says whether `Puts` of them may be appended; no puts always may, and
+    /// make an operation too. If it is refused, for want of memory, nothing changes, and the list is gone.
+    pub fn append_all(
+        &mut self,
+        alloc: Global,
+        puts: Vec<(Endpoint, Entry)>,
+    ) -> Result<(), AllocError>
+        requires rise { Rises (keys_of puts.items) }
+        requires later { MayAppend self.old puts.items }
+        ensures ok { OnOk result (self.new ≡ appended puts.items self.old) }
+        ensures err { OnErr result (self.new ≡ self.old) }
+    {
+        let made = Puts::of(alloc, puts)?;
+        match made {
+            Some(puts) => self.add(alloc, &puts),
+            None => unreachable!(),
+        }
+    }
+
+    /// Appends as `append_all` does, of puts that may share their entries with a table.
+    pub fn append_puts(&mut self, alloc: Global, puts: Puts) -> Result<(), AllocError>
         requires { MayAppend self.old puts }
         ensures ok { OnOk result (self.new ≡ appended puts self.old) }
         ensures err { OnErr result (self.new ≡ self.old) }

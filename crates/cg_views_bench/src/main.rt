@@ -76,7 +76,7 @@ fn append<N: Naming>(
 ) -> Result<(), Fault> {
     let puts = Puts::one(alloc, owner, entry)?;
     if publisher.may_append(&puts) {
-        publisher.append_all(alloc, puts)?;
+        publisher.append_puts(alloc, puts)?;
     }
     Ok(())
 }

@@ -1,15 +1,15 @@
 //! Puts that may and may not be appended, puts of several owners, full tables, many operations of one publisher.
 
-ghost use Rattle.std.specs.Prelude.{◌≡◌};
+ghost use Rattle.std.specs.Prelude.{◌≡◌, ◌∷◌, [], IfOk};
 
 use crate::entries::heartbeat;
 use cg_entry::Entry;
 use cg_expect::expect_eq;
 use cg_samples::{A, B, C, bare_entry, delta, endpoint, state};
 use cg_table::{Puts, Table};
-use cg_types::Fault;
+use cg_types::{Endpoint, Fault};
 use cg_views::{Naming, Opened, Pass, Publisher, views};
-use std::alloc::Global;
+use std::alloc::{AllocError, Global};
 use std::marker::Brand;
 use std::sync::Wait;
 use std::test::Fail;
@@ -29,7 +29,7 @@ fn append_one<N: Naming>(
     Ok(publisher.append(alloc, owner, entry)?)
 }
 
-// Appends puts by `append_all`, if they may be appended.
+// Appends puts by `append_puts`, if they may be appended.
 pub(crate) fn append<N: Naming>(
     alloc: Global,
     publisher: &mut Publisher<N>,
@@ -38,7 +38,7 @@ pub(crate) fn append<N: Naming>(
     if !publisher.may_append(&puts) {
         return Err(Fail::from("puts that may not be appended"));
     }
-    Ok(publisher.append_all(alloc, puts)?)
+    Ok(publisher.append_puts(alloc, puts)?)
 }
 
 // ---- puts that may be appended
@@ -71,16 +71,37 @@ fn may_each<N: Naming>(
 
 // ---- several owners
 
-// The entries of A at heartbeat 6, with key 3 at version 4, and of B at heartbeat 1.
-fn two_puts(alloc: Global) -> Result<Puts, Fail> {
-    let table = Table::new(alloc, endpoint(A), entry(alloc, (9, 6, 4))?)?;
-    let other = Table::new(alloc, endpoint(B), bare_entry(alloc, 9, 1)?)?;
-    let both = table.merge(alloc, &other)?;
+// A list of two puts.
+fn two_puts(
+    alloc: Global,
+    first: (Endpoint, Entry),
+    second: (Endpoint, Entry),
+) -> Result<Vec<(Endpoint, Entry)>, AllocError>
+    ensures { IfOk result (λ puts. puts.items ≡ first ∷ (second ∷ [])) }
+{
+    let mut puts = Vec::with_capacity(alloc, 2)?;
+    puts.push(first)?;
+    puts.push(second)?;
+    Ok(puts)
+}
+
+// Appends a put of A and one of B as a list, by `append_all`, if they may be appended.
+fn append_two<N: Naming>(
+    alloc: Global,
+    publisher: &mut Publisher<N>,
+    of_a: Entry,
+    of_b: Entry,
+) -> Result<(), Fail> {
     let (a, b) = (endpoint(A), endpoint(B));
-    if a >= b {
-        return Err(Fail::from("endpoints that rise"));
+    let list = two_puts(alloc, (a, of_a.copy(alloc)?), (b, of_b.copy(alloc)?))?;
+    let Some(puts) = Puts::of(alloc, list)? else {
+        return Err(Fail::from("owners that rise"));
+    };
+    if !publisher.may_append(&puts) {
+        return Err(Fail::from("puts that may not be appended"));
     }
-    Ok(Puts::of_owners(alloc, &both, &[a, b])?)
+    let list = two_puts(alloc, (a, of_a), (b, of_b))?;
+    Ok(publisher.append_all(alloc, list)?)
 }
 
 // The number of owners that a pass reads, and A's heartbeat.
@@ -90,14 +111,15 @@ fn read<N: Naming>(pass: &mut Pass<N>) -> Result<(u32, u32), Fault> {
     Ok((table.owners().len() as u32, heartbeat(table)))
 }
 
-// Reads before and after the two are published.
+// Reads before and after A at heartbeat 6, with key 3 at version 4, and B at heartbeat 1 are published.
 fn read_two<N: Naming, R: Wait>(
     rt: &R,
     alloc: Global,
     publisher: &mut Publisher<N>,
     pass: &mut Pass<N>,
 ) -> Result<Vec<u32>, Fail> {
-    append(alloc, publisher, two_puts(alloc)?)?;
+    let (of_a, of_b) = (entry(alloc, (9, 6, 4))?, bare_entry(alloc, 9, 1)?);
+    append_two(alloc, publisher, of_a, of_b)?;
     let before = read(pass)?;
     publisher.publish(rt)?;
     let after = read(pass)?;

@@ -16,7 +16,7 @@ use std::test::Fail;
 // One call.
 #[derive(Clone, Copy)]
 enum Call {
-    // A at this heartbeat, by `append_all`
+    // A at this heartbeat, by `append_puts`
     Append(u32),
     // no puts
     AppendNone,
