@@ -3,6 +3,7 @@
 use cg_events::{Event, Reply};
 use cg_table::Puts;
 use cg_types::Fault;
+use thiserror::Error;
 
 /// A record of an event done: its caller, the event, the node's reply, and the owners whose entry it changed. These
 /// rise, each with its whole new entry, which is shared with the node's table.
@@ -24,7 +25,8 @@ pub struct Receipt {
 }
 
 /// The first of some receipts that is not confirmed: its place among them, counted from 0, and the reason.
-#[derive(Clone, Copy, Debug, PartialEq, Eq)]
+#[derive(Clone, Copy, Debug, PartialEq, Eq, Error)]
+#[error("receipt {place}, counted from 0, is not confirmed: {fault}")]
 pub struct Stray {
     pub place: usize,
     pub fault: Fault,
