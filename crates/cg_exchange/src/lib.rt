@@ -9,4 +9,5 @@ mod taking;
 mod walking;
 
 pub use answers::{answer_syn, syn};
+pub use cg_messages::{Ack, Ack2, Message, Outcome, Request, Syn};
 pub use taking::{take_ack, take_ack2};
