@@ -3,7 +3,7 @@
 
 use cg_expect::{expect, expect_eq};
 use cg_samples::long_text;
-use cg_types::laws::limits_have_their_values;
+use cg_types::laws::{keys_have_names_of_their_own, limits_have_their_values};
 use cg_types::{
     Cause, Cluster, Endpoint, Fault, Generation, Owned, StateKey, StateText, Version, cut,
     endpoints_rise, is_plain, number, number_between, owners_rise,
@@ -160,6 +160,17 @@ fn keys_have_names() -> Result<(), Fail> {
         (16, "X3"),
     ] {
         expect_eq!(key_name(number), Some(name))?;
+    }
+    Ok(())
+}
+
+#[test]
+fn no_two_keys_have_one_name() -> Result<(), Fail> {
+    keys_have_names_of_their_own();
+    for number in 1..17 {
+        for other in 1..number {
+            expect!(key_name(other) != key_name(number))?;
+        }
     }
     Ok(())
 }

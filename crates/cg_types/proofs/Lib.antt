@@ -4,3 +4,4 @@ pub mod EndpointLaws
 pub mod PlainLemmas
 pub mod NeighbourLemmas
 pub mod AnswerLemmas
+pub mod KeyLaws

@@ -1,6 +1,7 @@
 -- The names of the state keys.
-use Rattle.std.specs.Prelude.{ℕ, ◌==◌, List, codes, if◌then◌else◌}
+use Rattle.std.specs.Prelude.{ℕ, ◌≡◌, ◌==◌, List, codes, if◌then◌else◌}
 use Rattle.cg_types.specs.declared.limits.TheConstants.{STATUS_KEY, TOKENS_KEY}
+use Rattle.cg_types.specs.Numbers.{IsKey}
 
 -- the name of a key from 1 to 16
 unfoldable pub key_name : ℕ → List ℕ
@@ -21,3 +22,7 @@ key_name k =
     else if k == 14 then codes "X1"
     else if k == 15 then codes "X2"
     else codes "X3"
+
+-- keys with one name are one key
+abbrev pub EachKeyHasItsName : Type 0
+EachKeyHasItsName = (j k : ℕ) → IsKey j → IsKey k → key_name j ≡ key_name k → j ≡ k
