@@ -1,17 +1,21 @@
-"""The programs of the crates, proved and built, as `rt ci` leaves them in crates/NAME/out."""
+#!/usr/bin/env python3
+"""usage: scripts/programs.py CRATE
 
+Prints the path of a crate's program, crates/CRATE/out/CRATE, proved and built. If it is missing or older than its sources, rt ci
+makes it first, of that crate and those below it. That takes some minutes if this machine keeps their proofs, which rt ci keeps by
+checksums of all that it read, and up to an hour on 4 cores if not. It needs Python 3.8 and the Rattle toolchain.
+"""
 import functools
 import os
-import re
+import shutil
 import subprocess
 import sys
 import tempfile
 
-from command import TOP, crates_listed, need
+from command import TOP, Words, crates_listed, need, text_of
 
 PARTS = ("src", "specs", "proofs")
-# A line of `rt help` that says that `rt ci` takes names of crates.
-TAKES_NAMES = re.compile(r"\brt ci \[?NAME")
+EDITS = shutil.ignore_patterns("out", "edits", "further-edits", "must-fail")
 
 
 def crates_below(name):
@@ -38,13 +42,28 @@ def lack_of(name, program):
     return "is older than its sources" if os.path.getmtime(program) < newest_change(name) else ""
 
 
-def ways_to_build(name):
-    """The commands that build the program, each with how long it takes, the quickest first."""
-    need("rt")
-    said = subprocess.run(["rt", "help"], stdout=subprocess.PIPE, stderr=subprocess.STDOUT, text=True, errors="replace").stdout
-    if TAKES_NAMES.search(said):
-        yield ["rt", "ci", name], "some minutes if the proofs are kept on this machine, and up to an hour on 4 cores if not"
-    yield ["rt", "ci"], "one to two hours on 4 cores, since it proves all crates"
+def copy_of(name, top):
+    """Makes a repository of a crate and those below it, without edits."""
+    crates = crates_below(name)
+    for crate in crates:
+        shutil.copytree(f"{TOP}/crates/{crate}", f"{top}/crates/{crate}", ignore=EDITS)
+    shutil.copyfile(f"{TOP}/HANDLES", f"{top}/HANDLES")
+    lines = [line for line in text_of(f"{TOP}/crates.txt").split("\n") if line.split(":")[0].split(" ")[0] in crates]
+    with open(f"{top}/crates.txt", "w", encoding="utf-8") as file:
+        file.write("".join(f"{line}\n" for line in lines))
+
+
+def make(name, log):
+    """Has rt ci prove and build a crate, and takes its programs, with the time of now. It works on a copy, as rt ci CRATE does,
+    which takes its copy away with the programs in it."""
+    with tempfile.TemporaryDirectory(prefix="rt-program-") as top, open(log, "w", encoding="utf-8") as out:
+        copy_of(name, top)
+        subprocess.run(["rt", "ci"], cwd=top, stdin=subprocess.DEVNULL, stdout=out, stderr=subprocess.STDOUT)
+        made = f"{top}/crates/{name}/out"
+        os.makedirs(f"{TOP}/crates/{name}/out", exist_ok=True)
+        for file in (name, f"{name}_tests"):
+            if os.path.isfile(f"{made}/{file}"):
+                shutil.copy(f"{made}/{file}", f"{TOP}/crates/{name}/out/{file}")
 
 
 @functools.lru_cache(maxsize=None)
@@ -54,15 +73,25 @@ def built(name, ending=""):
     program = f"{TOP}/crates/{name}/out/{name}{ending}"
     short = os.path.relpath(program, TOP)
     why = lack_of(name, program)
-    for command, how_long in ways_to_build(name) if why else []:
-        log = f"{tempfile.gettempdir()}/{'-'.join(command)}.log"
-        print(f"{short} {why}: {' '.join(command)} makes it and prints to {log}. It takes {how_long}.", file=sys.stderr, flush=True)
-        with open(log, "w", encoding="utf-8") as out:
-            status = subprocess.run(command, cwd=TOP, stdin=subprocess.DEVNULL, stdout=out, stderr=subprocess.STDOUT).returncode
-        why = lack_of(name, program)
-        # (an rt ci NAME that works on a copy may leave no program here)
-        if status or not why:
-            break
     if why:
-        sys.exit(f"{short} {why}, and {' '.join(command)} did not make it: see {log}")
+        need("rt")
+        log = f"{tempfile.gettempdir()}/rt-program-{name}.log"
+        how_long = "some minutes if this machine keeps the proofs, and up to an hour on 4 cores if not"
+        print(f"{short} {why}: rt ci makes it and prints to {log}. It takes {how_long}.", file=sys.stderr, flush=True)
+        make(name, log)
+        why = lack_of(name, program)
+    if why:
+        sys.exit(f"{short} {why}, and rt ci did not make it: see {log}")
     return program
+
+
+def main():
+    words = Words(__doc__)
+    words.add_argument("crate", metavar="CRATE")
+    given = words.parse_args()
+    words.check_crates([given.crate], crates_listed())
+    print(os.path.relpath(built(given.crate)))
+
+
+if __name__ == "__main__":
+    main()
