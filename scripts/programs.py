@@ -1,9 +1,10 @@
 #!/usr/bin/env python3
 """usage: scripts/programs.py CRATE
 
-Prints the path of a crate's program, crates/CRATE/out/CRATE, proved and built. If it is missing or older than its sources, rt ci
-makes it first, of that crate and those below it. That takes some minutes if this machine keeps their proofs, which rt ci keeps by
-checksums of all that it read, and up to an hour on 4 cores if not. It needs Python 3.8 and the Rattle toolchain.
+Prints the path of a crate's program, crates/CRATE/out/CRATE, proved and built. If it is missing or older than its
+sources, rt ci makes it first, of that crate and those below it. That takes some minutes if this machine keeps their
+proofs, which rt ci keeps by checksums of all that it read, and up to an hour on 4 cores if not. It needs Python 3.8 and
+the Rattle toolchain.
 """
 import functools
 import os
@@ -32,7 +33,8 @@ def crates_below(name):
 def newest_change(name):
     """The time of the last change to a source of a crate or of one below it, in seconds since 1970."""
     folders = [f"{TOP}/crates/{crate}/{part}" for crate in crates_below(name) for part in PARTS]
-    return max(os.path.getmtime(f"{at}/{file}") for folder in folders for at, _, files in os.walk(folder) for file in files)
+    walks = [walk for folder in folders for walk in os.walk(folder)]
+    return max(os.path.getmtime(f"{at}/{file}") for at, _, files in walks for file in files)
 
 
 def lack_of(name, program):
@@ -54,8 +56,8 @@ def copy_of(name, top):
 
 
 def make(name, log):
-    """Has rt ci prove and build a crate, and takes its programs, with the time of now. It works on a copy, as rt ci CRATE does,
-    which takes its copy away with the programs in it."""
+    """Has rt ci prove and build a crate, and takes its programs, with the time of now. It works on a copy, as rt ci
+    CRATE does, which takes its copy away with the programs in it."""
     with tempfile.TemporaryDirectory(prefix="rt-program-") as top, open(log, "w", encoding="utf-8") as out:
         copy_of(name, top)
         subprocess.run(["rt", "ci"], cwd=top, stdin=subprocess.DEVNULL, stdout=out, stderr=subprocess.STDOUT)
@@ -68,8 +70,8 @@ def make(name, log):
 
 @functools.lru_cache(maxsize=None)
 def built(name, ending=""):
-    """Returns the path of a crate's program, with the ending _tests of its tests. If it is missing or older than its sources,
-    `rt ci` makes it first."""
+    """Returns the path of a crate's program, with the ending _tests of its tests. If it is missing or older than its
+    sources, `rt ci` makes it first."""
     program = f"{TOP}/crates/{name}/out/{name}{ending}"
     short = os.path.relpath(program, TOP)
     why = lack_of(name, program)

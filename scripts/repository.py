@@ -33,6 +33,10 @@ def is_file(path: str) -> bool:
     return os.path.isfile(os.path.join(TOP, path))
 
 
+def text_if_there(path: str) -> str:
+    return text_of(path) if is_file(path) else ""
+
+
 def entries(path: str) -> List[Tuple[int, str, str]]:
     """Returns the lines `HEAD: REST` of a data file as (line, HEAD, REST), without empty lines and those that begin with #."""
     lines = enumerate(text_of(path).split("\n"), 1)
@@ -446,7 +450,7 @@ class Edit:
             word, _, rest = line.replace(LINE_END, "\n").partition(" ")
             if word == "file:":
                 file = rest
-                texts.setdefault(file, text_of(f"crates/{crate}/{file}"))
+                texts.setdefault(file, text_if_there(f"crates/{crate}/{file}"))
             elif word == "old:":
                 old = rest
                 self.turned.add(function_at(file, texts[file], texts[file].find(old)))
@@ -461,7 +465,7 @@ class Edit:
     def make(self, texts: Dict[str, str], crate: str) -> str:
         """Makes the edit in texts, by file, and says why it can't be made."""
         for file, old, new in self.pairs:
-            text = texts.get(file) or text_of(f"crates/{crate}/{file}")
+            text = texts.get(file) or text_if_there(f"crates/{crate}/{file}")
             if text.count(old) != 1:
                 return f"a text to replace is {text.count(old)} times in {file}, and not once"
             texts[file] = text.replace(old, new)
