@@ -155,8 +155,19 @@ table_keeps t (event.Syn syn) after is other = ap (λ (u : TableValue). get u.en
 table_keeps t (event.Ack now ack) after is other = deltas_keep t ack.deltas after is.is
 table_keeps t (event.Ack2 now ack2) after is other = deltas_keep t ack2.deltas after is.is
 
+own_kept : (t : TableValue) (e : Event) (after : TableValue) → TableAfter t e after → after.own ≡ t.own
+own_kept t event.Beat after is = ap (λ (u : TableValue). u.own) is
+own_kept t (event.Set key text) after is = ap (λ (u : TableValue). u.own) is
+own_kept t (event.Tick now words) after is = ap (λ (u : TableValue). u.own) is
+own_kept t event.Opening after is = ap (λ (u : TableValue). u.own) is
+own_kept t (event.Syn syn) after is = ap (λ (u : TableValue). u.own) is
+own_kept t (event.Ack now ack) after is = ap (λ (u : TableValue). u.own) is.is ∙ own_stays t ack.deltas
+own_kept t (event.Ack2 now ack2) after is = ap (λ (u : TableValue). u.own) is.is ∙ own_stays t ack2.deltas
+
 pub only_own_events_change_the_own_entry : OnlyOwnEventsChangeTheOwnEntry
-only_own_events_change_the_own_entry n e after answer is other = table_keeps n.table e after.table (tables_go_by_their_rules n e after answer is) other
+only_own_events_change_the_own_entry n e after answer is =
+    let goes : TableAfter n.table e after.table = tables_go_by_their_rules n e after answer is in
+    (own_kept n.table e after.table goes, table_keeps n.table e after.table goes)
 
 -- ---- the number of owners held
 

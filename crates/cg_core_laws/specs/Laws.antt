@@ -93,12 +93,13 @@ is_own_change (event.Syn syn) = false
 is_own_change (event.Ack now ack) = false
 is_own_change (event.Ack2 now ack2) = false
 
--- Events other than these leave the own entry as it is.
+-- No event changes whose entry the own one is, and events other than these leave that entry as it is.
 abbrev pub OnlyOwnEventsChangeTheOwnEntry : Type 0
 OnlyOwnEventsChangeTheOwnEntry =
     (n : NodeValue) (e : Event) (after : NodeValue) (answer : Reply) → Leads n e after answer
-    → is_own_change e ≡ false
-    → map.get after.table.entries after.table.own ≡ map.get n.table.entries n.table.own
+    → (after.table.own ≡ n.table.own)
+    × (is_own_change e ≡ false
+      → map.get after.table.entries after.table.own ≡ map.get n.table.entries n.table.own)
 
 -- A node that starts is small, and stays small after any events, refused ones among them.
 pub record NodesStaySmall : Type 0 where

@@ -36,7 +36,8 @@ pub fn sets_put_their_text()
     ensures { SetsPutTheirText }
 {}
 
-/// Only Beat, Set and Tick change the own entry.
+/// The own entry changes by no event but Beat, Set and Tick, and a node keeps its endpoint at every event.
+/// `Node::with_own` is no event: it makes a node with any own entry.
 pub fn only_own_events_change_the_own_entry()
     ensures { OnlyOwnEventsChangeTheOwnEntry }
 {}
