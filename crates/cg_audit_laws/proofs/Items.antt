@@ -5,24 +5,13 @@ use Rattle.std.specs.Option.{option_to_list}
 use Rattle.std.proofs.lemmas.List.Elements.{Contains-append_cases, Contains-push_cases}
 use Rattle.cg_types.specs.Text.{ClusterValue}
 use Rattle.cg_messages.specs.declared.message.Message.{Message}
-use Rattle.cg_events.specs.declared.reply.Reply.{Reply}
-use Rattle.cg_events.specs.declared.reply.Reply.TheVariants as replies
-use Rattle.cg_events.specs.Sending as sending
 use Rattle.cg_places.specs.PlaceWorld.{PlaceWorld}
 use Rattle.cg_places.proofs.OnwardLemmas.{Keeps}
-use Rattle.cg_steps.specs.Step.{message_of, SaysSent, IsSentBefore}
+use Rattle.cg_steps.specs.Step.{SaysSent, IsSentBefore}
 use Rattle.cg_world.proofs.SpellingLemmas.{says_on}
 use Rattle.cg_one_run.specs.Items.{RunItem}
 use Rattle.cg_one_run.specs.OneRun.{messages_of, WasSent}
 use Rattle.cg_one_run.proofs.ItemLemmas.{messages_both}
-
--- the message that a reply sends
-pub same_sent : (r : Reply) → sending.message_of r ≡ message_of r
-same_sent (replies.Done version) = refl
-same_sent (replies.Round peers syn) = refl
-same_sent (replies.Sent m) = refl
-same_sent (replies.Both outcomes ack2) = refl
-same_sent (replies.Took outcomes) = refl
 
 -- The world has each message that these items sent.
 abbrev pub AllSaid : PlaceWorld → List RunItem → Type 0

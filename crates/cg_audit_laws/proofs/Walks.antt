@@ -51,7 +51,7 @@ use Rattle.cg_one_run.specs.OneRun.{WasSent, EachWasSent, items_by}
 use Rattle.cg_audit_laws.specs.RunHeadline.{IsLife, WasOwnFrom, WasOwnIn, delta_handed, took_from, GapsLiePast}
 use Rattle.cg_audit_laws.proofs.Stages.{Now, Stage, Idle, Going, items_left, last_of, OwnIn, IsGoing, IsStage, Goes, own_later, own_after, own_at_end, own_here, stage_stays, GapsIn, no_gaps, same_step}
 use Rattle.cg_audit_laws.proofs.Taking.{others_take_nothing, step_marked, step_told}
-use Rattle.cg_audit_laws.proofs.Items.{same_sent, AllSaid, sent_before, said_more}
+use Rattle.cg_audit_laws.proofs.Items.{AllSaid, sent_before, said_more}
 
 -- ---- generations
 
@@ -148,7 +148,7 @@ module _ (w : PlaceWorld) (gone : List RunItem) (sound : IsSound w) (knows : Kno
     sends m it = go (subst (λ (o : Option Message). Sends k.node.settings.cluster w v o) (sym it_is ∙ it) by_places.sends)
       where
         it_is : i.sent ≡ message_of x.1
-        it_is = ap (λ (j : RunItem). j.sent) item ∙ same_sent r.reply ∙ ap message_of replied
+        it_is = ap (λ (j : RunItem). j.sent) item ∙ ap message_of replied
 
         go : SendsOne k.node.settings.cluster w v m → (number : ℕ) × SaysSent v number m
         go one = (

@@ -14,9 +14,9 @@ use Rattle.cg_exchange_laws.specs.Laws.{Says}
 use Rattle.cg_events.specs.declared.event.Event.{Event}
 use Rattle.cg_events.specs.declared.event.Event.TheVariants as event
 use Rattle.cg_events.specs.declared.reply.Reply.{Reply}
-use Rattle.cg_events.specs.declared.reply.Reply.TheVariants as reply
 use Rattle.cg_core.specs.Values.{NodeValue}
 use Rattle.cg_events.specs.Replies.{outcomes_in}
+pub use Rattle.cg_events.specs.Sending.{message_of}
 use Rattle.cg_core.specs.Step.{node_step}
 use Rattle.cg_places.specs.PlaceWorld.{PlaceWorld, PlaceAction, Start, Beat, Set, Opening, Tick, Deliver, runs, after_action}
 use Rattle.cg_places.specs.Laws.{IsWorld}
@@ -31,14 +31,6 @@ message_in event.Opening = None
 message_in (event.Syn syn) = Some (message.Syn syn)
 message_in (event.Ack now ack) = Some (message.Ack ack)
 message_in (event.Ack2 now ack2) = Some (message.Ack2 ack2)
-
--- the message that a reply sends, if it sends one
-abbrev pub message_of : Reply → Option Message
-message_of (reply.Done version) = None
-message_of (reply.Round peers syn) = Some (message.Syn syn)
-message_of (reply.Sent m) = Some m
-message_of (reply.Both outcomes ack2) = Some (message.Ack2 ack2)
-message_of (reply.Took outcomes) = None
 
 -- the action by places of a node's event; a message that it hands over is the one of this number
 abbrev pub action_at : ℕ → ℕ → Event → PlaceAction

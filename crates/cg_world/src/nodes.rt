@@ -54,12 +54,10 @@ fn stepped(alloc: Global, node: &Node, event: &LocalEvent) -> Result<(Node, Repl
 fn message_of(alloc: Global, reply: &Reply) -> Result<Option<Message>, AllocError>
     ensures { IfOk result (λ m. m ≡ message_of_reply reply.now) }
 {
-    Ok(match reply {
-        Reply::Done(_) | Reply::Took(_) => None,
-        Reply::Round { syn, .. } => Some(Message::Syn(syn.copy(alloc)?)),
-        Reply::Sent(message) => Some(message.copy(alloc)?),
-        Reply::Both { ack2, .. } => Some(Message::Ack2(ack2.copy(alloc)?)),
-    })
+    match reply.message() {
+        Some(message) => Ok(Some(message.copy(alloc)?)),
+        None => Ok(None),
+    }
 }
 
 impl Nodes {
