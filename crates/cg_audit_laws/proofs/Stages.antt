@@ -17,7 +17,7 @@ use Rattle.cg_places.proofs.FollowLemmas.{spelling_stays}
 use Rattle.cg_places.proofs.OwnerLemmas.{last_entry_runs}
 use Rattle.cg_steps.specs.Step.{IsPlaced}
 use Rattle.cg_steps.proofs.StepLaws.{own_held}
-use Rattle.cg_world.specs.Headline.{Mark}
+use Rattle.cg_world.specs.Terms.{Mark}
 use Rattle.cg_world.proofs.HeadlineLaws.{Marked, marked_still}
 use Rattle.cg_records.specs.declared.item.Item.{Item}
 use Rattle.cg_history.specs.History.{record_of, HistoryValue, Replays}

@@ -33,8 +33,8 @@ use Rattle.cg_world.specs.declared.action.Action.{Action}
 use Rattle.cg_world.specs.declared.action.Action.TheVariants.{Local, Deliver}
 use Rattle.cg_world.specs.declared.action.LocalEvent.TheVariants.{Beat, Set, Opening, Tick}
 use Rattle.cg_world.specs.World.{plain}
-use Rattle.cg_world.specs.Taken.{deltas_in, with_outcome, taker, is_gap}
-use Rattle.cg_world.specs.Headline.{Mark, mark_led_to, with_delta, LiesPast}
+use Rattle.cg_world.specs.Terms.{deltas_in, is_gap, Mark, mark_led_to, with_delta, LiesPast}
+use Rattle.cg_world.specs.Taken.{with_outcome, taker}
 use Rattle.cg_world.proofs.MarkLemmas.{mark_at, IsDeltaTo, span_delta}
 use Rattle.cg_world.proofs.GapLaws.{spans_are, lies_past, gap_by_place}
 use Rattle.cg_world.proofs.TakenLaws.{outcome_at, spans_counted, message_takes_nothing, local_takes_nothing, action_leaves}

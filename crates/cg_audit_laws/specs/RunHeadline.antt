@@ -16,10 +16,8 @@ use Rattle.cg_settings.specs.Values.{SettingsValue}
 use Rattle.cg_core.specs.Values.{NodeValue}
 use Rattle.cg_events.specs.Replies.{outcomes_in}
 use Rattle.cg_core.specs.Step.{starting_node}
-use Rattle.cg_places.specs.TableLaws.{AreEqual}
 use Rattle.cg_steps.specs.Step.{message_in}
-use Rattle.cg_world.specs.Taken.{deltas_in, is_gap}
-use Rattle.cg_world.specs.Headline.{Mark, mark_of, HasGreatest, LiesPast, with_delta}
+use Rattle.cg_world.specs.Terms.{AreEqual, deltas_in, is_gap, Mark, mark_of, HasGreatest, LiesPast, with_delta}
 use Rattle.cg_records.specs.declared.item.Item.{Item}
 use Rattle.cg_records.specs.declared.item.Receipt.{Receipt}
 use Rattle.cg_history.specs.History.{HistoryValue, Replays, new_history, apply}

@@ -12,7 +12,7 @@ use Rattle.cg_ring.specs.Ring.{ring}
 use Rattle.cg_places.specs.PlaceWorld.{PlaceWorld, PlaceAction, world_after}
 use Rattle.cg_places.specs.Spelling.{SpellsNode}
 use Rattle.cg_places.specs.Join.{join}
-use Rattle.cg_places.specs.TableLaws.{TablesAreJoined, AreEqual, EqualSourcesEqualTables, EqualDigestsEqualTables, MergesAreJoined, TablesFindRoom}
+use Rattle.cg_places.specs.TableLaws.{TablesAreJoined, EqualSourcesEqualTables, EqualDigestsEqualTables, MergesAreJoined, TablesFindRoom}
 use Rattle.cg_places.proofs.WorldLemmas.{actions_sound, places_join}
 use Rattle.cg_places.proofs.OwnerLemmas.{actions_knows, spelled_small}
 use Rattle.cg_places.proofs.RoomLemmas.{room_for_deltas, room_for_merge}
@@ -29,8 +29,8 @@ tables_are_joined actions node entries s =
     }
 
 -- equal entries have equal rings
-alike : (one other : Entries) → one ≡ other → AreEqual one other
-alike one other e = record { entries = e; rings = ap ring e }
+alike : (one other : Entries) → one ≡ other → (one ≡ other) × (ring one ≡ ring other)
+alike one other e = (e, ap ring e)
 
 pub equal_sources_equal_tables : EqualSourcesEqualTables
 equal_sources_equal_tables actions a b one other sa sb same =

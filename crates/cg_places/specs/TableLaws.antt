@@ -34,25 +34,20 @@ TablesAreJoined =
     (actions : List PlaceAction) (node : ℕ) (entries : Entries) → SpellsNode (world_after actions) node entries
     → IsJoined (world_after actions) node entries
 
--- Two tables are equal, and so are their rings.
-pub record AreEqual (one other : Entries) : Type 0 where
-  pub entries : one ≡ other
-  pub rings : ring one ≡ ring other
-
--- Equal sources give equal tables, in any order and number of deliveries.
+-- Equal sources give equal tables and rings, in any order and number of deliveries.
 abbrev pub EqualSourcesEqualTables : Type 0
 EqualSourcesEqualTables =
     (actions : List PlaceAction) (a b : ℕ) (one other : Entries) → SpellsNode (world_after actions) a one
     → SpellsNode (world_after actions) b other
     → ((owner : ℕ) → SamePlaces (sources (world_after actions) a owner) (sources (world_after actions) b owner))
-    → AreEqual one other
+    → (one ≡ other) × (ring one ≡ ring other)
 
--- Equal digests give equal tables.
+-- Equal digests give equal tables and rings.
 abbrev pub EqualDigestsEqualTables : Type 0
 EqualDigestsEqualTables =
     (actions : List PlaceAction) (a b : ℕ) (one other : Entries) → SpellsNode (world_after actions) a one
     → SpellsNode (world_after actions) b other
-    → digests_of one ≡ digests_of other → AreEqual one other
+    → digests_of one ≡ digests_of other → (one ≡ other) × (ring one ≡ ring other)
 
 -- Properties of the merged tables of three nodes.
 pub record IsMergedOf (w : PlaceWorld) (a b c : ℕ) (entries : Entries) : Type 0 where

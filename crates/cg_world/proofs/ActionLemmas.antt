@@ -45,6 +45,7 @@ use Rattle.cg_places.proofs.FollowLemmas.{follow, replaced_spells}
 use Rattle.cg_steps.specs.Step.{message_in, message_of, action_at, span_handed, IsPlaced, IsSentBefore, IsSent, Sends, IsStepAt}
 use Rattle.cg_steps.proofs.StepLaws.{own_held as own_is_held, steps_are_by_places}
 use Rattle.cg_world.specs.World.{LocalEvent, Beat, Set, Opening, Tick, Action, Start, Local, Deliver, WorldValue, tables_of, with_node, with_sent, after_step, step_of, step_at, generation_held, event_of, arrival_of, acting, plain_local, plain}
+use Rattle.cg_world.specs.Terms.{own_at}
 use Rattle.cg_world.specs.WorldLaws.{AllSent, IsNodeAt, SpellsWorld}
 use Rattle.cg_world.proofs.SpellingLemmas.{Tied, Bounded, BothSent, both_at, all_stay, all_push, nodes_with, replaced, len_with, entries_in, node_spells}
 
@@ -96,6 +97,14 @@ module _ (c : WorldValue) (w : PlaceWorld) (t : Tied c w) (node : ℕ) where
 
     many_still : (m : NodeValue) → map.len (map.insert c.nodes node m) ≡ length w.owners
     many_still m = len_with c node m true (ap is_some e) ∙ t.is.as_many
+
+  own_by : (o : Option NodeValue) → map.get c.nodes node ≡ o → option_map (λ n. own_entry n.table) o ≡ last_entry (w.histories node)
+  own_by None e = sym (no_entry e)
+  own_by (Some n) e = sym (own_held n e)
+
+  -- the last entry of its history
+  pub own_last : own_at c node ≡ last_entry (w.histories node)
+  own_last = own_by (map.get c.nodes node) refl
 
   generation_by : (o : Option NodeValue) → map.get c.nodes node ≡ o → generation_held o ≡ generation_at (w.histories node) (length (w.histories node))
   generation_by None e = ap generation_of (sym (no_entry e))

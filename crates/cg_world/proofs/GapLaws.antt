@@ -1,7 +1,7 @@
--- Gaps: the deltas that lie past what is held, and no others.
+-- Each delta that is handed over is told of; as gaps are told those that lie past what is held, and no others.
 use Rattle.std.proofs.Common.{◌≡◌, ℕ, ◌<◌, ◌≤◌, ◌⊎◌, inl, inr, List, [], ◌∷◌, ◌++◌, length, refl, sym, ◌∙◌, ap, subst, arith, Bool, true, false, Option, Some, None}
-use Rattle.std.specs.Prelude.{◌↔◌, ◌==◌, IsTrue, nat_le, cond}
-use Rattle.std.specs.Option.{option_map, option_and_then}
+use Rattle.std.specs.Prelude.{◌↔◌, ◌==◌, IsTrue, IsSome, is_ok, is_some, nat_le, cond}
+use Rattle.std.specs.Option.{option_map, option_map_or, option_and_then}
 use Rattle.std.specs.FinMap as map
 use Rattle.std.proofs.lemmas.Bool.Decides.{nat_tests}
 use Rattle.cg_entry.specs.Values.{EntryValue, DeltaValue}
@@ -11,6 +11,7 @@ use Rattle.cg_entry.specs.Place.{Span, IsSpan, Taken, Old, Gap}
 use Rattle.cg_entry.specs.Spelling.{version_of, version_at, delta_of}
 use Rattle.cg_entry.proofs.PlaceLemmas.{at_place_none}
 use Rattle.cg_entry.proofs.HistoryLemmas.{ComesBefore, comes_before, version_positive}
+use Rattle.cg_messages.specs.declared.message.Message.{Message}
 use Rattle.cg_messages.specs.declared.outcome.Outcome.{Outcome}
 use Rattle.cg_messages.specs.declared.owner_delta.OwnerDelta.{OwnerDelta}
 use Rattle.cg_messages.specs.Members.{about}
@@ -22,13 +23,13 @@ use Rattle.cg_settings.specs.Values.{SettingsValue}
 use Rattle.cg_core.specs.Values.{NodeValue}
 use Rattle.cg_places.specs.PlaceWorld.{PlaceWorld}
 use Rattle.cg_places.proofs.PutLemmas.{same_number}
-use Rattle.cg_world.specs.World.{Action, Deliver, WorldValue, reply_to, run, place_world}
-use Rattle.cg_world.specs.WorldLaws.{Runs}
-use Rattle.cg_world.specs.SingleActions.{outcomes_in, outcomes_shown}
-use Rattle.cg_world.specs.Taken.{deltas_in, deltas_sent, delta_sent, outcome_told, is_gap, spans_in, AreCounted}
-use Rattle.cg_world.specs.Mark.{mark_of, IsWithin, LiesPast}
+use Rattle.cg_world.specs.World.{Action, Deliver, WorldValue, reply_to, acting, run, place_world}
+use Rattle.cg_world.specs.Terms.{Runs, deltas_in, deltas_sent, delta_sent, outcome_told, is_gap, mark_of, IsWithin, LiesPast}
+use Rattle.cg_world.specs.SingleActions.{AreReplies, outcomes_in}
+use Rattle.cg_world.specs.Taken.{spans_in, AreCounted}
 use Rattle.cg_world.proofs.MarkLemmas.{mark_at, mark_here, mark_rises, IsDeltaTo, span_delta}
-use Rattle.cg_world.proofs.WorldLaws.{Joined, joined, spelled}
+use Rattle.cg_world.proofs.WorldLaws.{Joined, joined, spelled, deliveries_are_done}
+use Rattle.cg_world.proofs.SingleActions.{replies_are_of_steps}
 use Rattle.cg_world.proofs.TakenLaws.{outcomes_tell_what_is_taken}
 
 -- the spans of a message of the histories
@@ -139,7 +140,7 @@ module _ (settings : SettingsValue) (earlier : List Action) (number node now own
         (subst (λ (o : Option EntryValue). IsTrue (is_gap (took_for (owner == node) p span)) ↔ LiesPast to.delta o) (sym held)
         (λ g. lies.0 (gap.0 g), λ l. gap.1 (lies.1 l))))
 
-    reply_told : (reply : Option Reply) → reply_to c (Deliver number node now) ≡ reply → outcome_about owner (outcomes_shown reply) ≡ Some outcome → delta_sent c number owner ≡ Some d
+    reply_told : (reply : Option Reply) → reply_to c (Deliver number node now) ≡ reply → outcome_about owner (option_map_or outcomes_in reply []) ≡ Some outcome → delta_sent c number owner ≡ Some d
         → IsTrue (is_gap outcome.took) ↔ LiesPast d.delta (map.get n.table.entries owner)
     reply_told None none eo ed = absurd cc
     reply_told (Some answer) is eo ed =
@@ -151,3 +152,31 @@ module _ (settings : SettingsValue) (earlier : List Action) (number node now own
   pub gap_told : (outcome : Outcome) (d : OwnerDelta) → outcome_told c number node now owner ≡ Some outcome → delta_sent c number owner ≡ Some d
       → IsTrue (is_gap outcome.took) ↔ LiesPast d.delta (map.get n.table.entries owner)
   gap_told outcome d told sent = reply_told outcome d (reply_to c (Deliver number node now)) refl told sent
+
+  -- ---- each delta is told of
+
+  module _ (d : OwnerDelta) (sent : delta_sent c number owner ≡ Some d) where
+    -- the message was sent
+    sent_by : (o : Option Message) → at_place c.sent number ≡ o → delta_about owner (option_map_or deltas_in o []) ≡ Some d → is_some o ≡ true
+    sent_by None is e = absurd cc
+    sent_by (Some m) is e = refl
+
+    is_done : is_ok (acting c (Deliver number node now)) ≡ true
+    is_done = deliveries_are_done settings earlier number node now (sent_by (at_place c.sent number) refl sent) (ap is_some runs)
+
+    is_replied : is_some (reply_to c (Deliver number node now)) ≡ true
+    is_replied = let replies : AreReplies c = replies_are_of_steps c in replies.delivery number node now ∙ is_done
+
+    span_has : (o : Option Span) → option_map (about owner) (option_and_then (delta_of h) o) ≡ Some d → is_some {T = Outcome} (option_map (λ span. record { endpoint = owner; took = took_for (owner == node) p span }) o) ≡ true
+    span_has None e = absurd cc
+    span_has (Some span) e = refl
+
+    has_outcome : (reply : Option Reply) → reply_to c (Deliver number node now) ≡ reply → is_some reply ≡ true → IsSome (outcome_about owner (option_map_or outcomes_in reply []))
+    has_outcome None none some = absurd cc
+    has_outcome (Some answer) is some =
+        let a : AreCounted c w (place_world (earlier ++ Deliver number node now ∷ [])) number node (outcomes_in answer) = (outcomes_tell_what_is_taken settings earlier).deliveries number node now answer is in
+        let of_message : deltas_sent c number ≡ deltas_in a.message = rw a.is_message refl in
+        ap is_some (a.each owner) ∙ span_has (spans_in a.said owner) (sym (a.spelled.at owner) ∙ sym (ap (delta_about owner) of_message) ∙ sent)
+
+    pub delta_told : IsSome (outcome_told c number node now owner)
+    delta_told = has_outcome (reply_to c (Deliver number node now)) refl is_replied

@@ -1,7 +1,7 @@
 -- The headline, by the places of the actions.
 use Rattle.std.proofs.Common.{◌≡◌, ◌≢◌, ℕ, zero, suc, ◌<◌, ◌≤◌, ◌⊎◌, inl, inr, List, [], ◌∷◌, ◌++◌, length, get_or, refl, sym, ◌∙◌, ap, subst, arith, append_assoc, append-nil, Bool, true, false, Option, Some, None, Result, Ok, Err}
 use Rattle.std.specs.Prelude.{⊤, ◌==◌, ◌&&◌, ◌↔◌, cond, is_ok, is_some, All, map as map_list}
-use Rattle.std.specs.Option.{option_map, option_and_then}
+use Rattle.std.specs.Option.{option_map, option_map_or, option_and_then}
 use Rattle.std.specs.List.{Contains}
 use Rattle.std.specs.Cmp.{nat_cmp_total}
 use Rattle.std.specs.FinMap as map
@@ -36,17 +36,18 @@ use Rattle.cg_places.proofs.PutLemmas.{same_number, test_same}
 use Rattle.cg_places.proofs.PlaceLaws.{furthest_stands}
 use Rattle.cg_places.proofs.OnwardLemmas.{Keeps, actions_from_keeps}
 use Rattle.cg_world.specs.World.{Action, Start, Local, Deliver, WorldValue, new_world, acting, act, reply_to, run, place_world}
-use Rattle.cg_world.specs.WorldLaws.{Runs}
-use Rattle.cg_world.specs.SingleActions.{AreReplies, outcomes_in, outcomes_shown}
-use Rattle.cg_world.specs.Taken.{deltas_in, deltas_sent, spans_in, with_outcome, taker, AreCounted, IsTold}
-use Rattle.cg_world.specs.Headline.{Mark, mark_of, mark_led_to, IsWithin, HasGreatest, with_delta, with_action, took_from, marks_of, Was, IsMarked, Headline}
+use Rattle.cg_world.specs.Terms.{Runs, deltas_in, deltas_sent, Mark, mark_of, mark_led_to, IsWithin, HasGreatest, with_delta}
+use Rattle.cg_world.specs.SingleActions.{AreReplies, outcomes_in}
+use Rattle.cg_world.specs.Taken.{spans_in, with_outcome, taker, AreCounted, IsTold}
+use Rattle.cg_world.specs.Headline.{with_action, took_from, marks_of, Was, IsMarked, Headline}
 use Rattle.cg_world.proofs.MarkLemmas.{mark_at, mark_here, IsDeltaTo, span_delta, mark_rises, AllSpans, marks_at, all_push, marks_push, all_stay, marks_stay}
-use Rattle.cg_world.proofs.ActionLemmas.{own_held, runs_here}
+use Rattle.cg_world.proofs.ActionLemmas.{own_held, own_last, runs_here}
 use Rattle.cg_world.proofs.WorldLaws.{Joined, joined, done_by_places, actions_one_by_one, tables_are_the_join, equal_digests_give_equal_tables}
 use Rattle.cg_world.proofs.SingleActions.{replies_are_of_steps}
 use Rattle.cg_world.proofs.TakenLaws.{all_more, outcomes_tell_what_is_taken}
 use Rattle.cg_world.proofs.WholeEntries.{entries_are_whole, places_were_own}
-use Rattle.cg_world.proofs.GapLaws.{spans_are, gap_told}
+use Rattle.cg_world.proofs.GapLaws.{spans_are, gap_told, delta_told}
+use Rattle.cg_world.proofs.OwnLaws.{own_goes_on}
 
 -- ---- the deltas that a node took
 
@@ -145,7 +146,7 @@ module _ (settings : SettingsValue) (earlier : List Action) (owner : ℕ) where
     sent_here message is = rw is refl
 
     delivery_marked : (reply : Option Reply) → reply_to c (Deliver number node now) ≡ reply
-        → Marked v node owner (with_delta marks (outcome_about owner (outcomes_shown reply)) (delta_about owner (deltas_sent c number)))
+        → Marked v node owner (with_delta marks (outcome_about owner (option_map_or outcomes_in reply [])) (delta_about owner (deltas_sent c number)))
     delivery_marked None none =
         let replies : AreReplies c = replies_are_of_steps c in
         refused_still node marks (Deliver number node now) (sym (replies.delivery number node now) ∙ ap is_some none) m
@@ -157,10 +158,10 @@ module _ (settings : SettingsValue) (earlier : List Action) (owner : ℕ) where
 
   deliver_marked : (node : ℕ) (marks : List Mark) (number to now : ℕ) → Marked w node owner marks → (here : Bool) → (to == node) ≡ here
       → Marked (after (Deliver number to now)) node owner
-      (cond here (with_delta marks (outcome_about owner (outcomes_shown (reply_to c (Deliver number to now)))) (delta_about owner (deltas_sent c number))) marks)
+      (cond here (with_delta marks (outcome_about owner (option_map_or outcomes_in (reply_to c (Deliver number to now)) [])) (delta_about owner (deltas_sent c number))) marks)
   deliver_marked node marks number to now m true same =
       let is : to ≡ node = same_number to node same in
-      subst (λ k. Marked (after (Deliver number k now)) node owner (with_delta marks (outcome_about owner (outcomes_shown (reply_to c (Deliver number k now)))) (delta_about owner (deltas_sent c number)))) (sym is)
+      subst (λ k. Marked (after (Deliver number k now)) node owner (with_delta marks (outcome_about owner (option_map_or outcomes_in (reply_to c (Deliver number k now)) [])) (delta_about owner (deltas_sent c number)))) (sym is)
       (delivery_marked node number now marks m (reply_to c (Deliver number node now)) refl)
   deliver_marked node marks number to now m false apart =
       other_still node marks (Deliver number to now) (λ e. let is : to ≡ node = cc in let t : (to == node) ≡ true = ap (λ k. k == node) is ∙ test_same node in cc) m
@@ -333,7 +334,7 @@ module _ (settings : SettingsValue) (actions : List Action) where
 
       there : at_place ((place_world (was.earlier ++ was.later)).histories owner) (length ((place_world was.earlier).histories owner)) ≡ Some entry
       there = ((placed_goes_on was.earlier was.later).histories owner).same (length ((place_world was.earlier).histories owner)) (omega arith)
-          ∙ own_held (run settings was.earlier) (place_world was.earlier) then_joined.tied owner was.node was.ran ∙ ap Some was.own
+          ∙ sym (own_last (run settings was.earlier) (place_world was.earlier) then_joined.tied owner) ∙ was.own
 
   marks_name : (owner : ℕ) (x y : EntryValue) → Was settings actions owner x → Was settings actions owner y → mark_of x ≡ mark_of y → x ≡ y
   marks_name owner x y wx wy same =
@@ -343,7 +344,9 @@ module _ (settings : SettingsValue) (actions : List Action) where
 
   pub headline : Headline settings actions d
   headline = record {
+    own = λ earlier later action whole done node. own_goes_on settings earlier action done node;
     joined = held_greatest;
+    told = λ earlier later whole number node now owner n runs delta sent. delta_told settings earlier number node now owner n runs delta sent;
     gaps = λ earlier later whole number node now owner n runs outcome delta told sent. gap_told settings earlier number node now owner n runs outcome delta told sent;
     whole = entries_are_whole settings actions;
     marked = all_marked;

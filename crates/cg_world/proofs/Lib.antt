@@ -8,4 +8,5 @@ pub mod WorkedRuns
 pub mod ActingLemmas
 pub mod MarkLemmas
 pub mod GapLaws
+pub mod OwnLaws
 pub mod HeadlineLaws

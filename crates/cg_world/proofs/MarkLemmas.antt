@@ -17,7 +17,7 @@ use Rattle.cg_entry.proofs.HistoryLemmas.{comes_before}
 use Rattle.cg_entry.proofs.SpellingLaws.{deltas_spell_spans}
 use Rattle.cg_places.specs.Laws.{Continues}
 use Rattle.cg_places.proofs.GrowthLemmas.{span_stays}
-use Rattle.cg_world.specs.Mark.{mark_of, mark_led_to, IsWithin}
+use Rattle.cg_world.specs.Terms.{mark_of, mark_led_to, IsWithin}
 
 -- ---- the newest version in a delta
 

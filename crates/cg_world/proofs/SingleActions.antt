@@ -1,6 +1,7 @@
 -- Replies, changes and windows of one action.
 use Rattle.std.proofs.Common.{◌≡◌, ◌≢◌, ℕ, List, [], ◌∷◌, refl, sym, ◌∙◌, ap, subst, Bool, true, false, Option, Some, None, Result, Ok, Err}
 use Rattle.std.specs.Prelude.{IsOk, is_ok, is_some, cond, nat_lt}
+use Rattle.std.specs.Option.{option_map_or}
 use Rattle.std.specs.FinMap as map
 use Rattle.cg_types.specs.declared.fault.Fault.{Fault}
 use Rattle.cg_types.specs.declared.fault.Fault.TheVariants.{TableFull, NotRising}
@@ -21,8 +22,8 @@ use Rattle.cg_core.specs.Values.{NodeValue}
 use Rattle.cg_windows.specs.Windows.{Heard, arrivals}
 use Rattle.cg_core.specs.Step.{Step, then, starting_node, next_of, beating, setting, opening, round_of, after_taking, node_step}
 use Rattle.cg_world.specs.World.{LocalEvent, Beat, Set, Opening, Tick, Action, Start, Deliver, WorldValue, new_world, with_node, with_sent, message_of, after_step, generation_held, has_room, event_of, arrival_of, reply_of, reply_to, acting, or_unchanged, act, run_from, step_of, step_at, message_to}
-use Rattle.cg_world.specs.WorldLaws.{Runs}
-use Rattle.cg_world.specs.SingleActions.{node_of, SettingsStay, OneNodeChanges, RepliesAreOfSteps, outcomes_in, outcomes_shown, NodesHearByDeliveries}
+use Rattle.cg_world.specs.Terms.{Runs}
+use Rattle.cg_world.specs.SingleActions.{node_of, SettingsStay, OneNodeChanges, RepliesAreOfSteps, outcomes_in, NodesHearByDeliveries}
 use Rattle.cg_world.proofs.SpellingLemmas.{node_here, node_elsewhere}
 use Rattle.cg_world.proofs.WorldLaws.{LeftBy, AsItWas, MadeAnew, left_by, nodes_spell_places, same_settings}
 
@@ -126,7 +127,7 @@ local_windows n (Tick now words) = changed_windows n (beating n) (λ v. reply.Ro
 
 -- The windows are those after the arrivals that the reply shows.
 abbrev Hears : ℕ → NodeValue → Step → Type 0
-Hears now n s = windows_left n s ≡ arrivals n.settings.silence now n.windows (outcomes_shown (reply_of s))
+Hears now n s = windows_left n s ≡ arrivals n.settings.silence now n.windows (option_map_or outcomes_in (reply_of s) [])
 
 syn_hears : (now : ℕ) (n : NodeValue) (due : Result AckValue Fault) → Hears now n (then due (λ ack. (n, reply.Sent (message.Ack ack))))
 syn_hears now n (Ok ack) = refl
@@ -146,11 +147,11 @@ message_hears now n (message.Ack ack) = ack_hears now n (taking_ack n.table ack)
 message_hears now n (message.Ack2 ack2) = ack2_hears now n (taking_ack2 n.table ack2)
 
 delivered_windows : (c : WorldValue) (to now : ℕ) (n m : NodeValue) → Runs c to n → (o : Option Message) → Runs (or_unchanged c (after_step c to (step_at c to now o))) to m
-    → m.windows ≡ arrivals n.settings.silence now n.windows (outcomes_shown (reply_of (step_at c to now o)))
+    → m.windows ≡ arrivals n.settings.silence now n.windows (option_map_or outcomes_in (reply_of (step_at c to now o)) [])
 delivered_windows c to now n m e None r = same_windows (map.get c.nodes to) n m e r
 delivered_windows c to now n m e (Some sent) r =
     handed_windows c to (arrival_of now sent) n m e (map.get c.nodes to) e r ∙ message_hears now n sent
-    ∙ ap (λ o. arrivals n.settings.silence now n.windows (outcomes_shown (reply_of (step_of o (arrival_of now sent))))) (sym e)
+    ∙ ap (λ o. arrivals n.settings.silence now n.windows (option_map_or outcomes_in (reply_of (step_of o (arrival_of now sent))) [])) (sym e)
 
 -- a start that is done
 started_windows : (c : WorldValue) (node generation : ℕ) (m : NodeValue) (may room : Bool) (left : Result WorldValue Fault) → left ≡ cond may (cond room (Ok (with_node c node (starting_node node generation c.settings))) (Err TableFull)) (Err NotRising)

@@ -37,7 +37,8 @@ use Rattle.cg_places.specs.Refusals.{start_refusal, refusal, unless_refused}
 use Rattle.cg_world.specs.World.{LocalEvent, Beat, Set, Opening, Tick, Action, Start, Local, Deliver, WorldValue, arrival_of, reply_of, step_of, step_at, reply_to, acting, run, plain, place_world}
 use Rattle.cg_steps.specs.Step.{IsSent}
 use Rattle.cg_world.specs.SingleActions.{outcomes_in}
-use Rattle.cg_world.specs.Taken.{deltas_in, spans_in, with_outcome, taker, AreCounted, OutcomesTellWhatIsTaken}
+use Rattle.cg_world.specs.Terms.{deltas_in}
+use Rattle.cg_world.specs.Taken.{spans_in, with_outcome, taker, AreCounted, OutcomesTellWhatIsTaken}
 use Rattle.cg_places.proofs.PutLemmas.{put_at_here, put_at_other}
 use Rattle.cg_world.proofs.SpellingLemmas.{Tied, Bounded, BothSent, both_at}
 use Rattle.cg_world.proofs.ActionLemmas.{runs_here, at_node, ack_fits, ack_moves, ack2_fits, ack2_moves}
@@ -241,12 +242,12 @@ module _ (settings : SettingsValue) (actions : List Action) (number to now : ℕ
       }
 
 -- an action that is done is not refused
-no_fault : (left : Result WorldValue Fault) → IsOk left → fault_of left ≡ None
+pub no_fault : (left : Result WorldValue Fault) → IsOk left → fault_of left ≡ None
 no_fault (Ok d) ok = refl
 no_fault (Err fault) ok = absurd cc
 
 -- a start that is not refused has a generation that rises
-started_by : (w : PlaceWorld) (node generation : ℕ) (may : Bool) → may_start w node generation ≡ may → start_refusal w node generation ≡ None → may ≡ true
+pub started_by : (w : PlaceWorld) (node generation : ℕ) (may : Bool) → may_start w node generation ≡ may → start_refusal w node generation ≡ None → may ≡ true
 started_by w node generation true is free = refl
 started_by w node generation false is free = let some : Some NotRising ≡ None = subst (λ b. cond b (cond (runs w node) None (cond (nat_lt (length w.owners) MEMBER_LIMIT) None (Some TableFull))) (Some NotRising) ≡ None) is free in absurd cc
 
@@ -266,7 +267,7 @@ module _ (settings : SettingsValue) (actions : List Action) where
   after_refusal : (action : Action) (fault : Fault) → refusal v (plain action) ≡ Some fault → place_world (actions ++ action ∷ []) ≡ v
   after_refusal action fault due = one_more nobody actions action ∙ rw due refl
 
-  after_done : (action : Action) → refusal v (plain action) ≡ None → place_world (actions ++ action ∷ []) ≡ after_action v (plain action)
+  pub after_done : (action : Action) → refusal v (plain action) ≡ None → place_world (actions ++ action ∷ []) ≡ after_action v (plain action)
   after_done action free = one_more nobody actions action ∙ rw free refl
 
   start_told : (node generation owner : ℕ) → IsOk (acting d (Start node generation)) → (place_world (actions ++ Start node generation ∷ [])).taken node owner ≡ []

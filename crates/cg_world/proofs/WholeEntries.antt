@@ -6,19 +6,17 @@ use Rattle.cg_entry.specs.Entry.{starting_entry}
 use Rattle.cg_entry.specs.History.{at_place}
 use Rattle.cg_exchange_laws.specs.PlaceMessages.{PlaceMessage}
 use Rattle.cg_settings.specs.Values.{SettingsValue}
-use Rattle.cg_core.specs.Values.{NodeValue}
 use Rattle.cg_places.specs.PlaceWorld.{PlaceWorld, PlaceAction, nobody, grown, with_start, with_entry, with_message, with_spans, last_entry, after_action, after_actions}
 use Rattle.cg_places.specs.Refusals.{refusal, unless_refused}
 use Rattle.cg_world.specs.World.{Action, WorldValue, new_world, acting, or_unchanged, act, run_from, plain, place_world}
-use Rattle.cg_table.specs.Own.{own_entry}
 use Rattle.cg_entry.specs.Place.{Span}
-use Rattle.cg_world.specs.WorldLaws.{Runs, WasOwn, EntriesAreWhole}
+use Rattle.cg_world.specs.Terms.{own_at, WasOwn}
+use Rattle.cg_world.specs.WorldLaws.{EntriesAreWhole}
 use Rattle.cg_places.proofs.KeptLemmas.{IsKept, IsAfterOwn, own_part, action_kept}
 use Rattle.cg_places.proofs.PutLemmas.{put_at-each, at_place_push}
-use Rattle.cg_places.proofs.OwnerLemmas.{last_entry_runs}
 use Rattle.cg_places.proofs.ExchangeLemmas.{sent_last}
-use Rattle.cg_world.proofs.ActionLemmas.{AgreesBy, action_agrees, own_held}
-use Rattle.cg_world.proofs.WorldLaws.{Joined, done_by_places, done_joined, joined, spelled, running_node}
+use Rattle.cg_world.proofs.ActionLemmas.{AgreesBy, action_agrees, own_last}
+use Rattle.cg_world.proofs.WorldLaws.{Joined, done_by_places, done_joined, joined, spelled}
 
 -- ---- the entries that an action adds to histories
 
@@ -68,28 +66,17 @@ action_old w action = action_kept (OldOrLast w) (old_kept w) w action (same_old 
 abbrev Stood : WorldValue → PlaceWorld → List Action → PlaceWorld → Type 0
 Stood c w actions v = (owner place : ℕ) (entry : EntryValue) → at_place (v.histories owner) place ≡ Some entry → (at_place (w.histories owner) place ≡ Some entry) ⊎ WasOwn c actions owner entry
 
--- the owner of a last entry has it
-own_now : (c : WorldValue) (w : PlaceWorld) → Joined c w → (owner : ℕ) (entry : EntryValue) → last_entry (w.histories owner) ≡ Some entry → (n : NodeValue) × Runs c owner n × (own_entry n.table ≡ entry)
-own_now c w j owner entry e =
-    let n = running_node c w j owner (last_entry_runs w owner entry e) in
-    let held : last_entry (w.histories owner) ≡ Some (own_entry n.0.table) = own_held c w j.tied owner n.0 n.1 in
-    (n.0, n.1, cc)
-
 -- an entry that was the own one after an action was so after it and the others
 was_later : (c d : WorldValue) (action : Action) (actions : List Action) (owner : ℕ) (entry : EntryValue) → act c action ≡ d → WasOwn d actions owner entry → WasOwn c (action ∷ actions) owner entry
 was_later c d action actions owner entry same was = record {
   earlier = action ∷ was.earlier;
   later = was.later;
   in_order = ap (λ (xs : List Action). action ∷ xs) was.in_order;
-  node = was.node;
-  ran = subst (λ d. Runs (run_from d was.earlier) owner was.node) (sym same) was.ran;
-  own = was.own;
+  own = subst (λ d. own_at (run_from d was.earlier) owner ≡ Some entry) (sym same) was.own;
 }
 
 now_own : (c : WorldValue) (w : PlaceWorld) → Joined c w → (actions : List Action) (owner : ℕ) (entry : EntryValue) → last_entry (w.histories owner) ≡ Some entry → WasOwn c actions owner entry
-now_own c w j actions owner entry e =
-    let own = own_now c w j owner entry e in
-    record { earlier = []; later = actions; in_order = refl; node = own.0; ran = own.1; own = own.2 }
+now_own c w j actions owner entry e = record { earlier = []; later = actions; in_order = refl; own = own_last c w j.tied owner ∙ e }
 
 -- one action, and those after it
 next_stood : (c : WorldValue) (w : PlaceWorld) (j : Joined c w) (action : Action) (actions : List Action) → ((d : WorldValue) (v : PlaceWorld) → Joined d v → Stood d v actions (after_actions v (done_by_places v actions)))

@@ -10,6 +10,8 @@ use Rattle.cg_types.specs.Text.{ClusterValue}
 use Rattle.cg_entry.specs.Values.{EntryValue}
 use Rattle.cg_entry.specs.History.{at_place}
 use Rattle.cg_entry.proofs.PlaceLemmas.{at_place_last}
+use Rattle.cg_table.specs.Values.{Entries}
+use Rattle.cg_ring.specs.Ring.{ring}
 use Rattle.cg_messages.specs.declared.message.Message.{Message}
 use Rattle.cg_messages.specs.declared.message.Message.TheVariants as message
 use Rattle.cg_exchange_laws.specs.PlaceMessages.{PlaceMessage}
@@ -22,7 +24,8 @@ use Rattle.cg_places.specs.PlaceWorld.{PlaceWorld, PlaceAction, nobody, runs, af
 use Rattle.cg_places.specs.Refusals.{deliver_refusal, refusal, unless_refused, done_from}
 use Rattle.cg_places.specs.Spelling.{SpellsNode}
 use Rattle.cg_world.specs.World.{Action, Start, Local, Opening, Deliver, WorldValue, with_node, with_sent, message_of, after_step, generation_held, has_room, event_of, reply_of, message_to, acting, or_unchanged, act, run_from, run, new_world, plain, place_world, step_of, step_at}
-use Rattle.cg_world.specs.WorldLaws.{AllSent, Runs, ActionsOneByOne, MessagesAreNumbered, IsBeatAndOpening, TicksAreBeatsAndOpenings, NodesSpellPlaces, RefusalsAgree, DeliveriesFindRoom, DeliveriesAreDone, ReachedWorlds, TablesAreTheJoin, EqualSetsGiveEqualTables, EqualDigestsGiveEqualTables, MergesOfNodesAreTheJoin}
+use Rattle.cg_world.specs.Terms.{Runs, AreEqual}
+use Rattle.cg_world.specs.WorldLaws.{AllSent, ActionsOneByOne, MessagesAreNumbered, IsBeatAndOpening, TicksAreBeatsAndOpenings, NodesSpellPlaces, RefusalsAgree, DeliveriesFindRoom, DeliveriesAreDone, ReachedWorlds, TablesAreTheJoin, EqualSetsGiveEqualTables, EqualDigestsGiveEqualTables, MergesOfNodesAreTheJoin}
 use Rattle.cg_world.specs.SingleActions.{node_of}
 use Rattle.cg_places.proofs.PlaceLaws.{world_is}
 use Rattle.cg_places.proofs.WorldLemmas.{action_sound}
@@ -231,13 +234,18 @@ spelled settings actions node n e = (nodes_spell_places settings actions).tables
 pub tables_are_the_join : TablesAreTheJoin
 tables_are_the_join settings actions node n e = tables_are_joined (done_by_places nobody actions) node n.table.entries (spelled settings actions node n e)
 
+are_equal : (one other : Entries) → (one ≡ other) × (ring one ≡ ring other) → AreEqual one other
+are_equal one other e = record { entries = e.0; rings = e.1 }
+
 pub equal_sets_give_equal_tables : EqualSetsGiveEqualTables
 equal_sets_give_equal_tables settings actions a b one other ra rb same =
-    equal_sources_equal_tables (done_by_places nobody actions) a b one.table.entries other.table.entries (spelled settings actions a one ra) (spelled settings actions b other rb) same
+    are_equal one.table.entries other.table.entries
+    (equal_sources_equal_tables (done_by_places nobody actions) a b one.table.entries other.table.entries (spelled settings actions a one ra) (spelled settings actions b other rb) same)
 
 pub equal_digests_give_equal_tables : EqualDigestsGiveEqualTables
 equal_digests_give_equal_tables settings actions a b one other ra rb same =
-    equal_digests_equal_tables (done_by_places nobody actions) a b one.table.entries other.table.entries (spelled settings actions a one ra) (spelled settings actions b other rb) same
+    are_equal one.table.entries other.table.entries
+    (equal_digests_equal_tables (done_by_places nobody actions) a b one.table.entries other.table.entries (spelled settings actions a one ra) (spelled settings actions b other rb) same)
 
 pub merges_of_nodes_are_the_join : MergesOfNodesAreTheJoin
 merges_of_nodes_are_the_join settings actions a b c one two three ra rb rc =

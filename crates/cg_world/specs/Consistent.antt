@@ -3,9 +3,10 @@ use Rattle.std.specs.Prelude.{ℕ, ◌≡◌, ◌++◌, List}
 use Rattle.cg_settings.specs.Values.{SettingsValue}
 use Rattle.cg_core.specs.Values.{NodeValue}
 use Rattle.cg_places.specs.Join.{sources, SamePlaces}
-use Rattle.cg_places.specs.TableLaws.{IsJoined, AreEqual}
+use Rattle.cg_places.specs.TableLaws.{IsJoined}
 use Rattle.cg_world.specs.World.{Action, WorldValue, run, place_world}
-use Rattle.cg_world.specs.WorldLaws.{IsReached, Runs, SpellsWorld}
+use Rattle.cg_world.specs.Terms.{Runs, AreEqual}
+use Rattle.cg_world.specs.WorldLaws.{IsReached, SpellsWorld}
 use Rattle.cg_world.specs.Taken.{IsTold}
 use Rattle.cg_world.specs.Headline.{Headline}
 
@@ -14,7 +15,8 @@ pub record IsConsistent (settings : SettingsValue) (actions : List Action) (c : 
   pub led : c ≡ run settings actions
   -- the headline, over nodes, replies and messages; the next parts tie it to the places of the actions
   pub headline : Headline settings actions c
-  -- the nodes hold and have sent what the places of the actions say
+  -- the nodes hold and have sent what the places of the actions say: so each action that may be done is done, and each
+  -- node's table is that of its own endpoint
   pub spelled : SpellsWorld c (place_world actions)
   -- the changes by places of what a node took are those that the node's replies report
   pub told : (earlier later : List Action) → earlier ++ later ≡ actions → IsTold settings earlier

@@ -1,6 +1,6 @@
 -- The headline: properties of the nodes of a cluster after any list of starts, local changes, openings, ticks and
 -- deliveries, with any messages lost, repeated and reordered. A refused action changes nothing.
-use Rattle.std.specs.Prelude.{ℕ, ◌≡◌, ◌↔◌, ◌==◌, ◌&&◌, ◌++◌, IsTrue, is_ok, List, [], ◌∷◌, All, Some, if◌then◌else◌}
+use Rattle.std.specs.Prelude.{ℕ, ◌≡◌, ◌↔◌, ◌==◌, ◌&&◌, ◌++◌, IsTrue, IsOk, IsSome, is_ok, List, [], ◌∷◌, All, Some, if◌then◌else◌}
 use Rattle.std.specs.List.{Contains}
 use Rattle.std.specs.FinMap as map
 use Rattle.cg_entry.specs.Values.{EntryValue}
@@ -10,11 +10,8 @@ use Rattle.cg_messages.specs.declared.outcome.Outcome.{Outcome}
 use Rattle.cg_messages.specs.declared.owner_delta.OwnerDelta.{OwnerDelta}
 use Rattle.cg_settings.specs.Values.{SettingsValue}
 use Rattle.cg_core.specs.Values.{NodeValue}
-use Rattle.cg_places.specs.TableLaws.{AreEqual}
 use Rattle.cg_world.specs.World.{Action, Start, Local, Deliver, WorldValue, new_world, acting, act, run}
-use Rattle.cg_world.specs.WorldLaws.{Runs, WasOwn}
-use Rattle.cg_world.specs.Taken.{delta_sent, outcome_told, is_gap}
-pub use Rattle.cg_world.specs.Mark.{Mark, mark_of, mark_led_to, IsWithin, HasGreatest, LiesPast, with_delta}
+use Rattle.cg_world.specs.Terms.{Runs, own_at, own_after, WasOwn, AreEqual, delta_sent, outcome_told, is_gap, Mark, mark_of, HasGreatest, LiesPast, with_delta}
 
 -- The marks of the deltas of an owner that were handed to a node since its start and were no gap, with what one action
 -- brings; a start that is done forgets all.
@@ -53,10 +50,19 @@ module _ (settings : SettingsValue) (actions : List Action) where
       (owner : ℕ) (mark : Mark) → Contains (marks_of a one owner) mark ↔ Contains (marks_of b other owner) mark
 
   pub record Headline (c : WorldValue) : Type 0 where
+    -- an action that is done starts its node's own entry, beats it, sets it or leaves it, and leaves all others
+    pub own : (earlier later : List Action) (action : Action) → earlier ++ action ∷ later ≡ actions
+        → IsOk (acting (run settings earlier) action) → (node : ℕ)
+        → own_at (act (run settings earlier) action) node ≡ own_after action node (own_at (run settings earlier) node)
     -- each table is the join of the node's own entry and the deltas that it took: it holds the furthest of each owner
     pub joined : (node : ℕ) (n : NodeValue) → Runs c node n
         → (owner : ℕ) → HasGreatest (map.get n.table.entries owner) (marks_of node n owner)
-    -- a delta is left out, as a gap, exactly if it lies past what the node then held
+    -- each delta of a message that was sent is told of by the node that it is handed to
+    pub told : (earlier later : List Action) → earlier ++ later ≡ actions → (number node now owner : ℕ) (n : NodeValue)
+        → Runs (run settings earlier) node n → (d : OwnerDelta)
+        → delta_sent (run settings earlier) number owner ≡ Some d
+        → IsSome (outcome_told (run settings earlier) number node now owner)
+    -- it is left out, as a gap, exactly if it lies past what the node then held
     pub gaps : (earlier later : List Action) → earlier ++ later ≡ actions → (number node now owner : ℕ) (n : NodeValue)
         → Runs (run settings earlier) node n → (outcome : Outcome) (d : OwnerDelta)
         → outcome_told (run settings earlier) number node now owner ≡ Some outcome

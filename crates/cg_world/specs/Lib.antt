@@ -1,12 +1,12 @@
 pub mod World
 pub mod Acting
 pub mod Consistent
+pub mod Terms
+pub mod Headline
 pub mod WorldLaws
 pub mod SingleActions
 pub mod Taken
 pub mod WorkedRuns
-pub mod Mark
-pub mod Headline
 pub use Rattle.cg_types.specs.Answer
 pub use Rattle.cg_entry.specs.History
 pub use Rattle.cg_core.specs.Step

@@ -1,9 +1,9 @@
 -- One action alone: the node that it is about, its reply, and the arrivals that the node counts.
-use Rattle.std.specs.Prelude.{ℕ, ◌≡◌, ◌≢◌, IsOk, is_ok, is_some, List, [], Option, Some, None, Ok}
+use Rattle.std.specs.Prelude.{ℕ, ◌≡◌, ◌≢◌, IsOk, is_ok, is_some, List, [], Some, None, Ok}
+use Rattle.std.specs.Option.{option_map_or}
 use Rattle.std.specs.FinMap as map
 use Rattle.cg_entry.specs.History.{at_place}
 use Rattle.cg_messages.specs.declared.message.Message.TheVariants as message
-use Rattle.cg_messages.specs.declared.outcome.Outcome.{Outcome}
 use Rattle.cg_messages.specs.Values.{AckValue, Ack2Value}
 use Rattle.cg_exchange.specs.Taking.{outcomes_of}
 use Rattle.cg_events.specs.declared.reply.Reply.{Reply}
@@ -14,7 +14,7 @@ pub use Rattle.cg_events.specs.Replies.{outcomes_in}
 use Rattle.cg_windows.specs.Windows.{arrivals}
 use Rattle.cg_core.specs.Step.{next_of, beating, opening, round_of}
 use Rattle.cg_world.specs.World.{Action, Start, Local, Deliver, LocalEvent, Beat, Set, Tick, WorldValue, reply_to, acting, act, run}
-use Rattle.cg_world.specs.WorldLaws.{Runs}
+use Rattle.cg_world.specs.Terms.{Runs}
 
 -- Each node that runs has the settings that were given.
 abbrev pub SettingsStay : Type 0
@@ -66,11 +66,6 @@ RepliesAreOfSteps = (c : WorldValue) → AreReplies c
 
 -- ---- windows
 
--- the outcomes of a reply, and none if there is no reply
-abbrev pub outcomes_shown : Option Reply → List Outcome
-outcomes_shown None = []
-outcomes_shown (Some r) = outcomes_in r
-
 pub record AreHeard (c : WorldValue) : Type 0 where
   -- a node that starts heard of nobody
   pub start : (node generation : ℕ) (m : NodeValue) → IsOk (acting c (Start node generation))
@@ -80,7 +75,8 @@ pub record AreHeard (c : WorldValue) : Type 0 where
       → Runs (act c (Local node change)) node m → m.windows ≡ n.windows
   -- each delta that was taken is an arrival of its owner at the time of the delivery
   pub delivery : (number to now : ℕ) (n m : NodeValue) → Runs c to n → Runs (act c (Deliver number to now)) to m
-      → m.windows ≡ arrivals n.settings.silence now n.windows (outcomes_shown (reply_to c (Deliver number to now)))
+      → m.windows
+      ≡ arrivals n.settings.silence now n.windows (option_map_or outcomes_in (reply_to c (Deliver number to now)) [])
 
 -- Nodes hear of others by deliveries alone.
 abbrev pub NodesHearByDeliveries : Type 0

@@ -1,50 +1,23 @@
 -- Deltas that a node took, by the outcomes in its replies.
-use Rattle.std.specs.Prelude.{ℕ, ◌≡◌, ◌≢◌, ◌==◌, Bool, true, false, IsOk, Err, List, [], ◌∷◌, ◌++◌, Option, Some, None}
-use Rattle.std.specs.Option.{option_map, option_map_or}
+use Rattle.std.specs.Prelude.{ℕ, ◌≡◌, ◌≢◌, ◌==◌, IsOk, Err, List, [], ◌∷◌, ◌++◌, Option, Some, None}
+use Rattle.std.specs.Option.{option_map}
 use Rattle.cg_types.specs.declared.fault.Fault.{Fault}
 use Rattle.cg_types.specs.Rising.{Rises}
 use Rattle.cg_entry.specs.History.{at_place}
 use Rattle.cg_entry.specs.Place.{Span}
-use Rattle.cg_entry.specs.declared.took.Took.{Took}
-use Rattle.cg_entry.specs.declared.took.Took.TheVariants as took
 use Rattle.cg_messages.specs.declared.message.Message.{Message}
-use Rattle.cg_messages.specs.declared.message.Message.TheVariants as kinds
 use Rattle.cg_messages.specs.declared.outcome.Outcome.{Outcome}
-use Rattle.cg_messages.specs.declared.owner_delta.OwnerDelta.{OwnerDelta}
 use Rattle.cg_messages.specs.Members.{endpoints_of_deltas, endpoints_of_outcomes}
 use Rattle.cg_exchange_laws.specs.Places.{took_for}
 use Rattle.cg_exchange_laws.specs.PlaceMessages.{PlaceMessage}
-use Rattle.cg_exchange_laws.specs.Spelling.{SpellsSpans, delta_about, outcome_about}
+use Rattle.cg_exchange_laws.specs.Spelling.{SpellsSpans, outcome_about}
 use Rattle.cg_events.specs.declared.reply.Reply.{Reply}
+use Rattle.cg_events.specs.Replies.{outcomes_in}
 use Rattle.cg_settings.specs.Values.{SettingsValue}
 pub use Rattle.cg_steps.specs.Step.{spans_in}
 use Rattle.cg_places.specs.PlaceWorld.{PlaceWorld, unless_gap}
 use Rattle.cg_world.specs.World.{Action, Start, Local, Deliver, WorldValue, reply_to, acting, run, place_world}
-use Rattle.cg_world.specs.SingleActions.{outcomes_in, outcomes_shown}
-
--- the deltas that a message has
-abbrev pub deltas_in : Message → List OwnerDelta
-deltas_in (kinds.Syn syn) = []
-deltas_in (kinds.Ack ack) = ack.deltas
-deltas_in (kinds.Ack2 ack2) = ack2.deltas
-
--- the deltas that were sent under a number
-abbrev pub deltas_sent : WorldValue → ℕ → List OwnerDelta
-deltas_sent c number = option_map_or deltas_in (at_place c.sent number) []
-
--- the delta about an owner among them, and the outcome that the node to which they are handed reports of it
-abbrev pub delta_sent : WorldValue → ℕ → ℕ → Option OwnerDelta
-delta_sent c number owner = delta_about owner (deltas_sent c number)
-
-abbrev pub outcome_told : WorldValue → ℕ → ℕ → ℕ → ℕ → Option Outcome
-outcome_told c number node now owner = outcome_about owner (outcomes_shown (reply_to c (Deliver number node now)))
-
--- `true` if a delta was left out
-abbrev pub is_gap : Took → Bool
-is_gap took.Gap = true
-is_gap took.Taken = false
-is_gap took.Old = false
-is_gap took.Own = false
+use Rattle.cg_world.specs.Terms.{deltas_in}
 
 -- the taken spans of an owner, with one more if its outcome is Taken, Old or Own
 abbrev pub with_outcome : List Span → Option Outcome → Option Span → List Span

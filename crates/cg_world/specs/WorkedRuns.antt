@@ -11,7 +11,7 @@ use Rattle.cg_places.specs.WorkedPlaces.{first_exchange}
 use Rattle.cg_world.specs.declared.world.Shown.{Shown}
 use Rattle.cg_world.specs.Acting.{Ran}
 use Rattle.cg_world.specs.World.{Action, Start, Local, Opening, Deliver, WorldValue, new_world, run, acting, place_world}
-use Rattle.cg_world.specs.WorldLaws.{Runs}
+use Rattle.cg_world.specs.Terms.{Runs}
 
 -- the first exchange, on nodes that run
 abbrev pub worked_exchange : List Action

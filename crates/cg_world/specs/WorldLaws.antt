@@ -10,7 +10,6 @@ use Rattle.cg_types.specs.Text.{ClusterValue}
 use Rattle.cg_entry.specs.Values.{EntryValue}
 use Rattle.cg_entry.specs.History.{at_place}
 use Rattle.cg_table.specs.Table.{digests_of}
-use Rattle.cg_table.specs.Own.{own_entry}
 use Rattle.cg_table.specs.Merge.{merge_of}
 use Rattle.cg_messages.specs.declared.message.Message.{Message}
 use Rattle.cg_exchange_laws.specs.PlaceMessages.{PlaceMessage}
@@ -21,8 +20,9 @@ use Rattle.cg_places.specs.PlaceWorld.{PlaceWorld}
 use Rattle.cg_places.specs.Join.{sources, SamePlaces}
 use Rattle.cg_places.specs.Refusals.{refusal}
 use Rattle.cg_places.specs.Spelling.{SpellsNodes}
-use Rattle.cg_places.specs.TableLaws.{IsJoined, AreEqual, IsMergedOf}
-use Rattle.cg_world.specs.World.{Action, Local, Beat, Opening, Tick, Deliver, WorldValue, new_world, tables_of, message_to, number_to, acting, act, run_from, run, plain, place_world}
+use Rattle.cg_places.specs.TableLaws.{IsJoined, IsMergedOf}
+use Rattle.cg_world.specs.World.{Action, Local, Beat, Opening, Tick, Deliver, WorldValue, new_world, tables_of, message_to, number_to, acting, act, run, plain, place_world}
+use Rattle.cg_world.specs.Terms.{Runs, WasOwn, AreEqual}
 
 -- One more action is done after all others.
 abbrev pub ActionsOneByOne : Type 0
@@ -112,25 +112,12 @@ DeliveriesAreDone =
 
 -- ---- the tables of nodes
 
--- the node of this endpoint runs, and is this one
-abbrev pub Runs : WorldValue → ℕ → NodeValue → Type 0
-Runs c node n = map.get c.nodes node ≡ Some n
-
 -- Each node's table is the join of its own newest entry and of the entries to which the deltas led that it took since
 -- its start.
 abbrev pub TablesAreTheJoin : Type 0
 TablesAreTheJoin =
     (settings : SettingsValue) (actions : List Action) (node : ℕ) (n : NodeValue)
     → Runs (run settings actions) node n → IsJoined (place_world actions) node n.table.entries
-
--- After some of the first actions the owner ran, and this was its own entry.
-pub record WasOwn (c : WorldValue) (actions : List Action) (owner : ℕ) (entry : EntryValue) : Type 0 where
-  pub earlier : List Action
-  pub later : List Action
-  pub in_order : earlier ++ later ≡ actions
-  pub node : NodeValue
-  pub ran : Runs (run_from c earlier) owner node
-  pub own : own_entry node.table ≡ entry
 
 -- Each entry that a node holds was its owner's own, whole, at one past time.
 abbrev pub EntriesAreWhole : Type 0

@@ -30,7 +30,8 @@ ghost use Rattle.cg_world.specs.WorkedRuns.{WorkedRuns};
 
 /// The headline: after any actions each node's table is the join of its own entry and the deltas it took since its
 /// start. The join holds of each owner the furthest of these. Each entry was its owner's own, whole, at one past time.
-/// So equal sets give equal tables, and equal digests give equal tables and rings.
+/// So equal sets give equal tables, and equal digests give equal tables and rings. A node's own entry changes by its
+/// starts, beats and sets alone, and each delta that it is handed has an outcome.
 pub fn headline()
     ensures { HeadlineHolds }
 {}

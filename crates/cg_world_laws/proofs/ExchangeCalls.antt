@@ -3,7 +3,8 @@ use Rattle.std.proofs.Common.{◌≡◌, [], sym, subst}
 use Rattle.cg_core.specs.Values.{NodeValue}
 use Rattle.cg_places.specs.Exchange.{prompt_exchange}
 use Rattle.cg_world.specs.World.{WorldValue}
-use Rattle.cg_world.specs.WorldLaws.{IsReached, Runs}
+use Rattle.cg_world.specs.Terms.{Runs}
+use Rattle.cg_world.specs.WorldLaws.{IsReached}
 use Rattle.cg_world_laws.specs.Exchange.{Exchange, StartsNeither, ReachesTheMerge, EndsAtTheMerge, JoinsBoth}
 use Rattle.cg_world_laws.proofs.ExchangeLaws.{exchanges_end_at_the_join, undisturbed_exchanges_merge}
 

@@ -25,7 +25,8 @@ use Rattle.cg_world.specs.declared.action.Action.{Action}
 use Rattle.cg_world.specs.declared.action.Action.TheVariants.{Start, Local, Deliver}
 use Rattle.cg_world.specs.declared.action.LocalEvent.TheVariants.{Beat, Set, Opening, Tick}
 use Rattle.cg_world.specs.World.{starts, WorldValue, acting, or_unchanged, act, run_from, run, new_world, plain, place_world}
-use Rattle.cg_world.specs.WorldLaws.{Runs, IsBeatAndOpening}
+use Rattle.cg_world.specs.Terms.{Runs}
+use Rattle.cg_world.specs.WorldLaws.{IsBeatAndOpening}
 use Rattle.cg_world_laws.specs.Exchange.{Exchange, by_nodes, NeverStarts, StartsNeither, ExchangesAreLists, TickedExchangesFollowBeats, plain_exchange, IsPast, ExchangesEndAtTheJoin, UndisturbedExchangesMerge}
 use Rattle.cg_places.proofs.Stages.{at_ack, at_ack2}
 use Rattle.cg_places.proofs.PutLemmas.{test_same}

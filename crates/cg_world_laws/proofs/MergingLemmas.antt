@@ -17,7 +17,8 @@ use Rattle.cg_places.specs.Join.{join}
 use Rattle.cg_world_laws.specs.Merging.{merged_three, FitTogether, IsJoinIn, TellsOfNodes}
 use Rattle.cg_world.specs.declared.action.Action.{Action}
 use Rattle.cg_world.specs.World.{WorldValue, run, plain}
-use Rattle.cg_world.specs.WorldLaws.{Runs, IsReached}
+use Rattle.cg_world.specs.Terms.{Runs}
+use Rattle.cg_world.specs.WorldLaws.{IsReached}
 use Rattle.cg_places.proofs.ListLemmas.{all_done}
 use Rattle.cg_places.proofs.PlaceLaws.{done_actions_keep_limits}
 use Rattle.cg_places.proofs.TableLaws.{two_joined, tables_find_room}

@@ -9,12 +9,11 @@ use Rattle.cg_table.specs.Merge.{merge_of}
 use Rattle.cg_settings.specs.Values.{SettingsValue}
 use Rattle.cg_core.specs.Values.{NodeValue}
 use Rattle.cg_places.specs.Exchange.{ExchangeOf, WorldKind, OfBothNodes, PlaceExchange, prompt_exchange, at_syn, after_exchange, following, actions_of}
-use Rattle.cg_places.specs.TableLaws.{AreEqual}
 use Rattle.cg_world.specs.declared.action.Action.{Action}
 use Rattle.cg_world.specs.declared.action.Action.TheVariants.{Local, Deliver}
 use Rattle.cg_world.specs.declared.action.LocalEvent.TheVariants.{Beat, Opening, Tick}
 use Rattle.cg_world.specs.World.{WorldValue, acting, act, run_from, run, plain, starts}
-use Rattle.cg_world.specs.WorldLaws.{Runs}
+use Rattle.cg_world.specs.Terms.{Runs, AreEqual}
 
 -- the worlds of nodes that run; a delivery has a time in milliseconds
 abbrev pub by_nodes : WorldKind WorldValue Action ℕ
