@@ -1,9 +1,8 @@
 //! Answers to a SYN, by the entry that is held.
 
 use crate::samples::{only, syn_of, table_alone};
-use cg_exchange::answer_syn;
+use cg_exchange::{Ack, Syn, answer_syn};
 use cg_expect::expect_eq;
-use cg_messages::{Ack, Syn};
 use cg_samples::{B, cluster, endpoint};
 use cg_types::{Endpoint, Fault};
 use std::alloc::Global;

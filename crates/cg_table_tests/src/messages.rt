@@ -1,8 +1,9 @@
 //! Messages made, copied and compared, and lists that no message takes.
 
 use crate::samples::{ack_of, ack2_of, below, syn_of};
+use cg_exchange::{Message, Request};
 use cg_expect::expect_eq;
-use cg_messages::{Ack, Ack2, Kind, Message, Request, Syn};
+use cg_messages::{Ack, Ack2, Kind, Syn};
 use cg_samples::{A, B, C, cluster, endpoint, generation};
 use cg_types::{MEMBER_LIMIT, NUMBER_LIMIT};
 use std::alloc::{AllocError, Global};

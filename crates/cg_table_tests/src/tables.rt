@@ -1,11 +1,11 @@
 //! Tables: deltas put, tables merged, and the limit of owners.
 
-use cg_entry::{Delta, Digest, Entry, Took};
+use cg_entry::{Delta, Entry};
 use cg_expect::{expect, expect_eq};
 use cg_lists::push_some;
 use cg_map::Row;
 use cg_samples::{bare_delta, bare_entry, endpoint, entry_at_start, generation};
-use cg_table::Table;
+use cg_table::{Digest, Table, Took};
 use cg_types::{Endpoint, Fault, Version, owners_rise};
 use std::alloc::Global;
 use std::test::Fail;

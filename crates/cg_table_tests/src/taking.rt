@@ -1,12 +1,11 @@
 //! ACKs and ACK2s taken: the tables, outcomes and answers that they lead to.
 
 use crate::samples::{ack_of, ack2_of, below, only, table_alone};
-use cg_entry::Took;
-use cg_exchange::{answer_syn, syn, take_ack, take_ack2};
+use cg_exchange::{Ack, Ack2, Outcome, answer_syn, syn, take_ack, take_ack2};
 use cg_expect::{expect, expect_eq};
-use cg_messages::{Ack, Ack2, Outcome, OwnerDelta};
+use cg_messages::OwnerDelta;
 use cg_samples::{A, B, bare_delta, cluster, endpoint};
-use cg_table::Table;
+use cg_table::{Table, Took};
 use cg_types::{Cluster, Fault};
 use std::alloc::Global;
 use std::test::Fail;
