@@ -7,4 +7,5 @@
 
 mod history;
 
+pub use cg_records::{Item, Receipt};
 pub use history::History;

@@ -3,8 +3,8 @@
 use crate::nodes::Side;
 use crate::waiting::{TURNS, is_raised, pause};
 use cg_clock::Milliseconds;
+use cg_threads::{Dial, Listen};
 use cg_types::{Endpoint, Fault};
-use cg_workers::{Dial, Listen};
 use std::io;
 use std::io::{Empty, ErrorKind};
 use std::net::{Net, SocketAddr, TcpListener, TcpStream};

@@ -4,7 +4,7 @@ use crate::nodes::Side;
 use crate::waiting::is_raised;
 use cg_locked::Name;
 use cg_seat_samples::{last_version, learn, read_three, set_three};
-use cg_seats::{Operate, SeatGate};
+use cg_threads::{Operate, SeatGate};
 use cg_types::Fault;
 use cg_views::Pass;
 use std::alloc::Global;

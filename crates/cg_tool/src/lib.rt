@@ -9,6 +9,8 @@ mod showing;
 pub use cg_answering::answer;
 pub use cg_auditing::audit_files;
 pub use cg_command::{Job, Subcommand, job_of};
+pub use cg_journal::{read_journal, write_journal};
+pub use cg_settings_file::{ServeSettings, settings_of};
 pub use cg_sim::sim;
 pub use running::{Ending, run};
 pub use showing::show_run;
