@@ -16,6 +16,7 @@ use cg_types::Fault;
 use cg_wire::send;
 use std::alloc::Global;
 use std::io::{Read, Write};
+use thiserror::Error;
 
 /// The end of an exchange.
 #[derive(Clone, Copy, Debug, PartialEq, Eq)]
@@ -27,7 +28,8 @@ pub enum Ended {
 }
 
 /// An exchange that broke off: the number of events done before, and the fault.
-#[derive(Clone, Copy, Debug, PartialEq, Eq)]
+#[derive(Clone, Copy, Debug, PartialEq, Eq, Error)]
+#[error("the exchange broke off after {done} events: {fault}")]
 pub struct Broken {
     /// The number of events done.
     pub done: u32,

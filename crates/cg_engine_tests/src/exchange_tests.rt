@@ -227,3 +227,13 @@ fn calls(alloc: Global) -> Result<(u64, usize, u64, u64), Fail> {
 fn a_length_and_then_a_frame(rt: HostRuntime) -> Result<(), Fail> {
     expect_eq!(calls(rt.alloc())?, (4, 23, 1, 1))
 }
+
+#[test]
+fn a_broken_exchange_says_where(rt: HostRuntime) -> Result<(), Fail> {
+    let fault = Fault::Truncated;
+    let told = format!(in rt.alloc(); "{}", Broken { done: 1, fault })?;
+    expect_eq!(
+        told.as_str(),
+        "the exchange broke off after 1 events: 13 Truncated"
+    )
+}

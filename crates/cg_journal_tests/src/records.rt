@@ -8,9 +8,9 @@
 use cg_events::{Event, Reply};
 use cg_exchange::syn;
 use cg_expect::expect_eq;
-use cg_history::History;
+use cg_history::{History, Item, Receipt};
 use cg_messages::{Ack2, OwnerDelta};
-use cg_records::{Item, Receipt, Stray, confirms};
+use cg_records::{Stray, confirms};
 use cg_samples::{A, B, bare_delta, cluster, endpoint, generation, key, settings, version};
 use cg_types::{Cluster, Fault, StateText};
 use std::alloc::Global;
@@ -228,4 +228,14 @@ fn receipts_are_confirmed(rt: HostRuntime) -> Result<(), Fail> {
     }
     let confirmed = confirmed_of(rt.alloc(), 100_000)?;
     expect_eq!(confirmed, (100_000, None, Some((99_999, 16))))
+}
+
+#[test]
+fn a_stray_receipt_says_where(rt: HostRuntime) -> Result<(), Fail> {
+    let fault = Fault::Stranger;
+    let told = format!(in rt.alloc(); "{}", Stray { place: 2, fault })?;
+    expect_eq!(
+        told.as_str(),
+        "receipt 2, counted from 0, is not confirmed: 16 Stranger"
+    )
 }

@@ -2,8 +2,9 @@
 
 use cg_auditing::Journals;
 use cg_expect::expect_eq;
-use cg_journal::read_journal;
+use cg_journal::{Unread, read_journal};
 use cg_links::Counted;
+use cg_types::Fault;
 use std::alloc::Global;
 use std::test::Fail;
 
@@ -148,4 +149,14 @@ fn each_line_that_cannot_be_read_is_told(rt: HostRuntime) -> Result<(), Fail> {
         expect_eq!(end, due, "{bytes} bytes")?;
     }
     Ok(())
+}
+
+#[test]
+fn an_unread_journal_says_where(rt: HostRuntime) -> Result<(), Fail> {
+    let fault = Fault::BadText;
+    let told = format!(in rt.alloc(); "{}", Unread { line: 2, fault })?;
+    expect_eq!(
+        told.as_str(),
+        "the journal can't be read at line 2: 2 BadText"
+    )
 }

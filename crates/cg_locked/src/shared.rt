@@ -17,18 +17,29 @@ use cg_records::Receipt;
 use cg_types::Fault;
 use cg_views::{Publisher, Told};
 use std::alloc::{AllocError, Global};
+use std::fmt;
 use std::sync::ledger::{Blank, Share};
 use std::sync::{Mutex, MutexGuard, Wait};
+use thiserror::Error;
 
 /// The locked board, borrowed until `MutexGuard::unlock` ends the guard.
 pub type BoardGuard<'a, N> = MutexGuard<'a, Board<N>>;
 
 /// A history with the first receipt that it does not confirm: its place in the list, counted from 0, and the fault.
-#[derive(Drop)]
+#[derive(Drop, Error)]
+#[error("receipt {place}, counted from 0, is not confirmed: {fault}")]
 pub struct Unconfirmed {
     pub history: History,
     pub place: usize,
     pub fault: Fault,
+}
+
+/// Leaves out the history, which has no such text.
+impl fmt::Debug for Unconfirmed {
+    fn fmt<W: fmt::Write>(&self, f: &mut fmt::Formatter<W>) -> fmt::Result {
+        let Unconfirmed { place, fault, .. } = self;
+        write!(f, "Unconfirmed {{ place: {place}, fault: {fault:?}, .. }}")
+    }
 }
 
 /// One node's history behind a lock.

@@ -93,3 +93,12 @@ fn workers_that_were_not_all_started(rt: HostRuntime) -> Result<(), Fail> {
     let left = left_after(&rt, rt.alloc(), false)?;
     expect_eq!(left, Err(Some(Fault::OutOfMemory)))
 }
+
+#[test]
+fn a_node_that_was_not_started_says_why(rt: HostRuntime) -> Result<(), Fail> {
+    let told = format!(in rt.alloc(); "{}", NotRun::Unstarted(Fault::OutOfMemory))?;
+    expect_eq!(
+        told.as_str(),
+        "the node could not be started: 1 OutOfMemory"
+    )
+}
