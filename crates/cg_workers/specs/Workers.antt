@@ -1,6 +1,7 @@
 -- The exchanges, connections and rounds of a node's workers over links.
 use Rattle.std.specs.Prelude.{◌≡◌, ℕ, ◌<◌, ◌⊎◌, List, [], ◌∷◌, ◌++◌, length, map, Option, Some, Result, Ok, Err}
 use Rattle.cg_types.specs.declared.fault.Fault.{Fault}
+use Rattle.cg_types.specs.declared.fault.Fault.TheVariants as fault
 use Rattle.cg_messages.specs.declared.kind.Kind.{Kind}
 use Rattle.cg_messages.specs.declared.kind.Kind.TheVariants as kind
 use Rattle.cg_messages.specs.declared.message.Message.TheVariants as messages
@@ -18,6 +19,10 @@ use Rattle.cg_rounds.specs.declared.round.Round.{Round}
 use Rattle.cg_rounds.specs.declared.ends.Taking.{Taking}
 use Rattle.cg_rounds.specs.Ends.{taken_by}
 use Rattle.cg_workers.specs.Each.{Each}
+
+-- the faults of accepting a connection, and of dialing a peer
+abbrev pub IsLinkFault : Fault → Type 0
+IsLinkFault f = (f ≡ fault.OutOfMemory) ⊎ (f ≡ fault.ReadFault)
 
 -- no connection came
 abbrev pub IsNoLink : {X : Type 0} → Result (Option X) Fault → Type 0

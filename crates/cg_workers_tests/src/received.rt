@@ -29,7 +29,8 @@ impl<'a> Listen for Script<'a> {
         self.calls = self.calls.saturating_add(1);
         match coming {
             Some(Ok(Some(bytes))) => Ok(Some((bytes, Vec::new(self.alloc)))),
-            Some(Err(fault)) => Err(fault),
+            Some(Err(Fault::OutOfMemory)) => Err(Fault::OutOfMemory),
+            Some(Err(_)) => Err(Fault::ReadFault),
             _ => Ok(None),
         }
     }
