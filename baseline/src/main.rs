@@ -17,6 +17,7 @@ mod world;
 
 use model::Endpoint;
 use naive::{cluster, empty, held, read, Ack, Ack2, Entry, Message, Syn, Table};
+use ring::Ring;
 use std::cell::RefCell;
 use std::hint::black_box;
 use timing::{case, Mode};
@@ -261,17 +262,19 @@ fn small(mode: Mode) {
     );
 }
 
+/// Each token of a ring, with its endpoint.
+fn lines(ring: &Ring) -> Vec<u8> {
+    let lines = ring.positions.iter().map(|(t, e)| format!("{t:032x} {e}\n"));
+    lines.collect::<String>().into_bytes()
+}
+
 fn rings(mode: Mode) {
     let table = ring_table(256);
-    let ring = ring::Ring::of_table(&table);
+    let ring = Ring::of_table(&table);
     let tokens: Vec<u128> = (0..1000u32).map(|i| md5::token(&i.to_be_bytes())).collect();
     let places = || black_box(&tokens).iter().fold(0usize, |sum, token| sum.wrapping_add(ring.positions.partition_point(|p| p.0 < *token)));
     case(mode, "naive_1000_searches_4096", places, |sum| sum.to_be_bytes().to_vec());
-    let show = |ring: &ring::Ring| {
-        let lines = ring.positions.iter().map(|(t, e)| format!("{t:032x} {e}\n"));
-        lines.collect::<String>().into_bytes()
-    };
-    case(mode, "naive_ring_build_256x16", || ring::Ring::of_table(black_box(&table)), show);
+    case(mode, "naive_ring_build_256x16", || Ring::of_table(black_box(&table)), lines);
     for rf in [1, 3] {
         let all = || tokens.iter().map(|t| black_box(ring.replicas(*t, rf))).last().unwrap();
         case(mode, &format!("naive_1000_replicas_rf{rf}"), all, |e| shown(e));
@@ -345,6 +348,29 @@ fn windows(mode: Mode) {
     );
 }
 
+/// What is newer in one entry than its newest version, than the one below, and than none, a thousand times.
+fn aboves(mode: Mode) {
+    let plain = table(255, 256, 16, 64);
+    let first = changed(plain.clone(), 1);
+    for (tag, own, above) in [("newest", &first, 19), ("below", &first, 18), ("beat", &plain, 17), ("zero", &first, 0)] {
+        let owner = Endpoint::number(7);
+        let versions = vec![above; 1000];
+        let entry = &own.entries[&owner];
+        let naive = || black_box(&versions).iter().fold(None, |_, above| black_box(entry.above(*above)));
+        case(mode, &format!("naive_1000_aboves_16x64_{tag}"), naive, |delta| {
+            let deltas = delta.iter().map(|delta| (owner, delta.clone())).collect();
+            naive::encode(&Message::Ack2(Ack2 { deltas }))
+        });
+        let own = shared::of_naive(own);
+        let entry = &own.entries[&owner];
+        let shared = || black_box(&versions).iter().fold(None, |_, above| black_box(entry.above(*above)));
+        case(mode, &format!("shared_1000_aboves_16x64_{tag}"), shared, |delta| {
+            let deltas = delta.iter().map(|delta| (owner, delta.clone())).collect();
+            shared::encode(&shared::Message::Ack2(shared::Ack2 { deltas }))
+        });
+    }
+}
+
 /// Bytes copied, for the least that any check or encoding of so many bytes costs.
 fn limits(mode: Mode) {
     for size in [290_000, 4_230_000] {
@@ -374,6 +400,7 @@ fn main() {
     texts(mode, "4096x64", 4096, &digits[..64]);
     texts(mode, "4096x1024", 4096, &digits[..64].repeat(16));
     windows(mode);
+    aboves(mode);
     links(mode, "16x64", 16, 64);
     messages(mode, "16x1024", 16, 1024);
 }

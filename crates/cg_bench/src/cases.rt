@@ -21,7 +21,20 @@ pub(crate) enum GossipTask {
     Exchange(Held, Held),
 }
 
-/// A task of one member alone: with a ring, with texts, or with a window.
+/// The version by which an entry is asked for what is newer.
+#[derive(Clone, Copy)]
+pub(crate) enum Above {
+    /// The newest, which is that of a state: nothing is newer.
+    Newest,
+    /// One below it: one state is newer.
+    Below,
+    /// One below the newest, which is that of the heartbeat: no state is newer.
+    Beat,
+    /// None: all is newer.
+    Zero,
+}
+
+/// A task of one member alone: with a ring, with texts, with a window, or with an entry.
 #[derive(Clone, Copy)]
 pub(crate) enum LocalTask {
     BuildRing,
@@ -42,6 +55,8 @@ pub(crate) enum LocalTask {
     Arrivals,
     /// Computes a thousand verdicts of a window.
     Verdicts,
+    /// Asks an entry a thousand times for what is newer than this version.
+    Aboves(Above),
 }
 
 /// A number of texts, each of which is a part that is repeated `times` times.
@@ -202,8 +217,8 @@ pub(crate) const SHAPED: [(&str, &str, GossipTask); 18] = [
     ),
 ];
 
-/// Rings, texts as the library keeps what is shared, and windows of silence.
-pub(crate) const LOCAL: [(&str, &str, &str, LocalTask); 17] = [
+/// Rings, texts as the library keeps what is shared, windows of silence, and entries.
+pub(crate) const LOCAL: [(&str, &str, &str, LocalTask); 21] = [
     ("ring", "build", "256x16", LocalTask::BuildRing),
     ("1000", "searches", "4096", LocalTask::Places),
     ("1000", "replicas", "rf1", LocalTask::Replicas(1)),
@@ -236,4 +251,28 @@ pub(crate) const LOCAL: [(&str, &str, &str, LocalTask); 17] = [
     ),
     ("silence", "2000_arrived", "w1000", LocalTask::Arrivals),
     ("silence", "1000_verdicts", "w1000", LocalTask::Verdicts),
+    (
+        "1000",
+        "aboves_16x64",
+        "newest",
+        LocalTask::Aboves(Above::Newest),
+    ),
+    (
+        "1000",
+        "aboves_16x64",
+        "below",
+        LocalTask::Aboves(Above::Below),
+    ),
+    (
+        "1000",
+        "aboves_16x64",
+        "beat",
+        LocalTask::Aboves(Above::Beat),
+    ),
+    (
+        "1000",
+        "aboves_16x64",
+        "zero",
+        LocalTask::Aboves(Above::Zero),
+    ),
 ];

@@ -1,10 +1,12 @@
-//! The tasks on rings, texts and windows that are measured: the inputs and the result of each.
+//! The tasks on rings, texts, windows and entries that are measured: the inputs and the result of each.
 
-use crate::cases::{LOCAL, LocalTask};
+use crate::aboves::{asked, bringing, last_above, versions};
+use crate::cases::{Above, LOCAL, LocalTask};
 use crate::rings::{claimed, digests, key_tokens, places, replicas, replicas_of_keys, ring};
 use crate::texts::{copies, headed, joined, room_for, text_of, texts_of};
 use crate::windows::{heard, last_verdict, silence, verdicts};
-use cg_measure::{Failure, Name, Work};
+use cg_entry::{Delta, Entry};
+use cg_measure::{Failure, Name, Work, add_message, add_ring};
 use cg_ring::Ring;
 use cg_silence::{Silence, Verdict, Window};
 use cg_table::Table;
@@ -30,6 +32,8 @@ pub(crate) enum LocalWork {
     Head(Vec<ArcStr<Global>>, usize),
     Arrivals(Silence),
     Verdicts(Window),
+    /// Asks for what is newer than each version.
+    Aboves(Entry, Vec<u32>),
 }
 
 /// The result of one turn.
@@ -42,19 +46,7 @@ pub(crate) enum Made {
     Verdict(Verdict),
     Text(Vec<u8>),
     Texts(Vec<ArcStr<Global>>),
-}
-
-fn add_endpoint(alloc: Global, digest: &mut Md5, endpoint: Endpoint) -> Result<(), AllocError> {
-    digest.update(format!(in alloc; "{endpoint}\n")?.as_bytes());
-    Ok(())
-}
-
-fn add_ring(alloc: Global, digest: &mut Md5, ring: &Ring) -> Result<(), AllocError> {
-    for (token, endpoint) in ring.positions() {
-        digest.update(format!(in alloc; "{token} ")?.as_bytes());
-        add_endpoint(alloc, digest, *endpoint)?;
-    }
-    Ok(())
+    Delta(Option<Delta>),
 }
 
 fn add_endpoints(
@@ -63,7 +55,7 @@ fn add_endpoints(
     endpoints: &[Endpoint],
 ) -> Result<(), AllocError> {
     for endpoint in endpoints {
-        add_endpoint(alloc, digest, *endpoint)?;
+        digest.update(format!(in alloc; "{endpoint}\n")?.as_bytes());
     }
     Ok(())
 }
@@ -89,10 +81,13 @@ fn turn_of(alloc: Global, work: &LocalWork) -> Result<Made, AllocError> {
         LocalWork::Head(texts, room) => Ok(Made::Text(headed(alloc, texts, *room)?)),
         LocalWork::Arrivals(silence) => Ok(Made::Verdict(last_verdict(alloc, *silence)?)),
         LocalWork::Verdicts(window) => Ok(Made::Verdict(verdicts(window))),
+        LocalWork::Aboves(entry, versions) => {
+            Ok(Made::Delta(last_above(alloc, entry, versions)?))
+        }
     }
 }
 
-fn add_made(alloc: Global, digest: &mut Md5, made: &Made) -> Result<(), AllocError> {
+fn add_made(alloc: Global, digest: &mut Md5, made: &Made) -> Result<(), Failure> {
     match made {
         Made::Ring(ring) => add_ring(alloc, digest, ring)?,
         Made::Replicas(endpoints) => add_endpoints(alloc, digest, endpoints)?,
@@ -101,6 +96,7 @@ fn add_made(alloc: Global, digest: &mut Md5, made: &Made) -> Result<(), AllocErr
         Made::Verdict(verdict) => digest.update(verdict.name().as_bytes()),
         Made::Text(text) => digest.update(text),
         Made::Texts(texts) => add_texts(digest, texts),
+        Made::Delta(delta) => add_message(alloc, digest, &bringing(alloc, delta.as_ref())?)?,
     }
     Ok(())
 }
@@ -113,7 +109,7 @@ impl Work for LocalWork {
     }
 
     fn add(alloc: Global, digest: &mut Md5, made: &Made) -> Result<(), Failure> {
-        Ok(add_made(alloc, digest, made)?)
+        add_made(alloc, digest, made)
     }
 }
 
@@ -141,6 +137,12 @@ fn verdicts_of(alloc: Global, silence: Option<Silence>) -> Result<LocalWork, Fai
     }
 }
 
+fn aboves_of(alloc: Global, above: Above) -> Result<LocalWork, Failure> {
+    let entry = asked(alloc, above)?;
+    let versions = versions(alloc, above, &entry)?;
+    Ok(LocalWork::Aboves(entry, versions))
+}
+
 // Makes the work of a task.
 fn work_of(alloc: Global, task: LocalTask) -> Result<LocalWork, Failure> {
     match task {
@@ -156,10 +158,11 @@ fn work_of(alloc: Global, task: LocalTask) -> Result<LocalWork, Failure> {
         LocalTask::Head(texts) => Ok(LocalWork::Head(texts_of(alloc, texts)?, room_for(texts, 7))),
         LocalTask::Arrivals => arrivals_of(silence()),
         LocalTask::Verdicts => verdicts_of(alloc, silence()),
+        LocalTask::Aboves(above) => aboves_of(alloc, above),
     }
 }
 
-/// Makes the cases of rings, texts and windows.
+/// Makes the cases of rings, texts, windows and entries.
 pub(crate) fn local_cases(alloc: Global) -> Result<Vec<(Name, LocalWork)>, Failure> {
     let mut cases = Vec::new(alloc);
     for (work, on, tag, task) in LOCAL {

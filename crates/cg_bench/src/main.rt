@@ -1,9 +1,10 @@
-//! Measures the core's work on frames, tables, rings, windows and texts.
+//! Measures the core's work on frames, tables, rings, texts, windows and entries.
 //!
 //! With no words it runs each case once and prints a digest of its result, which no clock and no machine changes. With
 //! the word `time` it measures each.
 #![tactic(auto)]
 
+mod aboves;
 mod cases;
 mod frames;
 mod gossip;

@@ -1,12 +1,10 @@
 //! Rings, replicas, and the tables that rings are made of.
 
-use cg_entry::{Delta, State};
-use cg_measure::{Failure, table_of};
+use cg_measure::{Failure, claiming, table_of};
 use cg_ring::Ring;
-use cg_samples::{generation, key, version};
 use cg_table::Table;
 use cg_tokens::{Token, token_of};
-use cg_types::{Endpoint, Fault, StateText};
+use cg_types::Endpoint;
 use md5::{Digest, Md5};
 use std::alloc::{AllocError, Global};
 
@@ -62,51 +60,6 @@ pub(crate) fn digests() -> [u8; 16] {
         digest = Md5::digest(&digest);
     }
     digest
-}
-
-// Returns sixteen tokens of an endpoint, rising.
-fn tokens(alloc: Global, number: u16) -> Result<Vec<Token>, AllocError> {
-    let mut tokens = Vec::new(alloc);
-    for part in 0..16u8 {
-        let key = format!(in alloc; "{number}/{part}")?;
-        tokens.push(token_of(key.as_bytes()))?;
-    }
-    tokens.sort_unstable();
-    Ok(tokens)
-}
-
-// Writes tokens as an endpoint publishes them.
-fn tokens_text(alloc: Global, tokens: &[Token]) -> Result<String, AllocError> {
-    let mut text = String::new(alloc);
-    for token in tokens {
-        if !text.is_empty() {
-            text.push(',')?;
-        }
-        text.push_str(&format!(in alloc; "{token}")?)?;
-    }
-    Ok(text)
-}
-
-fn state(alloc: Global, number: u8, text: &str) -> Result<State, Fault> {
-    Ok(State {
-        key: key(number),
-        version: version(u32::from(number) + 1),
-        text: StateText::new(alloc, text)?,
-    })
-}
-
-// Returns the states of an endpoint that is in the ring and claims sixteen tokens.
-fn claims(alloc: Global, number: u16) -> Result<Vec<State>, Fault> {
-    let tokens = tokens_text(alloc, &tokens(alloc, number)?)?;
-    let mut states = Vec::with_capacity(alloc, 2)?;
-    states.push(state(alloc, 1, "NORMAL")?)?;
-    states.push(state(alloc, 2, &tokens)?)?;
-    Ok(states)
-}
-
-fn claiming(alloc: Global, number: u16) -> Result<Delta, Failure> {
-    let states = claims(alloc, number)?;
-    Delta::new(generation(5), 0, version(18), states).ok_or(Failure::Lacking("a delta"))
 }
 
 /// Makes a table of 256 endpoints with sixteen tokens each.

@@ -4,6 +4,7 @@
 
 mod case;
 mod chance;
+mod claims;
 mod digest;
 mod failure;
 mod messages;
@@ -12,7 +13,8 @@ mod tables;
 mod words;
 
 pub use case::{Mode, Name, Work, run_cases};
-pub use digest::{add_message, add_table};
+pub use claims::{claiming, tokens_text};
+pub use digest::{add_message, add_ring, add_table};
 pub use failure::Failure;
 pub use messages::{bringing, empty_syn};
 pub use tables::{HELD, Held, Shape, table, table_of};
