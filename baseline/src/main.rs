@@ -15,11 +15,13 @@ mod silence;
 mod timing;
 mod world;
 
-use model::Endpoint;
-use naive::{cluster, empty, held, read, Ack, Ack2, Entry, Message, Syn, Table};
+use model::{Endpoint, Took};
+use naive::{cluster, empty, held, read, Ack, Ack2, Delta, Entry, Message, Syn, Table};
 use ring::Ring;
 use std::cell::RefCell;
+use std::collections::BTreeMap;
 use std::hint::black_box;
+use std::sync::Arc;
 use timing::{case, Mode};
 use world::*;
 
@@ -218,12 +220,12 @@ fn beat(node: &Table) -> Table {
     after
 }
 
-fn set(node: &Table) -> Table {
+fn set(node: &Table, key: u8, text: &str) -> Table {
     let mut after = node.clone();
     let own = after.entries.get_mut(&node.own).unwrap();
     let version = own.newest() + 1;
-    let text = "1048576".into();
-    own.states.insert(3, naive::State { version, text });
+    let text = text.into();
+    own.states.insert(key, naive::State { version, text });
     after
 }
 
@@ -237,7 +239,7 @@ fn nodes(mode: Mode, tag: &str, states: usize, text: usize) {
     };
     take_ack2(mode, &format!("node_heartbeat_{tag}"), &node, ack2);
     case(mode, &format!("naive_node_beat_{tag}"), || beat(black_box(&node)), held);
-    case(mode, &format!("naive_node_set_{tag}"), || set(black_box(&node)), held);
+    case(mode, &format!("naive_node_set_{tag}"), || set(black_box(&node), 3, "1048576"), held);
 }
 
 fn small(mode: Mode) {
@@ -266,6 +268,39 @@ fn small(mode: Mode) {
 fn lines(ring: &Ring) -> Vec<u8> {
     let lines = ring.positions.iter().map(|(t, e)| format!("{t:032x} {e}\n"));
     lines.collect::<String>().into_bytes()
+}
+
+/// A table, and the ring of its claims.
+fn with_ring(table: Table) -> (Table, Ring) {
+    let ring = Ring::of_table(&table);
+    (table, ring)
+}
+
+/// A node's work where claims to tokens change: 255 owners join, its own status changes, and that of another does.
+fn claims(mode: Mode) {
+    let show = |(table, ring): &(Table, Ring)| [held(table), lines(ring)].concat();
+    let mut node = alone(0, 0, 0);
+    node.entries.values_mut().for_each(|x| x.heartbeat = 1);
+    let claimed = ring_table(256);
+    let mut others = naive::answer_syn(&claimed, &cluster(), &empty()).unwrap();
+    others.deltas.remove(0);
+    let joins = || with_ring(naive::take_ack(black_box(&node), &others).unwrap().0);
+    case(mode, "naive_node_joins_256x16", joins, show);
+    let tokens = claimed.entries[&node.own].states[&2].text.clone();
+    let node = set(&set(&joins().0, 2, &tokens), 1, "NORMAL");
+    case(mode, "naive_node_set_status_256x16", || with_ring(set(black_box(&node), 1, "LEFT")), show);
+    let text = "LEFT".into();
+    let delta = Delta {
+        generation: 5,
+        above: 18,
+        heartbeat: 18,
+        states: vec![(1, naive::State { version: 19, text })],
+    };
+    let ack2 = Ack2 {
+        deltas: vec![(Endpoint::number(7), delta)],
+    };
+    let takes = || with_ring(naive::take_ack2(black_box(&node), &ack2).unwrap().0);
+    case(mode, "naive_node_takes_status_256x16", takes, show);
 }
 
 fn rings(mode: Mode) {
@@ -348,6 +383,69 @@ fn windows(mode: Mode) {
     );
 }
 
+/// The heartbeats of 255 owners, a second apart: of this number of rounds, from the one that comes `first` seconds after all
+/// was taken.
+fn rounds(first: u32, count: u32) -> Vec<(u64, Ack2)> {
+    let beat = |round| Delta {
+        generation: 5,
+        above: 17 + round,
+        heartbeat: 18 + round,
+        states: vec![],
+    };
+    let deltas = |round| (1..256).map(|i| (Endpoint::number(i), beat(round))).collect();
+    let rounds = first..first + count;
+    rounds.map(|round| (1000 + 1000 * round as u64, Ack2 { deltas: deltas(round) })).collect()
+}
+
+/// A node's work at newer heartbeats of all others, whose windows are full: 64 steps.
+fn beats(mode: Mode) {
+    let empty = || silence::Window::new(1000, 2000, 60000, 18421);
+    let node = joined(16, 64);
+    let mut windows = BTreeMap::new();
+    for i in 1..256 {
+        let window: &mut silence::Window = windows.entry(Endpoint::number(i)).or_insert_with(empty);
+        (0..=1000).for_each(|round| window.arrived(1000 + 1000 * round));
+    }
+    let deltas = rounds(1, 1000);
+    let last = deltas.iter().fold(node, |node, (_, ack2)| naive::take_ack2(&node, ack2).unwrap().0);
+    let coming = rounds(1001, 64);
+    let naive = || {
+        let (mut table, mut windows) = (last.clone(), windows.clone());
+        for (now, ack2) in black_box(&coming) {
+            let (after, outcomes) = naive::take_ack2(&table, ack2).unwrap();
+            let mut heard = windows.clone();
+            for (endpoint, _) in outcomes.iter().filter(|x| x.1 == Took::Taken) {
+                heard.entry(*endpoint).or_insert_with(empty).arrived(*now);
+            }
+            (table, windows) = (after, heard);
+        }
+        (table, windows)
+    };
+    case(mode, "naive_64_node_beats_256_w1000", naive, |(table, _)| held(table));
+    let windows: BTreeMap<_, _> = windows.iter().map(|(e, w)| (*e, Arc::new(w.clone()))).collect();
+    let last = shared::of_naive(&last);
+    let coming: Vec<_> = coming
+        .into_iter()
+        .map(|(now, ack2)| match shared::read(&naive::encode(&Message::Ack2(ack2))) {
+            shared::Message::Ack2(ack2) => (now, ack2),
+            _ => panic!(),
+        })
+        .collect();
+    let shared = || {
+        let (mut table, mut windows) = (last.clone(), windows.clone());
+        for (now, ack2) in black_box(&coming) {
+            let (after, outcomes) = shared::take_ack2(&table, ack2).unwrap();
+            let mut heard = windows.clone();
+            for (endpoint, _) in outcomes.iter().filter(|x| x.1 == Took::Taken) {
+                Arc::make_mut(heard.entry(*endpoint).or_insert_with(|| Arc::new(empty()))).arrived(*now);
+            }
+            (table, windows) = (after, heard);
+        }
+        (table, windows)
+    };
+    case(mode, "shared_64_node_beats_256_w1000", shared, |(table, _)| shared::held(table));
+}
+
 /// What is newer in one entry than its newest version, than the one below, and than none, a thousand times.
 fn aboves(mode: Mode) {
     let plain = table(255, 256, 16, 64);
@@ -394,6 +492,8 @@ fn main() {
         gossip(mode, tag, states, text);
         nodes(mode, tag, states, text);
     }
+    claims(mode);
+    beats(mode);
     rings(mode);
     let digits = "0123456789".repeat(20);
     texts(mode, "256x200", 256, &digits);

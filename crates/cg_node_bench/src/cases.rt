@@ -11,6 +11,14 @@ pub(crate) enum Task {
     Beat,
     /// A node sets one key.
     Set,
+    /// A node that holds itself alone takes all others, who claim tokens.
+    Joins,
+    /// A node sets its own `STATUS`, where all claim tokens.
+    SetStatus,
+    /// A node takes the `STATUS` of another, where all claim tokens.
+    TakesStatus,
+    /// A node whose windows are full takes this number of heartbeats of each other.
+    Beats(u32),
     /// An exchange of two nodes that hold the same, over links in memory.
     Links,
     /// The ACK that brings a whole table is read from a link.
@@ -62,9 +70,9 @@ const CALLER_BY_CALLER: Task = Task::Confirms {
     rise: 250,
 };
 
-/// All cases: steps of nodes at tables of each shape, exchanges over links, histories, and scripts of 8 nodes with a hundred
-/// thousand lines and of 256 nodes.
-pub(crate) const ALL: [Case; 20] = [
+/// All cases: steps of nodes at tables of each shape, at claims of tokens and at full windows, exchanges over links,
+/// histories, and scripts of 8 nodes with a hundred thousand lines and of 256 nodes.
+pub(crate) const ALL: [Case; 24] = [
     ("node", "heartbeat", "1x200", Task::Heartbeat, SMALLEST),
     ("node", "beat", "1x200", Task::Beat, SMALLEST),
     ("node", "set", "1x200", Task::Set, SMALLEST),
@@ -74,6 +82,16 @@ pub(crate) const ALL: [Case; 20] = [
     ("node", "heartbeat", "16x1024", Task::Heartbeat, LARGEST),
     ("node", "beat", "16x1024", Task::Beat, LARGEST),
     ("node", "set", "16x1024", Task::Set, LARGEST),
+    ("node", "joins", "256x16", Task::Joins, SMALLEST),
+    ("node", "set_status", "256x16", Task::SetStatus, SMALLEST),
+    (
+        "node",
+        "takes_status",
+        "256x16",
+        Task::TakesStatus,
+        SMALLEST,
+    ),
+    ("64", "node_beats_256", "w1000", Task::Beats(64), MIDDLE),
     ("links", "equal", "16x64", Task::Links, MIDDLE),
     ("receive", "whole", "16x1024", Task::Receive, LARGEST),
     (

@@ -6,6 +6,7 @@
 #![tactic(auto)]
 
 mod cases;
+mod claims;
 mod histories;
 mod links;
 mod nodes;

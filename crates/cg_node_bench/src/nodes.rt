@@ -50,21 +50,62 @@ pub(crate) fn others(alloc: Global, shape: Shape) -> Result<Event, Failure> {
     arrival(1000, copies(alloc, whole.deltas())?)
 }
 
-// The delta of a heartbeat at a version, above the newest of an endpoint.
-fn beat_at(alloc: Global, number: u16, above: u32, at: u32) -> Result<OwnerDelta, Failure> {
-    let delta = Delta::bare(alloc, generation(5), above, version(at));
-    let delta = delta.ok_or(Failure::Lacking("a delta"))?;
-    Ok(OwnerDelta {
+/// The event of an ACK2 that brings one delta, of an endpoint, at this time.
+pub(crate) fn brings_one(
+    alloc: Global,
+    now: u64,
+    number: u16,
+    delta: Delta,
+) -> Result<Event, Failure> {
+    let mut deltas = Vec::new(alloc);
+    deltas.push(OwnerDelta {
         endpoint: endpoint(number),
         delta,
-    })
+    })?;
+    arrival(now, deltas)
+}
+
+// The delta of a heartbeat at a version, above the newest of an endpoint.
+fn beat_at(alloc: Global, above: u32, at: u32) -> Result<Delta, Failure> {
+    Delta::bare(alloc, generation(5), above, version(at)).ok_or(Failure::Lacking("a delta"))
 }
 
 /// The event of a heartbeat at a version, above the newest of an endpoint.
 pub(crate) fn heartbeat(alloc: Global, number: u16, above: u32, at: u32) -> Result<Event, Failure> {
+    brings_one(alloc, 2000, number, beat_at(alloc, above, at)?)
+}
+
+// The deltas of a heartbeat of each other endpoint.
+fn beats_at(alloc: Global, above: u32, at: u32) -> Result<Vec<OwnerDelta>, Failure> {
     let mut deltas = Vec::new(alloc);
-    deltas.push(beat_at(alloc, number, above, at)?)?;
-    arrival(2000, deltas)
+    for number in 1..256u16 {
+        deltas.push(OwnerDelta {
+            endpoint: endpoint(number),
+            delta: beat_at(alloc, above, at)?,
+        })?;
+    }
+    Ok(deltas)
+}
+
+// The event of a heartbeat of each other endpoint, `round` seconds after they joined.
+fn round_of_beats(alloc: Global, round: u32) -> Result<Event, Failure> {
+    let above = round.wrapping_add(17);
+    let now = 1000 + u64::from(round) * 1000;
+    arrival(now, beats_at(alloc, above, above.wrapping_add(1))?)
+}
+
+/// The events of `count` heartbeats of each other endpoint, a second apart, of which the first comes `first` seconds after
+/// they joined.
+pub(crate) fn rounds_of_beats(
+    alloc: Global,
+    first: u32,
+    count: u32,
+) -> Result<Vec<Event>, Failure> {
+    let mut events = Vec::new(alloc);
+    for round in first..first.wrapping_add(count) {
+        events.push(round_of_beats(alloc, round)?)?;
+    }
+    Ok(events)
 }
 
 /// Endpoint 0, which has taken all that the others hold.
@@ -74,10 +115,31 @@ pub(crate) fn joined(alloc: Global, shape: Shape) -> Result<Node, Failure> {
     Ok(after(alloc, &node, &others)?)
 }
 
+/// The node after these events, one after the other.
+pub(crate) fn after_all(alloc: Global, node: &Node, events: &[Event]) -> Result<Node, Failure> {
+    let mut node = node.copy()?;
+    for event in events {
+        node = after(alloc, &node, event)?;
+    }
+    Ok(node)
+}
+
+/// Endpoint 0, which has taken all that the others hold, and then a thousand heartbeats of each.
+pub(crate) fn heard(alloc: Global, shape: Shape) -> Result<Node, Failure> {
+    let beats = rounds_of_beats(alloc, 1, 1000)?;
+    let node = joined(alloc, shape)?;
+    after_all(alloc, &node, &beats)
+}
+
+/// The event that sets a key in the node's own entry.
+pub(crate) fn set(alloc: Global, number: u8, text: &str) -> Result<Event, Fault> {
+    Ok(Event::Set {
+        key: key(number),
+        text: StateText::new(alloc, text)?,
+    })
+}
+
 /// The event that sets a load in the node's own entry.
 pub(crate) fn load(alloc: Global) -> Result<Event, Fault> {
-    Ok(Event::Set {
-        key: key(3),
-        text: StateText::new(alloc, "1048576")?,
-    })
+    set(alloc, 3, "1048576")
 }

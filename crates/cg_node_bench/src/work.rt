@@ -1,16 +1,19 @@
 //! The tasks of a node that are measured, with their inputs and their results.
 
 use crate::cases::{Case, Task};
+use crate::claims::{claimed, joins, leaves, left};
 use crate::histories::{beats, events, receipts, recorded, stepped, stray};
 use crate::links::{Side, answerer_part, equal_sides, opener_part, received};
-use crate::nodes::{after, heartbeat, joined, load, whole};
+use crate::nodes::{
+    after, after_all, heard, heartbeat, joined, load, rounds_of_beats, started, whole,
+};
 use crate::scripts::{acted, actions_of, played, script_of};
 use bytes::Bytes;
 use cg_core::Node;
 use cg_events::Event;
 use cg_frames::encode;
 use cg_history::History;
-use cg_measure::{Failure, Name, Shape, add_message, add_table};
+use cg_measure::{Failure, Name, Shape, add_message, add_ring, add_table};
 use cg_messages::Message;
 use cg_records::Receipt;
 use cg_world::{Action, World};
@@ -22,6 +25,10 @@ use std::alloc::Global;
 pub(crate) enum Work {
     /// One step of a node.
     Step(Node, Event),
+    /// One step at which claims to tokens change.
+    Claim(Node, Event),
+    /// Steps of a node, one after the other.
+    Further(Node, Vec<Event>),
     /// Both parts of an exchange, over links in memory.
     Links(Side, Side),
     /// Reads the one message of a link.
@@ -39,6 +46,8 @@ pub(crate) enum Work {
 #[derive(Drop)]
 pub(crate) enum Made {
     Node(Node),
+    /// A node, whose ring is shown too.
+    Claimed(Node),
     /// Two nodes, each with the bytes that it wrote.
     Linked((Node, Vec<u8>), (Node, Vec<u8>)),
     Message(Message),
@@ -68,6 +77,11 @@ fn add_part(alloc: Global, digest: &mut Md5, part: &(Node, Vec<u8>)) -> Result<(
     Ok(())
 }
 
+fn add_claimed(alloc: Global, digest: &mut Md5, node: &Node) -> Result<(), Failure> {
+    add_table(alloc, digest, node.table())?;
+    Ok(add_ring(alloc, digest, node.ring())?)
+}
+
 // The tables of all nodes that run.
 fn add_world(alloc: Global, digest: &mut Md5, world: &World) -> Result<(), Failure> {
     for endpoint in world.endpoints(alloc)? {
@@ -84,6 +98,8 @@ impl cg_measure::Work for Work {
     fn turn(&self, alloc: Global) -> Result<Made, Failure> {
         match self {
             Work::Step(node, event) => Ok(Made::Node(after(alloc, node, event)?)),
+            Work::Claim(node, event) => Ok(Made::Claimed(after(alloc, node, event)?)),
+            Work::Further(node, events) => Ok(Made::Node(after_all(alloc, node, events)?)),
             Work::Links(opener, answerer) => linked(alloc, opener, answerer),
             Work::Receive(frame) => Ok(Made::Message(received(alloc, frame)?)),
             Work::Steps(events) => Ok(Made::Node(stepped(alloc, events)?)),
@@ -97,6 +113,7 @@ impl cg_measure::Work for Work {
     fn add(alloc: Global, digest: &mut Md5, made: &Made) -> Result<(), Failure> {
         match made {
             Made::Node(node) => add_table(alloc, digest, node.table()),
+            Made::Claimed(node) => add_claimed(alloc, digest, node),
             Made::Linked(opener, answerer) => {
                 add_part(alloc, digest, opener)?;
                 add_part(alloc, digest, answerer)
@@ -115,6 +132,11 @@ impl cg_measure::Work for Work {
 
 fn step(alloc: Global, event: Event, shape: Shape) -> Result<Work, Failure> {
     Ok(Work::Step(joined(alloc, shape)?, event))
+}
+
+fn beats_of_all(alloc: Global, count: u32, shape: Shape) -> Result<Work, Failure> {
+    let beats = rounds_of_beats(alloc, 1001, count)?;
+    Ok(Work::Further(heard(alloc, shape)?, beats))
 }
 
 fn links(alloc: Global, shape: Shape) -> Result<Work, Failure> {
@@ -138,6 +160,10 @@ fn work_of(alloc: Global, task: Task, shape: Shape) -> Result<Work, Failure> {
         Task::Heartbeat => step(alloc, heartbeat(alloc, 7, 18, 21)?, shape),
         Task::Beat => step(alloc, Event::Beat, shape),
         Task::Set => step(alloc, load(alloc)?, shape),
+        Task::Joins => Ok(Work::Claim(started(alloc, 0, 5)?, joins(alloc)?)),
+        Task::SetStatus => Ok(Work::Claim(claimed(alloc)?, leaves(alloc)?)),
+        Task::TakesStatus => Ok(Work::Claim(claimed(alloc)?, left(alloc)?)),
+        Task::Beats(count) => beats_of_all(alloc, count, shape),
         Task::Links => links(alloc, shape),
         Task::Receive => receive(alloc, shape),
         Task::Steps(count) => Ok(Work::Steps(events(alloc, shape, count)?)),
