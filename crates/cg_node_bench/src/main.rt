@@ -2,7 +2,8 @@
 //!
 //! With no words it runs each case once and prints a digest of its results, which no clock and no machine changes. With
 //! the word `time` it measures each. With the word `keep` and a number it makes that number of records of heartbeats at
-//! a whole table. It keeps them to its end, so that their memory can be measured from outside.
+//! a whole table. It keeps them to its end, so that their memory can be measured from outside. With the word `runs` it
+//! has `World::run` do three starts, and prints how many nodes run then, or that there is no world.
 #![tactic(auto)]
 
 mod cases;
@@ -10,11 +11,13 @@ mod claims;
 mod histories;
 mod links;
 mod nodes;
+mod runs;
 mod scripts;
 mod work;
 
 use crate::cases::{ALL, LARGEST};
 use crate::histories::kept;
+use crate::runs::print_run;
 use crate::work::case_of;
 use cg_measure::{Failure, is_first_word, mode_of, run_cases};
 use std::alloc::Global;
@@ -43,6 +46,9 @@ fn keep(rt: &impl Print, alloc: Global, count: u32) -> Result<(), Failure> {
 fn main(rt: HostRuntime) -> Result<(), Failure> {
     if is_first_word(&rt, *b"keep") {
         return keep(&rt, rt.alloc(), second_number(&rt));
+    }
+    if is_first_word(&rt, *b"runs") {
+        return print_run(&rt, rt.alloc());
     }
     let mode = mode_of(&rt);
     for case in ALL {
