@@ -9,6 +9,8 @@ mod maps;
 #[cfg(test)]
 mod messages;
 #[cfg(test)]
+mod moving;
+#[cfg(test)]
 mod puts;
 #[cfg(test)]
 mod ring;

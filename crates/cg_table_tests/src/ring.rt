@@ -17,8 +17,8 @@ const AT_32: &str = "00000000000000000000000000000020";
 
 const AT_48: &str = "00000000000000000000000000000030";
 
-// A generation, a status and a text of tokens.
-type Claiming = (u32, &'static str, &'static str);
+/// A generation, a status and a text of tokens.
+pub(crate) type Claiming = (u32, &'static str, &'static str);
 
 // The delta that an endpoint with these claims sends of itself.
 fn delta(alloc: Global, (at, status, tokens): Claiming) -> Result<Delta, Fail> {
@@ -26,8 +26,8 @@ fn delta(alloc: Global, (at, status, tokens): Claiming) -> Result<Delta, Fail> {
     cg_samples::delta((at, 0, 1), states)
 }
 
-// A table of these owners, and of endpoint 9, which claims nothing.
-fn table(alloc: Global, owners: &[(u16, Claiming)]) -> Result<Table, Fail> {
+/// A table of these owners, and of endpoint 9, which claims nothing.
+pub(crate) fn table(alloc: Global, owners: &[(u16, Claiming)]) -> Result<Table, Fail> {
     let mut table = Table::new(alloc, endpoint(9), entry_at_start(alloc, 1))?;
     for (owner, claiming) in owners {
         let delta = delta(alloc, *claiming)?;
@@ -53,7 +53,7 @@ fn ring(alloc: Global) -> Result<Ring, Fail> {
 
 #[test]
 fn positions_rise(rt: HostRuntime) -> Result<(), Fail> {
-    let ring = ring(rt.alloc())?.copy(rt.alloc())?;
+    let ring = ring(rt.alloc())?.copy()?;
     let wanted = [(16, 1), (32, 2), (48, 3), (64, 1)];
     expect_eq!(ring.positions().len(), wanted.len())?;
     for (position, (number, owner)) in ring.positions().iter().zip(wanted) {
