@@ -14,12 +14,12 @@ use crate::cursor::{Cursor, advanced, cursors, first};
 use crate::item::{AuditFault, LifeItem, Order};
 use crate::lives::Lives;
 use cg_messages::Lent;
-use cg_sent::Sent;
+use cg_sent::SentMessages;
 use cg_types::Endpoint;
 use std::alloc::{AllocError, Global};
 
 // Returns `true` if there is no message, or if it was sent.
-fn can_go(handled: Option<Lent<'_>>, sent: &Sent<'_>) -> bool
+fn can_go(handled: Option<Lent<'_>>, sent: &SentMessages<'_>) -> bool
     ensures { result ≡ goes sent.now (option_map lent_message handled.entry) }
 {
     match handled {
@@ -29,7 +29,7 @@ fn can_go(handled: Option<Lent<'_>>, sent: &Sent<'_>) -> bool
 }
 
 // Returns `true` if the next item of some lives can go.
-fn is_ready(lives: &Lives, cursor: Cursor, sent: &Sent<'_>) -> bool
+fn is_ready(lives: &Lives, cursor: Cursor, sent: &SentMessages<'_>) -> bool
     ensures { result ≡ is_some (ready_item sent.now (track_at lives.now cursor).left) }
 {
     match first(lives, cursor) {
@@ -78,7 +78,7 @@ fn cursor_at(cursors: &[Cursor], place: usize) -> Cursor
 }
 
 // Returns `true` if the next item of the lives at a place can go.
-fn is_ready_at(lives: &[Lives], cursors: &[Cursor], sent: &Sent<'_>, place: usize) -> bool
+fn is_ready_at(lives: &[Lives], cursors: &[Cursor], sent: &SentMessages<'_>, place: usize) -> bool
     requires count { length cursors.now ≡ length lives.now }
     requires place { place < length lives.now }
     ensures { result ≡ is_ready_lem sent.now (tracks lives.now cursors.now) place }
@@ -92,7 +92,7 @@ fn is_ready_at(lives: &[Lives], cursors: &[Cursor], sent: &Sent<'_>, place: usiz
 fn is_better(
     lives: &[Lives],
     cursors: &[Cursor],
-    sent: &Sent<'_>,
+    sent: &SentMessages<'_>,
     place: usize,
     chosen: Option<usize>,
 ) -> bool
@@ -110,7 +110,7 @@ fn is_better(
 fn better(
     lives: &[Lives],
     cursors: &[Cursor],
-    sent: &Sent<'_>,
+    sent: &SentMessages<'_>,
     place: usize,
     chosen: Option<usize>,
 ) -> Option<usize>
@@ -128,7 +128,7 @@ fn better(
 }
 
 // Returns the place of the least endpoint whose next item can go, if one can.
-fn next(lives: &[Lives], cursors: &[Cursor], sent: &Sent<'_>) -> Option<usize>
+fn next(lives: &[Lives], cursors: &[Cursor], sent: &SentMessages<'_>) -> Option<usize>
     requires { length cursors.now ≡ length lives.now }
     ensures { IsNext sent.now (tracks lives.now cursors.now) result }
 {
@@ -151,7 +151,10 @@ fn count_of(lives: &[Lives]) -> usize {
 }
 
 // Returns the messages sent, with one more message, if there is one.
-fn with_message<'a>(sent: Sent<'a>, message: Option<Lent<'a>>) -> Result<Sent<'a>, AllocError>
+fn with_message<'a>(
+    sent: SentMessages<'a>,
+    message: Option<Lent<'a>>,
+) -> Result<SentMessages<'a>, AllocError>
     ensures { IfOk result (λ s.
         HaveTheSame s (sent.entry ++ option_to_list (option_map lent_message message.entry))) }
 {
@@ -190,7 +193,7 @@ pub(crate) fn by_turns(alloc: Global, lives: &[Lives]) -> Result<Order, AuditFau
     ensures { IsFound (found_of (map track_of lives.now)) result }
 {
     let mut cursors = cursors(alloc, lives)?;
-    let mut sent = Sent::none(alloc, count_of(lives))?;
+    let mut sent = SentMessages::none(alloc, count_of(lives))?;
     let mut items = Vec::new(alloc);
     while let Some(place) = next(lives, &cursors, &sent) {
         let one = lives_at(lives, place);

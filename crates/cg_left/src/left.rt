@@ -11,12 +11,12 @@ use std::marker::Model;
 /// A worker's seat, and its receipts. A contract sees the seat's parts of the board's ledger, and the receipts, which the
 /// seat has counted.
 #[derive(Drop)]
-pub struct Left<N: Name> {
+pub struct SeatLeft<N: Name> {
     seat: Seat<N>,
     receipts: Vec<Receipt>,
 }
 
-impl<N: Name> Model for Left<N> {
+impl<N: Name> Model for SeatLeft<N> {
     ghost use Rattle.std.specs.Prelude.{◌≡◌, length};
     ghost use Rattle.cg_left.specs.Left.{LeftValue, left_code};
 
@@ -29,21 +29,21 @@ impl<N: Name> Model for Left<N> {
     ghost invariant = { λ l. l.seat.share.amount ≡ length l.receipts.items };
 }
 
-impl<N: Name> Left<N> {
-    /// Makes a `Left` of a seat and the receipts that it has counted.
-    pub fn of(seat: Seat<N>, receipts: Vec<Receipt>) -> Left<N>
+impl<N: Name> SeatLeft<N> {
+    /// Makes a `SeatLeft` of a seat and the receipts that it has counted.
+    pub fn of(seat: Seat<N>, receipts: Vec<Receipt>) -> SeatLeft<N>
         requires { seat.share.amount ≡ length receipts.items }
         ensures { result ≡ record { parts = seat.share.parts; receipts = receipts.items } }
     {
-        Left { seat, receipts }
+        SeatLeft { seat, receipts }
     }
 
-    /// Makes a `Left` of a seat from which no event was done: one that has counted nothing. It takes no memory.
-    pub fn unused(alloc: Global, seat: Seat<N>) -> Left<N>
+    /// Makes a `SeatLeft` of a seat from which no event was done: one that has counted nothing. It takes no memory.
+    pub fn unused(alloc: Global, seat: Seat<N>) -> SeatLeft<N>
         requires { seat.share.amount ≡ 0 }
         ensures { result ≡ record { parts = seat.share.parts; receipts = [] } }
     {
-        Left::of(seat, Vec::new(alloc))
+        SeatLeft::of(seat, Vec::new(alloc))
     }
 
     /// Returns the seat and the receipts.
@@ -51,32 +51,32 @@ impl<N: Name> Left<N> {
         ensures seat { (result.0.share.parts ≡ self.parts) × (result.0.share.amount ≡ length self.receipts) }
         ensures receipts { result.1.items ≡ self.receipts }
     {
-        let Left { seat, receipts } = self;
+        let SeatLeft { seat, receipts } = self;
         (seat, receipts)
     }
 }
 
 /// The sender's seat and receipts, the rounds that it took, and their numbers in their order.
 #[derive(Drop)]
-pub struct Sent<N: Name> {
-    pub left: Left<N>,
+pub struct SenderLeft<N: Name> {
+    pub left: SeatLeft<N>,
     pub taken: Taken,
     pub numbers: Vec<u64>,
 }
 
 /// The ticker's seat and receipts, and the end into which it put its rounds.
 #[derive(Drop)]
-pub struct Ticks<N: Name> {
-    pub left: Left<N>,
+pub struct TickerLeft<N: Name> {
+    pub left: SeatLeft<N>,
     pub putting: Putting,
 }
 
 /// The results of all workers, and `true` if all of them were started.
 #[derive(Drop)]
-pub struct Work<N: Name> {
+pub struct WorkersLeft<N: Name> {
     pub started: bool,
-    pub receiver: Left<N>,
-    pub sender: Sent<N>,
-    pub ticker: Ticks<N>,
-    pub operator: Left<N>,
+    pub receiver: SeatLeft<N>,
+    pub sender: SenderLeft<N>,
+    pub ticker: TickerLeft<N>,
+    pub operator: SeatLeft<N>,
 }

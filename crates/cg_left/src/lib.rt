@@ -5,4 +5,4 @@ mod callers;
 mod left;
 
 pub use callers::{OPERATOR, RECEIVER, SENDER, TICKER, WORKERS};
-pub use left::{Left, Sent, Ticks, Work};
+pub use left::{SeatLeft, SenderLeft, TickerLeft, WorkersLeft};

@@ -10,9 +10,9 @@ use Rattle.cg_seats.specs.Seats.{SeatValue, GoesOn, IsOperatorFault}
 use Rattle.cg_lines.specs.Taken.{Takes, Refuses, Lacks, Stops, IsUnread, Fails}
 use Rattle.cg_lines.specs.Lines.{ended_lines, lines_of}
 use Rattle.cg_links.specs.declared.counted.Counted.{Counted}
-use Rattle.cg_orders.specs.declared.order.Order.{Order}
-use Rattle.cg_orders.specs.declared.order.Order.TheVariants.{Show, Set, Quit}
-use Rattle.cg_orders.specs.Orders.{order_in}
+use Rattle.cg_orders.specs.declared.command.OperatorCommand.{OperatorCommand}
+use Rattle.cg_orders.specs.declared.command.OperatorCommand.TheVariants.{Show, Set, Quit}
+use Rattle.cg_orders.specs.Commands.{command_in}
 use Rattle.cg_operator.specs.Doing.{Does, Sets}
 use Rattle.cg_operator.specs.Operating.{At, DoesLine, EndsAt, LacksMemory, ReadsNothing, WritesFront, ReachesTheEnd, Operates}
 
@@ -56,8 +56,8 @@ module _ (start : NodeValue) where
         | inr k ↦ on_same g p h q k.gate k.pass
       ]
 
-  pub line_goes : (opening : TableValue) (order : Result Order Fault) (g : SeatValue) (p : List Put) (text : List ℕ) (h : SeatValue) (q : List Put)
-      → Does start opening order g p text h q → On g p h q
+  pub line_goes : (opening : TableValue) (command : Result OperatorCommand Fault) (g : SeatValue) (p : List Put) (text : List ℕ) (h : SeatValue) (q : List Put)
+      → Does start opening command g p text h q → On g p h q
   line_goes opening (Ok (Show view)) g p text h q d = record { gate = goes_same g h d.0; later = d.1 }
   line_goes opening (Ok (Set key value)) g p text h q d = set_goes key value g p text h q d
   line_goes opening (Ok Quit) g p text h q d = absurd d
@@ -82,7 +82,7 @@ module _ (start : NodeValue) where
     pub lines_go : (s t : At W) (lines : List (List ℕ)) → Takes does ends s lines t → OnAt s t
     lines_go s t [] e = subst (λ (x : At W). OnAt s x) e (on_same s.gate s.pass s.gate s.pass refl refl)
     lines_go s t (line ∷ lines) h =
-        let step = line_goes opening (order_in line) s.gate s.pass h.1.text h.0.gate h.0.pass h.1.done in
+        let step = line_goes opening (command_in line) s.gate s.pass h.1.text h.0.gate h.0.pass h.1.done in
         further s h.0 t step (lines_go h.0 t lines h.2)
 
     -- a line that ended the operator, and its fault
@@ -101,7 +101,7 @@ module _ (start : NodeValue) where
 
     unwritten_goes : (s t : At W) (line : List ℕ) (f : Fault) → WritesFront holds start opening s line t f → OnTo s t f
     unwritten_goes s t line f h = record {
-      on = line_goes opening (order_in line) s.gate s.pass h.text t.gate t.pass h.done;
+      on = line_goes opening (command_in line) s.gate s.pass h.text t.gate t.pass h.done;
       fault = subst IsOperatorFault (sym h.fault) tt;
     }
 

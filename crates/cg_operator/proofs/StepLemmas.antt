@@ -8,9 +8,9 @@ use Rattle.cg_links.specs.declared.counted.Counted.{Counted}
 use Rattle.cg_links.specs.Counted.{KeepsCounts}
 use Rattle.cg_lines.specs.Lines.{ended_lines, open_line, last_line, lines_of}
 use Rattle.cg_lines.specs.Taken.{Takes, Refuses, Lacks, Stops, StopsLast, IsUnread, Fails, TakesAll, TakesLines}
-use Rattle.cg_orders.specs.declared.order.Order.TheVariants.{Quit}
+use Rattle.cg_orders.specs.declared.command.OperatorCommand.TheVariants.{Quit}
 use Rattle.cg_operator.specs.declared.operating.Operating.{Operating}
-use Rattle.cg_orders.specs.Orders.{order_in}
+use Rattle.cg_orders.specs.Commands.{command_in}
 use Rattle.cg_operator.specs.Operating.{At, DoesLine, EndsAt, Quits, ReachesTheEnd, Operates}
 use Rattle.cg_operator.specs.Steps.{at_of, HoldsSame, TakesStep, RefusesStep}
 
@@ -21,7 +21,7 @@ module _ {W : Type 0} (holds : W → Option (List ℕ)) (start : NodeValue) (ope
     pub line : List ℕ
     pub rest : List (List ℕ)
     pub are : lines ≡ front ++ line ∷ rest
-    pub asked : order_in line ≡ Ok Quit
+    pub asked : command_in line ≡ Ok Quit
     pub done : Takes (DoesLine holds start opening) (EndsAt holds start opening) s front t
 
 module _ {N R W : Type 0} (holds : W → Option (List ℕ)) (start : NodeValue) (opening : TableValue) where

@@ -12,8 +12,8 @@ use Rattle.cg_views.specs.Lists.{StartsWith}
 use Rattle.cg_printed.specs.Printed.{version_line}
 use Rattle.cg_seats.specs.Seats.{SeatValue, with_told, Enters, Refuses, GoesOn}
 use Rattle.cg_script.specs.declared.line.View.{View}
-use Rattle.cg_orders.specs.declared.order.Order.{Order}
-use Rattle.cg_orders.specs.declared.order.Order.TheVariants.{Show, Set, Quit}
+use Rattle.cg_orders.specs.declared.command.OperatorCommand.{OperatorCommand}
+use Rattle.cg_orders.specs.declared.command.OperatorCommand.TheVariants.{Show, Set, Quit}
 use Rattle.cg_orders.specs.Shown.{table_lines, unpublished_line}
 
 -- The answer to a key that was set is its version, once the pass has learnt the told of the change; if there is none,
@@ -45,7 +45,7 @@ module _ (start : NodeValue) where
   Sets key value g p text h q = SetsKey key value g p text h q ⊎ RefusesKey key value g p text h q
 
   -- The step of a line, from a gate and the puts that a pass has read to those after it, and its text.
-  abbrev pub Does : TableValue → Result Order Fault → SeatValue → List Put → List ℕ → SeatValue → List Put → Type 0
+  abbrev pub Does : TableValue → Result OperatorCommand Fault → SeatValue → List Put → List ℕ → SeatValue → List Put → Type 0
   Does opening (Ok (Show view)) g p text h q =
       (h ≡ g) × StartsWith q p × (text ≡ table_lines (with_puts opening q) view)
   Does opening (Ok (Set key value)) g p text h q = Sets key value g p text h q
@@ -53,13 +53,13 @@ module _ (start : NodeValue) where
   Does opening (Err f) g p text h q = (h ≡ g) × (q ≡ p) × (text ≡ fault_text f)
 
   -- A line is answered with its text, or is the one that requests the end.
-  abbrev pub Answers : TableValue → Result Order Fault → SeatValue → List Put → Option (List ℕ) → SeatValue
+  abbrev pub AnswersLine : TableValue → Result OperatorCommand Fault → SeatValue → List Put → Option (List ℕ) → SeatValue
       → List Put → Type 0
-  Answers opening order g p None h q = (order ≡ Ok Quit) × (h ≡ g) × (q ≡ p)
-  Answers opening order g p (Some text) h q = Does opening order g p text h q
+  AnswersLine opening command g p None h q = (command ≡ Ok Quit) × (h ≡ g) × (q ≡ p)
+  AnswersLine opening command g p (Some text) h q = Does opening command g p text h q
 
 -- A line is not answered: memory ran out, or it is to show the table and there is nothing to read.
-abbrev pub Unanswered : Result Order Fault → SeatValue → List Put → SeatValue → List Put → Fault → Type 0
-Unanswered order g p h q f =
+abbrev pub Unanswered : Result OperatorCommand Fault → SeatValue → List Put → SeatValue → List Put → Fault → Type 0
+Unanswered command g p h q f =
     ((f ≡ OutOfMemory) × GoesOn g h × StartsWith q p)
-    ⊎ ((view : View) × (order ≡ Ok (Show view)) × (f ≡ NoSuchNode) × (h ≡ g) × (q ≡ p))
+    ⊎ ((view : View) × (command ≡ Ok (Show view)) × (f ≡ NoSuchNode) × (h ≡ g) × (q ≡ p))

@@ -2,7 +2,7 @@ pub mod Doing
 pub mod Operating
 pub mod Steps
 pub use Rattle.cg_links.specs.Counted
-pub use Rattle.cg_orders.specs.Orders
+pub use Rattle.cg_orders.specs.Commands
 pub use Rattle.cg_orders.specs.Shown
 pub use Rattle.cg_seats.specs.Seats
 pub use Rattle.cg_table.specs.Puts

@@ -13,8 +13,8 @@ use Rattle.cg_lines.specs.Lines.{lines_of}
 use Rattle.cg_lines.specs.Taken.{Takes, TakesAll, Fails}
 use Rattle.cg_script.specs.declared.line.View.{View}
 use Rattle.cg_seats.specs.Seats.{SeatValue, GoesOn}
-use Rattle.cg_orders.specs.declared.order.Order.TheVariants.{Show, Quit}
-use Rattle.cg_orders.specs.Orders.{order_in}
+use Rattle.cg_orders.specs.declared.command.OperatorCommand.TheVariants.{Show, Quit}
+use Rattle.cg_orders.specs.Commands.{command_in}
 use Rattle.cg_operator.specs.Doing.{Does}
 
 -- the progress of an operator: its gate, the puts that its pass has read or learnt, and its writer
@@ -31,7 +31,7 @@ module _ {W : Type 0} (holds : W → Option (List ℕ)) (start : NodeValue) (ope
   -- The line was done, and its text written and flushed.
   pub record DoesLine (s : At W) (line : List ℕ) (t : At W) : Type 0 where
     pub text : List ℕ
-    pub done : Does start opening (order_in line) s.gate s.pass text t.gate t.pass
+    pub done : Does start opening (command_in line) s.gate s.pass text t.gate t.pass
     pub written : Appends (held s) (held t) text
     pub kept : KeepsCounts s.writer t.writer
     pub flushed : IsFlushed t.writer
@@ -47,14 +47,14 @@ module _ {W : Type 0} (holds : W → Option (List ℕ)) (start : NodeValue) (ope
   pub record ReadsNothing (s : At W) (line : List ℕ) (t : At W) (f : Fault) : Type 0 where
     pub fault : f ≡ NoSuchNode
     pub view : View
-    pub asked : order_in line ≡ Ok (Show view)
+    pub asked : command_in line ≡ Ok (Show view)
     pub same : t ≡ s
 
   -- The line was done, and a prefix of its text was written before the writer failed or took nothing.
   pub record WritesFront (s : At W) (line : List ℕ) (t : At W) (f : Fault) : Type 0 where
     pub fault : f ≡ WriteFault
     pub text : List ℕ
-    pub done : Does start opening (order_in line) s.gate s.pass text t.gate t.pass
+    pub done : Does start opening (command_in line) s.gate s.pass text t.gate t.pass
     pub count : ℕ
     pub written : Appends (held s) (held t) (take count text)
     pub caused : CountsFailed s.writer t.writer ⊎ CountsIdle s.writer t.writer
@@ -66,7 +66,7 @@ module _ {W : Type 0} (holds : W → Option (List ℕ)) (start : NodeValue) (ope
   -- A line goes on with the next one, or requests the end and does nothing.
   abbrev pub Goes : At W → List ℕ → At W → Bool → Type 0
   Goes s line t true = DoesLine s line t
-  Goes s line t false = (order_in line ≡ Ok Quit) × (t ≡ s)
+  Goes s line t false = (command_in line ≡ Ok Quit) × (t ≡ s)
 
   -- the outcome of a line
   abbrev pub TellsLine : At W → List ℕ → At W → Result Bool Fault → Type 0
@@ -82,7 +82,7 @@ module _ {W : Type 0} (holds : W → Option (List ℕ)) (start : NodeValue) (ope
       pub line : List ℕ
       pub rest : List (List ℕ)
       pub are : lines_of text ≡ front ++ line ∷ rest
-      pub asked : order_in line ≡ Ok Quit
+      pub asked : command_in line ≡ Ok Quit
       pub done : Takes DoesLine EndsAt s front t
 
     abbrev pub ReachesTheEnd : Type 0

@@ -3,9 +3,9 @@ use Rattle.std.specs.Prelude.{ℕ, ◌≡◌, ◌⊎◌, true, List, Option, Ok}
 use Rattle.cg_types.specs.declared.fault.Fault.{Fault}
 use Rattle.cg_table.specs.Values.{TableValue}
 use Rattle.cg_core.specs.Values.{NodeValue}
-use Rattle.cg_orders.specs.declared.order.Order.TheVariants.{Quit}
+use Rattle.cg_orders.specs.declared.command.OperatorCommand.TheVariants.{Quit}
 use Rattle.cg_operator.specs.declared.operating.Operating.{Operating}
-use Rattle.cg_orders.specs.Orders.{order_in}
+use Rattle.cg_orders.specs.Commands.{command_in}
 use Rattle.cg_operator.specs.Operating.{At, DoesLine, EndsAt}
 
 -- the progress of the operator
@@ -27,7 +27,7 @@ module _ {N R W : Type 0} (holds : W → Option (List ℕ)) (start : NodeValue) 
   -- The line requested the end.
   pub record QuitsStep (s : Operating N R W) (line : List ℕ) (t : Operating N R W) : Type 0 where
     pub quit : t.has_quit ≡ true
-    pub asked : order_in line ≡ Ok Quit
+    pub asked : command_in line ≡ Ok Quit
     pub at : at_of t ≡ at_of s
 
   -- The line ended the operator by a fault.

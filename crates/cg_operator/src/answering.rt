@@ -7,13 +7,13 @@ ghost use Rattle.cg_events.specs.declared.reply.Reply.TheVariants as replies;
 ghost use Rattle.cg_views.specs.Lists.{StartsWith};
 ghost use Rattle.cg_seats.specs.Seats.{GoesOn, last_reply};
 ghost use Rattle.cg_orders.specs.Shown.{table_lines};
-ghost use Rattle.cg_orders.specs.Orders.{order_in};
-ghost use Rattle.cg_operator.specs.Doing.{TellsSet, Sets, Answers, Unanswered};
+ghost use Rattle.cg_orders.specs.Commands.{command_in};
+ghost use Rattle.cg_operator.specs.Doing.{TellsSet, Sets, AnswersLine, Unanswered};
 
 use cg_engine::Gate;
 use cg_events::{Event, Reply};
 use cg_locked::Name;
-use cg_orders::{Order, add_unpublished, read_order, table_text};
+use cg_orders::{OperatorCommand, add_unpublished, read_command, table_text};
 use cg_printed::add_version;
 use cg_script::View;
 use cg_seats::SeatGate;
@@ -99,32 +99,32 @@ fn set<N: Name, R: Wait>(
     }
 }
 
-// Carries out an order, and returns the text that it shows, or `None` if it is the end.
+// Carries out a command, and returns the text that it shows, or `None` if it is the end.
 fn obey<N: Name, R: Wait>(
     alloc: Global,
     gate: &mut SeatGate<'_, N, R>,
     pass: &mut Pass<N>,
-    order: Order,
+    command: OperatorCommand,
 ) -> Result<Option<String>, Fault>
     ensures { MatchResult result
-        (λ text. Answers N.start N.opening (Ok order) gate.old pass.old
+        (λ text. AnswersLine N.start N.opening (Ok command) gate.old pass.old
         (option_map string_bytes text) gate.new pass.new)
-        (λ f. Unanswered (Ok order) gate.old pass.old gate.new pass.new f) }
+        (λ f. Unanswered (Ok command) gate.old pass.old gate.new pass.new f) }
 {
-    match order {
-        Order::Show(view) => match show(alloc, pass, view) {
+    match command {
+        OperatorCommand::Show(view) => match show(alloc, pass, view) {
             Ok(text) => Ok(Some(text)),
             Err(fault) => Err(fault),
         },
-        Order::Set { key, text } => match set(alloc, gate, pass, key, text) {
+        OperatorCommand::Set { key, text } => match set(alloc, gate, pass, key, text) {
             Ok(text) => Ok(Some(text)),
             Err(fault) => Err(fault),
         },
-        Order::Quit => Ok(None),
+        OperatorCommand::Quit => Ok(None),
     }
 }
 
-/// Carries out the order in a line, and returns the text that it shows, or `None` if it is the end.
+/// Carries out the command in a line, and returns the text that it shows, or `None` if it is the end.
 pub(crate) fn answer<N: Name, R: Wait>(
     alloc: Global,
     gate: &mut SeatGate<'_, N, R>,
@@ -132,12 +132,12 @@ pub(crate) fn answer<N: Name, R: Wait>(
     line: &[u8],
 ) -> Result<Option<String>, Fault>
     ensures { MatchResult result
-        (λ text. Answers N.start N.opening (order_in line.now) gate.old pass.old
+        (λ text. AnswersLine N.start N.opening (command_in line.now) gate.old pass.old
         (option_map string_bytes text) gate.new pass.new)
-        (λ f. Unanswered (order_in line.now) gate.old pass.old gate.new pass.new f) }
+        (λ f. Unanswered (command_in line.now) gate.old pass.old gate.new pass.new f) }
 {
-    match read_order(alloc, line) {
-        Ok(order) => obey(alloc, gate, pass, order),
+    match read_command(alloc, line) {
+        Ok(command) => obey(alloc, gate, pass, command),
         Err(Fault::OutOfMemory) => Err(Fault::OutOfMemory),
         Err(fault) => Ok(Some(fault.line(alloc)?)),
     }

@@ -1,4 +1,4 @@
-pub mod Orders
+pub mod Commands
 pub mod Shown
 pub use Rattle.cg_script.specs.Gives
 pub use Rattle.cg_script.specs.Words

@@ -3,9 +3,9 @@
 ghost use Rattle.std.specs.Prelude.{◌≡◌, option_map};
 ghost use Rattle.cg_script.specs.Gives.{Gives};
 ghost use Rattle.cg_script.specs.Words.{text_in as text_of_bytes};
-ghost use Rattle.cg_orders.specs.Orders as spec;
+ghost use Rattle.cg_orders.specs.Commands as spec;
 
-use crate::order::Order;
+use crate::command::OperatorCommand;
 use cg_script::{View, count_before, is_word, key_before, state_text_in};
 use cg_tokens::token_of;
 use cg_types::{Fault, cut};
@@ -21,63 +21,63 @@ fn text_in(text: &[u8]) -> Option<&str>
     }
 }
 
-#[tactic(auto, unfolding(crate::specs::Orders::replicas_line))]
-fn replicas_line(words: &[u8]) -> Option<Order>
+#[tactic(auto, unfolding(crate::specs::Commands::replicas_line))]
+fn replicas_line(words: &[u8]) -> Option<OperatorCommand>
     ensures { result ≡ spec.replicas_line words.now }
 {
     let (rf, rest) = count_before(words)?;
     let text = text_in(rest)?;
     let token = token_of(text.as_bytes());
-    Some(Order::Show(View::Replicas { token, rf }))
+    Some(OperatorCommand::Show(View::Replicas { token, rf }))
 }
 
-#[tactic(auto, unfolding(crate::specs::Orders::set_line))]
-fn set_line(alloc: Global, words: &[u8]) -> Result<Order, Fault>
+#[tactic(auto, unfolding(crate::specs::Commands::set_line))]
+fn set_line(alloc: Global, words: &[u8]) -> Result<OperatorCommand, Fault>
     ensures { Gives (λ o. o) result (spec.set_line words.now) }
 {
     let Some((key, text)) = key_before(words) else {
         return Err(Fault::BadText);
     };
     match state_text_in(alloc, text) {
-        Ok(text) => Ok(Order::Set { key, text }),
+        Ok(text) => Ok(OperatorCommand::Set { key, text }),
         Err(fault) => Err(fault),
     }
 }
 
-// Reads the order of a line of one word.
-#[tactic(auto, unfolding(crate::specs::Orders::bare_order))]
-fn bare_order(word: &[u8]) -> Option<Order>
-    ensures { result ≡ spec.bare_order word.now }
+// Reads the command of a line of one word.
+#[tactic(auto, unfolding(crate::specs::Commands::bare_command))]
+fn bare_command(word: &[u8]) -> Option<OperatorCommand>
+    ensures { result ≡ spec.bare_command word.now }
 {
     if is_word(word, "gossipinfo") {
-        return Some(Order::Show(View::Gossipinfo));
+        return Some(OperatorCommand::Show(View::Gossipinfo));
     }
     if is_word(word, "ring") {
-        return Some(Order::Show(View::Ring));
+        return Some(OperatorCommand::Show(View::Ring));
     }
     if is_word(word, "digests") {
-        return Some(Order::Show(View::Digests));
+        return Some(OperatorCommand::Show(View::Digests));
     }
     if is_word(word, "quit") {
-        return Some(Order::Quit);
+        return Some(OperatorCommand::Quit);
     }
     None
 }
 
-// Returns the order of a line that takes no memory, or `BadText` if there is none.
-fn or_unreadable(order: Option<Order>) -> Result<Order, Fault>
-    ensures { result ≡ spec.or_unreadable order }
+// Returns the command of a line that takes no memory, or `BadText` if there is none.
+fn or_unreadable(command: Option<OperatorCommand>) -> Result<OperatorCommand, Fault>
+    ensures { result ≡ spec.or_unreadable command }
 {
-    match order {
-        Some(order) => Ok(order),
+    match command {
+        Some(command) => Ok(command),
         None => Err(Fault::BadText),
     }
 }
 
-// Reads the order of a line of more words: its first word, and the words after it.
-#[tactic(auto, unfolding(crate::specs::Orders::order_behind))]
-fn order_behind(alloc: Global, word: &[u8], words: &[u8]) -> Result<Order, Fault>
-    ensures { Gives (λ o. o) result (spec.order_behind word.now words.now) }
+// Reads the command of a line of more words: its first word, and the words after it.
+#[tactic(auto, unfolding(crate::specs::Commands::command_behind))]
+fn command_behind(alloc: Global, word: &[u8], words: &[u8]) -> Result<OperatorCommand, Fault>
+    ensures { Gives (λ o. o) result (spec.command_behind word.now words.now) }
 {
     if is_word(word, "replicas") {
         return or_unreadable(replicas_line(words));
@@ -94,12 +94,12 @@ fn order_behind(alloc: Global, word: &[u8], words: &[u8]) -> Result<Order, Fault
 /// `TooLong` and `BadText` if only the text of a `set` is refused: over 1,024 bytes, or with control characters.
 /// `BadText` if anything else can't be read, such as another word, a word too few or too many, or a text that is not
 /// UTF-8. `OutOfMemory` if the text finds no memory.
-#[tactic(auto, unfolding(crate::specs::Orders::order_in))]
-pub fn read_order(alloc: Global, line: &[u8]) -> Result<Order, Fault>
-    ensures { Gives (λ o. o) result (spec.order_in line.now) }
+#[tactic(auto, unfolding(crate::specs::Commands::command_in))]
+pub fn read_command(alloc: Global, line: &[u8]) -> Result<OperatorCommand, Fault>
+    ensures { Gives (λ o. o) result (spec.command_in line.now) }
 {
     match cut(line, b' ') {
-        Some((word, words)) => order_behind(alloc, word, words),
-        None => or_unreadable(bare_order(line)),
+        Some((word, words)) => command_behind(alloc, word, words),
+        None => or_unreadable(bare_command(line)),
     }
 }

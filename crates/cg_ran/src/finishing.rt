@@ -9,7 +9,7 @@ ghost use Rattle.cg_ran.specs.Ran.{IsStrayBehind, IsRun, IsNotRun, TellsStart};
 
 use crate::ran::{NotRun, Ran};
 use cg_history::History;
-use cg_left::{Sent, Ticks, Work};
+use cg_left::{SenderLeft, TickerLeft, WorkersLeft};
 use cg_locked::{Name, Seat, Shared, Unconfirmed};
 use cg_records::Receipt;
 use cg_types::Fault;
@@ -78,7 +78,7 @@ pub fn finish<N: Name, R: Wait>(
     rt: &R,
     shared: Shared<N>,
     seats: Vec<Seat<N>>,
-    work: Work<N>,
+    work: WorkersLeft<N>,
 ) -> Result<Ran, NotRun>
     requires seats { (seats.items ≡ []) × (4 ≤ vec_capacity seats) }
     requires parts { work.receiver.parts + work.sender.left.parts + work.ticker.left.parts + work.operator.parts
@@ -96,19 +96,19 @@ pub fn finish<N: Name, R: Wait>(
     ensures tells { IfErr result (TellsStart work.started) }
 {
     let mut seats = seats;
-    let Work {
+    let WorkersLeft {
         started,
         receiver,
         sender,
         ticker,
         operator,
     } = work;
-    let Sent {
+    let SenderLeft {
         left: sender,
         taken,
         numbers,
     } = sender;
-    let Ticks {
+    let TickerLeft {
         left: ticker,
         putting,
     } = ticker;

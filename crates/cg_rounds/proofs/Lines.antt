@@ -6,11 +6,11 @@ use lib.ListN.{get_elem?}
 use Rattle.atomic_table.proofs.Lists.{at_set}
 use Rattle.crossbeam_channel.specs.Fifo.{Pushes, Pops, Forks, Merges, Learns}
 use Rattle.cg_rounds.specs.declared.round.Round.{Round}
-use Rattle.cg_rounds.specs.declared.rule.Order.{Order}
+use Rattle.cg_rounds.specs.declared.rule.NextRound.{NextRound}
 use Rattle.cg_rounds.specs.declared.rule.Hand.{Hand}
 use Rattle.cg_rounds.specs.Rounds.{round_of, rounds_of, hand, Fits, InOrder}
 
-rounds-append : (xs ys : List Order) → rounds_of (xs ++ ys) ≡ rounds_of xs ++ rounds_of ys
+rounds-append : (xs ys : List NextRound) → rounds_of (xs ++ ys) ≡ rounds_of xs ++ rounds_of ys
 rounds-append [] ys = refl
 rounds-append (x ∷ xs) ys = ap (λ ns. round_of x ++ ns) (rounds-append xs ys) ∙ sym (append_assoc (round_of x) (rounds_of xs) (rounds_of ys))
 
@@ -32,7 +32,7 @@ starts = (zero, zero, [], [], refl, only)
     only zero v e = let s = some-injective _ v e in ((λ p. (refl, ap (λ (h : Hand). h.put) (sym s))), (λ p. (refl, ap (λ (h : Hand). h.taken) (sym s))))
     only (suc j) v e = absurd (some-ne-none v (sym e))
 
-pub puts : (n pass : ℕ) (v : Hand) (x : Order) → v.puts ≡ true → v.takes ≡ false → Pushes InOrder n pass v x (λ w. w ≡ hand v.puts v.takes (v.put ++ round_of x) v.taken)
+pub puts : (n pass : ℕ) (v : Hand) (x : NextRound) → v.puts ≡ true → v.takes ≡ false → Pushes InOrder n pass v x (λ w. w ≡ hand v.puts v.takes (v.put ++ round_of x) v.taken)
 puts n pass v x may not_takes items views room h at =
     let putter = h.0 in let taker = h.1 in let put = h.2 in let taken = h.3 in
     let w = hand v.puts v.takes (v.put ++ round_of x) v.taken in

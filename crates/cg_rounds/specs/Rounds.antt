@@ -3,16 +3,16 @@ use Rattle.std.specs.Prelude.{◌≡◌, ℕ, Bool, true, List, [], ◌∷◌, �
 use mathlib.Core.Option.{some}
 use lib.ListN.{get_elem?}
 use Rattle.cg_rounds.specs.declared.round.Round.{Round}
-use Rattle.cg_rounds.specs.declared.rule.Order.{Order}
-use Rattle.cg_rounds.specs.declared.rule.Order.TheVariants.{Of, Done}
+use Rattle.cg_rounds.specs.declared.rule.NextRound.{NextRound}
+use Rattle.cg_rounds.specs.declared.rule.NextRound.TheVariants.{Of, Done}
 use Rattle.cg_rounds.specs.declared.rule.Hand.{Hand}
 
 -- the round of an order: the end mark has none
-abbrev pub round_of : Order → List Round
+abbrev pub round_of : NextRound → List Round
 round_of (Of round) = round ∷ []
 round_of Done = []
 
-abbrev pub rounds_of : List Order → List Round
+abbrev pub rounds_of : List NextRound → List Round
 rounds_of [] = []
 rounds_of (x ∷ xs) = round_of x ++ rounds_of xs
 
@@ -25,7 +25,7 @@ Fits putter taker put taken pass v =
     (v.puts ≡ true → (pass ≡ putter) × (v.put ≡ put)) × (v.takes ≡ true → (pass ≡ taker) × (v.taken ≡ taken))
 
 -- the rounds taken, and then those that the channel holds, are those put in
-abbrev pub InOrder : List Order → List Hand → Type 0
+abbrev pub InOrder : List NextRound → List Hand → Type 0
 InOrder items views =
     (putter : ℕ) × (taker : ℕ) × (put : List Round) × (taken : List Round)
     × (put ≡ taken ++ rounds_of items)

@@ -5,14 +5,14 @@ ghost use Rattle.crossbeam_channel.specs.Claims.{view, IsSeatAt};
 ghost use Rattle.crossbeam_channel.specs.Ends.{sends_on, receives_on};
 ghost use Rattle.cg_rounds.specs.Rounds.{hand};
 
-use crate::rule::{Hand, Line, Order};
+use crate::rule::{ChannelRule, Hand, NextRound};
 use crossbeam_channel::{Pass, RuledReceiver, RuledSender};
 
-pub(crate) type Sender = RuledSender<Order, Hand, Line>;
+pub(crate) type Sender = RuledSender<NextRound, Hand, ChannelRule>;
 
-pub(crate) type Receiver = RuledReceiver<Order, Hand, Line>;
+pub(crate) type Receiver = RuledReceiver<NextRound, Hand, ChannelRule>;
 
-pub(crate) type Ticket = Pass<Order, Hand>;
+pub(crate) type Ticket = Pass<NextRound, Hand>;
 
 /// The end where rounds are put in.
 #[derive(Drop)]

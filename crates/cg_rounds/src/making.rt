@@ -4,7 +4,7 @@ ghost use Rattle.std.specs.Prelude.{◌≡◌, IfOk, []};
 ghost use Rattle.cg_rounds.specs.Ends.{AreEnds, put_by, taken_by, room_of};
 
 use crate::ends::{Putting, Taking};
-use crate::rule::{Cut, Hand, Line, Order};
+use crate::rule::{ChannelRule, Cut, Hand, NextRound};
 use crossbeam_channel::bounded_with;
 use std::alloc::{AllocError, Global};
 
@@ -18,7 +18,7 @@ pub fn rounds(alloc: Global) -> Result<(Putting, Taking), AllocError>
     ensures put { IfOk result (λ r. put_by r.0 ≡ []) }
     ensures taken { IfOk result (λ r. taken_by r.1 ≡ []) }
 {
-    let (to, from, mut pass) = bounded_with::<Order, Hand, Line, Global>(alloc, ROOM)?;
+    let (to, from, mut pass) = bounded_with::<NextRound, Hand, ChannelRule, Global>(alloc, ROOM)?;
     let other = to.another::<Cut>(&mut pass);
     Ok((Putting { to, pass }, Taking { from, pass: other }))
 }

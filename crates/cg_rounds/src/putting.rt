@@ -6,7 +6,7 @@ ghost use Rattle.cg_rounds.specs.Ends.{put_by, taken_in, PutsWhere, WereTakenOf}
 
 use crate::ends::{Putting, Taken};
 use crate::round::Round;
-use crate::rule::{Cut, Order, Puts, Total};
+use crate::rule::{Cut, NextRound, PutsRound, Total};
 use crossbeam_channel::SendError;
 use std::sync::Wait;
 
@@ -20,10 +20,10 @@ impl Putting {
     {
         match self
             .to
-            .send_as::<Puts, R>(rt, &mut self.pass, Order::Of(round))
+            .send_as::<PutsRound, R>(rt, &mut self.pass, NextRound::Of(round))
         {
             Ok(()) => Ok(()),
-            Err(SendError::Disconnected(Order::Of(round))) => Err(round),
+            Err(SendError::Disconnected(NextRound::Of(round))) => Err(round),
             _ => unreachable!(),
         }
     }
@@ -33,7 +33,9 @@ impl Putting {
         ensures channel { PutsWhere self.new self.old }
         ensures put { put_by self.new ≡ put_by self.old }
     {
-        let _said = self.to.send_as::<Puts, R>(rt, &mut self.pass, Order::Done);
+        let _said = self
+            .to
+            .send_as::<PutsRound, R>(rt, &mut self.pass, NextRound::Done);
     }
 
     /// Compares both ends: the rounds taken at the other end are a prefix of those put in here, each once, in their

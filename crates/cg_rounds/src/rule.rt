@@ -6,7 +6,7 @@ use std::collections::LinkedList;
 
 /// An element of the channel: a round, or the mark that there are no more.
 #[derive(Drop)]
-pub enum Order {
+pub enum NextRound {
     Of(Round),
     Done,
 }
@@ -20,9 +20,9 @@ pub struct Hand {
 }
 
 /// The rule of the channel.
-pub struct Line;
+pub struct ChannelRule;
 
-impl Protocol<Order, Hand> for Line {
+impl Protocol<NextRound, Hand> for ChannelRule {
     ghost use Rattle.std.specs.Prelude.{true, []};
     ghost use Rattle.cg_rounds.specs.Rounds.{hand, InOrder};
 
@@ -53,37 +53,37 @@ impl Join<Hand> for Cut {
 }
 
 /// The step that puts a round in.
-pub struct Puts;
+pub struct PutsRound;
 
-impl Outcome<Order, Hand> for Puts {
+impl Outcome<NextRound, Hand> for PutsRound {
     ghost use Rattle.std.specs.Prelude.{◌≡◌, ◌++◌};
     ghost use Rattle.cg_rounds.specs.Rounds.{hand, round_of};
 
     ghost then = { λ v x w. w ≡ hand v.puts v.takes (v.put ++ round_of x) v.taken };
 }
 
-impl Lesson<Order, Hand> for Puts {
+impl Lesson<NextRound, Hand> for PutsRound {
     ghost fact = { λ v items. Unit {0} };
 }
 
 /// The step that takes a round.
-pub struct Takes;
+pub struct TakesRound;
 
-impl Outcome<Order, Hand> for Takes {
+impl Outcome<NextRound, Hand> for TakesRound {
     ghost use Rattle.std.specs.Prelude.{◌≡◌, ◌++◌};
     ghost use Rattle.cg_rounds.specs.Rounds.{hand, round_of};
 
     ghost then = { λ v x w. w ≡ hand v.puts v.takes v.put (v.taken ++ round_of x) };
 }
 
-impl Lesson<Order, Hand> for Takes {
+impl Lesson<NextRound, Hand> for TakesRound {
     ghost fact = { λ v items. Unit {0} };
 }
 
 /// The fact that the rounds put in are those taken, and then those that the channel holds.
 pub struct Total;
 
-impl Lesson<Order, Hand> for Total {
+impl Lesson<NextRound, Hand> for Total {
     ghost use Rattle.std.specs.Prelude.{◌≡◌, ◌++◌};
     ghost use Rattle.cg_rounds.specs.Rounds.{rounds_of};
 

@@ -5,7 +5,7 @@ ghost use Rattle.cg_rounds.specs.Ends.{taken_by, taken_in, with_next, TakesWhere
 
 use crate::ends::{Taken, Taking};
 use crate::round::Round;
-use crate::rule::{Order, Takes};
+use crate::rule::{NextRound, TakesRound};
 use std::sync::Wait;
 
 impl Taking {
@@ -14,8 +14,8 @@ impl Taking {
         ensures channel { TakesWhere self.new self.old }
         ensures taken { taken_by self.new ≡ with_next (taken_by self.old) result }
     {
-        match self.from.recv_as::<Takes, R>(rt, &mut self.pass) {
-            Ok(Order::Of(round)) => Some(round),
+        match self.from.recv_as::<TakesRound, R>(rt, &mut self.pass) {
+            Ok(NextRound::Of(round)) => Some(round),
             _ => None,
         }
     }

@@ -8,7 +8,7 @@ use cg_clock::Milliseconds;
 use cg_events::Event;
 use cg_expect::expect_eq;
 use cg_history::History;
-use cg_left::Left;
+use cg_left::SeatLeft;
 use cg_locked::{Name, Seat, Shared};
 use cg_records::Receipt;
 use cg_rounds::{Putting, Taking, generator, rounds};
@@ -36,7 +36,7 @@ impl Milliseconds for Standing {
 // The outcome of a ticker, with the seat and its receipts.
 #[derive(Drop)]
 struct Done<N: Name> {
-    left: Left<N>,
+    left: SeatLeft<N>,
     ticked: Ticked,
 }
 
@@ -66,7 +66,7 @@ fn tick_at<N: Name, R: Wait + Clock>(
         0,
     );
     let (seat, receipts) = gate.into_parts();
-    let left = Left::of(seat, receipts);
+    let left = SeatLeft::of(seat, receipts);
     Done { left, ticked }
 }
 

@@ -6,7 +6,7 @@ use crate::history::new_history;
 use cg_begun::{Begun, begin};
 use cg_expect::expect_eq;
 use cg_history::History;
-use cg_left::{Left, Sent, Ticks, WORKERS, Work};
+use cg_left::{SeatLeft, SenderLeft, TickerLeft, WORKERS, WorkersLeft};
 use cg_locked::Name;
 use cg_ran::{NotRun, Ran, finish};
 use cg_table::Table;
@@ -51,19 +51,19 @@ fn left_by<N: Name, R: Wait>(
         ends,
     } = begun;
     let (putting, taking) = ends;
-    let work = Work {
+    let work = WorkersLeft {
         started,
-        receiver: Left::unused(alloc, seats.receiver),
-        sender: Sent {
-            left: Left::unused(alloc, seats.sender),
+        receiver: SeatLeft::unused(alloc, seats.receiver),
+        sender: SenderLeft {
+            left: SeatLeft::unused(alloc, seats.sender),
             taken: taking.leave(),
             numbers: Vec::new(alloc),
         },
-        ticker: Ticks {
-            left: Left::unused(alloc, seats.ticker),
+        ticker: TickerLeft {
+            left: SeatLeft::unused(alloc, seats.ticker),
             putting,
         },
-        operator: Left::unused(alloc, seats.operator),
+        operator: SeatLeft::unused(alloc, seats.operator),
     };
     Ok(told(finish(rt, shared, list, work)))
 }

@@ -14,7 +14,7 @@ use std::marker::Model;
 /// Messages that were sent. Each is in the bucket of its hash, and knows the one before it there, so a search walks
 /// that bucket alone. Messages are numbered from 1; 0 is no message.
 #[derive(Drop)]
-pub struct Sent<'a> {
+pub struct SentMessages<'a> {
     messages: Vec<Lent<'a>>,
     hashes: Vec<u64>,
     // the last message of each bucket
@@ -24,7 +24,7 @@ pub struct Sent<'a> {
 }
 
 /// A contract sees the list of messages.
-impl<'a> Model for Sent<'a> {
+impl<'a> Model for SentMessages<'a> {
     ghost use Rattle.std.specs.Prelude.{List, map};
     ghost use Rattle.std.specs.Coded.{coded_list};
     ghost use Rattle.cg_messages.specs.declared.message.Message.{Message};
@@ -91,12 +91,12 @@ fn is_among(
     false
 }
 
-impl<'a> Sent<'a> {
+impl<'a> SentMessages<'a> {
     /// Makes an empty collection of messages, with room for `room` of them. More can be added too, in fuller buckets.
-    pub fn none(alloc: Global, room: usize) -> Result<Sent<'a>, AllocError>
+    pub fn none(alloc: Global, room: usize) -> Result<SentMessages<'a>, AllocError>
         ensures { IfOk result (λ s. s ≡ []) }
     {
-        Ok(Sent {
+        Ok(SentMessages {
             messages: Vec::with_capacity(alloc, room)?,
             hashes: Vec::with_capacity(alloc, room)?,
             last: vec![in alloc; 0; room.max(1)]?,
@@ -118,10 +118,10 @@ impl<'a> Sent<'a> {
     }
 
     // Returns these and one more, at the end.
-    fn pushed(self, message: Lent<'a>) -> Result<Sent<'a>, AllocError>
+    fn pushed(self, message: Lent<'a>) -> Result<SentMessages<'a>, AllocError>
         ensures { IfOk result (λ s. s ≡ self.entry ++ lent_message message.entry ∷ []) }
     {
-        let Sent {
+        let SentMessages {
             mut messages,
             mut hashes,
             mut last,
@@ -133,7 +133,7 @@ impl<'a> Sent<'a> {
         messages.push(message)?;
         hashes.push(hash)?;
         last[bucket] = count_of(&hashes);
-        Ok(Sent {
+        Ok(SentMessages {
             messages,
             hashes,
             last,
@@ -142,7 +142,7 @@ impl<'a> Sent<'a> {
     }
 
     /// Returns these messages and one more. One that is among them already is not kept again.
-    pub fn with(self, message: Lent<'a>) -> Result<Sent<'a>, AllocError>
+    pub fn with(self, message: Lent<'a>) -> Result<SentMessages<'a>, AllocError>
         ensures { IfOk result (λ s.
             HaveTheSame s (self.entry ++ lent_message message.entry ∷ [])) }
     {

@@ -1,6 +1,6 @@
 //! Messages that were sent, found by their content.
 //!
-//! `Sent` keeps messages in buckets by a hash of their content. So a search for a message takes a few steps, and its
+//! `SentMessages` keeps messages in buckets by a hash of their content. So a search for a message takes a few steps, and its
 //! answer is exact: messages of one hash are compared.
 #![tactic(auto)]
 
@@ -8,4 +8,4 @@ mod hash;
 mod index;
 mod same;
 
-pub use index::Sent;
+pub use index::SentMessages;

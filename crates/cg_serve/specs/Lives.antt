@@ -10,7 +10,7 @@ use Rattle.cg_ran.specs.declared.ran.NotRun.TheVariants as not_run
 use Rattle.cg_ran.specs.Ran.{IsRun, IsNotRun}
 use Rattle.cg_node_files.specs.Kept.{IsUnborn, AreTold, IsOfAStart}
 use Rattle.cg_serve.specs.declared.node.Birth.{Birth}
-use Rattle.cg_serve.specs.declared.node.Left.{Left}
+use Rattle.cg_serve.specs.declared.node.LifeLeft.{LifeLeft}
 use Rattle.cg_serve.specs.declared.serving.Lived.{Lived}
 
 -- ---- the beginning of a life
@@ -22,15 +22,15 @@ node_of b = starting_node b.own b.generation b.settings
 -- ---- its result
 
 -- the result of a run, or the fault by which none began
-abbrev pub left_after : Result Ran NotRun → Result Left Fault
+abbrev pub left_after : Result Ran NotRun → Result LifeLeft Fault
 left_after (Ok r) = Ok (record { history = r.history; stray = None })
 left_after (Err (not_run.Unconfirmed u)) = Ok (record { history = u.history; stray = Some u.fault })
 left_after (Err (not_run.Unstarted f)) = Err f
 
 -- A run from the node left this: a history that confirms all receipts of its workers; or one that does not, and the
 -- fault of the first that it does not confirm.
-abbrev pub IsLeft : NodeValue → Left → Type 0
-IsLeft start l =
+abbrev pub IsLifeLeft : NodeValue → LifeLeft → Type 0
+IsLifeLeft start l =
     (ran : Result Ran NotRun) × IfOk ran (λ r. IsRun start r.history r.rounds.items) × IfErr ran (IsNotRun start)
     × (left_after ran ≡ Ok l)
 
@@ -41,7 +41,7 @@ pub record IsLived (l : Lived) : Type 0 where
   pub are_told : AreTold told
   pub generation : ℕ
   pub of_a_start : IsOfAStart generation
-  pub left : IsLeft (starting_node told.listen generation told.node) l.left
+  pub left : IsLifeLeft (starting_node told.listen generation told.node) l.left
   pub journal : string_bytes l.journal ≡ told.journal
 
 -- ---- its status

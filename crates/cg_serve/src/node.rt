@@ -2,7 +2,7 @@
 
 ghost use Rattle.std.specs.Prelude.{◌≡◌, IfOk, IfErr};
 ghost use Rattle.cg_types.specs.declared.fault.Fault.TheVariants as faults;
-ghost use Rattle.cg_serve.specs.Lives.{node_of, left_after, IsLeft};
+ghost use Rattle.cg_serve.specs.Lives.{node_of, left_after, IsLifeLeft};
 
 use cg_clock::HostClock;
 use cg_history::History;
@@ -30,21 +30,21 @@ pub(crate) struct Birth {
 
 // The result of a node that ran: its history, and the fault of the first receipt that this does not confirm.
 #[derive(Drop)]
-pub(crate) struct Left {
+pub(crate) struct LifeLeft {
     pub(crate) history: History,
     pub(crate) stray: Option<Fault>,
 }
 
 // Returns the result of a run, if one began.
-fn left_of(ran: Result<Ran, NotRun>) -> Result<Left, Fault>
+fn left_of(ran: Result<Ran, NotRun>) -> Result<LifeLeft, Fault>
     ensures { result ≡ left_after ran }
 {
     match ran {
-        Ok(ran) => Ok(Left {
+        Ok(ran) => Ok(LifeLeft {
             history: ran.history,
             stray: None,
         }),
-        Err(NotRun::Unconfirmed(left)) => Ok(Left {
+        Err(NotRun::Unconfirmed(left)) => Ok(LifeLeft {
             history: left.history,
             stray: Some(left.fault),
         }),
@@ -60,7 +60,7 @@ pub(crate) fn run<R>(
     listener: Listener<'_, R>,
     turns: Turns,
     random: u64,
-) -> Result<Left, Fault>
+) -> Result<LifeLeft, Fault>
 where
     R: Threads
         + Wait
@@ -70,7 +70,7 @@ where
         + Print
         + Net<Listener = TcpListener, Stream = TcpStream>,
     R::Reader: Send,
-    ensures left { IfOk result (IsLeft (node_of birth)) }
+    ensures left { IfOk result (IsLifeLeft (node_of birth)) }
     ensures err { IfErr result (λ f. f ≡ faults.OutOfMemory) }
 {
     let Birth {

@@ -4,7 +4,7 @@ ghost use Rattle.std.specs.Prelude.{◌≡◌, ◌≤◌, IfOk, IfErr};
 ghost use Rattle.cg_node_files.specs.Kept.{IsUnborn};
 ghost use Rattle.cg_serve.specs.Lives.{IsLived, status_after, EndsWith, EndsALife};
 
-use crate::node::{Birth, Left, run};
+use crate::node::{Birth, LifeLeft, run};
 use cg_node_files::{next_life, settings_in, write_journal_to};
 use cg_settings_file::ServeSettings;
 use cg_sockets::Listener;
@@ -19,7 +19,7 @@ use std::thread::Threads;
 // A life that was lived: the result of its node, and the path of its journal.
 #[derive(Drop)]
 struct Lived {
-    left: Left,
+    left: LifeLeft,
     journal: String,
 }
 

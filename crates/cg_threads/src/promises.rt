@@ -1,6 +1,6 @@
 //! The promises of a worker's thread about the values that it leaves.
 
-use cg_left::{Left, Sent, Ticks};
+use cg_left::{SeatLeft, SenderLeft, TickerLeft};
 use cg_locked::{Name, Seat};
 use cg_rounds::{Putting, Taking};
 use std::snapshot::Snapshot;
@@ -12,7 +12,7 @@ pub(crate) struct Operates<N: Name> {
     pub(crate) seat: Snapshot<Seat<N>>,
 }
 
-impl<N: Name> Promise<Left<N>> for Operates<N> {
+impl<N: Name> Promise<SeatLeft<N>> for Operates<N> {
     ghost use Rattle.cg_left.specs.Left.{IsLeft, is_any};
 
     ghost kept_by = { λ p r.
@@ -26,7 +26,7 @@ pub(crate) struct Sends<N: Name> {
     pub(crate) taking: Snapshot<Taking>,
 }
 
-impl<N: Name> Promise<Sent<N>> for Sends<N> {
+impl<N: Name> Promise<SenderLeft<N>> for Sends<N> {
     ghost use Rattle.cg_left.specs.Left.{IsLeft, HasTaken, is_ack};
 
     ghost kept_by = { λ p r.
@@ -41,7 +41,7 @@ pub(crate) struct TicksOn<N: Name> {
     pub(crate) putting: Snapshot<Putting>,
 }
 
-impl<N: Name> Promise<Ticks<N>> for TicksOn<N> {
+impl<N: Name> Promise<TickerLeft<N>> for TicksOn<N> {
     ghost use Rattle.cg_left.specs.Left.{IsLeft, HasPut, is_tick};
 
     ghost kept_by = { λ p r.

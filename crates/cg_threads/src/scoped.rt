@@ -11,7 +11,7 @@ use crate::started::start;
 use crate::tools::Tools;
 use cg_begun::Seats;
 use cg_clock::Milliseconds;
-use cg_left::{Left, Sent, Ticks, Work};
+use cg_left::{SeatLeft, SenderLeft, TickerLeft, WorkersLeft};
 use cg_locked::Name;
 use cg_rounds::{Putting, Taking};
 use cg_seats::Operate;
@@ -46,7 +46,7 @@ pub(crate) fn work<
     ends: (Putting, Taking),
     parts: Tools<L, D, G, O>,
     turns: Turns,
-) -> Work<N>
+) -> WorkersLeft<N>
 where
     D::Reader: Send,
     D::Writer: Send,
@@ -90,7 +90,7 @@ where
     thread::scope(
         thread::scope_env(),
         rt,
-        move |scope| -> Work<N>
+        move |scope| -> WorkersLeft<N>
             requires sends { (sends.seat.value ≡ second) × (sends.taking.value ≡ taking) }
             requires ticks { (ticks.seat.value ≡ third) × (ticks.putting.value ≡ putting) }
             requires operates { operates.seat.value ≡ fourth }
@@ -107,7 +107,7 @@ where
             let sender = start(
                 scope,
                 sends,
-                move || -> Sent<N>
+                move || -> SenderLeft<N>
                     requires { (second.share.amount ≡ 0) × (taken_by taking ≡ []) }
                     ensures left { IsLeft is_ack second.caller second.share.parts result.left }
                     ensures taken { HasTaken taking result.taken result.numbers.items }
@@ -116,7 +116,7 @@ where
             let ticker = start(
                 scope,
                 ticks,
-                move || -> Ticks<N>
+                move || -> TickerLeft<N>
                     requires { (third.share.amount ≡ 0) × (put_by putting ≡ []) }
                     ensures left { IsLeft is_tick third.caller third.share.parts result.left }
                     ensures put { HasPut putting result.putting result.left.receipts }
@@ -125,7 +125,7 @@ where
             let operator = start(
                 scope,
                 operates,
-                move || -> Left<N>
+                move || -> SeatLeft<N>
                     requires { fourth.share.amount ≡ 0 }
                     ensures { IsLeft is_any fourth.caller fourth.share.parts result }
                 { operate(rt, alloc, site, fourth, operator, pass) },
@@ -133,7 +133,7 @@ where
             let started = sender.has_thread() && ticker.has_thread() && operator.has_thread();
             let _said = site.go.try_set(started);
             let receiver = receive(rt, alloc, site, first, listener, turns.exchanges);
-            Work {
+            WorkersLeft {
                 started,
                 receiver,
                 sender: sender.ended(rt),

@@ -19,7 +19,7 @@ use Rattle.cg_seats.specs.Seats as seat
 use Rattle.rand_core.specs.Stream.{Stream}
 use Rattle.cg_ticker.specs.declared.ticked.Ticked.{Ticked}
 use Rattle.cg_ticker.specs.Ticks.{IsTickOf, IsTick, round_in, rounds_in, Ticks}
-use Rattle.cg_workers.specs.Workers.{numbers_of, Received, Sent}
+use Rattle.cg_workers.specs.Workers.{numbers_of, Received, SentRounds}
 use Rattle.cg_workers.proofs.Keeping.{IsEventAt, received_keeps, sent_keeps}
 use Rattle.cg_left.specs.Left.{LeftValue, IsOf, AreOf, IsLeft, numbers_of_all, is_received, is_ack, is_tick, is_any}
 
@@ -111,7 +111,7 @@ module _ (start : NodeValue) {R W : Type 0} (remaining : R → Option (List ℕ)
       (λ now e r g h shown at answer done. one_more is_received start g h e r (ack2_received now e at) done) x
 
   pub sent_more : {D : Type 0} (dials : D → ℕ → Result (R × W) Fault → D → Type 0) (before after : Taking) (numbers : List ℕ) (s t : D × SeatValue)
-      → Sent (Enters start) (Refuses start) (λ g h. h ≡ g) remaining contents dials shows before after numbers s t → More is_ack s.1 t.1
+      → SentRounds (Enters start) (Refuses start) (λ g h. h ≡ g) remaining contents dials shows before after numbers s t → More is_ack s.1 t.1
   sent_more dials before after numbers s t x =
       sent_keeps (Enters start) (Refuses start) (λ g h. h ≡ g) shows (More is_ack) (none_more is_ack) (both_more is_ack) (none_more_after is_ack)
       remaining contents dials before after numbers s t

@@ -7,7 +7,7 @@ ghost use Rattle.cg_left.specs.Left.{IsLeft, HasTaken, HasPut, is_received, is_a
 
 use crate::site::Site;
 use cg_clock::Milliseconds;
-use cg_left::{Left, Sent, Ticks};
+use cg_left::{SeatLeft, SenderLeft, TickerLeft};
 use cg_locked::{Name, Seat};
 use cg_rounds::{Putting, Taking};
 use cg_seats::{Operate, SeatGate, operator};
@@ -21,13 +21,13 @@ use std::rt::Clock;
 use std::sync::Wait;
 
 // Takes a gate apart: its seat and its receipts, which are all of the seat's caller.
-fn left_of<N: Name, R: Wait>(gate: SeatGate<'_, N, R>) -> Left<N>
+fn left_of<N: Name, R: Wait>(gate: SeatGate<'_, N, R>) -> SeatLeft<N>
     ensures parts { result.parts ≡ gate.entry.parts }
     ensures receipts { result.receipts ≡ gate.entry.receipts }
     ensures own { AreOf gate.entry.caller gate.entry.receipts }
 {
     let (seat, receipts) = gate.into_parts();
-    Left::of(seat, receipts)
+    SeatLeft::of(seat, receipts)
 }
 
 /// Does the receiver's work if all workers were started, and returns its seat with its receipts.
@@ -40,12 +40,12 @@ pub fn receive<N: Name, R: Wait, L: Listen + Drop, C: Milliseconds>(
     seat: Seat<N>,
     listener: L,
     exchanges: u32,
-) -> Left<N>
+) -> SeatLeft<N>
     requires { seat.share.amount ≡ 0 }
     ensures { IsLeft is_received seat.caller seat.share.parts result }
 {
     if !*site.go.wait(rt) {
-        return Left::unused(alloc, seat);
+        return SeatLeft::unused(alloc, seat);
     }
     let mut listener = listener;
     let mut gate = SeatGate::new(rt, alloc, &site.shared, seat);
@@ -63,15 +63,15 @@ pub fn send<N: Name, R: Wait, D: Dial + Drop, C: Milliseconds>(
     seat: Seat<N>,
     dialer: D,
     taking: Taking,
-) -> Sent<N>
+) -> SenderLeft<N>
     requires seat { seat.share.amount ≡ 0 }
     requires taking { taken_by taking ≡ [] }
     ensures left { IsLeft is_ack seat.caller seat.share.parts result.left }
     ensures taken { HasTaken taking result.taken result.numbers.items }
 {
     if !*site.go.wait(rt) {
-        return Sent {
-            left: Left::unused(alloc, seat),
+        return SenderLeft {
+            left: SeatLeft::unused(alloc, seat),
             taken: taking.leave(),
             numbers: Vec::new(alloc),
         };
@@ -80,7 +80,7 @@ pub fn send<N: Name, R: Wait, D: Dial + Drop, C: Milliseconds>(
     let mut taking = taking;
     let mut gate = SeatGate::new(rt, alloc, &site.shared, seat);
     let numbers = sender(rt, alloc, &mut gate, &mut dialer, &site.clock, &mut taking);
-    Sent {
+    SenderLeft {
         left: left_of(gate),
         taken: taking.leave(),
         numbers,
@@ -99,15 +99,15 @@ pub fn tick<N: Name, R: Wait + Clock, C: Milliseconds, G: Rng + Drop>(
     generator: G,
     putting: Putting,
     turns: Turns,
-) -> Ticks<N>
+) -> TickerLeft<N>
     requires seat { seat.share.amount ≡ 0 }
     requires putting { put_by putting ≡ [] }
     ensures left { IsLeft is_tick seat.caller seat.share.parts result.left }
     ensures put { HasPut putting result.putting result.left.receipts }
 {
     if !*site.go.wait(rt) {
-        return Ticks {
-            left: Left::unused(alloc, seat),
+        return TickerLeft {
+            left: SeatLeft::unused(alloc, seat),
             putting,
         };
     }
@@ -124,7 +124,7 @@ pub fn tick<N: Name, R: Wait + Clock, C: Milliseconds, G: Rng + Drop>(
         turns.rounds,
         turns.interval,
     );
-    Ticks {
+    TickerLeft {
         left: left_of(gate),
         putting,
     }
@@ -138,12 +138,12 @@ pub fn operate<N: Name, R: Wait, C: Milliseconds, O: Operate + Drop>(
     seat: Seat<N>,
     operates: O,
     pass: Pass<N>,
-) -> Left<N>
+) -> SeatLeft<N>
     requires { seat.share.amount ≡ 0 }
     ensures { IsLeft is_any seat.caller seat.share.parts result }
 {
     if !*site.go.wait(rt) {
-        return Left::unused(alloc, seat);
+        return SeatLeft::unused(alloc, seat);
     }
     let mut operates = operates;
     let mut pass = pass;

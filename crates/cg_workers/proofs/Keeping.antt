@@ -17,7 +17,7 @@ use Rattle.cg_events.specs.Replies.{IsReplyTo}
 use Rattle.cg_engine.specs.Events.{event_due}
 use Rattle.cg_engine.specs.Exchanged.{Turn, AreTurns, Runs, Turned, Exchanges}
 use Rattle.cg_rounds.specs.declared.ends.Taking.{Taking}
-use Rattle.cg_workers.specs.Workers.{Exchanged, BegunWith, Came, Received, Reached, SentRound, Sent}
+use Rattle.cg_workers.specs.Workers.{Exchanged, BegunWith, Came, Received, Reached, SentRound, SentRounds}
 use Rattle.cg_workers.proofs.EachLemmas.{each_keeps}
 
 -- the event is of a message of this kind, at this time
@@ -105,7 +105,7 @@ module _ {S : Type 0} (does : S → Event → Reply → S → Type 0) (refuses :
 
     -- the sender keeps what the events of ACKs keep
     pub sent_keeps : {D : Type 0} (dials : D → ℕ → Result (R × W) Fault → D → Type 0) (before after : Taking) (numbers : List ℕ) (s t : D × S)
-        → KeptBy kind.Ack → Sent does refuses stays remaining contents dials shows before after numbers s t → keeps s.1 t.1
+        → KeptBy kind.Ack → SentRounds does refuses stays remaining contents dials shows before after numbers s t → keeps s.1 t.1
     sent_keeps {D} dials before after numbers s t ack x =
         each_keeps (SentRound does refuses stays remaining contents dials shows) (λ (a b : D × S). keeps a.1 b.1) (λ a. same a.1) (λ a b c. both a.1 b.1 c.1)
         (λ round a b one. each_keeps (Reached does refuses stays remaining contents dials shows round.syn) (λ (a b : D × S). keeps a.1 b.1) (λ c. same c.1)

@@ -108,7 +108,7 @@ module _ {S R W D : Type 0} (does : S → Event → Reply → S → Type 0) (ref
   SentRound round s t = Each (Reached round.syn) round.peers s t
 
   -- Rounds were taken, each was sent, and these are their numbers.
-  pub record Sent (before after : Taking) (numbers : List ℕ) (s t : D × S) : Type 0 where
+  pub record SentRounds (before after : Taking) (numbers : List ℕ) (s t : D × S) : Type 0 where
     pub rounds : List Round
     pub taken : taken_by after ≡ taken_by before ++ rounds
     pub numbered : numbers ≡ numbers_of rounds

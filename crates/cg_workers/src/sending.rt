@@ -2,7 +2,7 @@
 
 ghost use Rattle.std.specs.Prelude.{◌≡◌};
 ghost use Rattle.cg_rounds.specs.Ends.{TakesWhere};
-ghost use Rattle.cg_workers.specs.Workers.{Begun, Reached, SentRound, Sent};
+ghost use Rattle.cg_workers.specs.Workers.{Begun, Reached, SentRound, SentRounds};
 
 use crate::links::Dial;
 use cg_clock::Milliseconds;
@@ -79,7 +79,7 @@ pub fn sender<G: Gate, D: Dial, C: Milliseconds, R: Wait>(
     from: &mut Taking,
 ) -> Vec<u64>
     ensures channel { TakesWhere from.new from.old }
-    ensures sent { Sent G.does G.refuses G.stays D.Reader.remaining D.Writer.contents D.dials (C.shows clock.now)
+    ensures sent { SentRounds G.does G.refuses G.stays D.Reader.remaining D.Writer.contents D.dials (C.shows clock.now)
         from.old from.new result.items (dialer.old, gate.old) (dialer.new, gate.new) }
 {
     let mut numbers = Vec::new(alloc);

@@ -5,7 +5,7 @@
 use cg_expect::expect_eq;
 use cg_messages::{Ack2, Message, OwnerDelta};
 use cg_samples::{A, B, bare_delta, endpoint};
-use cg_sent::Sent;
+use cg_sent::SentMessages;
 use std::alloc::{AllocError, Global};
 use std::test::Fail;
 
@@ -34,7 +34,7 @@ fn found_of(
     [first, second]: [&Message; 2],
     asked: [&Message; 3],
 ) -> Result<[bool; 3], AllocError> {
-    let sent = Sent::none(alloc, room)?;
+    let sent = SentMessages::none(alloc, room)?;
     let sent = sent.with(first.lent())?;
     let sent = sent.with(second.lent())?;
     Ok(asked.map(|message: &Message| sent.contains(message.lent())))

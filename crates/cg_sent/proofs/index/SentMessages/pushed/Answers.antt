@@ -6,7 +6,7 @@ use Rattle.cg_messages.specs.Lent.{lent_message}
 use Rattle.cg_sent.specs.Hash.{hash_of}
 use Rattle.cg_sent.specs.Index.{IsIndex}
 use Rattle.cg_sent.proofs.PushLemmas.{pushed_index}
-use Rattle.cg_sent.proofs.index.Sent.pushed.Goals as goal
+use Rattle.cg_sent.proofs.index.SentMessages.pushed.Goals as goal
 
 pub invariant_of-result : goal.invariant_of-result
 invariant_of-result c =

@@ -1,11 +1,11 @@
-//! The orders of an operator.
+//! The commands of an operator.
 
 use cg_script::View;
 use cg_types::{StateKey, StateText};
 
-/// An order of the operator: the request of one line.
+/// A command of the operator: the request of one line.
 #[derive(Debug, Drop)]
-pub enum Order {
+pub enum OperatorCommand {
     /// `gossipinfo`, `ring`, `digests` or `replicas RF TEXT`: shows something.
     Show(View),
     /// `set KEY TEXT`: sets a key of the node.
