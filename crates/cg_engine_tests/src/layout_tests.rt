@@ -15,7 +15,7 @@ const OTHER: Layout = Layout {
     members: MEMBER_LIMIT,
     text: TEXT_LIMIT,
     length: 5_000_000,
-    marks: false,
+    tombstones: false,
 };
 
 // Another byte, and small limits.
@@ -24,7 +24,7 @@ const SMALL: Layout = Layout {
     members: 1,
     text: 2,
     length: 48,
-    marks: false,
+    tombstones: false,
 };
 
 // Returns `true` if a frame of the other byte is read whole, and its message written as the same bytes.
@@ -53,7 +53,7 @@ const LONG: Layout = Layout {
     members: MEMBER_LIMIT,
     text: TEXT_LIMIT,
     length: 40_000_000,
-    marks: false,
+    tombstones: false,
 };
 
 const BOTH: [Layout; 2] = [LAYOUT_1, LONG];

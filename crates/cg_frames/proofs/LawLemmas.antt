@@ -223,4 +223,4 @@ pub layouts_are : AreLayouts LAYOUTS
 layouts_are = record { some = omega arith; found = (refl, tt); each = (first_is_layout, tt) }
 
 pub layouts_are_read : AreRead LAYOUTS
-layouts_are_read = record { some = omega arith; each = (record { members = omega arith; text = omega arith; length = omega arith; marks = refl }, tt) }
+layouts_are_read = record { some = omega arith; each = (record { members = omega arith; text = omega arith; length = omega arith; tombstones = refl }, tt) }

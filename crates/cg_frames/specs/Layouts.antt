@@ -11,16 +11,16 @@ pub record IsLayout (layout : Layout) : Type 0 where
   pub length : layout.length < 2 ^ 32
   pub room : greatest_length layout ≤ layout.length
 
--- Messages hold what the layout allows, so that each of its spellings can be read. No message holds the mark of a
--- removed key in this version, so no layout with marks is read.
+-- Messages hold what the layout allows, so that each of its spellings can be read. No message holds a
+-- tombstone in this version, so no layout with tombstones is read.
 pub record IsRead (layout : Layout) : Type 0 where
   pub members : layout.members ≤ MEMBER_LIMIT
   pub text : layout.text ≤ TEXT_LIMIT
   pub length : layout.length < 2 ^ 32
-  pub marks : layout.marks ≡ false
+  pub tombstones : layout.tombstones ≡ false
 
--- The layout allows what messages hold, so that each of them can be written. No layout with marks is written.
+-- The layout allows what messages hold, so that each of them can be written. No layout with tombstones is written.
 pub record IsWritten (layout : Layout) : Type 0 where
   pub members : MEMBER_LIMIT ≤ layout.members
   pub text : TEXT_LIMIT ≤ layout.text
-  pub marks : layout.marks ≡ false
+  pub tombstones : layout.tombstones ≡ false

@@ -23,7 +23,7 @@ pub fn each_is_short()
 /// The first layout's numbers fit into the fields that count and measure, and its greatest frame is read. The law
 /// states each of the numbers.
 pub fn layout_1_is_one()
-    ensures numbers { LAYOUT_1 ≡ record { byte = 1; members = 256; text = 1024; length = 5000000; marks = false } }
+    ensures numbers { LAYOUT_1 ≡ record { byte = 1; members = 256; text = 1024; length = 5000000; tombstones = false } }
     ensures layout { IsLayout LAYOUT_1 }
 {}
 

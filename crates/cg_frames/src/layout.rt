@@ -1,7 +1,7 @@
 //! The layouts of frames.
 
-/// A layout of frames: its byte, its limits, and whether it has marks. The fields of a frame, and their order, are the
-/// same in each.
+/// A layout of frames: its byte, its limits, and whether it has tombstones. The fields of a frame, and their order, are
+/// the same in each.
 #[derive(Clone, Copy, Debug, PartialEq, Eq)]
 pub struct Layout {
     /// The byte that names the layout, after the length.
@@ -12,10 +12,10 @@ pub struct Layout {
     pub text: usize,
     /// The most bytes after the length, which has four bytes.
     pub length: usize,
-    /// `true` if a state's length of 65,535 is the mark of a removed key, with no text after it. No message holds such
-    /// a mark in this version, so no layout that has them is read or written (`IsRead`, `IsWritten`). Nothing else
-    /// looks at this: the laws of spelling are of messages without marks.
-    pub marks: bool,
+    /// `true` if a state's length of 65,535 is a tombstone: the key was removed, and no text follows. No message holds
+    /// one in this version, so no layout that has them is read or written (`IsRead`, `IsWritten`). Nothing else
+    /// looks at this: the laws of spelling are of messages without tombstones.
+    pub tombstones: bool,
 }
 
 /// The first layout. Its numbers are its own: members of other versions read and write by them, so a change of what
@@ -25,7 +25,7 @@ pub const LAYOUT_1: Layout = Layout {
     members: 256,
     text: 1_024,
     length: 5_000_000,
-    marks: false,
+    tombstones: false,
 };
 
 /// The layout that frames are written in.

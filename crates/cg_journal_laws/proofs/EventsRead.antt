@@ -146,7 +146,7 @@ tick_again now (a ∷ b ∷ c ∷ d ∷ e ∷ rest) is are = absurd (omega (arit
 -- ---- messages
 
 written : IsWritten WRITTEN
-written = record { members = omega arith; text = omega arith; marks = refl }
+written = record { members = omega arith; text = omega arith; tombstones = refl }
 
 message_again : (m : Message) → IsMessage m → message_in (frame_digits m) ≡ Some m
 unfolding message_in

@@ -7,12 +7,12 @@ use Rattle.std.proofs.lemmas.Str.{IsAscii-append, IsUtf8-from_ascii}
 none_ascii : IsAscii []
 none_ascii i = omega arith
 
-mark_ascii : (c : ℕ) (rest : List ℕ) → c < 128 → IsAscii rest → IsAscii (c ∷ rest)
-mark_ascii c rest lt h zero = lt
-mark_ascii c rest lt h (suc i) = h i
+ending_ascii : (c : ℕ) (rest : List ℕ) → c < 128 → IsAscii rest → IsAscii (c ∷ rest)
+ending_ascii c rest lt h zero = lt
+ending_ascii c rest lt h (suc i) = h i
 
 part_ascii : (n c : ℕ) (rest : List ℕ) → n < 4294967296 → c < 128 → IsAscii rest → IsAscii (decimal n ++ (c ∷ rest))
-part_ascii n c rest small lt h = IsAscii-append (decimal n) (c ∷ rest) (IsAscii-decimal n (omega arith)) (mark_ascii c rest lt h)
+part_ascii n c rest small lt h = IsAscii-append (decimal n) (c ∷ rest) (IsAscii-decimal n (omega arith)) (ending_ascii c rest lt h)
 
 pub numbers-utf8 : (m n : ℕ) → m < 4294967296 → n < 4294967296 → IsUtf8 (decimal m ++ (32 ∷ (decimal n ++ (10 ∷ []))))
 numbers-utf8 m n h k =

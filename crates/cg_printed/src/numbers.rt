@@ -10,14 +10,14 @@ use std::str::from_utf8_unchecked;
 const LONGEST: usize = 22;
 
 // Puts a number and the byte after it before the bytes that begin at `end`, and returns the place where they begin.
-fn put_number(number: u32, mark: u8, text: &mut [u8; LONGEST], end: usize) -> usize
+fn put_number(number: u32, ending: u8, text: &mut [u8; LONGEST], end: usize) -> usize
     requires room { 11 ≤ end }
     requires within { end ≤ 22 }
     ensures start { result ≤ end }
     ensures short { end ≤ result + 11 }
-    ensures text { drop result text.new ≡ decimal number ++ (mark ∷ drop end text.old) }
+    ensures text { drop result text.new ≡ decimal number ++ (ending ∷ drop end text.old) }
 {
-    text[end - 1] = mark;
+    text[end - 1] = ending;
     write_digits(u64::from(number), text, end - 1)
 }
 

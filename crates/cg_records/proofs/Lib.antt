@@ -1,2 +1,2 @@
 pub mod Confirmed
-pub mod Marked
+pub mod AtMost

@@ -1,4 +1,4 @@
 pub mod Items
-pub mod Marks
+pub mod Greatest
 pub mod Confirming
 pub use Rattle.cg_events.specs.Replies

@@ -1,21 +1,21 @@
 //! The test of receipts against records.
 
 ghost use Rattle.std.specs.Prelude.{◌↔◌, IsTrue, MatchResult};
-ghost use Rattle.cg_records.specs.Marks.{AreMarked};
+ghost use Rattle.cg_records.specs.Greatest.{AreAtMost};
 ghost use Rattle.cg_records.specs.Confirming.{IsOf, Stands, Follows, AreInOrder, AreConfirmed, IsFirstStray};
 
 use crate::item::{Item, Receipt, Stray};
-use crate::marks::Marks;
+use crate::greatest::Greatest;
 use cg_types::Fault;
 
 // Returns `true` if a receipt comes after the earlier ones of its caller, given that each of those does. A number
 // greater than all of the caller's group shows it; else the nearest earlier receipt of the caller decides.
-fn follows(before: &[Receipt], marks: &Marks, receipt: &Receipt) -> bool
+fn follows(before: &[Receipt], greatest: &Greatest, receipt: &Receipt) -> bool
     requires order { AreInOrder before.now }
-    requires marked { AreMarked marks.now before.now }
+    requires at_most { AreAtMost greatest.now before.now }
     ensures { IsTrue result ↔ Follows before.now receipt.now }
 {
-    if marks.of(receipt.caller) < receipt.number {
+    if greatest.of(receipt.caller) < receipt.number {
         return true;
     }
     let mut place = before.len();
@@ -61,16 +61,16 @@ pub fn confirms(records: &[Item], receipts: &[Receipt]) -> Result<(), Stray>
         (λ _. AreConfirmed records.now receipts.now)
         (λ stray. IsFirstStray records.now receipts.now stray) }
 {
-    let mut marks = Marks::new();
+    let mut greatest = Greatest::new();
     for place in 0..receipts.len() {
         let receipt = &receipts[place];
-        if !has(records, receipt) || !follows(&receipts[..place], &marks, receipt) {
+        if !has(records, receipt) || !follows(&receipts[..place], &greatest, receipt) {
             return Err(Stray {
                 place,
                 fault: Fault::Stranger,
             });
         }
-        marks.raise(receipt.caller, receipt.number);
+        greatest.raise(receipt.caller, receipt.number);
     }
     Ok(())
 }

@@ -7,7 +7,7 @@
 mod confirming;
 mod enter;
 mod item;
-mod marks;
+mod greatest;
 
 pub use confirming::confirms;
 pub use enter::Enter;

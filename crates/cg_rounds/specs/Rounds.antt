@@ -7,7 +7,7 @@ use Rattle.cg_rounds.specs.declared.rule.NextRound.{NextRound}
 use Rattle.cg_rounds.specs.declared.rule.NextRound.TheVariants.{Of, Done}
 use Rattle.cg_rounds.specs.declared.rule.Hand.{Hand}
 
--- the round of an order: the end mark has none
+-- the round that comes next: the word of the end has none
 abbrev pub round_of : NextRound → List Round
 round_of (Of round) = round ∷ []
 round_of Done = []

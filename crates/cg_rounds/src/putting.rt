@@ -28,7 +28,7 @@ impl Putting {
         }
     }
 
-    /// Puts in the mark that no more rounds come.
+    /// Puts in the word that no more rounds come.
     pub fn end<R: Wait>(&mut self, rt: &R)
         ensures channel { PutsWhere self.new self.old }
         ensures put { put_by self.new ≡ put_by self.old }

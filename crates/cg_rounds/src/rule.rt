@@ -4,7 +4,7 @@ use crate::round::Round;
 use crossbeam_channel::protocol::{Join, Lesson, Outcome, Protocol, Split};
 use std::collections::LinkedList;
 
-/// An element of the channel: a round, or the mark that there are no more.
+/// An element of the channel: a round, or the word that there are no more.
 #[derive(Drop)]
 pub enum NextRound {
     Of(Round),

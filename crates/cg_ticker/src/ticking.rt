@@ -106,12 +106,12 @@ fn turns<R: Wait + Clock, C: Milliseconds, E: Enter, G: Rng>(
 }
 
 /// Has a node tick `rounds` times by its gate, and puts the round of each tick into the channel, up to the first round
-/// that can't be put in. Between two ticks it pauses for `interval` milliseconds. In the end it puts in the mark that
+/// that can't be put in. Between two ticks it pauses for `interval` milliseconds. In the end it puts in the word that
 /// no more rounds come.
 ///
 /// A refused tick makes no round, and counts as one. The ticker stops if it finds no memory to pass a round on, or if
 /// the channel hands it back. The contract does not say that the times of the ticks rise, nor that it pauses, nor that
-/// it puts in the mark.
+/// it puts in that word.
 pub fn ticker<R: Wait + Clock, C: Milliseconds, E: Enter, G: Rng>(
     rt: &R,
     alloc: Global,

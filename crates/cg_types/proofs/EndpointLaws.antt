@@ -144,12 +144,12 @@ endpoint_in-some text e found =
     subst (λ (x : ℕ). IsEndpoint x × (text ≡ endpoint_text x)) same (valid, whole ∙ sym (text_of_parted a.0.0 b.0.0 c.0.0 d.0.0 p.0 _ parted))
 
 -- its bytes are all ASCII
-mark_ascii : (c : ℕ) (rest : List ℕ) → c < 128 → IsAscii rest → IsAscii (c ∷ rest)
-mark_ascii c rest lt h zero = lt
-mark_ascii c rest lt h (suc i) = h i
+ending_ascii : (c : ℕ) (rest : List ℕ) → c < 128 → IsAscii rest → IsAscii (c ∷ rest)
+ending_ascii c rest lt h zero = lt
+ending_ascii c rest lt h (suc i) = h i
 
 part_ascii : (n c : ℕ) (rest : List ℕ) → n < 256 → c < 128 → IsAscii rest → IsAscii (decimal n ++ (c ∷ rest))
-part_ascii n c rest small lt h = IsAscii-append (decimal n) (c ∷ rest) (IsAscii-decimal n (omega arith)) (mark_ascii c rest lt h)
+part_ascii n c rest small lt h = IsAscii-append (decimal n) (c ∷ rest) (IsAscii-decimal n (omega arith)) (ending_ascii c rest lt h)
 
 pub endpoint_text-utf8 : (e : ℕ) → IsEndpoint e → IsUtf8 (endpoint_text e)
 unfolding endpoint_text

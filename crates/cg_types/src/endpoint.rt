@@ -97,14 +97,14 @@ impl fmt::Display for Endpoint {
 const LONGEST: usize = 21;
 
 // Puts a number and the byte after it before what begins at `end`, and returns where it begins.
-fn put_part(part: u8, mark: u8, text: &mut [u8; LONGEST], end: usize) -> usize
+fn put_part(part: u8, ending: u8, text: &mut [u8; LONGEST], end: usize) -> usize
     requires room { 4 ≤ end }
     requires within { end ≤ 21 }
     ensures start { result ≤ end }
     ensures short { end ≤ result + 4 }
-    ensures text { drop result text.new ≡ decimal part ++ (mark ∷ drop end text.old) }
+    ensures text { drop result text.new ≡ decimal part ++ (ending ∷ drop end text.old) }
 {
-    text[end - 1] = mark;
+    text[end - 1] = ending;
     write_digits(u64::from(part), text, end - 1)
 }
 

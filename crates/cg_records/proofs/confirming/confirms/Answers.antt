@@ -3,7 +3,7 @@ use Rattle.std.proofs.lemmas.List.{take_more}
 use Rattle.cg_records.specs.declared.item.Receipt.{Receipt}
 use Rattle.cg_records.specs.Confirming.{AreConfirmed, IsConfirmed}
 use Rattle.cg_records.proofs.Confirmed.{confirmed_more}
-use Rattle.cg_records.proofs.Marked.{marked_more}
+use Rattle.cg_records.proofs.AtMost.{at_most_more}
 use Rattle.cg_records.proofs.confirming.confirms.Goals as goal
 
 pub loop-place-preserved : goal.loop-place-preserved
@@ -18,7 +18,7 @@ loop-place-preserved c =
     let more : take (i + 1) receipts ≡ before ++ r ∷ [] = take_more receipts i r less ∙ ap (λ (q : Receipt). before ++ q ∷ []) (sym c.index-receipts-place.is) in
     record {
       confirmed = subst (λ (rs : List Receipt). AreConfirmed records rs) (sym more) (confirmed_more records before r c.loop-place.invariant.confirmed one);
-      marked = marked_more c.loop-place.marks c.raise.new.self receipts i r less c.index-receipts-place.is c.loop-place.invariant.marked c.raise.ensures.kept c.raise.ensures.own;
+      at_most = at_most_more c.loop-place.greatest c.raise.new.self receipts i r less c.index-receipts-place.is c.loop-place.invariant.at_most c.raise.ensures.kept c.raise.ensures.own;
     }
 
 pub returns : goal.returns

@@ -1,36 +1,36 @@
 //! The greatest number so far, for each group of callers.
 
 ghost use Rattle.std.specs.Prelude.{◌≡◌, ℕ, ◌≤◌};
-ghost use Rattle.cg_records.specs.Marks.{mark};
+ghost use Rattle.cg_records.specs.Greatest.{greatest_of};
 
 /// The number of groups of callers. Callers are of one group if they leave the same remainder by it.
 const GROUPS: usize = 1024;
 
 /// The greatest number so far of each group of callers.
 #[derive(Drop)]
-pub(crate) struct Marks {
+pub(crate) struct Greatest {
     numbers: [u64; GROUPS],
 }
 
-impl Marks {
-    /// Marks before any number came.
-    pub(crate) fn new() -> Marks {
-        Marks {
+impl Greatest {
+    /// Each is 0 before any number came.
+    pub(crate) fn new() -> Greatest {
+        Greatest {
             numbers: [0; GROUPS],
         }
     }
 
     /// The greatest number so far of a caller's group.
     pub(crate) fn of(&self, caller: u32) -> u64
-        ensures { result ≡ mark self.now caller }
+        ensures { result ≡ greatest_of self.now caller }
     {
         self.numbers[caller as usize % GROUPS]
     }
 
     /// Takes in a number of a caller.
     pub(crate) fn raise(&mut self, caller: u32, number: u64)
-        ensures own { number ≤ mark self.new caller }
-        ensures kept { (other : ℕ) → mark self.old other ≤ mark self.new other }
+        ensures own { number ≤ greatest_of self.new caller }
+        ensures kept { (other : ℕ) → greatest_of self.old other ≤ greatest_of self.new other }
     {
         let group = caller as usize % GROUPS;
         self.numbers[group] = self.numbers[group].max(number);
