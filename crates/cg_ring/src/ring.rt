@@ -221,7 +221,7 @@ impl Ring {
 
     /// Returns the endpoints that keep the keys of this token, at most `rf` of them. They are those from the first
     /// token of the ring at or after it, clockwise, each endpoint at its first token. The call takes memory once, for
-    /// `rf` endpoints, or for one a token if there are fewer tokens. If `rf` is 0 or the ring is empty, it takes none.
+    /// `rf` endpoints, or for one a token if there are fewer tokens.
     pub fn replicas(
         &self,
         alloc: Global,
