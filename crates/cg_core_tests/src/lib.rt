@@ -6,6 +6,8 @@ mod copies;
 #[cfg(test)]
 mod heard;
 #[cfg(test)]
+mod moving;
+#[cfg(test)]
 mod nodes;
 #[cfg(test)]
 mod parts;
