@@ -99,7 +99,7 @@ OnlyOwnEventsChangeTheOwnEntry =
     (n : NodeValue) (e : Event) (after : NodeValue) (answer : Reply) → Leads n e after answer
     → (after.table.own ≡ n.table.own)
     × (is_own_change e ≡ false
-      → map.get after.table.entries after.table.own ≡ map.get n.table.entries n.table.own)
+    → map.get after.table.entries after.table.own ≡ map.get n.table.entries n.table.own)
 
 -- A node that starts is small, and stays small after any events, refused ones among them.
 pub record NodesStaySmall : Type 0 where

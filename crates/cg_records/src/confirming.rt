@@ -4,8 +4,8 @@ ghost use Rattle.std.specs.Prelude.{◌↔◌, IsTrue, MatchResult};
 ghost use Rattle.cg_records.specs.Greatest.{AreAtMost};
 ghost use Rattle.cg_records.specs.Confirming.{IsOf, Stands, Follows, AreInOrder, AreConfirmed, IsFirstStray};
 
-use crate::item::{Item, Receipt, Stray};
 use crate::greatest::Greatest;
+use crate::item::{Item, Receipt, Stray};
 use cg_types::Fault;
 
 // Returns `true` if a receipt comes after the earlier ones of its caller, given that each of those does. A number

@@ -6,8 +6,8 @@
 
 mod confirming;
 mod enter;
-mod item;
 mod greatest;
+mod item;
 
 pub use confirming::confirms;
 pub use enter::Enter;
