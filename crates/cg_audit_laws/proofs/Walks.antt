@@ -79,8 +79,8 @@ generation_kept n e x step = go e step (tables_go_by_their_rules n e x.0 x.1 ste
     go (event.Tick now words) step is = own_so (entry_after_beat (own_entry n.table)) is
     go event.Opening step is = table_so is
     go (event.Syn syn) step is = table_so is
-    go (event.Ack now ack) step is = held_so (only_own_events_change_the_own_entry n (event.Ack now ack) x.0 x.1 step refl)
-    go (event.Ack2 now ack2) step is = held_so (only_own_events_change_the_own_entry n (event.Ack2 now ack2) x.0 x.1 step refl)
+    go (event.Ack now ack) step is = held_so ((only_own_events_change_the_own_entry n (event.Ack now ack) x.0 x.1 step).1 refl)
+    go (event.Ack2 now ack2) step is = held_so ((only_own_events_change_the_own_entry n (event.Ack2 now ack2) x.0 x.1 step).1 refl)
 
 -- the generation of a life
 pub life_generation : (e : ℕ) (h : HistoryValue) (life : IsLife e h) → generation_of h ≡ life.generation
