@@ -149,8 +149,8 @@ impl Delta {
         self.states.greatest(self.heartbeat)
     }
 
-    /// The same delta, whose list of states its copies, and the entries that take it, will share. Without states it
-    /// takes no memory; `AllocError` if the sharing of a list finds none.
+    /// The same delta, whose block of states its copies, and the entries that take it, will share. Without states it
+    /// takes no memory; `AllocError` if a block finds none.
     pub fn shared(self, alloc: Global) -> Result<Delta, AllocError>
         ensures value { IfOk result (λ d. d ≡ self) }
         ensures bare { self.states ≡ map.empty → IsOk result }
@@ -202,7 +202,7 @@ impl Delta {
             && self.states.is_same(&other.states)
     }
 
-    /// The same delta, which shares the list of states or at least their texts. A list that was given to `new` or
+    /// The same delta, which shares the block of states or at least their texts. A list that was given to `new` or
     /// `try_new` is not shared. Then the copy shares the texts alone, and `AllocError` comes if a new list finds no
     /// memory.
     pub fn copy(&self, alloc: Global) -> Result<Delta, AllocError>

@@ -75,8 +75,8 @@ fn outcome_of(alloc: Global, held: Option<&Entry>, delta: &Delta) -> Result<Abso
 }
 
 /// Meets a delta with what is held of its endpoint, if anything is, and returns the outcome. Texts are shared. The
-/// whole list of states is the entry's if the delta brings no state. It is the delta's if the delta brings each key
-/// that the entry has. `AllocError` only if the delta is to be taken and a new list of states finds no memory.
+/// block of states is the entry's if the delta brings no state. It is the delta's if the delta brings each key that
+/// the entry has. `AllocError` only if the delta is to be taken and a new block finds no memory.
 pub fn meet(alloc: Global, held: Option<&Entry>, delta: &Delta) -> Result<Absorbed, AllocError>
     ensures value { IfOk result (λ a. a ≡ met_of (option_copied held.entry) delta.now) }
     ensures each { IfOk result (λ a. IfTaken a (IsTakenEntry (option_copied held.entry) delta.now)) }
@@ -105,8 +105,8 @@ impl Entry {
         }
     }
 
-    /// The entry that a whole delta carries; `None` if the delta is above a version. It has the delta's list of states,
-    /// as a copy of the delta has; `AllocError` if a whole delta's list finds no memory.
+    /// The entry that a whole delta carries; `None` if the delta is above a version. It has the delta's block of
+    /// states, as a copy of the delta has; `AllocError` if a whole delta's block finds no memory.
     pub fn of_delta(alloc: Global, delta: &Delta) -> Result<Option<Entry>, AllocError>
         ensures value { IfOk result (λ e. e ≡ whole_entry delta.now) }
         ensures none { whole_entry delta.now ≡ None → result ≡ Ok None }
@@ -280,7 +280,7 @@ impl Entry {
         Ok(Some(Delta::of_parts(self.generation, above, self.heartbeat, states)))
     }
 
-    /// The same entry, which shares its list of states. It is refused as `StateText::copy` is.
+    /// The same entry, which shares its block of states. It is refused as `StateText::copy` is.
     pub fn copy(&self, alloc: Global) -> Result<Entry, AllocError>
         ensures { IfOk result (λ e. e ≡ self.now) }
     {

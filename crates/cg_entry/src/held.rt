@@ -11,7 +11,7 @@ ghost use Rattle.std.specs.Arc.{arc_value};
 use crate::block::Block;
 use crate::state::State;
 use crate::states::States;
-use cg_types::{StateKey, Version};
+use cg_types::{STATE_LIMIT, StateKey, Version};
 use std::alloc::{AllocError, Global};
 use std::marker::Model;
 use std::ops::Deref;
@@ -210,7 +210,12 @@ impl Held {
     {
         self.show();
         newer.show();
-        let mut block = Block::with_room(alloc, self.len().max(newer.len()))?;
+        let mut block = Block::with_room(
+            alloc,
+            self.len()
+                .saturating_add(newer.len())
+                .min(usize::from(STATE_LIMIT)),
+        )?;
         for number in 0..17 {
             match StateKey::new(number) {
                 Some(key) => match self.shown(newer, key) {

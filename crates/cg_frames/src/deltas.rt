@@ -138,7 +138,7 @@ fn states_of(
     Ok(states)
 }
 
-// Reads a delta, whose list of states its taker will share; if it would carry nothing, the fault is at its first byte.
+// Reads a delta, whose block of states its taker will share; if it would carry nothing, the fault is at its first byte.
 #[tactic(auto, unfolding(crate::specs::Lists::delta_at))]
 fn delta_of(
     alloc: Global,

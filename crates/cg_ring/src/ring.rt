@@ -171,8 +171,9 @@ impl Ring {
     }
 
     /// Returns the ring after an owner has another entry. The ring is that of a table that holds `old` of the owner, or
-    /// nothing; the answer is that of the table with `new` in its place. It reads the tokens of `new` alone, and walks
-    /// once over the claims. If `keeps_claims` it shares the ring. `AllocError` if a list finds no memory.
+    /// nothing; the answer is that of the table with `new` in its place. It reads the tokens of `new` alone, and
+    /// merges them with the claims that stay, without a sort of all. If `keeps_claims` it shares the ring. `AllocError`
+    /// if a list finds no memory.
     pub fn moved(
         &self,
         alloc: Global,
@@ -193,8 +194,8 @@ impl Ring {
     }
 
     /// Returns the ring after some owners have other entries, as `moved` does for one: the rows rise, and all other
-    /// owners claim the same as before. It reads the tokens of the rows alone, and walks once over the claims for all
-    /// of them. If there are no rows it shares the ring, and takes no memory. `AllocError` if a list finds no memory.
+    /// owners claim the same as before. It reads the tokens of the rows alone, and merges them with the claims that
+    /// stay, once for all rows. If there are no rows it shares the ring, and takes no memory. `AllocError` if a list finds no memory.
     pub fn moved_each(&self, alloc: Global, rows: &[Row<Entry>]) -> Result<Ring, AllocError>
         requires rise { Rises (keys_of rows.now) }
         requires ring { (entries : Entries) × IsRingOf entries self.now }
