@@ -1,5 +1,5 @@
 -- A block's states and places: rows by key, a search among them, and the entry at a place.
-use Rattle.std.proofs.Common.{◌≡◌, ℕ, zero, suc, ◌-◌, ◌<◌, ◌≤◌, true, false, cond, List, [], ◌∷◌, map, length, take, drop, get_or, Some, None, Result, Ok, Err, refl, sym, ap, subst, ◌∙◌, arith, nat_lt, length-drop}
+use Rattle.std.proofs.Common.{◌≡◌, ℕ, zero, suc, ◌-◌, ◌<◌, ◌≤◌, true, false, cond, List, [], ◌∷◌, map, length, take, drop, get_or, Some, Result, Ok, Err, IfOk, IfErr, refl, sym, ap, subst, ◌∙◌, arith, nat_lt, length-drop}
 use Rattle.std.specs.Prelude.{nat_le, slice_get}
 use Rattle.std.specs.List.{filter, AllByRecursion}
 use Rattle.std.specs.List.Sorted.{IsSearchInRange, IsBinarySearchResult, IsNonDecreasingBy}
@@ -12,7 +12,8 @@ use Rattle.std.specs.FinMap.Entries.{find}
 use Rattle.cg_entry.specs.State.{pair, pairs, value_at_key, KeysRise}
 use Rattle.cg_entry.proofs.StateLemmas.{pairs_rise, entries-pairs}
 use Rattle.std.proofs.lemmas.Option.{slice_get-get_or}
-use Rattle.cg_map.proofs.RowLemmas.{searched, find_row, find_in_gap}
+use Rattle.cg_map.specs.Rows.{IsRowAt, IsGapAt}
+use Rattle.cg_map.proofs.RowLemmas.{searched, find_row}
 use Rattle.cg_entry.specs.Versioned.{Versioned, States}
 use Rattle.cg_entry.proofs.DeltaLemmas.{len-pairs}
 use Rattle.cg_entry.specs.Block.{no_state, state_at, picked, lowered, bumped}
@@ -90,32 +91,23 @@ bumped_few at (p ∷ ps) = ap suc (bumped_few at ps)
 
 -- ---- the state that a search finds
 
-module _ (items : List State) (k : ℕ) (ps : List ℕ) (at : ℕ) (rise : KeysRise (picked items ps)) where
-  abbrev rows : List (ℕ × Versioned)
-  rows = pairs (picked items ps)
+-- a search over places ends at the row of the key, or at the gap for it
+pub searched_rows : (items : List State) (k : ℕ) (ps : List ℕ) → KeysRise (picked items ps) → (key : ℕ) (r : Result ℕ ℕ) → key ≡ k → IsSearchInRange r (length ps) → IsBinarySearchResult (λ p. nat_cmp (state_at items p).key key) ps r
+    → record { found : IfOk r (λ n. IsRowAt (pairs (picked items ps)) k n); absent : IfErr r (λ n. IsGapAt (pairs (picked items ps)) k n) }
+searched_rows items k ps rise key r same within found =
+    searched k (pairs (picked items ps)) (pairs_rise (picked items ps) rise) r (subst (λ n. IsSearchInRange r n) (sym (length-rows items ps)) within)
+    (to_rows items k ps r within (subst (λ n. IsBinarySearchResult (λ p. nat_cmp (state_at items p).key n) ps r) same found))
 
-  pub found_row : (key : ℕ) (r : Result ℕ ℕ) → r ≡ Ok at → key ≡ k → IsSearchInRange r (length ps) → IsBinarySearchResult (λ p. nat_cmp (state_at items p).key key) ps r
-      → find nat_cmp k rows ≡ Some (value_at_key (state_at items (get_or ps at 0)))
-  found_row key r is same within found =
-      let in_ok : IsSearchInRange (Ok at) (length ps) = subst (λ r. IsSearchInRange r (length ps)) is within in
-      let at_ok = subst (λ n. IsBinarySearchResult (λ p. nat_cmp (state_at items p).key n) ps (Ok at)) same (subst (λ r. IsBinarySearchResult (λ p. nat_cmp (state_at items p).key key) ps r) is found) in
-      let here = (searched k rows (pairs_rise (picked items ps) rise) (Ok at) (omega (arith, in_ok, length-rows items ps)) (to_rows items k ps (Ok at) in_ok at_ok)).found in
-      find_row k rows at (row items 0) (pairs_rise (picked items ps) rise) here ∙ ap (λ (e : ℕ × Versioned). Some e.1) (row_at items ps at 0 (row items 0) in_ok)
+module _ (items : List State) (k : ℕ) (ps : List ℕ) (at : ℕ) (rise : KeysRise (picked items ps)) (here : IsRowAt (pairs (picked items ps)) k at) where
+  pub row_within : at < length ps
+  row_within = omega (arith, here.in_range, length-rows items ps)
 
-  pub found_key : (key : ℕ) (r : Result ℕ ℕ) → r ≡ Ok at → key ≡ k → IsSearchInRange r (length ps) → IsBinarySearchResult (λ p. nat_cmp (state_at items p).key key) ps r
-      → (state_at items (get_or ps at 0)).key ≡ k
-  found_key key r is same within found =
-      let in_ok : IsSearchInRange (Ok at) (length ps) = subst (λ r. IsSearchInRange r (length ps)) is within in
-      let at_ok = subst (λ n. IsBinarySearchResult (λ p. nat_cmp (state_at items p).key n) ps (Ok at)) same (subst (λ r. IsBinarySearchResult (λ p. nat_cmp (state_at items p).key key) ps r) is found) in
-      let here = (searched k rows (pairs_rise (picked items ps) rise) (Ok at) (omega (arith, in_ok, length-rows items ps)) (to_rows items k ps (Ok at) in_ok at_ok)).found in
-      ap (λ (e : ℕ × Versioned). e.0) (sym (row_at items ps at 0 (row items 0) in_ok)) ∙ here.has_key (row items 0)
+  pub found_row : find nat_cmp k (pairs (picked items ps)) ≡ Some (value_at_key (state_at items (get_or ps at 0)))
+  found_row =
+      find_row k (pairs (picked items ps)) at (row items 0) (pairs_rise (picked items ps) rise) here ∙ ap (λ (e : ℕ × Versioned). Some e.1) (row_at items ps at 0 (row items 0) row_within)
 
-  pub no_row : (key : ℕ) (r : Result ℕ ℕ) → r ≡ Err at → key ≡ k → IsSearchInRange r (length ps) → IsBinarySearchResult (λ p. nat_cmp (state_at items p).key key) ps r
-      → find nat_cmp k rows ≡ None
-  no_row key r is same within found =
-      let in_ok : IsSearchInRange (Err at) (length ps) = subst (λ r. IsSearchInRange r (length ps)) is within in
-      let at_ok = subst (λ n. IsBinarySearchResult (λ p. nat_cmp (state_at items p).key n) ps (Err at)) same (subst (λ r. IsBinarySearchResult (λ p. nat_cmp (state_at items p).key key) ps r) is found) in
-      find_in_gap k rows at ((searched k rows (pairs_rise (picked items ps) rise) (Err at) (omega (arith, in_ok, length-rows items ps)) (to_rows items k ps (Err at) in_ok at_ok)).absent)
+  pub found_key : (state_at items (get_or ps at 0)).key ≡ k
+  found_key = ap (λ (e : ℕ × Versioned). e.0) (sym (row_at items ps at 0 (row items 0) row_within)) ∙ here.has_key (row items 0)
 
 -- the entry at a place in the order of the keys
 pub entry_at : (items : List State) (ps : List ℕ) (states : States) (i : ℕ) → KeysRise (picked items ps) → finmap.from_sorted {R = nat_cmp} (pairs (picked items ps)) ≡ states → i < length ps
@@ -129,9 +121,10 @@ entry_at items ps states i rise seen lt =
 pub read_at : (items : List State) (p q : ℕ) (s : State) → s ≡ get_or items q s → q ≡ p → p < length items → state_at items p ≡ s
 read_at items p q s is same lt = get_or_any items p (no_state) s lt ∙ ap (λ (n : ℕ). get_or items n s) (sym same) ∙ sym is
 
-pub at_found : (r : Result ℕ ℕ) (at n : ℕ) → r ≡ Ok at → IsSearchInRange r n → at < n
-at_found r at n is within = subst (λ r. IsSearchInRange r n) is within
-
 -- the value of `&items[n..]`
 pub rest_from : (xs : List State) (n : ℕ) → take (length xs - n) (drop n xs) ≡ drop n xs
 rest_from xs n = take_all (length xs - n) (drop n xs) (omega (arith, length-drop n xs))
+
+-- the rows of a block are its map's entries
+pub rows_of : (given xs : List State) (places ps : List ℕ) (states : States) → given ≡ xs → places ≡ ps → KeysRise (picked xs ps) → finmap.from_sorted {R = nat_cmp} (pairs (picked xs ps)) ≡ states → pairs (picked given places) ≡ finmap.entries states
+rows_of given xs places ps states same_xs same_ps rise seen = (λ i. pairs (picked (same_xs i) (same_ps i))) ∙ sym (entries-pairs (picked xs ps) rise) ∙ ap finmap.entries seen

@@ -20,3 +20,5 @@ pub mod CutLemmas
 pub mod ReadLemmas
 pub mod HeldLemmas
 pub mod OrderLemmas
+pub mod NewestLemmas
+pub mod OverlayLemmas

@@ -44,11 +44,11 @@ take_range a n zero le = refl
 take_range a zero (suc k) le = absurd (omega arith)
 take_range a (suc n) (suc k) le = ap (λ (xs : List ℕ). a ∷ xs) (take_range (a + 1) n k (omega arith))
 
-range_within : (n a k : ℕ) → a + k ≤ n → AllByRecursion (λ p. p < n) (range_with_len a k)
+pub range_within : (n a k : ℕ) → a + k ≤ n → AllByRecursion (λ p. p < n) (range_with_len a k)
 range_within n a zero le = tt
 range_within n a (suc k) le = (omega arith, range_within n (a + 1) k (omega arith))
 
-range_among : (a k i : ℕ) → a ≤ i → i < a + k → is_among (range_with_len a k) i ≡ true
+pub range_among : (a k i : ℕ) → a ≤ i → i < a + k → is_among (range_with_len a k) i ≡ true
 range_among a zero i lo hi = absurd (omega arith)
 range_among a (suc k) i lo hi =
     elim (cases_order a i) [

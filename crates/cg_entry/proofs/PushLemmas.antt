@@ -123,7 +123,7 @@ whole_put n at ps all le i lt =
     ]
 
 -- a fact of each state that is picked is one of the state at each place
-all_picked : (P : ℕ × Versioned → Type 0) (xs : List State) (i : ℕ) (ps : List ℕ) → is_among ps i ≡ true → AllByRecursion P (pairs (picked xs ps)) → P (pair (state_at xs i))
+pub all_picked : (P : ℕ × Versioned → Type 0) (xs : List State) (i : ℕ) (ps : List ℕ) → is_among ps i ≡ true → AllByRecursion P (pairs (picked xs ps)) → P (pair (state_at xs i))
 all_picked P xs i [] e all = absurd cc
 all_picked P xs i (p ∷ ps) e all =
     elim (or_cases (p == i) (is_among ps i) e) [

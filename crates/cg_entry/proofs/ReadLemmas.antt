@@ -2,7 +2,7 @@
 use Rattle.std.proofs.Common.{◌≡◌, ℕ, zero, suc, ◌+◌, ◌-◌, ◌<◌, ◌≤◌, ◌==◌, true, false, List, [], ◌∷◌, ◌++◌, map, length, take, drop, get_or, Option, Some, None, refl, sym, ap, subst, ◌∙◌, arith, nat_lt, inl, inr, eqb-true, length-drop}
 use Rattle.std.specs.Prelude.{nat_le, max}
 use Rattle.std.specs.List.{AllByRecursion}
-use Rattle.std.specs.Ordering.{nat_cmp}
+use Rattle.std.specs.Ordering.{nat_cmp, is_lt}
 use Rattle.std.specs.FinMap as finmap
 use Rattle.std.specs.FinMap.{len-empty}
 use Rattle.std.proofs.lemmas.Bool.{le-leb, ltb-true, ltb-false, le-ltb, or_cases, cases_lt}
@@ -142,3 +142,25 @@ greatest_last given xs ps bytes n s states b seen same some is =
     let one : (length given - 1) + 1 ≡ length xs = last_place (length given) some ∙ ap (λ (ys : List State). length ys) same in
     let here : s ≡ get_or xs (length given - 1) s = is ∙ ap (λ (ys : List State). get_or ys (length given - 1) s) same in
     greatest_block xs ps bytes n (length given - 1) s states b seen one (read_at xs (length given - 1) (length given - 1) s here refl (omega arith))
+
+-- ---- all are older
+
+pub all_older : (xs : List State) (ps : List ℕ) (bytes v : ℕ) (states : States) → IsBlock xs ps bytes → finmap.from_sorted {R = nat_cmp} (pairs (picked xs ps)) ≡ states → ((p : ℕ) → p < length xs → (state_at xs p).version < v)
+    → AllByRecursion (λ (e : ℕ × Versioned). e.1.version < v) (finmap.entries states)
+all_older xs ps bytes v states b seen older =
+    subst (λ es. AllByRecursion (λ (e : ℕ × Versioned). e.1.version < v) es) (sym (entries-pairs (picked xs ps) b.rise) ∙ ap finmap.entries seen)
+    (each_row (λ (e : ℕ × Versioned). e.1.version < v) xs (length xs) older ps b.within)
+
+pub older_than : (xs : List State) (ps : List ℕ) (bytes v last : ℕ) (s : State) (states : States) → IsBlock xs ps bytes → finmap.from_sorted {R = nat_cmp} (pairs (picked xs ps)) ≡ states
+    → last + 1 ≡ length xs → state_at xs last ≡ s → s.version < v → AllByRecursion (λ (e : ℕ × Versioned). e.1.version < v) (finmap.entries states)
+older_than xs ps bytes v last s states b seen is here lt =
+    let top : (state_at xs last).version < v = subst (λ (t : State). t.version < v) (sym here) lt in
+    all_older xs ps bytes v states b seen (λ p l. omega (arith, top, b.risen.versions p last no_state (omega arith) (omega arith)))
+
+pub is_less : (x y : ℕ) → is_lt (nat_cmp x y) ≡ true → x < y
+is_less x y e = grind (arith, nat_tests)
+
+pub some_of : (given xs : List State) → given ≡ xs → (length given == 0) ≡ false → 0 < length xs
+some_of given xs same some =
+    let long : length given ≡ length xs = ap (λ (ys : List State). length ys) same in
+    grind (arith, nat_tests)

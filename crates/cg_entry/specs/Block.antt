@@ -3,14 +3,17 @@
 -- The states newer than a version are the vector's end, so that a delta copies that end and compares no others. Messages
 -- and readers go by key: there the places tell where each state stands. Nothing is sorted. States come in the order of
 -- their keys, and each goes behind all that are not newer, while its place goes behind the other places. When a front of
--- the vector is dropped, the places that are left are still in the order of the keys.
-use Rattle.std.specs.Prelude.{ℕ, suc, ◌≡◌, ◌-◌, ◌<◌, true, List, [], map, length, sum_by, nat_le, slice_index_or, if◌then◌else◌}
+-- the vector is dropped, the places that are left are still in the order of the keys. A state that is newer than all goes
+-- to the vector's end: the one that it replaces is taken out, and those behind that one move down by a place.
+use Rattle.std.specs.Prelude.{ℕ, suc, ◌≡◌, ◌-◌, ◌<◌, true, List, [], ◌∷◌, map, length, sum_by, nat_le, nat_lt, slice_index_or, if◌then◌else◌}
 use Rattle.std.specs.List.{filter, AllByRecursion}
 use Rattle.std.specs.List.Sorted.{IsNonDecreasingBy}
 use Rattle.cg_types.specs.Rising.{is_among}
 use Rattle.cg_entry.specs.declared.state.State.{State}
 use Rattle.cg_entry.specs.Contents.{IsState}
-use Rattle.cg_entry.specs.State.{pairs, listed_bytes, KeysRise}
+use Rattle.std.specs.FinMap as finmap
+use Rattle.cg_entry.specs.State.{pairs, listed_bytes, value_at_key, KeysRise}
+use Rattle.cg_entry.specs.Versioned.{States}
 
 -- a state that no list holds
 abbrev pub no_state : State
@@ -35,6 +38,15 @@ lowered from places = map (λ p. p - from) (filter (nat_le from) places)
 -- the same places once a state is inserted at `at`
 abbrev pub bumped : ℕ → List ℕ → List ℕ
 bumped at places = map (λ p. (if nat_le at p then suc p else p)) places
+
+-- the same places once the state at `at` is taken out
+abbrev pub closed : ℕ → List ℕ → List ℕ
+closed at places = map (λ p. (if nat_lt at p then p - 1 else p)) places
+
+-- the states once each of these is put, one after the other
+abbrev pub put_all : List State → States → States
+put_all [] states = states
+put_all (s ∷ rest) states = put_all rest (finmap.insert states s.key (value_at_key s))
 
 -- The versions do not fall, and the keys of equal versions rise.
 pub record IsRisen (items : List State) : Type 0 where

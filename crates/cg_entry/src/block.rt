@@ -1,6 +1,6 @@
 //! Blocks of states: a vector that rises by version, then key, and the places by key.
 
-ghost use Rattle.std.specs.Prelude.{◌≡◌, ◌<◌, ◌≤◌, ◌^◌, IfOk, IfSome, IsOk, OnOk, OnErr, length, nat_lt, option_copied, true, false, slice_get, Some};
+ghost use Rattle.std.specs.Prelude.{◌≡◌, ◌<◌, ◌≤◌, ◌^◌, IfOk, IfErr, IfSome, IsOk, OnOk, OnErr, length, nat_lt, option_copied, true, false, slice_get, Some};
 ghost use Rattle.std.specs.FinMap as map;
 ghost use Rattle.std.specs.FinMap.Entries.{find as find_entry};
 ghost use Rattle.std.specs.Option.{option_map};
@@ -8,13 +8,16 @@ ghost use Rattle.std.specs.Ordering.{nat_cmp};
 ghost use Rattle.std.specs.List.{AllByRecursion, AllWithin};
 ghost use Rattle.std.specs.List.Sorted.{IsNonDecreasingBy};
 ghost use Rattle.cg_entry.specs.Contents.{AreStates, IsState};
-ghost use Rattle.cg_entry.specs.Entry.{greatest, newer_than, text_bytes as text_bytes_of};
+ghost use Rattle.cg_entry.specs.Entry.{greatest, newer_than, overlay, text_bytes as text_bytes_of};
 ghost use Rattle.cg_entry.specs.State.{IsStateList, KeysRise, pair, pairs, value_at_key};
-ghost use Rattle.cg_entry.specs.Block.{bytes_at, picked, state_at};
+ghost use Rattle.cg_entry.specs.Versioned.{States};
+ghost use Rattle.cg_entry.specs.Block.{bytes_at, picked, put_all, state_at};
+ghost use Rattle.cg_map.specs.Rows.{IsGapAt, IsRowAt};
 
 use crate::places::Places;
 use crate::state::State;
-use cg_types::{StateKey, Version};
+use crate::states::versions_rise;
+use cg_types::{STATE_LIMIT, StateKey, Version};
 use std::alloc::{AllocError, Global};
 use std::marker::Model;
 
@@ -74,7 +77,16 @@ fn key_at(items: &[State], place: u8) -> u8
     }
 }
 
-// The state of a key, by halving over the places.
+// The number of a key among the places, by halving over them; else the number where its place belongs.
+fn number_of(items: &[State], places: &[u8], key: StateKey) -> Result<usize, usize>
+    requires { KeysRise (picked items.now places.now) }
+    ensures found { IfOk result (λ n. IsRowAt (pairs (picked items.now places.now)) key n) }
+    ensures absent { IfErr result (λ n. IsGapAt (pairs (picked items.now places.now)) key n) }
+{
+    places.binary_search_by_key(&key.get(), |place| key_at(items, *place))
+}
+
+// The state of a key.
 fn find<'a>(items: &'a [State], places: &[u8], key: StateKey) -> Option<&'a State>
     requires rise { KeysRise (picked items.now places.now) }
     requires within { AllByRecursion (λ p. p < length items.now) places.now }
@@ -82,7 +94,7 @@ fn find<'a>(items: &'a [State], places: &[u8], key: StateKey) -> Option<&'a Stat
         ≡ find_entry nat_cmp key (pairs (picked items.now places.now)) }
     ensures key { IfSome result (λ s. s.now.key ≡ key) }
 {
-    match places.binary_search_by_key(&key.get(), |place| key_at(items, *place)) {
+    match number_of(items, places, key) {
         Ok(at) => Some(&items[places[at] as usize]),
         Err(_) => None,
     }
@@ -125,10 +137,16 @@ fn size_of(items: &[State], places: &[u8]) -> usize
     bytes
 }
 
-fn copies(alloc: Global, items: &[State]) -> Result<Vec<State>, AllocError>
+// The number of states to make room for.
+fn room_for(count: usize, more: usize) -> usize {
+    count.saturating_add(more).min(usize::from(STATE_LIMIT))
+}
+
+// Copies of states, in a vector with room for more.
+fn copies(alloc: Global, items: &[State], more: usize) -> Result<Vec<State>, AllocError>
     ensures { IfOk result (λ v. v.items ≡ items.now) }
 {
-    let mut copies = Vec::with_capacity(alloc, items.len())?;
+    let mut copies = Vec::with_capacity(alloc, room_for(items.len(), more))?;
     for state in items {
         copies.push(state.copy()?)?;
     }
@@ -163,6 +181,112 @@ impl Block {
         Ok(())
     }
 
+    // A copy with room for more states.
+    pub(crate) fn copy(&self, alloc: Global, more: usize) -> Result<Block, AllocError>
+        ensures { IfOk result (λ b. b ≡ self.now) }
+    {
+        Ok(Block {
+            items: copies(alloc, &self.items, more)?,
+            places: self.places.copy(),
+            text_bytes: self.text_bytes,
+        })
+    }
+
+    // The states, in the order of the versions. Put one after the other, they are laid over others.
+    pub(crate) fn as_slice(&self) -> &[State]
+        ensures { (old : States) → put_all result.now old ≡ overlay old self.now }
+    {
+        &self.items
+    }
+
+    // Tests whether each state is older than a version.
+    pub(crate) fn is_older(&self, version: Version) -> bool
+        ensures { result ≡ true → AllByRecursion (λ e. e.1.version < version) (map.entries self.now) }
+    {
+        let items = self.items.as_slice();
+        if items.is_empty() {
+            return true;
+        }
+        items[items.len() - 1].version < version
+    }
+
+    // Adds a state at the vector's end, with this number among the keys.
+    fn add(self, number: usize, state: State) -> Result<Block, AllocError>
+        requires newest { AllByRecursion (λ e. e.1.version < state.version) (map.entries self) }
+        requires gap { IsGapAt (map.entries self) state.key number }
+        ensures { IfOk result (λ b. b ≡ map.insert self state.key (value_at_key state)) }
+    {
+        show_state(&state);
+        let size = text_size(&state);
+        let last = self.items.as_slice().len();
+        let mut items = self.items;
+        items.push(state)?;
+        Ok(Block {
+            items,
+            places: self.places.with(number, last as u8),
+            text_bytes: self.text_bytes + size,
+        })
+    }
+
+    // Puts a state at the vector's end, in place of the one that has this number among the keys.
+    fn replace(self, number: usize, state: State) -> Result<Block, AllocError>
+        requires newest { AllByRecursion (λ e. e.1.version < state.version) (map.entries self) }
+        requires row { IsRowAt (map.entries self) state.key number }
+        ensures { IfOk result (λ b. b ≡ map.insert self state.key (value_at_key state)) }
+    {
+        show_state(&state);
+        let size = text_size(&state);
+        let last = self.items.as_slice().len() - 1;
+        let at = self.places.as_slice()[number];
+        let mut items = self.items;
+        let old = items.remove(at as usize);
+        items.push(state)?;
+        let mut places = self.places.closed(at);
+        places.set(number, last as u8);
+        Ok(Block {
+            items,
+            places,
+            text_bytes: self.text_bytes - text_size(&old) + size,
+        })
+    }
+
+    // Puts a state that is newer than each, in place of one with its key.
+    pub(crate) fn put_newest(self, state: State) -> Result<Block, AllocError>
+        requires { AllByRecursion (λ e. e.1.version < state.version) (map.entries self) }
+        ensures { IfOk result (λ b. b ≡ map.insert self state.key (value_at_key state)) }
+    {
+        match number_of(&self.items, self.places.as_slice(), state.key) {
+            Ok(number) => self.replace(number, state),
+            Err(number) => self.add(number, state),
+        }
+    }
+
+    // A quick test before states are copied: whether `newer` seems to go behind all, in its order.
+    fn is_before(&self, newer: &[State]) -> bool {
+        !newer.is_empty() && self.is_older(newer[0].version) && versions_rise(newer)
+    }
+
+    // A copy with each of `newer` put. `None` if one is not newer than all before it.
+    pub(crate) fn with_all(
+        &self,
+        alloc: Global,
+        newer: &[State],
+    ) -> Result<Option<Block>, AllocError>
+        ensures { IfOk result (λ o. IfSome o (λ b. b ≡ put_all newer.now self.now)) }
+    {
+        if !self.is_before(newer) {
+            return Ok(None);
+        }
+        let mut block = self.copy(alloc, newer.len())?;
+        for state in newer {
+            if !block.is_older(state.version) {
+                return Ok(None);
+            }
+            block = block.put_newest(state.copy()?)?;
+        }
+        Ok(Some(block))
+    }
+
     // The number of states.
     pub(crate) fn len(&self) -> usize
         ensures { result ≡ map.len self.now }
@@ -194,7 +318,7 @@ impl Block {
         ensures { IfOk result (λ b. b ≡ newer_than above self.now) }
     {
         let from = first_above(&self.items, above);
-        let items = copies(alloc, &self.items[from..])?;
+        let items = copies(alloc, &self.items[from..], 0)?;
         let places = self.places.lowered(from as u8);
         let text_bytes = size_of(&items, places.as_slice());
         Ok(Block {
@@ -229,12 +353,12 @@ impl Block {
         }
     }
 
-    // Copies of the states of a list, which rises by key.
-    pub(crate) fn of(alloc: Global, items: &[State]) -> Result<Block, AllocError>
+    // Copies of the states of a list, which rises by key, with room for more.
+    pub(crate) fn of(alloc: Global, items: &[State], more: usize) -> Result<Block, AllocError>
         requires { KeysRise items.now }
         ensures { IfOk result (λ b. b ≡ map.from_sorted (pairs items.now)) }
     {
-        let mut block = Block::with_room(alloc, items.len())?;
+        let mut block = Block::with_room(alloc, room_for(items.len(), more))?;
         for state in items {
             block.push(state.copy()?)?;
         }

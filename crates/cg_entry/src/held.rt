@@ -4,6 +4,8 @@ ghost use Rattle.std.specs.Prelude.{◌≡◌, ◌<◌, ◌↔◌, IsTrue, IfOk,
 ghost use Rattle.std.specs.FinMap as map;
 ghost use Rattle.cg_entry.specs.Entry.{greatest, newer_than, overlay, text_bytes as text_bytes_of};
 ghost use Rattle.cg_entry.specs.State.{pair, value_at_key};
+ghost use Rattle.cg_entry.specs.Block.{put_all};
+ghost use Rattle.cg_entry.specs.Versioned.{States as Map};
 ghost use Rattle.cg_entry.specs.Contents.{AreStates};
 ghost use Rattle.std.specs.Option.{option_map};
 ghost use Rattle.std.specs.Arc.{arc_value};
@@ -170,7 +172,7 @@ impl Held {
             return Ok(Held::none(alloc));
         }
         match &self.kept {
-            Kept::Own(states) => Held::of(alloc, states.block(alloc)?),
+            Kept::Own(states) => Held::of(alloc, states.block(alloc, 0)?),
             Kept::Shared(block) => Ok(Held {
                 kept: Kept::Shared(Arc::try_clone(block)?),
             }),
@@ -204,7 +206,7 @@ impl Held {
         }
     }
 
-    // A new block of `newer`, and at every other key of these.
+    // A new block of `newer`, and at every other key of these, by a walk over the keys: for states in any order.
     fn laid_under(&self, alloc: Global, newer: &Held) -> Result<Block, AllocError>
         ensures { IfOk result (λ b. b ≡ overlay self.now newer.now) }
     {
@@ -228,14 +230,66 @@ impl Held {
         Ok(block)
     }
 
+    // The states, in the order that they are kept in. Put one after the other, they are laid over others.
+    fn as_slice(&self) -> &[State]
+        ensures { (old : Map) → put_all result.now old ≡ overlay old self.now }
+    {
+        match &self.kept {
+            Kept::Own(states) => states.as_slice(),
+            Kept::Shared(block) => block.deref().as_slice(),
+        }
+    }
+
+    // A block of these with room for one more.
+    fn block(&self, alloc: Global) -> Result<Block, AllocError>
+        ensures { IfOk result (λ b. b ≡ self.now) }
+    {
+        match &self.kept {
+            Kept::Own(states) => states.block(alloc, 1),
+            Kept::Shared(block) => block.deref().copy(alloc, 1),
+        }
+    }
+
+    // A block of these with a state put: copied, if the state is newer than each.
+    fn with(&self, alloc: Global, state: State) -> Result<Block, AllocError>
+        ensures { IfOk result (λ b. b ≡ map.insert self.now state.key (value_at_key state)) }
+    {
+        let block = self.block(alloc)?;
+        if block.is_older(state.version) {
+            return block.put_newest(state);
+        }
+        let one = Held::own(States::one(alloc, state)?);
+        self.laid_under(alloc, &one)
+    }
+
+    // A copied block of these with each of `newer` put. `None` if one is not newer than all before it, or if these
+    // are no block.
+    fn with_all(&self, alloc: Global, newer: &Held) -> Result<Option<Block>, AllocError>
+        ensures { IfOk result (λ o. IfSome o (λ b. b ≡ overlay self.now newer.now)) }
+    {
+        match &self.kept {
+            Kept::Own(_) => Ok(None),
+            Kept::Shared(block) => block.deref().with_all(alloc, newer.as_slice()),
+        }
+    }
+
+    // The same. If it can, it copies these and puts what is newer.
+    fn laid(&self, alloc: Global, newer: &Held) -> Result<Block, AllocError>
+        ensures { IfOk result (λ b. b ≡ overlay self.now newer.now) }
+    {
+        match self.with_all(alloc, newer)? {
+            Some(block) => Ok(block),
+            None => self.laid_under(alloc, newer),
+        }
+    }
+
     // Puts a state, in place of one with its key, into a block of its own.
     pub(crate) fn put(&mut self, state: State) -> Result<(), AllocError>
         ensures ok { OnOk result (self.new ≡ map.insert self.old state.key (value_at_key state)) }
         ensures err { OnErr result (self.new ≡ self.old) }
     {
         let alloc = self.allocator()?;
-        let one = Held::own(States::one(alloc, state)?);
-        *self = Held::of(alloc, self.laid_under(alloc, &one)?)?;
+        *self = Held::of(alloc, self.with(alloc, state)?)?;
         Ok(())
     }
 
@@ -272,7 +326,7 @@ impl Held {
         if self.is_covered(newer) {
             return newer.copy(alloc);
         }
-        Held::of(alloc, self.laid_under(alloc, newer)?)
+        Held::of(alloc, self.laid(alloc, newer)?)
     }
 }
 
@@ -283,7 +337,7 @@ fn newer_of_list(alloc: Global, states: &States, above: u32) -> Result<Held, All
     if states.count_newer(above) == 0 {
         return Ok(Held::none(alloc));
     }
-    let newer = states.block(alloc)?.newer_than(alloc, above)?;
+    let newer = states.block(alloc, 0)?.newer_than(alloc, above)?;
     Held::of(alloc, newer)
 }
 

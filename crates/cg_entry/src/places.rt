@@ -1,8 +1,8 @@
 //! Lists of at most 16 places, without memory of their own.
 
-ghost use Rattle.std.specs.Prelude.{◌≡◌, ◌<◌, ◌≤◌, ◌-◌, ◌++◌, [], ◌∷◌, length, map, nat_le};
+ghost use Rattle.std.specs.Prelude.{◌≡◌, ◌<◌, ◌≤◌, ◌-◌, ◌++◌, [], ◌∷◌, insert, length, map, nat_le, slice_set, take};
 ghost use Rattle.std.specs.List.{filter, range_with_len, AllByRecursion};
-ghost use Rattle.cg_entry.specs.Block.{bumped, lowered};
+ghost use Rattle.cg_entry.specs.Block.{bumped, closed, lowered};
 
 use std::marker::Model;
 
@@ -62,6 +62,48 @@ impl Places {
         self.count += 1;
     }
 
+    pub(crate) fn copy(&self) -> Places
+        ensures { result ≡ self.now }
+    {
+        Places {
+            slots: self.slots,
+            count: self.count,
+        }
+    }
+
+    // The places with another one at this number.
+    pub(crate) fn set(&mut self, number: usize, place: u8)
+        requires { number < length self.old }
+        ensures { self.new ≡ slice_set self.old number place }
+    {
+        self.slots[number] = place;
+    }
+
+    // The first places, up to this number.
+    fn front(&self, number: usize) -> Places
+        requires { number ≤ length self.now }
+        ensures { result ≡ take number self.now }
+    {
+        Places {
+            slots: self.slots,
+            count: number as u8,
+        }
+    }
+
+    // The places with one more at this number, before those from there on.
+    pub(crate) fn with(&self, number: usize, place: u8) -> Places
+        requires few { length self.now < 16 }
+        requires within { number ≤ length self.now }
+        ensures { result ≡ insert self.now number place }
+    {
+        let mut more = self.front(number);
+        more.push(place);
+        for next in &self.as_slice()[number..] {
+            more.push(*next);
+        }
+        more
+    }
+
     // The places from `from` on, in a vector that begins there.
     pub(crate) fn lowered(&self, from: u8) -> Places
         ensures { result ≡ lowered from self.now }
@@ -70,6 +112,21 @@ impl Places {
         for place in self.as_slice() {
             if *place >= from {
                 lower.push(*place - from);
+            }
+        }
+        lower
+    }
+
+    // The same places, once the element at `at` is taken out.
+    pub(crate) fn closed(&self, at: u8) -> Places
+        ensures { result ≡ closed at self.now }
+    {
+        let mut lower = Places::none();
+        for place in self.as_slice() {
+            if *place > at {
+                lower.push(*place - 1);
+            } else {
+                lower.push(*place);
             }
         }
         lower

@@ -6,8 +6,10 @@ ghost use Rattle.std.specs.Option.{option_map};
 ghost use Rattle.std.specs.List.{AllByRecursion};
 ghost use Rattle.std.specs.List.Sorted.{IsNonDecreasingBy};
 ghost use Rattle.cg_entry.specs.Contents.{IsState, AreStates};
-ghost use Rattle.cg_entry.specs.Entry.{greatest, newer_than, text_bytes as text_bytes_of};
+ghost use Rattle.cg_entry.specs.Entry.{greatest, newer_than, overlay, text_bytes as text_bytes_of};
 ghost use Rattle.cg_entry.specs.State.{KeysRise, keys_rise as keys_rise_of, pair, pairs, listed_bytes, value_at_key};
+ghost use Rattle.cg_entry.specs.Versioned.{States as Map};
+ghost use Rattle.cg_entry.specs.Block.{put_all};
 
 use crate::block::Block;
 use crate::state::State;
@@ -46,7 +48,7 @@ pub(crate) fn keys_rise(items: &[State]) -> bool
 }
 
 // Tests whether the versions do not fall.
-fn versions_rise(items: &[State]) -> bool
+pub(crate) fn versions_rise(items: &[State]) -> bool
     ensures { result ≡ true → IsNonDecreasingBy (λ s. s.version) items.now }
 {
     items.is_sorted_by(|state, next| state.version <= next.version)
@@ -192,11 +194,11 @@ impl States {
         Ok(States::from_rising(items))
     }
 
-    // The same states in a block.
-    pub(crate) fn block(&self, alloc: Global) -> Result<Block, AllocError>
+    // The same states in a block with room for more.
+    pub(crate) fn block(&self, alloc: Global, more: usize) -> Result<Block, AllocError>
         ensures { IfOk result (λ b. b ≡ self.now) }
     {
-        Block::of(alloc, &self.items)
+        Block::of(alloc, &self.items, more)
     }
 
     // The same states in a block. If their versions do not fall, the list is its vector; else they are copied.
@@ -206,7 +208,7 @@ impl States {
         if versions_rise(&self.items) {
             return Ok(Block::in_order(self.items, self.text_bytes));
         }
-        self.block(alloc)
+        self.block(alloc, 0)
     }
 
     pub(crate) fn allocator(&self) -> Result<Global, AllocError> {
@@ -227,6 +229,7 @@ impl States {
         ensures value { pairs result.now ≡ map.entries self.now }
         ensures rise { KeysRise result.now }
         ensures valid { AreStates self.now }
+        ensures laid { (old : Map) → put_all result.now old ≡ overlay old self.now }
     {
         &self.items
     }
