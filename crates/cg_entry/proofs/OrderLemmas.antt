@@ -23,19 +23,19 @@ use Rattle.cg_entry.proofs.BlockLemmas.{get_or_any}
 -- ---- the ends of a vector
 
 module _ (above : ℕ) (xs : List State) (rise : IsNonDecreasingBy (λ (s : State). s.version) xs) where
-  -- if the last is not newer, none is
-  pub none_over : (last : ℕ) (s : State) → last + 1 ≡ length xs → s ≡ get_or xs last s → s.version ≤ above → AllWithin (λ (t : State). nat_lt above t.version ≡ false) xs 0 (length xs)
-  none_over last s is here le k d lo lt =
-      let same : get_or xs last d ≡ s = get_or_any xs last d s (omega arith) ∙ sym here in
-      let top : (get_or xs last d).version ≤ above = subst (λ (t : State). t.version ≤ above) (sym same) le in
-      le-ltb above (get_or xs k d).version (omega (arith, top, rise k last d (omega arith) (omega arith)))
+  -- if one is not newer, none before it is
+  pub none_over : (at end : ℕ) (s : State) → end ≡ at + 1 → at < length xs → s ≡ get_or xs at s → s.version ≤ above → AllWithin (λ (t : State). nat_lt above t.version ≡ false) xs 0 end
+  none_over at end s is within here le k d lo lt =
+      let same : get_or xs at d ≡ s = get_or_any xs at d s within ∙ sym here in
+      let top : (get_or xs at d).version ≤ above = subst (λ (t : State). t.version ≤ above) (sym same) le in
+      le-ltb above (get_or xs k d).version (omega (arith, top, rise k at d (omega arith) within))
 
-  -- if the first is newer, each is
-  pub each_over : (s : State) → s ≡ get_or xs 0 s → above < s.version → AllWithin (λ (t : State). nat_lt above t.version ≡ true) xs 0 (length xs)
-  each_over s here over k d lo lt =
-      let same : get_or xs 0 d ≡ s = get_or_any xs 0 d s (omega arith) ∙ sym here in
-      let low : above < (get_or xs 0 d).version = subst (λ (t : State). above < t.version) (sym same) over in
-      lt-ltb above (get_or xs k d).version (omega (arith, low, rise 0 k d (omega arith) lt))
+  -- if one is newer, each behind it is
+  pub each_over : (at : ℕ) (s : State) → at < length xs → s ≡ get_or xs at s → above < s.version → AllWithin (λ (t : State). nat_lt above t.version ≡ true) xs at (length xs)
+  each_over at s within here over k d lo lt =
+      let same : get_or xs at d ≡ s = get_or_any xs at d s within ∙ sym here in
+      let low : above < (get_or xs at d).version = subst (λ (t : State). above < t.version) (sym same) over in
+      lt-ltb above (get_or xs k d).version (omega (arith, low, rise at k d lo lt))
 
 -- ---- the first places
 

@@ -47,7 +47,7 @@ impl Model for Block {
 }
 
 // The first place whose state is newer than `above`. The ends are looked at before it is halved: mostly no state is
-// newer, or each.
+// newer, or each, or the last.
 fn first_above(items: &[State], above: u32) -> usize
     requires { IsNonDecreasingBy (λ s. s.version) items.now }
     ensures within { result ≤ length items.now }
@@ -63,6 +63,9 @@ fn first_above(items: &[State], above: u32) -> usize
     }
     if above < items[0].version.get() {
         return 0;
+    }
+    if count > 1 && items[count - 2].version.get() <= above {
+        return count - 1;
     }
     items.partition_point(|state| state.version.get() <= above)
 }

@@ -18,9 +18,14 @@ returns-clause-newer c = λ k d lo hi.
 
 pub returns-then-get-above-clause-older : goal.returns-then-get-above-clause-older
 returns-then-get-above-clause-older c =
-    none_over c.args.above c.args.items.now c.requires (length c.args.items.now - 1) c.index-items-count.result (omega (arith, c.if-count-eq0.false)) c.index-items-count.is
+    none_over c.args.above c.args.items.now c.requires (length c.args.items.now - 1) _ c.index-items-count.result (omega (arith, c.if-count-eq0.false)) (omega (arith, c.if-count-eq0.false)) c.index-items-count.is
     (omega (arith, c.if-get-above.true, c.get.ensures.value, ap (λ (s : State). s.version) c.index-items-count.is))
 
 pub returns-then-above-get-clause-newer : goal.returns-then-above-get-clause-newer
 returns-then-above-get-clause-newer c =
-    each_over c.args.above c.args.items.now c.requires c.index-items-0.result c.index-items-0.is (omega (arith, c.if-above-get.true, c.get-2.ensures.value, ap (λ (s : State). s.version) c.index-items-0.is))
+    each_over c.args.above c.args.items.now c.requires 0 c.index-items-0.result (omega (arith, c.if-count-eq0.false)) c.index-items-0.is (omega (arith, c.if-above-get.true, c.get-2.ensures.value, ap (λ (s : State). s.version) c.index-items-0.is))
+
+pub returns-then-get-above-2-clause-older : goal.returns-then-get-above-2-clause-older
+returns-then-get-above-2-clause-older c =
+    none_over c.args.above c.args.items.now c.requires (length c.args.items.now - 2) _ c.index-items-count-then-count-gt1.result (omega (arith, c.if-count-gt1.true)) (omega (arith, c.if-count-gt1.true)) c.index-items-count-then-count-gt1.is
+    (omega (arith, c.if-get-above-2.true, c.get-then-count-gt1.ensures.value, ap (λ (s : State). s.version) c.index-items-count-then-count-gt1.is))
