@@ -310,6 +310,9 @@ fn rings(mode: Mode) {
     let places = || black_box(&tokens).iter().fold(0usize, |sum, token| sum.wrapping_add(ring.positions.partition_point(|p| p.0 < *token)));
     case(mode, "naive_1000_searches_4096", places, |sum| sum.to_be_bytes().to_vec());
     case(mode, "naive_ring_build_256x16", || Ring::of_table(black_box(&table)), lines);
+    let mut left = ring_table(256);
+    left.entries.get_mut(&Endpoint::number(7)).unwrap().states.get_mut(&1).unwrap().text = "LEFT".into();
+    case(mode, "naive_ring_moved_256x16", || Ring::of_table(black_box(&left)), lines);
     for rf in [1, 3] {
         let all = || tokens.iter().map(|t| black_box(ring.replicas(*t, rf))).last().unwrap();
         case(mode, &format!("naive_1000_replicas_rf{rf}"), all, |e| shown(e));

@@ -38,6 +38,8 @@ pub(crate) enum Above {
 #[derive(Clone, Copy)]
 pub(crate) enum LocalTask {
     BuildRing,
+    /// Moves a ring to one owner's next entry.
+    MoveRing,
     /// Finds the places of a thousand tokens on a ring.
     Places,
     /// Finds this number of replicas of each of a thousand tokens.
@@ -218,8 +220,9 @@ pub(crate) const SHAPED: [(&str, &str, GossipTask); 18] = [
 ];
 
 /// Rings, texts as the library keeps what is shared, windows of silence, and entries.
-pub(crate) const LOCAL: [(&str, &str, &str, LocalTask); 21] = [
+pub(crate) const LOCAL: [(&str, &str, &str, LocalTask); 22] = [
     ("ring", "build", "256x16", LocalTask::BuildRing),
+    ("ring", "moved", "256x16", LocalTask::MoveRing),
     ("1000", "searches", "4096", LocalTask::Places),
     ("1000", "replicas", "rf1", LocalTask::Replicas(1)),
     ("1000", "replicas", "rf3", LocalTask::Replicas(3)),

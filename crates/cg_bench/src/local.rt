@@ -2,6 +2,7 @@
 
 use crate::aboves::{asked, bringing, last_above, versions};
 use crate::cases::{Above, LOCAL, LocalTask};
+use crate::moving::Moving;
 use crate::rings::{claimed, digests, key_tokens, places, replicas, replicas_of_keys, ring};
 use crate::texts::{copies, headed, joined, room_for, text_of, texts_of};
 use crate::windows::{heard, last_verdict, silence, verdicts};
@@ -20,6 +21,7 @@ use std::sync::ArcStr;
 #[derive(Drop)]
 pub(crate) enum LocalWork {
     BuildRing(Table),
+    MoveRing(Moving),
     Places(Ring, Vec<Token>),
     /// Finds this number of replicas of each token, and keeps those of the last.
     Replicas(Ring, Vec<Token>, usize),
@@ -70,6 +72,7 @@ fn add_texts(digest: &mut Md5, texts: &[ArcStr<Global>]) {
 fn turn_of(alloc: Global, work: &LocalWork) -> Result<Made, AllocError> {
     match work {
         LocalWork::BuildRing(table) => Ok(Made::Ring(Ring::of_table(alloc, table)?)),
+        LocalWork::MoveRing(moving) => Ok(Made::Ring(moving.ring_after(alloc)?)),
         LocalWork::Places(ring, tokens) => Ok(Made::Sum(places(ring, tokens))),
         LocalWork::Replicas(ring, tokens, rf) => {
             Ok(Made::Replicas(replicas(alloc, ring, tokens, *rf)?))
@@ -147,6 +150,7 @@ fn aboves_of(alloc: Global, above: Above) -> Result<LocalWork, Failure> {
 fn work_of(alloc: Global, task: LocalTask) -> Result<LocalWork, Failure> {
     match task {
         LocalTask::BuildRing => Ok(LocalWork::BuildRing(claimed(alloc)?)),
+        LocalTask::MoveRing => Ok(LocalWork::MoveRing(Moving::of(alloc, claimed(alloc)?)?)),
         LocalTask::Places => places_of(alloc),
         LocalTask::Replicas(rf) => replicas_of(alloc, rf),
         LocalTask::Keys => Ok(LocalWork::Keys(ring(alloc)?)),

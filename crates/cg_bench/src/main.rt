@@ -11,6 +11,7 @@ mod gossip;
 mod local;
 mod making;
 mod messages;
+mod moving;
 mod rings;
 mod texts;
 mod windows;

@@ -44,3 +44,10 @@ pub fn claiming(alloc: Global, number: u16) -> Result<Delta, Failure> {
     let states = claims(alloc, number)?;
     Delta::new(generation(5), 0, version(18), states).ok_or(Failure::Lacking("a delta"))
 }
+
+/// Makes the delta by which an endpoint that claims tokens leaves the ring: its `STATUS` is `LEFT`.
+pub fn leaving(alloc: Global) -> Result<Delta, Failure> {
+    let mut states = Vec::new(alloc);
+    states.push(state(alloc, STATUS_KEY, 19, "LEFT")?)?;
+    Delta::new(generation(5), 18, version(18), states).ok_or(Failure::Lacking("a delta"))
+}

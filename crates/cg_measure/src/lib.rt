@@ -13,7 +13,7 @@ mod tables;
 mod words;
 
 pub use case::{Mode, Name, Work, run_cases};
-pub use claims::{claiming, tokens_text};
+pub use claims::{claiming, leaving, tokens_text};
 pub use digest::{add_message, add_ring, add_table};
 pub use failure::Failure;
 pub use messages::{bringing, empty_syn};

@@ -2,11 +2,10 @@
 
 use crate::nodes::{after, brings_one, set, started};
 use cg_core::Node;
-use cg_entry::Delta;
 use cg_events::Event;
-use cg_measure::{Failure, claiming, tokens_text};
+use cg_measure::{Failure, claiming, leaving, tokens_text};
 use cg_messages::{Ack, OwnerDelta};
-use cg_samples::{endpoint, generation, state, version};
+use cg_samples::endpoint;
 use cg_types::{STATUS_KEY, TOKENS_KEY};
 use std::alloc::Global;
 
@@ -51,8 +50,5 @@ pub(crate) fn leaves(alloc: Global) -> Result<Event, Failure> {
 
 /// The event that brings the `STATUS` `LEFT` of one of the others.
 pub(crate) fn left(alloc: Global) -> Result<Event, Failure> {
-    let mut states = Vec::new(alloc);
-    states.push(state(alloc, STATUS_KEY, 19, "LEFT")?)?;
-    let delta = Delta::new(generation(5), 18, version(18), states);
-    brings_one(alloc, 2000, 7, delta.ok_or(Failure::Lacking("a delta"))?)
+    brings_one(alloc, 2000, 7, leaving(alloc)?)
 }
