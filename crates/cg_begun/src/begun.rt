@@ -8,13 +8,12 @@ ghost use Rattle.cg_begun.specs.Seats.{AreWorkers, AreUnused, parts_of};
 use crate::seats::{Seats, given};
 use cg_history::History;
 use cg_left::WORKERS;
-use cg_locked::{Name, Seat, Shared};
+use cg_locked::{Fresh, Name, Seat, Shared};
 use cg_rounds::{Putting, Taking, rounds};
 use cg_table::Table;
 use cg_views::{Opened, Pass, Publisher, views};
 use std::alloc::{AllocError, Global};
 use std::sync::Wait;
-use std::sync::ledger::Blank;
 
 /// The values that a node's workers begin with.
 pub struct Begun<N: Name> {
@@ -55,11 +54,11 @@ pub fn begin<N: Name, R: Wait>(
     opened: Opened,
     table: Table,
     history: History,
-    blank: Blank,
+    fresh: Fresh,
 ) -> Result<Begun<N>, AllocError>
     requires views { (opened ≡ N.book) × (table ≡ N.opening) }
     requires history { (history.records ≡ []) × (history.base ≡ N.start) × (history.base.table ≡ table) }
-    requires blank { (blank.name ≡ N.name) × (blank.parts ≡ N.parts) × (N.parts ≡ 4) }
+    requires fresh { (fresh.name ≡ N.name) × (fresh.parts ≡ N.parts) × (fresh.log ≡ N.log) × (N.parts ≡ 4) }
     ensures callers { IfOk result (λ b. AreWorkers b.seats) }
     ensures amounts { IfOk result (λ b. AreUnused b.seats) }
     ensures parts { IfOk result (λ b. parts_of b.seats ≡ N.parts) }
@@ -68,7 +67,7 @@ pub fn begin<N: Name, R: Wait>(
     ensures none { IfOk result (λ b. (put_by b.ends.0 ≡ []) × (taken_by b.ends.1 ≡ [])) }
 {
     let (publisher, pass, ends) = ways::<N>(alloc, opened, table)?;
-    let (shared, seats) = Shared::begin(rt, alloc, history, publisher, blank, WORKERS)?;
+    let (shared, seats) = Shared::begin(rt, alloc, history, publisher, fresh, WORKERS)?;
     let (seats, list) = given(seats);
     Ok(Begun {
         shared,

@@ -19,10 +19,10 @@ pub struct Seats<N: Name> {
 // Gives each of four new seats to its worker, and gives the list back.
 pub(crate) fn given<N: Name>(seats: Vec<Seat<N>>) -> (Seats<N>, Vec<Seat<N>>)
     requires seats { (vec_len seats ≡ 4) × (map (λ s. s.caller) seats.items ≡ callers_up_to 4) }
-    requires amounts { sum_by (λ s. s.share.amount) seats.items ≡ 0 }
+    requires amounts { sum_by (λ s. s.amount) seats.items ≡ 0 }
     ensures callers { AreWorkers result.0 }
     ensures amounts { AreUnused result.0 }
-    ensures parts { parts_of result.0 ≡ sum_by (λ s. s.share.parts) seats.items }
+    ensures parts { parts_of result.0 ≡ sum_by (λ s. s.parts) seats.items }
     ensures list { (result.1.items ≡ []) × (4 ≤ vec_capacity result.1) }
 {
     let mut seats = seats;

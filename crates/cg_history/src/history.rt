@@ -6,6 +6,7 @@ ghost use Rattle.cg_core.specs.Step.{node_step};
 ghost use Rattle.cg_records.specs.Confirming.{AreConfirmed, IsFirstStray};
 ghost use Rattle.cg_history.specs.History.{IsReplayed, LAST_NUMBER, new_history, receipt_of, with_record, with_step, apply as apply_of};
 
+use crate::log::Log;
 use cg_core::Node;
 use cg_events::{Event, Reply};
 use cg_records::{Item, Receipt, Stray, confirms};
@@ -132,6 +133,34 @@ impl History {
         }
         let (node, item, receipt) = self.record(alloc, caller, event)?;
         self.items.push(item)?;
+        self.node = node;
+        Ok(receipt)
+    }
+
+    /// Does an event as `apply` does, and tells a log of the record before it is kept. All memory is found before.
+    ///
+    /// `OutOfMemory` also if the log does not take the record in: then it is not kept.
+    pub fn apply_logged<L: Log>(
+        &mut self,
+        alloc: Global,
+        log: &mut L,
+        caller: u32,
+        event: Event,
+    ) -> Result<Receipt, Fault>
+        requires { L.told log.old ≡ self.old.records }
+        ensures due { Answers (λ receipt. (self.new, receipt)) (apply_of self.old caller event) result }
+        ensures err { OnErr result (self.new ≡ self.old) }
+        ensures told { L.told log.new ≡ self.new.records }
+    {
+        if self.items.len() == usize::MAX {
+            return Err(Fault::VersionsSpent);
+        }
+        let (node, item, receipt) = self.record(alloc, caller, event)?;
+        self.items.reserve(1)?;
+        if !log.add(&item) {
+            return Err(Fault::OutOfMemory);
+        }
+        self.items.push_reserved(item);
         self.node = node;
         Ok(receipt)
     }

@@ -6,6 +6,8 @@
 #![tactic(auto)]
 
 mod history;
+mod log;
 
 pub use cg_records::{Item, Receipt};
 pub use history::History;
+pub use log::Log;

@@ -1,2 +1,3 @@
 pub mod Left
+pub mod Callers
 pub use Rattle.cg_rounds.specs.Ends

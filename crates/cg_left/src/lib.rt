@@ -2,6 +2,7 @@
 #![tactic(auto)]
 
 mod callers;
+pub mod laws;
 mod left;
 
 pub use callers::{OPERATOR, RECEIVER, SENDER, TICKER, WORKERS};

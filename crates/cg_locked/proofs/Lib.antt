@@ -1,1 +1,3 @@
+pub mod Logging
 pub mod Showing
+pub mod Confirming

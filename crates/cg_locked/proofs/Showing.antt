@@ -1,6 +1,7 @@
 -- The puts that are appended to the views, and those that are published.
 use Rattle.std.proofs.Common.{arith, length-append, zero, suc, ◌≤◌, ◌≡◌, ℕ, ◌+◌, List, [], ◌∷◌, ◌++◌, length, take, refl, sym, ap, ◌∙◌, subst}
 use Rattle.std.specs.Prelude.{Result, Ok, Err, IfOk, IfSome, Option, Some, None}
+use mathlib.Core.List.{IsPrefix}
 use Rattle.std.specs.FinMap as map
 use Rattle.std.proofs.lemmas.List.{append-nil}
 use Rattle.cg_types.specs.declared.fault.Fault.{Fault}
@@ -12,6 +13,7 @@ use Rattle.cg_table.proofs.PutsLemmas.{with_puts-append, keep_order-rest}
 use Rattle.cg_events.specs.declared.event.Event.{Event}
 use Rattle.cg_events.specs.declared.event.Event.TheVariants as event
 use Rattle.cg_events.specs.declared.reply.Reply.{Reply}
+use Rattle.cg_events.specs.declared.reply.Reply.TheVariants as reply
 use Rattle.cg_core.specs.Values.{NodeValue, IsSmall}
 use Rattle.cg_core.specs.Step.{node_step}
 use Rattle.cg_core_laws.specs.Laws.{PutsIts}
@@ -23,8 +25,10 @@ use Rattle.cg_history.specs.History.{HistoryValue, IsReplayed, apply}
 use Rattle.cg_history_laws.proofs.OneMore.{each_event_makes_one_record}
 use Rattle.cg_history_laws.proofs.PutsOfRecords.{puts_of-append, front_fits, own_stays, node_small}
 use Rattle.cg_views.specs.Lists.{MayFollow}
-use Rattle.cg_views.specs.Reading.{Has}
-use Rattle.cg_locked.specs.Entry.{Answer, ShowsSet, IsEntry}
+use Rattle.cg_views.specs.Reading.{Has, HasText}
+use Rattle.cg_views.proofs.Reading.{told_sets_are_read}
+use Rattle.cg_locked.specs.Seat.{SeatState}
+use Rattle.cg_locked.specs.Entry.{Answer, ShowsSet, ShownSetsAreRead, IsEntry}
 
 -- ---- puts that may be appended
 
@@ -88,21 +92,32 @@ puts_show h caller e after q i is =
     let replied : one.answer ≡ q.reply = sym (ap (λ (p : Receipt). p.reply) one.receipt) in
     subst (λ a. ShowsSet (puts_of after.records) h.base.table.own e a) replied (subst (λ rs. ShowsSet (puts_of rs) h.base.table.own e one.answer) (sym one.records) at_base)
 
+same_done : (v w : ℕ) → reply.Done v ≡ reply.Done w → v ≡ w
+same_done v w e = cc
+
+-- a Set that was told is read
+pub shown_sets_are_read : ShownSetsAreRead
+shown_sets_are_read opening told read key version text shows begins order =
+    let same : shows.0 ≡ version = sym (same_done version shows.0 shows.1) in
+    let has : HasText told opening.own key text version = subst (λ (v : ℕ). HasText told opening.own key text v) same shows.2 in
+    told_sets_are_read opening told read key text version order begins has
+
 -- ---- entries
 
-module _ (start : NodeValue) (count caller : ℕ) (e : Event) (h : HistoryValue) (starts : h.base ≡ start) (replayed : IsReplayed h) (long : count ≤ length h.records) where
+module _ (start : NodeValue) (seat : SeatState) (e : Event) (seen : List Item) (h : HistoryValue) (starts : h.base ≡ start) (replayed : IsReplayed h) (begins : IsPrefix seat.seen h.records) (long : seat.amount ≤ length h.records) where
   -- an event that was entered, with the puts that were published
-  pub entry_done : (after : HistoryValue) (q : Receipt) (told : Option (List Put)) → apply h caller e ≡ Ok (after, q) → IfSome told (λ t. t ≡ puts_of after.records) → IsEntry start count caller e (Ok (q, told))
-  entry_done after q told is all = record { before = h; after = after; starts = starts; replayed = replayed; long = long; entered = is; told = all }
+  pub entry_done : (after : HistoryValue) (q : Receipt) (told : Option (List Put)) → apply h seat.caller e ≡ Ok (after, q) → seen ≡ after.records → IfSome told (λ t. t ≡ puts_of after.records) → IsEntry start seat e seen (Ok (q, told))
+  entry_done after q told is are all = record { before = h; after = after; starts = starts; replayed = replayed; begins = begins; long = long; entered = is; seen_are = are; told = all }
 
   -- an event that was refused
-  pub entry_refused : (fault : Fault) → IsRefusal fault (apply h caller e) → IsEntry start count caller e (Err fault)
-  entry_refused fault is = record { before = h; after = h; starts = starts; replayed = replayed; long = long; entered = is; told = tt }
+  pub entry_refused : (fault : Fault) → IsRefusal fault (apply h seat.caller e) → seen ≡ h.records → IsEntry start seat e seen (Err fault)
+  entry_refused fault is are = record { before = h; after = h; starts = starts; replayed = replayed; begins = begins; long = long; entered = is; seen_are = are; told = tt }
 
 -- the puts published with an entry show its Set
-pub entry_shows : (start : NodeValue) (count caller : ℕ) (e : Event) (result : Result Answer Fault) → IsEntry start count caller e result → IfOk result (λ r. IfSome r.1 (λ t. ShowsSet t start.table.own e r.0.reply))
-entry_shows start count caller e (Err fault) entry = tt
-entry_shows start count caller e (Ok (q, None)) entry = tt
-entry_shows start count caller e (Ok (q, Some t)) entry =
-    let shown = puts_show entry.before caller e entry.after q entry.replayed entry.entered in
-    subst (λ ps. ShowsSet ps start.table.own e q.reply) (sym entry.told) (subst (λ (n : NodeValue). ShowsSet (puts_of entry.after.records) n.table.own e q.reply) entry.starts shown)
+pub entry_shows : (start : NodeValue) (seat : SeatState) (e : Event) (seen : List Item) (result : Result Answer Fault) → IsEntry start seat e seen result → (opening : TableValue) → start.table ≡ opening → IfOk result (λ r. IfSome r.1 (λ t. ShowsSet t opening.own e r.0.reply))
+entry_shows start seat e seen (Err fault) entry opening at = tt
+entry_shows start seat e seen (Ok (q, None)) entry opening at = tt
+entry_shows start seat e seen (Ok (q, Some t)) entry opening at =
+    let shown = puts_show entry.before seat.caller e entry.after q entry.replayed entry.entered in
+    let at_start : ShowsSet (puts_of entry.after.records) start.table.own e q.reply = subst (λ (n : NodeValue). ShowsSet (puts_of entry.after.records) n.table.own e q.reply) entry.starts shown in
+    subst (λ ps. ShowsSet ps opening.own e q.reply) (sym entry.told) (subst (λ (x : TableValue). ShowsSet (puts_of entry.after.records) x.own e q.reply) at at_start)

@@ -1,8 +1,10 @@
 -- The answer of a board to an event: a receipt, and the puts that it published.
-use Rattle.std.specs.Prelude.{ℕ, ◌≡◌, ◌≤◌, List, [], length, Option, Result, IfOk, IfSome}
+use Rattle.std.specs.Prelude.{ℕ, ◌≡◌, ◌≤◌, true, List, [], ◌∷◌, ◌++◌, length, Option, Result, Ok, IfOk, IfSome, MatchResult}
+use mathlib.Core.List.{IsPrefix}
 use Rattle.cg_types.specs.Answer.{Answers}
 use Rattle.cg_types.specs.declared.fault.Fault.{Fault}
-use Rattle.cg_table.specs.Puts.{Put}
+use Rattle.cg_table.specs.Values.{TableValue}
+use Rattle.cg_table.specs.Puts.{Put, with_puts, keep_order}
 use Rattle.cg_events.specs.declared.event.Event.{Event}
 use Rattle.cg_events.specs.declared.event.Event.TheVariants as event
 use Rattle.cg_events.specs.declared.reply.Reply.{Reply}
@@ -11,9 +13,13 @@ use Rattle.cg_settings.specs.Values.{settings_of}
 use Rattle.cg_core.specs.Values.{NodeValue}
 use Rattle.cg_core.specs.Step.{starting_node}
 use Rattle.cg_records.specs.declared.item.Receipt.{Receipt}
+use Rattle.cg_records.specs.declared.item.Item.{Item}
+use Rattle.cg_records.specs.Confirming.{AreConfirmed}
 use Rattle.cg_records.specs.Items.{puts_of}
 use Rattle.cg_history.specs.History.{HistoryValue, IsReplayed, apply}
-use Rattle.cg_views.specs.Reading.{HasText}
+use Rattle.cg_views.specs.Lists.{StartsWith}
+use Rattle.cg_views.specs.Reading.{HasText, OwnHasFrom}
+use Rattle.cg_locked.specs.Seat.{SeatState}
 
 -- a start, chosen arbitrarily, for a name that gives none
 abbrev pub any_start : NodeValue
@@ -28,17 +34,44 @@ ShowsSet puts own (event.Set key text) answer =
     (version : ℕ) × (answer ≡ reply.Done version) × HasText puts own key text version
 ShowsSet puts own e answer = Unit {0}
 
+-- If the puts show a Set of the opening table's owner, a read that begins with them has the key at that version or a
+-- later one.
+abbrev pub ShownSetsAreRead : Type 0
+ShownSetsAreRead =
+    (opening : TableValue) (told read : List Put) (key version : ℕ) (text : List ℕ)
+    → ShowsSet told opening.own (event.Set key text) (reply.Done version)
+    → StartsWith read told → keep_order opening read ≡ true → OwnHasFrom (with_puts opening read) key version
+
 -- a receipt, and the puts published with it
 abbrev pub Answer : Type 0
 Answer = Receipt × Option (List Put)
 
--- The event was entered for the caller into some history, which replays from the start and has at least this number of
--- records. If puts were published, they are those of the history after the event.
-pub record IsEntry (start : NodeValue) (count caller : ℕ) (e : Event) (result : Result Answer Fault) : Type 0 where
+-- The event was entered for the seat's caller into the history of a node, which replays from the start, begins with all
+-- records that the seat has seen, and has as many as the seat counted, or more. The seat has then seen all its records,
+-- with that of the event as the last one; if the event was refused, there is none. If puts were published, they are
+-- those of the history after the event.
+pub record IsEntry (start : NodeValue) (seat : SeatState) (e : Event) (seen : List Item) (result : Result Answer Fault)
+    : Type 0 where
   pub before : HistoryValue
   pub after : HistoryValue
   pub starts : before.base ≡ start
   pub replayed : IsReplayed before
-  pub long : count ≤ length before.records
-  pub entered : Answers (λ (r : Answer). (after, r.0)) (apply before caller e) result
+  pub begins : IsPrefix seat.seen before.records
+  pub long : seat.amount ≤ length before.records
+  pub entered : Answers (λ (r : Answer). (after, r.0)) (apply before seat.caller e) result
+  pub seen_are : MatchResult result (λ _. seen ≡ after.records) (λ _. seen ≡ before.records)
   pub told : IfOk result (λ r. IfSome r.1 (λ t. t ≡ puts_of after.records))
+
+-- The records that a seat has seen confirm the receipts of its events.
+abbrev pub EntriesAreConfirmed : Type 0
+EntriesAreConfirmed =
+    (start : NodeValue) (seat : SeatState) (e : Event) (seen : List Item) (q : Receipt) (told : Option (List Put))
+    (receipts : List Receipt)
+    → AreConfirmed seat.seen receipts → IsEntry start seat e seen (Ok (q, told))
+    → AreConfirmed seen (receipts ++ q ∷ [])
+
+-- Records confirm all receipts that a prefix of them confirms.
+abbrev pub ConfirmedStay : Type 0
+ConfirmedStay =
+    (seen records : List Item) (receipts : List Receipt)
+    → IsPrefix seen records → AreConfirmed seen receipts → AreConfirmed records receipts

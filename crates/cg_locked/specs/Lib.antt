@@ -1,6 +1,9 @@
+pub mod Seat
 pub mod Entry
 pub mod Board
 pub mod Shared
+pub mod Limits
+pub mod Log
 pub use Rattle.cg_types.specs.Answer
 pub use Rattle.cg_core.specs.Values
 pub use Rattle.cg_records.specs.Confirming

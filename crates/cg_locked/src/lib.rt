@@ -6,11 +6,15 @@
 #![tactic(auto)]
 
 mod board;
+pub mod laws;
+mod limits;
+mod log;
 mod name;
 mod seat;
 mod shared;
 
 pub use board::Board;
+pub use limits::SEAT_LIMIT;
 pub use name::Name;
 pub use seat::Seat;
-pub use shared::{BoardGuard, Shared, Unconfirmed};
+pub use shared::{BoardGuard, Fresh, Shared, Unconfirmed};

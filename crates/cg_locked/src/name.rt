@@ -4,15 +4,21 @@ use cg_views::Naming;
 use std::marker::Brand;
 use std::sync::ledger::Ledger;
 
-/// A common name of the seats' ledger, the views, and the node that the history began with. A caller passes `Brand`.
+/// A common name of the seats' ledger, the log of records, the views, and the node that the history began with. A caller
+/// passes `Brand`.
 pub trait Name: Ledger + Naming {
+    ghost use Rattle.logbook.specs.Pages.{Book};
     ghost use Rattle.cg_core.specs.Values.{NodeValue};
+
+    ghost log: { Book };
 
     ghost start: { NodeValue };
 }
 
 impl Name for Brand {
     ghost use Rattle.cg_locked.specs.Entry.{any_start};
+
+    ghost log = { record { number = 0; log_name = 0; cells_name = 0 } };
 
     ghost start = { any_start };
 }

@@ -2,13 +2,16 @@
 
 ghost use Rattle.std.specs.Prelude.{◌≡◌, ◌+◌, ◌<◌, ◌≤◌, [], length, map, vec_len, vec_capacity, IfOk, IfSome};
 ghost use Rattle.std.specs.Prelude.{OnOk, OnErr, MatchResult};
-ghost use Rattle.std.specs.List.{sum_by};
+ghost use Rattle.std.specs.List.{All, sum_by};
+ghost use mathlib.Core.List.{IsPrefix};
 ghost use Rattle.cg_records.specs.Confirming.{AreConfirmed, IsFirstStray};
 ghost use Rattle.cg_views.specs.Lists.{opened_with};
 ghost use Rattle.cg_locked.specs.Entry.{IsEntry, ShowsSet};
 ghost use Rattle.cg_locked.specs.Shared.{callers_up_to, history_of, stray_of};
 
 use crate::board::Board;
+use crate::limits::SEAT_LIMIT;
+use crate::log::{Log, OpenedLog};
 use crate::name::Name;
 use crate::seat::Seat;
 use cg_events::Event;
@@ -18,6 +21,7 @@ use cg_types::Fault;
 use cg_views::{Publisher, Told};
 use std::alloc::{AllocError, Global};
 use std::fmt;
+use std::marker::Model;
 use std::sync::ledger::{Blank, Share};
 use std::sync::{Mutex, MutexGuard, Wait};
 use thiserror::Error;
@@ -42,28 +46,57 @@ impl fmt::Debug for Unconfirmed {
     }
 }
 
+/// A new ledger of a number of parts, and an empty log, under no name yet. Contracts see which they are.
+#[derive(Drop)]
+pub struct Fresh {
+    blank: Blank,
+    log: OpenedLog,
+}
+
+impl Model for Fresh {
+    ghost use Rattle.cg_locked.specs.Shared.{FreshValue, fresh_code};
+
+    ghost Value = { FreshValue };
+
+    ghost coded = { fresh_code };
+
+    ghost view = { λ f. record { name = f.blank.name; parts = f.blank.parts; log = f.log } };
+}
+
+impl Fresh {
+    /// Makes a new ledger of this number of parts, and opens an empty log.
+    pub fn new(parts: u64) -> Fresh
+        ensures { result.parts ≡ parts }
+    {
+        Fresh {
+            blank: Blank::new(parts),
+            log: OpenedLog::new(),
+        }
+    }
+}
+
 /// One node's history behind a lock.
 pub struct Shared<N: Name> {
     board: Mutex<Board<N>>,
 }
 
 impl<N: Name> Shared<N> {
-    /// Puts a new history and its publisher behind a lock, and makes `seats` seats, 1 to 16, of callers 1, 2, and so
-    /// on.
+    /// Puts a new history and its publisher behind a lock, and makes `seats` seats, 1 to `SEAT_LIMIT`, of callers 1, 2,
+    /// and so on.
     pub fn begin<R: Wait>(
         rt: &R,
         alloc: Global,
         history: History,
         publisher: Publisher<N>,
-        blank: Blank,
+        fresh: Fresh,
         seats: usize,
     ) -> Result<(Shared<N>, Vec<Seat<N>>), AllocError>
-        requires blank { (blank.name ≡ N.name) × (blank.parts ≡ N.parts) × (N.parts ≡ seats) }
-        requires seats { (0 < seats) × (seats ≤ 16) }
+        requires fresh { (fresh.name ≡ N.name) × (fresh.parts ≡ N.parts) × (fresh.log ≡ N.log) × (N.parts ≡ seats) }
+        requires seats { (0 < seats) × (seats ≤ SEAT_LIMIT) }
         requires history { (history.records ≡ []) × (history.base ≡ N.start) }
         requires publisher { publisher ≡ opened_with history.base.table }
-        ensures seats { IfOk result (λ r. (vec_len r.1 ≡ seats) × (sum_by (λ s. s.share.parts) r.1.items ≡ N.parts)
-            × (sum_by (λ s. s.share.amount) r.1.items ≡ 0)) }
+        ensures seats { IfOk result (λ r. (vec_len r.1 ≡ seats) × (sum_by (λ s. s.parts) r.1.items ≡ N.parts)
+            × (sum_by (λ s. s.amount) r.1.items ≡ 0)) }
         ensures callers { IfOk result (λ r. map (λ s. s.caller) r.1.items ≡ callers_up_to seats) }
     {
         let made = match Vec::with_capacity(alloc, seats) {
@@ -73,9 +106,14 @@ impl<N: Name> Shared<N> {
                 return Err(error);
             }
         };
+        let Fresh { blank, log } = fresh;
+        let Some(log) = log.named::<N>() else {
+            publisher.close(rt);
+            return Err(AllocError);
+        };
         let (book, rest) = blank.open::<N>();
-        let made = cut(made, rest, seats);
-        let board = Mutex::new(Board::new(history, publisher, book));
+        let made = cut(made, rest, &log, seats);
+        let board = Mutex::new(Board::new(history, publisher, book, log));
         Ok((Shared { board }, made))
     }
 
@@ -90,9 +128,9 @@ impl<N: Name> Shared<N> {
     /// Applies an event for the seat's caller, by `Board::enter_and_tell` on the locked board, and publishes it if
     /// memory is found.
     ///
-    /// There is no `Told` if there was no memory to publish: the record is kept, and the next publication has it.
-    /// Nothing changes if the event is refused. Other threads may enter events before the lock is free, so the clause
-    /// `entry` is about some history of this node, and no clause says which history the board holds afterwards.
+    /// There is no `Told` if there was no memory to publish: the record is kept, and the next publication has it. The
+    /// seat has then seen all records up to its own, which is the last of them; if the event is refused, it has seen all
+    /// records, and there is none of the event. Other threads may enter more before and behind.
     pub fn submit<R: Wait>(
         &self,
         rt: &R,
@@ -100,11 +138,11 @@ impl<N: Name> Shared<N> {
         seat: &mut Seat<N>,
         event: Event,
     ) -> Result<(Receipt, Option<Told<N>>), Fault>
-        ensures entry { IsEntry N.start seat.old.share.amount seat.old.caller event result }
-        ensures shown { IfOk result (λ r. IfSome r.1 (λ t. ShowsSet t N.start.table.own event r.0.reply)) }
-        ensures share { OnOk result (seat.new.share.amount ≡ seat.old.share.amount + 1) }
-        ensures err { OnErr result (seat.new.share.amount ≡ seat.old.share.amount) }
-        ensures seat { (seat.new.caller ≡ seat.old.caller) × (seat.new.share.parts ≡ seat.old.share.parts) }
+        ensures entry { IsEntry N.start seat.old event seat.new.seen result }
+        ensures shown { IfOk result (λ r. IfSome r.1 (λ t. ShowsSet t N.opening.own event r.0.reply)) }
+        ensures amount { OnOk result (seat.new.amount ≡ seat.old.amount + 1) }
+        ensures err { OnErr result (seat.new.amount ≡ seat.old.amount) }
+        ensures seat { (seat.new.caller ≡ seat.old.caller) × (seat.new.parts ≡ seat.old.parts) }
     {
         let mut board = self.board.lock(rt);
         let result = board.enter_and_tell(rt, alloc, seat, event);
@@ -115,22 +153,25 @@ impl<N: Name> Shared<N> {
     /// Ends the board with all its seats, and returns the history if it confirms the receipts.
     ///
     /// Else it returns the history with the first receipt that it does not confirm. The history has as many records as
-    /// the seats counted. Passes read nothing from then on.
+    /// the seats counted, and begins with all that each has seen: by the laws `entries_are_confirmed` and
+    /// `confirmed_stay` it confirms what `submit` answered. Passes read nothing from then on.
     pub fn finish<R: Wait>(
         self,
         rt: &R,
         seats: Vec<Seat<N>>,
         receipts: &[Receipt],
     ) -> Result<History, Unconfirmed>
-        requires seats { (sum_by (λ s. s.share.parts) seats.items ≡ N.parts) × (0 < vec_len seats) }
+        requires seats { (sum_by (λ s. s.parts) seats.items ≡ N.parts) × (0 < vec_len seats) }
         ensures start { (history_of result).base ≡ N.start }
-        ensures count { length (history_of result).records ≡ sum_by (λ s. s.share.amount) seats.items }
+        ensures count { length (history_of result).records ≡ sum_by (λ s. s.amount) seats.items }
+        ensures seen { All (λ s. IsPrefix s.seen (history_of result).records) seats.items }
         ensures confirmed { MatchResult result (λ h. AreConfirmed h.records receipts.now)
             (λ u. IsFirstStray u.history.records receipts.now (stray_of u)) }
     {
         let Shared { board } = self;
-        let (history, publisher, mut book) = board.into_inner().apart();
+        let (history, publisher, mut book, mut log) = board.into_inner().apart();
         publisher.close(rt);
+        meet_all(&mut log, &seats);
         let mut all = gathered(seats);
         book.audit(&mut all);
         match history.confirms(receipts) {
@@ -145,35 +186,46 @@ impl<N: Name> Shared<N> {
 }
 
 // Cuts the whole share into seats of one part.
-fn cut<N: Name>(mut made: Vec<Seat<N>>, mut rest: Share<N>, seats: usize) -> Vec<Seat<N>>
+fn cut<N: Name>(
+    mut made: Vec<Seat<N>>,
+    mut rest: Share<N>,
+    log: &Log<N>,
+    seats: usize,
+) -> Vec<Seat<N>>
     requires made { (made.items ≡ []) × (vec_len made ≡ 0) × (seats ≤ vec_capacity made) }
     requires rest { (rest.parts ≡ seats) × (rest.amount ≡ 0) }
-    requires few { seats ≤ 16 }
-    ensures parts { sum_by (λ s. s.share.parts) result.items ≡ seats }
-    ensures amounts { sum_by (λ s. s.share.amount) result.items ≡ 0 }
+    requires few { seats ≤ SEAT_LIMIT }
+    ensures parts { sum_by (λ s. s.parts) result.items ≡ seats }
+    ensures amounts { sum_by (λ s. s.amount) result.items ≡ 0 }
     ensures len { vec_len result ≡ seats }
     ensures callers { map (λ s. s.caller) result.items ≡ callers_up_to seats }
 {
     for i in 0..seats {
         let share = rest.split_off(1, 0);
-        made.push_reserved(Seat {
-            caller: i as u32 + 1,
-            share,
-        });
+        made.push_reserved(Seat::of(i as u32 + 1, share, log.front()));
     }
     made
+}
+
+// Finds that the log begins with all that each seat has seen.
+fn meet_all<N: Name>(log: &mut Log<N>, seats: &[Seat<N>])
+    ensures same { log.new ≡ log.old }
+    ensures begins { All (λ s. IsPrefix s.seen log.new) seats.now }
+{
+    for seat in seats {
+        log.meet(seat.front());
+    }
 }
 
 // Puts the shares of all seats together.
 fn gathered<N: Name>(mut seats: Vec<Seat<N>>) -> Share<N>
     requires { 0 < vec_len seats }
-    ensures parts { result.parts ≡ sum_by (λ s. s.share.parts) seats.items }
-    ensures amount { result.amount ≡ sum_by (λ s. s.share.amount) seats.items }
+    ensures parts { result.parts ≡ sum_by (λ s. s.parts) seats.items }
+    ensures amount { result.amount ≡ sum_by (λ s. s.amount) seats.items }
 {
-    let Seat { share: mut all, .. } = seats.pop().unwrap();
+    let mut all = seats.pop().unwrap().into_share();
     for seat in seats {
-        let Seat { share, .. } = seat;
-        all.merge(share);
+        all.merge(seat.into_share());
     }
     all
 }

@@ -6,14 +6,13 @@ use crate::counts::{Counts, print_line};
 use crate::inputs::{Work, event, filling, new_history};
 use anyhow::Result;
 use cg_history::History;
-use cg_locked::{Name, Seat, Shared};
+use cg_locked::{Fresh, Name, Seat, Shared};
 use cg_table::Table;
 use cg_views::{Opened, views};
 use std::alloc::Global;
 use std::marker::Brand;
 use std::rt::Clock;
 use std::sync::Wait;
-use std::sync::ledger::Blank;
 use std::thread::{Threads, join};
 use std::time::Instant;
 
@@ -26,7 +25,7 @@ fn submit_one<N: Name, R: Wait>(
     work: Work,
     counts: Counts,
 ) -> bool
-    ensures { seat.new.share.parts ≡ seat.old.share.parts }
+    ensures { seat.new.parts ≡ seat.old.parts }
 {
     match event(alloc, work, counts) {
         Ok(event) => shared.submit(rt, alloc, seat, event).is_ok(),
@@ -43,7 +42,7 @@ fn submit_all<N: Name, R: Wait>(
     work: Work,
     counts: Counts,
 ) -> Seat<N>
-    ensures { result.share.parts ≡ seat.share.parts }
+    ensures { result.parts ≡ seat.parts }
 {
     let mut seat = seat;
     for _ in 0..counts.events {
@@ -64,15 +63,15 @@ fn submit_by_two<N: Name + Send + Sync, R: Threads + Wait + Sync>(
     work: Work,
     counts: Counts,
 ) -> (Seat<N>, Seat<N>)
-    ensures { (result.0.share.parts ≡ first.share.parts) × (result.1.share.parts ≡ second.share.parts) }
+    ensures { (result.0.parts ≡ first.parts) × (result.1.parts ≡ second.parts) }
 {
     join(
         rt,
         move || -> Seat<N>
-            ensures { result.share.parts ≡ first.share.parts }
+            ensures { result.parts ≡ first.parts }
         { submit_all(rt, alloc, shared, first, work, counts) },
         move || -> Seat<N>
-            ensures { result.share.parts ≡ second.share.parts }
+            ensures { result.parts ≡ second.parts }
         { submit_all(rt, alloc, shared, second, work, counts) },
     )
 }
@@ -87,19 +86,19 @@ fn submit_by_four<N: Name + Send + Sync, R: Threads + Wait + Sync>(
     work: Work,
     counts: Counts,
 ) -> ((Seat<N>, Seat<N>), (Seat<N>, Seat<N>))
-    ensures one { (result.0.0.share.parts ≡ one.0.share.parts) × (result.0.1.share.parts ≡ one.1.share.parts) }
-    ensures other { (result.1.0.share.parts ≡ other.0.share.parts) × (result.1.1.share.parts ≡ other.1.share.parts) }
+    ensures one { (result.0.0.parts ≡ one.0.parts) × (result.0.1.parts ≡ one.1.parts) }
+    ensures other { (result.1.0.parts ≡ other.0.parts) × (result.1.1.parts ≡ other.1.parts) }
 {
     join(
         rt,
         move || -> (Seat<N>, Seat<N>)
-            ensures { (result.0.share.parts ≡ one.0.share.parts) × (result.1.share.parts ≡ one.1.share.parts) }
+            ensures { (result.0.parts ≡ one.0.parts) × (result.1.parts ≡ one.1.parts) }
         {
             let (first, second) = one;
             submit_by_two(rt, alloc, shared, first, second, work, counts)
         },
         move || -> (Seat<N>, Seat<N>)
-            ensures { (result.0.share.parts ≡ other.0.share.parts) × (result.1.share.parts ≡ other.1.share.parts) }
+            ensures { (result.0.parts ≡ other.0.parts) × (result.1.parts ≡ other.1.parts) }
         {
             let (first, second) = other;
             submit_by_two(rt, alloc, shared, first, second, work, counts)
@@ -136,8 +135,8 @@ fn submit_by<N: Name + Send + Sync, R: Threads + Wait + Sync>(
     work: Work,
     counts: Counts,
 ) -> ((Seat<N>, Seat<N>), (Seat<N>, Seat<N>))
-    ensures one { (result.0.0.share.parts ≡ one.0.share.parts) × (result.0.1.share.parts ≡ one.1.share.parts) }
-    ensures other { (result.1.0.share.parts ≡ other.0.share.parts) × (result.1.1.share.parts ≡ other.1.share.parts) }
+    ensures one { (result.0.0.parts ≡ one.0.parts) × (result.0.1.parts ≡ one.1.parts) }
+    ensures other { (result.1.0.parts ≡ other.0.parts) × (result.1.1.parts ≡ other.1.parts) }
 {
     match workers {
         Workers::One => {
@@ -162,7 +161,7 @@ fn fill<N: Name, R: Wait>(
     seat: &mut Seat<N>,
     counts: Counts,
 ) -> bool
-    ensures { seat.new.share.parts ≡ seat.old.share.parts }
+    ensures { seat.new.parts ≡ seat.old.parts }
 {
     match filling(alloc, counts) {
         Ok(event) => shared.submit(rt, alloc, seat, event).is_ok(),
@@ -177,17 +176,17 @@ fn records_by<N: Name + Send + Sync, R: Threads + Wait + Sync + Clock>(
     opened: Opened,
     table: Table,
     history: History,
-    blank: Blank,
+    fresh: Fresh,
     workers: Workers,
     work: Work,
     counts: Counts,
 ) -> Result<(usize, Instant)>
     requires views { (opened ≡ N.book) × (table ≡ N.opening) }
     requires history { (history.records ≡ []) × (history.base ≡ N.start) × (history.base.table ≡ table) }
-    requires blank { (blank.name ≡ N.name) × (blank.parts ≡ N.parts) × (N.parts ≡ 4) }
+    requires fresh { (fresh.name ≡ N.name) × (fresh.parts ≡ N.parts) × (fresh.log ≡ N.log) × (N.parts ≡ 4) }
 {
     let (publisher, _passes) = views::<N>(alloc, opened, table, 1)?;
-    let (shared, mut seats) = Shared::begin(rt, alloc, history, publisher, blank, 4)?;
+    let (shared, mut seats) = Shared::begin(rt, alloc, history, publisher, fresh, 4)?;
     let fourth = seats.pop().unwrap();
     let third = seats.pop().unwrap();
     let second = seats.pop().unwrap();
@@ -225,7 +224,7 @@ pub(crate) fn measure<R: Threads + Wait + Sync + Clock + Print>(
         Opened::new(),
         table,
         history,
-        Blank::new(4),
+        Fresh::new(4),
         workers,
         work,
         counts,

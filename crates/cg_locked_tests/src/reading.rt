@@ -30,9 +30,8 @@ pub(crate) fn set_and_read<N: Name, R: Wait>(
     key: StateKey,
     text: StateText,
 ) -> Result<Option<Read>, Fault>
-    requires { N.start.table ≡ N.opening }
     ensures read { IfOk result (λ r. IfSome r (λ x. OwnHasFrom x.snapshot key x.version)) }
-    ensures seat { (seat.new.caller ≡ seat.old.caller) × (seat.new.share.parts ≡ seat.old.share.parts) }
+    ensures seat { (seat.new.caller ≡ seat.old.caller) × (seat.new.parts ≡ seat.old.parts) }
 {
     let (receipt, told) = shared.submit(rt, alloc, seat, Event::Set { key, text })?;
     let Reply::Done(version) = &receipt.reply else {

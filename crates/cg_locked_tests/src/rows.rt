@@ -8,7 +8,7 @@ use crate::reading::{Read, set_and_read};
 use cg_events::Event;
 use cg_expect::expect_eq;
 use cg_history::History;
-use cg_locked::{Board, Name, Seat, Shared, Unconfirmed};
+use cg_locked::{Board, Fresh, Name, Seat, Shared, Unconfirmed};
 use cg_records::Receipt;
 use cg_samples::key;
 use cg_table::Table;
@@ -16,7 +16,6 @@ use cg_types::{Fault, StateText};
 use cg_views::{Opened, Pass, Told, views};
 use std::alloc::Global;
 use std::marker::Brand;
-use std::sync::ledger::Blank;
 use std::sync::{MutexGuard, Wait};
 use std::test::Fail;
 
@@ -124,8 +123,7 @@ fn set<N: Name, R: Wait>(
     notes: &mut Notes,
     forged: u64,
 )
-    requires { N.start.table ≡ N.opening }
-    ensures { seat.new.share.parts ≡ seat.old.share.parts }
+    ensures { seat.new.parts ≡ seat.old.parts }
 {
     let Ok(text) = StateText::new(alloc, "x") else {
         return notes.refused(Fault::OutOfMemory);
@@ -139,7 +137,7 @@ fn set<N: Name, R: Wait>(
 
 // Enters a Set.
 fn enter<N: Name>(alloc: Global, board: &mut Board<N>, seat: &mut Seat<N>) -> Result<Receipt, Fault>
-    ensures { seat.new.share.parts ≡ seat.old.share.parts }
+    ensures { seat.new.parts ≡ seat.old.parts }
 {
     board.enter(alloc, seat, set_of_three(alloc)?)
 }
@@ -152,7 +150,7 @@ fn note_entered<N: Name>(
     pass: &mut Pass<N>,
     notes: &mut Notes,
 )
-    ensures { seat.new.share.parts ≡ seat.old.share.parts }
+    ensures { seat.new.parts ≡ seat.old.parts }
 {
     match enter(alloc, board, seat) {
         Ok(receipt) => notes.keep(receipt),
@@ -189,7 +187,7 @@ fn submit<N: Name, R: Wait>(
     shared: &Shared<N>,
     seat: &mut Seat<N>,
 ) -> Result<(Receipt, Option<Told<N>>), Fault>
-    ensures { seat.new.share.parts ≡ seat.old.share.parts }
+    ensures { seat.new.parts ≡ seat.old.parts }
 {
     shared.submit(rt, alloc, seat, set_of_three(alloc)?)
 }
@@ -202,7 +200,7 @@ fn note_set_anyway<N: Name, R: Wait>(
     seat: &mut Seat<N>,
     notes: &mut Notes,
 )
-    ensures { seat.new.share.parts ≡ seat.old.share.parts }
+    ensures { seat.new.parts ≡ seat.old.parts }
 {
     let done = match submit(rt, alloc, shared, seat) {
         Ok(done) => Ok(done),
@@ -227,7 +225,7 @@ fn beat<N: Name, R: Wait>(
     seat: &mut Seat<N>,
     notes: &mut Notes,
 )
-    ensures { seat.new.share.parts ≡ seat.old.share.parts }
+    ensures { seat.new.parts ≡ seat.old.parts }
 {
     match shared.submit(rt, alloc, seat, Event::Beat) {
         Ok((receipt, _told)) => {
@@ -247,8 +245,7 @@ fn work_on<N: Name, R: Wait>(
     notes: &mut Notes,
     work: Work,
 )
-    requires { N.start.table ≡ N.opening }
-    ensures { seat.new.share.parts ≡ seat.old.share.parts }
+    ensures { seat.new.parts ≡ seat.old.parts }
 {
     match work {
         Work::Set => set(rt, alloc, shared, seat, pass, notes, 0),
@@ -287,8 +284,7 @@ fn done_on<N: Name, R: Wait>(
     notes: &mut Notes,
     work: Work,
 ) -> Seat<N>
-    requires { N.start.table ≡ N.opening }
-    ensures { result.share.parts ≡ seat.share.parts }
+    ensures { result.parts ≡ seat.parts }
 {
     let mut seat = seat;
     work_on(rt, alloc, shared, &mut seat, pass, notes, work);
@@ -306,9 +302,8 @@ fn done_on_all<N: Name, R: Wait>(
     notes: &mut Notes,
     work: Work,
 ) -> Vec<Seat<N>>
-    requires name { N.start.table ≡ N.opening }
-    requires back { (back.items ≡ []) × (vec_len back ≡ 0) × (vec_len seats ≤ vec_capacity back) }
-    ensures parts { sum_by (λ s. s.share.parts) result.items ≡ sum_by (λ s. s.share.parts) seats.items }
+    requires { (back.items ≡ []) × (vec_len back ≡ 0) × (vec_len seats ≤ vec_capacity back) }
+    ensures parts { sum_by (λ s. s.parts) result.items ≡ sum_by (λ s. s.parts) seats.items }
     ensures len { vec_len result ≡ vec_len seats }
 {
     let mut back = back;
@@ -340,19 +335,19 @@ fn left_by<N: Name, R: Wait>(
     opened: Opened,
     table: Table,
     history: History,
-    blank: Blank,
+    fresh: Fresh,
     seats: usize,
     work: Work,
 ) -> Result<Left, Fail>
     requires views { (opened ≡ N.book) × (table ≡ N.opening) }
     requires history { (history.records ≡ []) × (history.base ≡ N.start) × (history.base.table ≡ table) }
-    requires blank { (blank.name ≡ N.name) × (blank.parts ≡ N.parts) × (N.parts ≡ seats) }
+    requires fresh { (fresh.name ≡ N.name) × (fresh.parts ≡ N.parts) × (fresh.log ≡ N.log) × (N.parts ≡ seats) }
     requires seats { (0 < seats) × (seats ≤ 16) }
 {
     let back = Vec::with_capacity(alloc, seats)?;
     let mut notes = Notes::with_room(alloc)?;
     let (publisher, mut passes) = views::<N>(alloc, opened, table, 1)?;
-    let (shared, seats) = Shared::begin(rt, alloc, history, publisher, blank, seats)?;
+    let (shared, seats) = Shared::begin(rt, alloc, history, publisher, fresh, seats)?;
     let mut pass = passes.pop().unwrap();
     let seats = done_on_all(rt, alloc, &shared, seats, back, &mut pass, &mut notes, work);
     let Notes {
@@ -378,7 +373,7 @@ fn left<R: Wait>(rt: &R, alloc: Global, seats: usize, work: Work) -> Result<Left
         Opened::new(),
         table,
         history,
-        Blank::new(seats as u64),
+        Fresh::new(seats as u64),
         seats,
         work,
     )

@@ -6,7 +6,7 @@ use crate::history::new_history;
 use crate::reading::set_and_read;
 use cg_expect::expect_eq;
 use cg_history::History;
-use cg_locked::{Name, Seat, Shared, Unconfirmed};
+use cg_locked::{Fresh, Name, Seat, Shared, Unconfirmed};
 use cg_records::Receipt;
 use cg_samples::key;
 use cg_table::Table;
@@ -15,7 +15,6 @@ use cg_views::{Opened, Pass, views};
 use std::alloc::Global;
 use std::marker::Brand;
 use std::sync::Wait;
-use std::sync::ledger::Blank;
 use std::test::Fail;
 use std::thread::{Threads, join};
 
@@ -35,8 +34,7 @@ fn set_all<N: Name, R: Wait>(
     mut pass: Pass<N>,
     count: u32,
 ) -> Worked<N>
-    requires { N.start.table ≡ N.opening }
-    ensures { result.seat.share.parts ≡ seat.share.parts }
+    ensures { result.seat.parts ≡ seat.parts }
 {
     let mut seat = seat;
     let mut receipts = Vec::new(alloc);
@@ -81,20 +79,17 @@ fn work_by_two<N: Name + Send + Sync, R: Threads + Wait + Sync>(
     other: (Seat<N>, Pass<N>),
     count: u32,
 ) -> (Worked<N>, Worked<N>)
-    requires { N.start.table ≡ N.opening }
-    ensures { (result.0.seat.share.parts ≡ one.0.share.parts) × (result.1.seat.share.parts ≡ other.0.share.parts) }
+    ensures { (result.0.seat.parts ≡ one.0.parts) × (result.1.seat.parts ≡ other.0.parts) }
 {
     let (first, pass) = one;
     let (second, another) = other;
     join(
         rt,
         move || -> Worked<N>
-            requires { N.start.table ≡ N.opening }
-            ensures { result.seat.share.parts ≡ first.share.parts }
+            ensures { result.seat.parts ≡ first.parts }
         { set_all(rt, alloc, shared, first, pass, count) },
         move || -> Worked<N>
-            requires { N.start.table ≡ N.opening }
-            ensures { result.seat.share.parts ≡ second.share.parts }
+            ensures { result.seat.parts ≡ second.parts }
         { set_all(rt, alloc, shared, second, another, count) },
     )
 }
@@ -127,15 +122,15 @@ fn left_by_two<N: Name + Send + Sync, R: Threads + Wait + Sync>(
     opened: Opened,
     table: Table,
     history: History,
-    blank: Blank,
+    fresh: Fresh,
     count: u32,
 ) -> Result<Left, Fail>
     requires views { (opened ≡ N.book) × (table ≡ N.opening) }
     requires history { (history.records ≡ []) × (history.base ≡ N.start) × (history.base.table ≡ table) }
-    requires blank { (blank.name ≡ N.name) × (blank.parts ≡ N.parts) × (N.parts ≡ 2) }
+    requires fresh { (fresh.name ≡ N.name) × (fresh.parts ≡ N.parts) × (fresh.log ≡ N.log) × (N.parts ≡ 2) }
 {
     let (publisher, mut passes) = views::<N>(alloc, opened, table, 2)?;
-    let (shared, mut seats) = Shared::begin(rt, alloc, history, publisher, blank, 2)?;
+    let (shared, mut seats) = Shared::begin(rt, alloc, history, publisher, fresh, 2)?;
     let second = seats.pop().unwrap();
     let first = seats.pop().unwrap();
     let other = passes.pop().unwrap();
@@ -172,7 +167,7 @@ fn two_left<R: Threads + Wait + Sync>(rt: &R, alloc: Global, count: u32) -> Resu
         Opened::new(),
         table,
         history,
-        Blank::new(2),
+        Fresh::new(2),
         count,
     )
 }

@@ -45,9 +45,9 @@ pub on_same : (g : SeatValue) (p : List Put) (h : SeatValue) (q : List Put) → 
 on_same g p h q e f = record { gate = goes_same g h e; later = starts_same p q f }
 
 module _ (start : NodeValue) where
-  set_goes : (key : ℕ) (value : List ℕ) (g : SeatValue) (p : List Put) (text : List ℕ) (h : SeatValue) (q : List Put)
-      → Sets start key value g p text h q → On g p h q
-  set_goes key value g p text h q s =
+  set_goes : (own key : ℕ) (value : List ℕ) (g : SeatValue) (p : List Put) (text : List ℕ) (h : SeatValue) (q : List Put)
+      → Sets start own key value g p text h q → On g p h q
+  set_goes own key value g p text h q s =
       elim s as (λ _. On g p h q) [
         | inl k ↦ record {
           gate = record { seat = k.entered.seat; more = k.entered.receipt ∷ []; receipts = k.entered.receipts };
@@ -59,7 +59,7 @@ module _ (start : NodeValue) where
   pub line_goes : (opening : TableValue) (command : Result OperatorCommand Fault) (g : SeatValue) (p : List Put) (text : List ℕ) (h : SeatValue) (q : List Put)
       → Does start opening command g p text h q → On g p h q
   line_goes opening (Ok (Show view)) g p text h q d = record { gate = goes_same g h d.0; later = d.1 }
-  line_goes opening (Ok (Set key value)) g p text h q d = set_goes key value g p text h q d
+  line_goes opening (Ok (Set key value)) g p text h q d = set_goes opening.own key value g p text h q d
   line_goes opening (Ok Quit) g p text h q d = absurd d
   line_goes opening (Err f) g p text h q d = on_same g p h q d.0 d.1
 

@@ -24,11 +24,11 @@ TellsSet version (Some told) p q text = StartsWith q told × (text ≡ version_l
 
 module _ (start : NodeValue) where
   -- The gate entered the Set, and its told was handed over.
-  pub record SetsKey (key : ℕ) (value : List ℕ) (g : SeatValue) (p : List Put) (text : List ℕ) (h : SeatValue)
+  pub record SetsKey (own key : ℕ) (value : List ℕ) (g : SeatValue) (p : List Put) (text : List ℕ) (h : SeatValue)
       (q : List Put) : Type 0 where
     pub version : ℕ
     pub told : Option (List Put)
-    pub entered : Enters start g (event.Set key value) (reply.Done version) (with_told h told)
+    pub entered : Enters start own g (event.Set key value) (reply.Done version) (with_told h told)
     pub later : StartsWith q p
     pub tells : TellsSet version told p q text
 
@@ -41,14 +41,14 @@ module _ (start : NodeValue) where
     pub gate : h ≡ g
     pub pass : q ≡ p
 
-  abbrev pub Sets : ℕ → List ℕ → SeatValue → List Put → List ℕ → SeatValue → List Put → Type 0
-  Sets key value g p text h q = SetsKey key value g p text h q ⊎ RefusesKey key value g p text h q
+  abbrev pub Sets : ℕ → ℕ → List ℕ → SeatValue → List Put → List ℕ → SeatValue → List Put → Type 0
+  Sets own key value g p text h q = SetsKey own key value g p text h q ⊎ RefusesKey key value g p text h q
 
   -- The step of a line, from a gate and the puts that a pass has read to those after it, and its text.
   abbrev pub Does : TableValue → Result OperatorCommand Fault → SeatValue → List Put → List ℕ → SeatValue → List Put → Type 0
   Does opening (Ok (Show view)) g p text h q =
       (h ≡ g) × StartsWith q p × (text ≡ table_lines (with_puts opening q) view)
-  Does opening (Ok (Set key value)) g p text h q = Sets key value g p text h q
+  Does opening (Ok (Set key value)) g p text h q = Sets opening.own key value g p text h q
   Does opening (Ok Quit) g p text h q = ⊥
   Does opening (Err f) g p text h q = (h ≡ g) × (q ≡ p) × (text ≡ fault_text f)
 

@@ -85,7 +85,7 @@ fn set<N: Name, R: Wait>(
     ensures gate { GoesOn gate.old gate.new }
     ensures later { StartsWith pass.new pass.old }
     ensures set { IfOk result (λ shown.
-        Sets N.start key text gate.old pass.old (string_bytes shown) gate.new pass.new) }
+        Sets N.start N.opening.own key text gate.old pass.old (string_bytes shown) gate.new pass.new) }
     ensures err { IfErr result (λ f. f ≡ faults.OutOfMemory) }
 {
     match gate.event(alloc, Event::Set { key, text }) {

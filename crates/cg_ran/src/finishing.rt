@@ -48,8 +48,8 @@ fn confirm_all<N: Name, R: Wait>(
     ticker: &[Receipt],
     operator: &[Receipt],
 ) -> Result<History, Unconfirmed>
-    requires seats { (sum_by (λ s. s.share.parts) seats.items ≡ N.parts) × (0 < vec_len seats) }
-    requires count { sum_by (λ s. s.share.amount) seats.items
+    requires seats { (sum_by (λ s. s.parts) seats.items ≡ N.parts) × (0 < vec_len seats) }
+    requires count { sum_by (λ s. s.amount) seats.items
         ≡ length receiver.now + length sender.now + length ticker.now + length operator.now }
     requires receipts { AreOfWorkers receiver.now sender.now ticker.now operator.now }
     ensures start { (history_of result).base ≡ N.start }

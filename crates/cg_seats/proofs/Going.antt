@@ -1,5 +1,5 @@
 -- A gate goes on, call by call.
-use Rattle.std.proofs.Common.{◌≡◌, List, [], ◌∷◌, ◌++◌, sym, ap, ◌∙◌, append_assoc}
+use Rattle.std.proofs.Common.{◌≡◌, ℕ, List, [], ◌∷◌, ◌++◌, sym, ap, ◌∙◌, append_assoc}
 use Rattle.std.specs.Prelude.{Option}
 use Rattle.std.proofs.lemmas.List.{append-nil}
 use Rattle.cg_table.specs.Puts.{Put}
@@ -25,8 +25,8 @@ goes_on-told g h told same = record {
 }
 
 -- an event that was done
-pub goes_on-event : (start : NodeValue) (g h : SeatValue) (e : Event) (answer : Reply) → Enters start g e answer h → GoesOn g h
-goes_on-event start g h e answer enters = record { seat = enters.seat; more = enters.receipt ∷ []; receipts = enters.receipts }
+pub goes_on-event : (start : NodeValue) (own : ℕ) (g h : SeatValue) (e : Event) (answer : Reply) → Enters start own g e answer h → GoesOn g h
+goes_on-event start own g h e answer enters = record { seat = enters.seat; more = enters.receipt ∷ []; receipts = enters.receipts }
 
 -- one call after another
 pub goes_on-next : (g h k : SeatValue) → GoesOn g h → GoesOn h k → GoesOn g k

@@ -12,11 +12,16 @@ use Rattle.cg_core.specs.Step.{Step, node_step}
 use Rattle.cg_records.specs.declared.item.Receipt.{Receipt}
 use Rattle.cg_history.specs.History.{HistoryValue, LAST_NUMBER, with_step, apply}
 use Rattle.cg_history_laws.proofs.OneMore.{each_event_makes_one_record}
+use Rattle.cg_records.specs.declared.item.Item.{Item}
+use Rattle.cg_records.specs.Confirming.{AreConfirmed}
+use Rattle.cg_locked.specs.Seat.{SeatState}
 use Rattle.cg_locked.specs.Entry.{IsEntry, ShowsSet}
+use mathlib.Core.List.{IsPrefix}
+use Rattle.cg_locked.proofs.Confirming.{confirmed_stay, entries_are_confirmed}
 use Rattle.cg_events.specs.Replies.{IsReplyTo}
 use Rattle.cg_engine.specs.Events.{IsGateFault}
 use Rattle.cg_engine.proofs.ReplyLemmas.{reply_kind, step_fault}
-use Rattle.cg_seats.specs.Seats.{SeatValue, AreOf, last_reply, IsReceiptOf, Enters}
+use Rattle.cg_seats.specs.Seats.{SeatValue, AreOf, last_reply, IsReceiptOf, IsSeatOf, Enters}
 
 -- ---- a receipt more
 
@@ -42,9 +47,9 @@ pub record IsDone (caller : ℕ) (e : Event) (q : Receipt) : Type 0 where
   pub is : IsReceiptOf caller e q.reply q
   pub kind : IsReplyTo e q.reply
 
-pub entry_done : (start : NodeValue) (count caller : ℕ) (e : Event) (q : Receipt) (told : Option (List Put)) → IsEntry start count caller e (Ok (q, told)) → IsDone caller e q
-entry_done start count caller e q told entry =
-    let one = each_event_makes_one_record entry.before caller e entry.after q entry.entered in
+pub entry_done : (start : NodeValue) (seat : SeatState) (e : Event) (seen : List Item) (q : Receipt) (told : Option (List Put)) → IsEntry start seat e seen (Ok (q, told)) → IsDone seat.caller e q
+entry_done start seat e seen q told entry =
+    let one = each_event_makes_one_record entry.before seat.caller e entry.after q entry.entered in
     let replied : one.answer ≡ q.reply = sym (ap (λ (p : Receipt). p.reply) one.receipt) in
     record {
       is = (ap (λ (p : Receipt). p.caller) one.receipt, ap (λ (p : Receipt). p.event) one.receipt, refl);
@@ -66,38 +71,55 @@ fault_by h caller e false (Err g) f step is =
 apply_fault : (h : HistoryValue) (caller : ℕ) (e : Event) (f : Fault) → apply h caller e ≡ Err f → IsGateFault f
 apply_fault h caller e f is = fault_by h caller e (length h.records == LAST_NUMBER) (node_step h.node e) f refl is
 
-pub entry_fault : (start : NodeValue) (count caller : ℕ) (e : Event) (f : Fault) → IsEntry start count caller e (Err f) → IsGateFault f
-entry_fault start count caller e fault.OutOfMemory entry = tt
-entry_fault start count caller e f entry = apply_fault entry.before caller e f entry.entered
+pub entry_fault : (start : NodeValue) (seat : SeatState) (e : Event) (seen : List Item) (f : Fault) → IsEntry start seat e seen (Err f) → IsGateFault f
+entry_fault start seat e seen fault.OutOfMemory entry = tt
+entry_fault start seat e seen f entry = apply_fault entry.before seat.caller e f entry.entered
 
 -- ---- the gate after it
 
 -- an entry more, from a gate with these receipts
-module _ (start : NodeValue) (count caller : ℕ) (qs : List Receipt) (e : Event) (q : Receipt) (told : Option (List Put)) (counted : count ≡ length qs) (entry : IsEntry start count caller e (Ok (q, told))) where
-  pub still_counted : (amount others : ℕ) (room items : List Receipt) → AreOf caller qs → amount ≡ count + 1 → others ≡ caller → room ≡ qs → items ≡ room ++ q ∷ [] → (amount ≡ length items) × AreOf others items
-  still_counted amount others room items are more same_caller same all =
+module _ (start : NodeValue) (seat : SeatState) (qs : List Receipt) (e : Event) (seen : List Item) (q : Receipt) (told : Option (List Put)) (counted : seat.amount ≡ length qs) (confirmed : AreConfirmed seat.seen qs) (entry : IsEntry start seat e seen (Ok (q, told))) where
+  pub still_counted : (now : SeatState) (room items : List Receipt) → AreOf seat.caller qs → now.amount ≡ seat.amount + 1 → now.caller ≡ seat.caller → now.seen ≡ seen → room ≡ qs → items ≡ room ++ q ∷ []
+      → (now.amount ≡ length items) × AreOf now.caller items × AreConfirmed now.seen items
+  still_counted now room items are more same_caller sees same all =
       let whole : items ≡ qs ++ q ∷ [] = all ∙ ap (λ rs. rs ++ q ∷ []) same in
       let long : length items ≡ length (qs ++ q ∷ []) = ap length whole in
-      let done = entry_done start count caller e q told entry in (
+      let done = entry_done start seat e seen q told entry in
+      let stand = entries_are_confirmed start seat e seen q told qs confirmed entry in (
         omega (arith, more, counted, long, length-append qs (q ∷ [])),
-        subst (λ rs. AreOf others rs) (sym whole) (subst (λ n. AreOf n (qs ++ q ∷ [])) (sym same_caller) (more_of caller qs q are done.is.0)),
+        subst (λ rs. AreOf now.caller rs) (sym whole) (subst (λ n. AreOf n (qs ++ q ∷ [])) (sym same_caller) (more_of seat.caller qs q are done.is.0)),
+        subst (λ rs. AreConfirmed now.seen rs) (sym whole) (subst (λ (l : List Item). AreConfirmed l (qs ++ q ∷ [])) (sym sees) stand),
       )
 
-  pub entered : (parts : ℕ) (was : Option (List Put)) (g : SeatValue) (others parts_left : ℕ) (room items : List Receipt) → (let inside : SeatValue = record { caller = caller; parts = parts; receipts = qs; told = was } in inside) ≡ g
-      → IfSome told (λ t. ShowsSet t start.table.own e q.reply) → others ≡ caller → parts_left ≡ parts → room ≡ qs → items ≡ room ++ q ∷ []
-      → (answer : Reply) × (last_reply items ≡ Some answer) × Enters start g e answer (record { caller = others; parts = parts_left; receipts = items; told = told }) × IsReplyTo e answer
-  entered parts was g others parts_left room items is shown same_caller same_parts same all =
-      let done = entry_done start count caller e q told entry in
+  pub entered : (own parts : ℕ) (was : Option (List Put)) (g : SeatValue) (others parts_left : ℕ) (room items : List Receipt) → (let inside : SeatValue = record { caller = seat.caller; parts = parts; receipts = qs; told = was } in inside) ≡ g
+      → IfSome told (λ t. ShowsSet t own e q.reply) → others ≡ seat.caller → parts_left ≡ parts → room ≡ qs → items ≡ room ++ q ∷ []
+      → (answer : Reply) × (last_reply items ≡ Some answer) × Enters start own g e answer (record { caller = others; parts = parts_left; receipts = items; told = told }) × IsReplyTo e answer
+  entered own parts was g others parts_left room items is shown same_caller same_parts same all =
+      let done = entry_done start seat e seen q told entry in
       let whole : items ≡ qs ++ q ∷ [] = all ∙ ap (λ rs. rs ++ q ∷ []) same in
-      let callers : caller ≡ g.caller = ap (λ (v : SeatValue). v.caller) is in
-      let its : IsEntry start (length g.receipts) g.caller e (Ok (q, told)) =
-      subst (λ (v : SeatValue). IsEntry start (length v.receipts) v.caller e (Ok (q, told))) is (subst (λ n. IsEntry start n caller e (Ok (q, told))) counted entry) in
-      let enters : Enters start g e q.reply (record { caller = others; parts = parts_left; receipts = items; told = told }) = record {
+      let callers : seat.caller ≡ g.caller = ap (λ (v : SeatValue). v.caller) is in
+      let receipts : qs ≡ g.receipts = ap (λ (v : SeatValue). v.receipts) is in
+      let its : IsSeatOf g seat = record {
+        caller = callers;
+        counted = counted ∙ ap length receipts;
+        confirmed = subst (λ rs. AreConfirmed seat.seen rs) receipts confirmed;
+      } in
+      let enters : Enters start own g e q.reply (record { caller = others; parts = parts_left; receipts = items; told = told }) = record {
         receipt = q;
         is = (done.is.0 ∙ callers, done.is.1, done.is.2);
-        entry = its;
+        entry = record { seat = seat; is = its; seen = seen; entry = entry };
         receipts = whole ∙ ap (λ (v : SeatValue). v.receipts ++ q ∷ []) is;
         seat = (same_caller ∙ callers, same_parts ∙ ap (λ (v : SeatValue). v.parts) is);
         shown = shown;
       } in
       (q.reply, ap last_reply whole ∙ last_of_more qs q, enters, done.kind)
+
+-- after a refused entry the seat has counted the same receipts, which all records that it has then seen confirm
+pub still_left : (start : NodeValue) (seat now : SeatState) (qs room : List Receipt) (e : Event) (f : Fault) → seat.amount ≡ length qs → AreOf seat.caller qs → AreConfirmed seat.seen qs → IsEntry start seat e now.seen (Err f)
+    → now.amount ≡ seat.amount → now.caller ≡ seat.caller → room ≡ qs → (now.amount ≡ length room) × AreOf now.caller room × AreConfirmed now.seen room
+still_left start seat now qs room e f counted are confirmed entry amount caller same =
+    let begins : IsPrefix seat.seen now.seen = subst (λ (l : List Item). IsPrefix seat.seen l) (sym entry.seen_are) entry.begins in (
+      amount ∙ counted ∙ ap length (sym same),
+      subst (λ rs. AreOf now.caller rs) (sym same) (subst (λ n. AreOf n qs) (sym caller) are),
+      subst (λ rs. AreConfirmed now.seen rs) (sym same) (confirmed_stay seat.seen now.seen qs begins confirmed),
+    )

@@ -1,5 +1,5 @@
 -- A gate over a seat as contracts see it, and its steps.
-use Rattle.std.specs.Prelude.{ℕ, ◌-◌, ◌≡◌, ◌⊎◌, List, [], ◌∷◌, ◌++◌, length, Option, None, Ok, Err, IfSome, option_map, slice_get, refl}
+use Rattle.std.specs.Prelude.{ℕ, ◌-◌, ◌≡◌, ◌⊎◌, List, [], ◌∷◌, ◌++◌, length, Option, None, Result, Ok, Err, IfSome, option_map, slice_get, refl}
 use Rattle.std.specs.Coded.{Coded, code_by, coded×, coded_ℕ, coded_list, coded_option}
 use Rattle.std.specs.List.{All}
 use Rattle.cg_types.specs.declared.fault.Fault.{Fault}
@@ -9,8 +9,11 @@ use Rattle.cg_events.specs.declared.event.Event.{Event}
 use Rattle.cg_events.specs.declared.reply.Reply.{Reply}
 use Rattle.cg_core.specs.Values.{NodeValue}
 use Rattle.cg_records.specs.declared.item.Receipt.{Receipt}
+use Rattle.cg_records.specs.declared.item.Item.{Item}
 use Rattle.cg_records.specs.Items.{receipt_code}
-use Rattle.cg_locked.specs.Entry.{IsEntry, ShowsSet}
+use Rattle.cg_records.specs.Confirming.{AreConfirmed}
+use Rattle.cg_locked.specs.Seat.{SeatState}
+use Rattle.cg_locked.specs.Entry.{Answer, IsEntry, ShowsSet}
 
 -- the seat's caller and parts, the receipts, and the told of the last event
 pub record SeatValue : Type 0 where
@@ -47,19 +50,33 @@ last_reply receipts = option_map (λ q. q.reply) (slice_get receipts (length rec
 abbrev pub IsReceiptOf : ℕ → Event → Reply → Receipt → Type 0
 IsReceiptOf caller e answer q = (q.caller ≡ caller) × (q.event ≡ e) × (q.reply ≡ answer)
 
--- The gate went on by one event with its reply. The event was entered for the caller into some history of the start,
--- with at least as many records as the gate has receipts. Its receipt is kept after those, and its told shows its Set.
-pub record Enters (start : NodeValue) (g : SeatValue) (e : Event) (answer : Reply) (h : SeatValue) : Type 0 where
-  pub receipt : Receipt
-  pub is : IsReceiptOf g.caller e answer receipt
-  pub entry : IsEntry start (length g.receipts) g.caller e (Ok (receipt, h.told))
-  pub receipts : h.receipts ≡ g.receipts ++ receipt ∷ []
-  pub seat : (h.caller ≡ g.caller) × (h.parts ≡ g.parts)
-  pub shown : IfSome h.told (λ t. ShowsSet t start.table.own e answer)
+-- The seat is of the gate: it is its caller's, it counted the receipts, and the records that it has seen confirm them.
+pub record IsSeatOf (g : SeatValue) (seat : SeatState) : Type 0 where
+  pub caller : seat.caller ≡ g.caller
+  pub counted : seat.amount ≡ length g.receipts
+  pub confirmed : AreConfirmed seat.seen g.receipts
+
+-- An event was entered from the gate's seat into the history of the node with this start.
+pub record HasEntered (start : NodeValue) (g : SeatValue) (e : Event) (result : Result Answer Fault) : Type 0 where
+  pub seat : SeatState
+  pub is : IsSeatOf g seat
+  pub seen : List Item
+  pub entry : IsEntry start seat e seen result
+
+-- The gate went on by one event with its reply. The event was entered from its seat. Its receipt is kept after those
+-- that the gate has, and its told shows its Set of the views' own endpoint.
+pub record Enters (start : NodeValue) (own : ℕ) (g : SeatValue) (e : Event) (answer : Reply) (h : SeatValue) : Type 0
+  where
+    pub receipt : Receipt
+    pub is : IsReceiptOf g.caller e answer receipt
+    pub entry : HasEntered start g e (Ok (receipt, h.told))
+    pub receipts : h.receipts ≡ g.receipts ++ receipt ∷ []
+    pub seat : (h.caller ≡ g.caller) × (h.parts ≡ g.parts)
+    pub shown : IfSome h.told (λ t. ShowsSet t own e answer)
 
 -- The event is refused as an entry of it is, or for want of room for its receipt.
 abbrev pub Refuses : NodeValue → SeatValue → Event → Fault → Type 0
-Refuses start g e f = (f ≡ fault.OutOfMemory) ⊎ IsEntry start (length g.receipts) g.caller e (Err f)
+Refuses start g e f = (f ≡ fault.OutOfMemory) ⊎ HasEntered start g e (Err f)
 
 -- The gate went on: its seat is the same, and its receipts begin with those that it had.
 pub record GoesOn (g h : SeatValue) : Type 0 where

@@ -1,6 +1,7 @@
 //! The gate over a seat.
 
 ghost use Rattle.std.specs.Prelude.{◌≡◌, ◌++◌, [], None, length};
+ghost use Rattle.cg_records.specs.Confirming.{AreConfirmed};
 ghost use Rattle.cg_seats.specs.Seats.{AreOf, new_gate, with_told};
 
 use cg_engine::Gate;
@@ -24,9 +25,10 @@ pub struct SeatGate<'a, N: Name, R: Wait> {
 }
 
 /// A contract sees the caller and the parts of the seat, the receipts, and the `Told`. The seat has counted the
-/// receipts, and they are its caller's.
+/// receipts, they are its caller's, and the records that it has seen confirm them.
 impl<'a, N: Name, R: Wait> Model for SeatGate<'a, N, R> {
     ghost use Rattle.std.specs.Prelude.{◌≡◌, length};
+    ghost use Rattle.cg_records.specs.Confirming.{AreConfirmed};
     ghost use Rattle.cg_seats.specs.Seats.{SeatValue, AreOf, seat_code};
 
     ghost Value = { SeatValue };
@@ -35,19 +37,20 @@ impl<'a, N: Name, R: Wait> Model for SeatGate<'a, N, R> {
 
     ghost view = { λ g. record {
       caller = g.seat.caller;
-      parts = g.seat.share.parts;
+      parts = g.seat.parts;
       receipts = g.receipts.items;
       told = g.told;
     } };
 
-    ghost invariant = { λ g. (g.seat.share.amount ≡ length g.receipts.items) × AreOf g.seat.caller g.receipts.items };
+    ghost invariant = { λ g. (g.seat.amount ≡ length g.receipts.items) × AreOf g.seat.caller g.receipts.items
+        × AreConfirmed g.seat.seen g.receipts.items };
 }
 
 impl<'a, N: Name, R: Wait> SeatGate<'a, N, R> {
     /// Makes the gate over a seat from which no event was done yet.
     pub fn new(rt: &'a R, alloc: Global, shared: &'a Shared<N>, seat: Seat<N>) -> SeatGate<'a, N, R>
-        requires { seat.share.amount ≡ 0 }
-        ensures { result ≡ new_gate seat.caller seat.share.parts }
+        requires { seat.amount ≡ 0 }
+        ensures { result ≡ new_gate seat.caller seat.parts }
     {
         SeatGate {
             rt,
@@ -75,12 +78,13 @@ impl<'a, N: Name, R: Wait> SeatGate<'a, N, R> {
         self.told.take()
     }
 
-    /// Returns the seat, which has counted the receipts, and the receipts.
+    /// Returns the seat, which has counted the receipts and seen records that confirm them, and the receipts.
     pub fn into_parts(self) -> (Seat<N>, Vec<Receipt>)
-        ensures seat { (result.0.caller ≡ self.entry.caller) × (result.0.share.parts ≡ self.entry.parts)
-            × (result.0.share.amount ≡ length self.entry.receipts) }
+        ensures seat { (result.0.caller ≡ self.entry.caller) × (result.0.parts ≡ self.entry.parts)
+            × (result.0.amount ≡ length self.entry.receipts) }
         ensures receipts { result.1.items ≡ self.entry.receipts }
         ensures own { AreOf self.entry.caller self.entry.receipts }
+        ensures confirmed { AreConfirmed result.0.seen self.entry.receipts }
     {
         let SeatGate { seat, receipts, .. } = self;
         (seat, receipts)
@@ -94,7 +98,7 @@ impl<'a, N: Name, R: Wait> Gate for SeatGate<'a, N, R> {
     ghost use Rattle.std.specs.Prelude.{◌≡◌};
     ghost use Rattle.cg_seats.specs.Seats.{Enters, Refuses, last_reply};
 
-    ghost does = { Enters N.start };
+    ghost does = { Enters N.start N.opening.own };
 
     ghost refuses = { Refuses N.start };
 

@@ -6,7 +6,7 @@ use crate::board_operators::{Enters, IsRefused, LearnsTwice};
 use crate::history::new_history;
 use cg_expect::expect_eq;
 use cg_history::History;
-use cg_locked::{Name, Seat, Shared};
+use cg_locked::{Fresh, Name, Seat, Shared};
 use cg_operator::Console;
 use cg_records::Receipt;
 use cg_samples::version;
@@ -17,7 +17,6 @@ use cg_views::{Opened, Pass, views};
 use std::alloc::Global;
 use std::marker::Brand;
 use std::sync::Wait;
-use std::sync::ledger::Blank;
 use std::test::Fail;
 
 // The result of a seat's operator.
@@ -36,8 +35,8 @@ fn work_at<N: Name, R: Wait, O: Operate>(
     pass: &mut Pass<N>,
     operate: &mut O,
 ) -> Worked<N>
-    requires { seat.share.amount ≡ 0 }
-    ensures { result.seat.share.parts ≡ seat.share.parts }
+    requires { seat.amount ≡ 0 }
+    ensures { result.seat.parts ≡ seat.parts }
 {
     let mut gate = SeatGate::new(rt, alloc, shared, seat);
     let ended = operator(alloc, &mut gate, pass, operate);
@@ -58,15 +57,15 @@ fn left_by<N: Name, R: Wait, O: Operate>(
     opened: Opened,
     table: Table,
     history: History,
-    blank: Blank,
+    fresh: Fresh,
     operate: &mut O,
 ) -> Result<Left, Fail>
     requires views { (opened ≡ N.book) × (table ≡ N.opening) }
     requires history { (history.records ≡ []) × (history.base ≡ N.start) × (history.base.table ≡ table) }
-    requires blank { (blank.name ≡ N.name) × (blank.parts ≡ N.parts) × (N.parts ≡ 1) }
+    requires fresh { (fresh.name ≡ N.name) × (fresh.parts ≡ N.parts) × (fresh.log ≡ N.log) × (N.parts ≡ 1) }
 {
     let (publisher, mut passes) = views::<N>(alloc, opened, table, 1)?;
-    let (shared, mut seats) = Shared::begin(rt, alloc, history, publisher, blank, 1)?;
+    let (shared, mut seats) = Shared::begin(rt, alloc, history, publisher, fresh, 1)?;
     let mut pass = passes.pop().unwrap();
     let seat = seats.pop().unwrap();
     let Worked {
@@ -96,7 +95,7 @@ pub(crate) fn left_after<R: Wait, O: Operate>(
         Opened::new(),
         table,
         history,
-        Blank::new(1),
+        Fresh::new(1),
         operate,
     )
 }

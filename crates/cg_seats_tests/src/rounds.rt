@@ -9,7 +9,7 @@ use cg_events::Event;
 use cg_expect::expect_eq;
 use cg_history::History;
 use cg_left::SeatLeft;
-use cg_locked::{Name, Seat, Shared};
+use cg_locked::{Fresh, Name, Seat, Shared};
 use cg_records::Receipt;
 use cg_rounds::{Putting, Taking, generator, rounds};
 use cg_seats::SeatGate;
@@ -20,7 +20,6 @@ use std::alloc::Global;
 use std::marker::Brand;
 use std::rt::Clock;
 use std::sync::Wait;
-use std::sync::ledger::Blank;
 use std::test::Fail;
 
 // A clock that shows one time.
@@ -49,9 +48,9 @@ fn tick_at<N: Name, R: Wait + Clock>(
     to: &mut Putting,
     count: u32,
 ) -> Done<N>
-    requires { seat.share.amount ≡ 0 }
+    requires { seat.amount ≡ 0 }
     ensures channel { PutsWhere to.new to.old }
-    ensures seat { result.left.parts ≡ seat.share.parts }
+    ensures seat { result.left.parts ≡ seat.parts }
 {
     let mut gate = SeatGate::new(rt, alloc, shared, seat);
     let mut words = generator(0);
@@ -107,17 +106,17 @@ fn left_by<N: Name, R: Wait + Clock>(
     opened: Opened,
     table: Table,
     history: History,
-    blank: Blank,
+    fresh: Fresh,
     to: &mut Putting,
     count: u32,
 ) -> Result<Seen, Fail>
     requires views { (opened ≡ N.book) × (table ≡ N.opening) }
     requires history { (history.records ≡ []) × (history.base ≡ N.start) × (history.base.table ≡ table) }
-    requires blank { (blank.name ≡ N.name) × (blank.parts ≡ N.parts) × (N.parts ≡ 1) }
+    requires fresh { (fresh.name ≡ N.name) × (fresh.parts ≡ N.parts) × (fresh.log ≡ N.log) × (N.parts ≡ 1) }
     ensures channel { PutsWhere to.new to.old }
 {
     let (publisher, _passes) = views::<N>(alloc, opened, table, 1)?;
-    let (shared, mut seats) = Shared::begin(rt, alloc, history, publisher, blank, 1)?;
+    let (shared, mut seats) = Shared::begin(rt, alloc, history, publisher, fresh, 1)?;
     let seat = seats.pop().unwrap();
     let Done { left, ticked } = tick_at(rt, alloc, &shared, seat, to, count);
     let (seat, receipts) = left.into_parts();
@@ -151,7 +150,7 @@ fn left_after<R: Wait + Clock>(
         Opened::new(),
         table,
         history,
-        Blank::new(1),
+        Fresh::new(1),
         to,
         count,
     )

@@ -7,7 +7,7 @@ use cg_begun::{Begun, begin};
 use cg_expect::expect_eq;
 use cg_history::History;
 use cg_left::{SeatLeft, SenderLeft, TickerLeft, WORKERS, WorkersLeft};
-use cg_locked::Name;
+use cg_locked::{Fresh, Name};
 use cg_ran::{NotRun, Ran, finish};
 use cg_table::Table;
 use cg_types::Fault;
@@ -15,7 +15,6 @@ use cg_views::Opened;
 use std::alloc::Global;
 use std::marker::Brand;
 use std::sync::Wait;
-use std::sync::ledger::Blank;
 use std::test::Fail;
 
 // The numbers of records and of rounds that are left; if there is no node, the fault by which it was not started.
@@ -35,14 +34,14 @@ fn left_by<N: Name, R: Wait>(
     opened: Opened,
     table: Table,
     history: History,
-    blank: Blank,
+    fresh: Fresh,
     started: bool,
 ) -> Result<Told, Fail>
     requires views { (opened ≡ N.book) × (table ≡ N.opening) }
     requires history { (history.records ≡ []) × (history.base ≡ N.start) × (history.base.table ≡ table) }
-    requires blank { (blank.name ≡ N.name) × (blank.parts ≡ N.parts) × (N.parts ≡ 4) }
+    requires fresh { (fresh.name ≡ N.name) × (fresh.parts ≡ N.parts) × (fresh.log ≡ N.log) × (N.parts ≡ 4) }
 {
-    let begun = begin::<N, R>(rt, alloc, opened, table, history, blank)?;
+    let begun = begin::<N, R>(rt, alloc, opened, table, history, fresh)?;
     let Begun {
         shared,
         seats,
@@ -77,7 +76,7 @@ fn left_after<R: Wait>(rt: &R, alloc: Global, started: bool) -> Result<Told, Fai
         Opened::new(),
         table,
         history,
-        Blank::new(WORKERS as u64),
+        Fresh::new(WORKERS as u64),
         started,
     )
 }

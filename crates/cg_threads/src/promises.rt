@@ -16,7 +16,7 @@ impl<N: Name> Promise<SeatLeft<N>> for Operates<N> {
     ghost use Rattle.cg_left.specs.Left.{IsLeft, is_any};
 
     ghost kept_by = { λ p r.
-        IsLeft is_any p.seat.value.caller p.seat.value.share.parts r };
+        IsLeft is_any p.seat.value.caller p.seat.value.parts r };
 }
 
 // The promise of the sender's thread.
@@ -30,7 +30,7 @@ impl<N: Name> Promise<SenderLeft<N>> for Sends<N> {
     ghost use Rattle.cg_left.specs.Left.{IsLeft, HasTaken, is_ack};
 
     ghost kept_by = { λ p r.
-        IsLeft is_ack p.seat.value.caller p.seat.value.share.parts r.left
+        IsLeft is_ack p.seat.value.caller p.seat.value.parts r.left
         × HasTaken p.taking.value r.taken r.numbers.items };
 }
 
@@ -45,6 +45,6 @@ impl<N: Name> Promise<TickerLeft<N>> for TicksOn<N> {
     ghost use Rattle.cg_left.specs.Left.{IsLeft, HasPut, is_tick};
 
     ghost kept_by = { λ p r.
-        IsLeft is_tick p.seat.value.caller p.seat.value.share.parts r.left
+        IsLeft is_tick p.seat.value.caller p.seat.value.parts r.left
         × HasPut p.putting.value r.putting r.left.receipts };
 }

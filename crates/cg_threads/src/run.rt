@@ -10,7 +10,7 @@ use cg_begun::{Begun, begin};
 use cg_clock::Milliseconds;
 use cg_history::History;
 use cg_left::WORKERS;
-use cg_locked::Name;
+use cg_locked::{Fresh, Name};
 use cg_ran::{NotRun, Ran, finish};
 use cg_seats::Operate;
 use cg_settings_file::Turns;
@@ -23,7 +23,6 @@ use rand_core::Rng;
 use std::alloc::Global;
 use std::marker::Brand;
 use std::rt::Clock;
-use std::sync::ledger::Blank;
 use std::sync::{OnceLock, Wait};
 use std::thread::Threads;
 
@@ -42,7 +41,7 @@ fn run_named<
     opened: Opened,
     table: Table,
     history: History,
-    blank: Blank,
+    fresh: Fresh,
     parts: Parts<L, D, C, G, O>,
     turns: Turns,
 ) -> Result<Ran, NotRun>
@@ -51,11 +50,11 @@ where
     D::Writer: Send,
     requires views { (opened ≡ N.book) × (table ≡ N.opening) }
     requires history { (history.records ≡ []) × (history.base ≡ N.start) × (history.base.table ≡ table) }
-    requires blank { (blank.name ≡ N.name) × (blank.parts ≡ N.parts) × (N.parts ≡ 4) }
+    requires fresh { (fresh.name ≡ N.name) × (fresh.parts ≡ N.parts) × (fresh.log ≡ N.log) × (N.parts ≡ 4) }
     ensures ran { IfOk result (λ r. IsRun history.base r.history r.rounds.items) }
     ensures not { IfErr result (IsNotRun history.base) }
 {
-    let Ok(begun) = begin::<N, R>(rt, alloc, opened, table, history, blank) else {
+    let Ok(begun) = begin::<N, R>(rt, alloc, opened, table, history, fresh) else {
         return Err(NotRun::Unstarted(Fault::OutOfMemory));
     };
     let Begun {
@@ -135,7 +134,7 @@ where
         Opened::new(),
         table,
         history,
-        Blank::new(WORKERS as u64),
+        Fresh::new(WORKERS as u64),
         parts,
         turns,
     )

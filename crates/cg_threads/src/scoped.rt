@@ -54,10 +54,10 @@ where
     requires amounts { AreUnused seats }
     requires ends { AreEnds ends.0 ends.1 }
     requires none { (put_by ends.0 ≡ []) × (taken_by ends.1 ≡ []) }
-    ensures parts { (result.receiver.parts ≡ seats.receiver.share.parts)
-        × (result.sender.left.parts ≡ seats.sender.share.parts)
-        × (result.ticker.left.parts ≡ seats.ticker.share.parts)
-        × (result.operator.parts ≡ seats.operator.share.parts) }
+    ensures parts { (result.receiver.parts ≡ seats.receiver.parts)
+        × (result.sender.left.parts ≡ seats.sender.parts)
+        × (result.ticker.left.parts ≡ seats.ticker.parts)
+        × (result.operator.parts ≡ seats.operator.parts) }
     ensures receipts { AreOfWorkers result.receiver.receipts result.sender.left.receipts
         result.ticker.left.receipts result.operator.receipts }
     ensures taken { AreTaken result.ticker.putting result.sender.taken result.sender.numbers.items
@@ -94,22 +94,22 @@ where
             requires sends { (sends.seat.value ≡ second) × (sends.taking.value ≡ taking) }
             requires ticks { (ticks.seat.value ≡ third) × (ticks.putting.value ≡ putting) }
             requires operates { operates.seat.value ≡ fourth }
-            requires amounts { (first.share.amount ≡ 0) × (second.share.amount ≡ 0) × (third.share.amount ≡ 0)
-                × (fourth.share.amount ≡ 0) }
+            requires amounts { (first.amount ≡ 0) × (second.amount ≡ 0) × (third.amount ≡ 0)
+                × (fourth.amount ≡ 0) }
             requires none { (put_by putting ≡ []) × (taken_by taking ≡ []) }
-            ensures receiver { IsLeft is_received first.caller first.share.parts result.receiver }
-            ensures sender { IsLeft is_ack second.caller second.share.parts result.sender.left }
+            ensures receiver { IsLeft is_received first.caller first.parts result.receiver }
+            ensures sender { IsLeft is_ack second.caller second.parts result.sender.left }
             ensures taken { HasTaken taking result.sender.taken result.sender.numbers.items }
-            ensures ticker { IsLeft is_tick third.caller third.share.parts result.ticker.left }
+            ensures ticker { IsLeft is_tick third.caller third.parts result.ticker.left }
             ensures put { HasPut putting result.ticker.putting result.ticker.left.receipts }
-            ensures operator { IsLeft is_any fourth.caller fourth.share.parts result.operator }
+            ensures operator { IsLeft is_any fourth.caller fourth.parts result.operator }
         {
             let sender = start(
                 scope,
                 sends,
                 move || -> SenderLeft<N>
-                    requires { (second.share.amount ≡ 0) × (taken_by taking ≡ []) }
-                    ensures left { IsLeft is_ack second.caller second.share.parts result.left }
+                    requires { (second.amount ≡ 0) × (taken_by taking ≡ []) }
+                    ensures left { IsLeft is_ack second.caller second.parts result.left }
                     ensures taken { HasTaken taking result.taken result.numbers.items }
                 { send(rt, alloc, site, second, dialer, taking) },
             );
@@ -117,8 +117,8 @@ where
                 scope,
                 ticks,
                 move || -> TickerLeft<N>
-                    requires { (third.share.amount ≡ 0) × (put_by putting ≡ []) }
-                    ensures left { IsLeft is_tick third.caller third.share.parts result.left }
+                    requires { (third.amount ≡ 0) × (put_by putting ≡ []) }
+                    ensures left { IsLeft is_tick third.caller third.parts result.left }
                     ensures put { HasPut putting result.putting result.left.receipts }
                 { tick(rt, alloc, site, third, generator, putting, turns) },
             );
@@ -126,8 +126,8 @@ where
                 scope,
                 operates,
                 move || -> SeatLeft<N>
-                    requires { fourth.share.amount ≡ 0 }
-                    ensures { IsLeft is_any fourth.caller fourth.share.parts result }
+                    requires { fourth.amount ≡ 0 }
+                    ensures { IsLeft is_any fourth.caller fourth.parts result }
                 { operate(rt, alloc, site, fourth, operator, pass) },
             );
             let started = sender.has_thread() && ticker.has_thread() && operator.has_thread();

@@ -3,6 +3,7 @@ pub mod Law
 pub mod Shows
 pub mod Rules
 pub mod Reading
+pub mod Limits
 pub use Rattle.left_right.specs.Sides
 pub use Rattle.logbook.specs.Pages
 pub use Rattle.cg_types.specs.Rising

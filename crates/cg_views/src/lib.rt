@@ -8,10 +8,12 @@
 mod following;
 mod front;
 pub mod laws;
+mod limits;
 mod pass;
 mod publisher;
 mod shown;
 
 pub use front::{Naming, Opened};
+pub use limits::PASS_LIMIT;
 pub use pass::{Pass, Snapshot, Told};
 pub use publisher::{Publisher, views};

@@ -8,6 +8,7 @@ ghost use Rattle.left_right.specs.Sides.{view};
 ghost use Rattle.cg_views.specs.Lists.{MayAppend, appended, opened_with, all_published};
 
 use crate::front::{Head, Naming, Opened};
+use crate::limits::PASS_LIMIT;
 use crate::pass::{Pass, Told};
 use crate::shown::{Known, Published, Sees, Shown};
 use cg_entry::Entry;
@@ -119,9 +120,10 @@ impl<N: Naming> Publisher<N> {
         replace_with(self, rt, publish_out)
     }
 
-    /// Returns what is published, for passes to learn. It takes no memory.
+    /// Returns what is published, for passes to learn. It takes no memory. The views open with the name's opening table.
     pub fn tell(&self) -> Told<N>
-        ensures { result ≡ self.now.published }
+        ensures told { result ≡ self.now.published }
+        ensures opening { self.now.opening ≡ N.opening }
     {
         Told::over(self.writer.published().front())
     }
@@ -171,7 +173,7 @@ fn publish_out<N: Naming, R: Wait>(
     }
 }
 
-/// Makes a publisher of a table, and `readers` passes, 1 to 16. It returns `AllocError` if one of its parts finds no
+/// Makes a publisher of a table, and `readers` passes, 1 to `PASS_LIMIT`. It returns `AllocError` if one of its parts finds no
 /// memory.
 pub fn views<N: Naming>(
     alloc: Global,
@@ -181,7 +183,7 @@ pub fn views<N: Naming>(
 ) -> Result<(Publisher<N>, Vec<Pass<N>>), AllocError>
     requires book { opened ≡ N.book }
     requires opening { table ≡ N.opening }
-    requires readers { (0 < readers) × (readers ≤ 16) }
+    requires readers { (0 < readers) × (readers ≤ PASS_LIMIT) }
     ensures publisher { IfOk result (λ r. r.0 ≡ opened_with N.opening) }
     ensures passes { IfOk result (λ r. (vec_len r.1 ≡ readers) × All (λ p. p ≡ []) r.1.items) }
 {

@@ -45,8 +45,8 @@ module _ (kind : Event → Bool) where
     kinds = All-append (λ (q : Receipt). kind q.event ≡ true) a.more b.more a.kinds b.kinds;
   }
 
-  one_more : (start : NodeValue) (g h : SeatValue) (e : Event) (answer : Reply) → kind e ≡ true → Enters start g e answer h → More kind g h
-  one_more start g h e answer fits x = record {
+  one_more : (start : NodeValue) (own : ℕ) (g h : SeatValue) (e : Event) (answer : Reply) → kind e ≡ true → Enters start own g e answer h → More kind g h
+  one_more start own g h e answer fits x = record {
     seat = x.seat;
     more = x.receipt ∷ [];
     receipts = x.receipts;
@@ -101,21 +101,21 @@ ack_sent now (event.Set key text) is = absurd is
 ack_sent now (event.Tick moment words) is = absurd is
 ack_sent now event.Opening is = absurd is
 
-module _ (start : NodeValue) {R W : Type 0} (remaining : R → Option (List ℕ)) (contents : W → Option (List ℕ)) (shows : ℕ → Type 0) where
+module _ (start : NodeValue) (own : ℕ) {R W : Type 0} (remaining : R → Option (List ℕ)) (contents : W → Option (List ℕ)) (shows : ℕ → Type 0) where
   pub received_more : {L : Type 0} (accepts : L → Result (Option (R × W)) Fault → L → Type 0) (wanted count : ℕ) (s t : L × SeatValue)
-      → Received (Enters start) (Refuses start) (λ g h. h ≡ g) remaining contents accepts shows wanted count s t → More is_received s.1 t.1
+      → Received (Enters start own) (Refuses start) (λ g h. h ≡ g) remaining contents accepts shows wanted count s t → More is_received s.1 t.1
   received_more accepts wanted count s t x =
-      received_keeps (Enters start) (Refuses start) (λ g h. h ≡ g) shows (More is_received) (none_more is_received) (both_more is_received) (none_more_after is_received)
+      received_keeps (Enters start own) (Refuses start) (λ g h. h ≡ g) shows (More is_received) (none_more is_received) (both_more is_received) (none_more_after is_received)
       remaining contents accepts wanted count s t
-      (λ now e r g h shown at answer done. one_more is_received start g h e r (syn_received now e at) done)
-      (λ now e r g h shown at answer done. one_more is_received start g h e r (ack2_received now e at) done) x
+      (λ now e r g h shown at answer done. one_more is_received start own g h e r (syn_received now e at) done)
+      (λ now e r g h shown at answer done. one_more is_received start own g h e r (ack2_received now e at) done) x
 
   pub sent_more : {D : Type 0} (dials : D → ℕ → Result (R × W) Fault → D → Type 0) (before after : Taking) (numbers : List ℕ) (s t : D × SeatValue)
-      → SentRounds (Enters start) (Refuses start) (λ g h. h ≡ g) remaining contents dials shows before after numbers s t → More is_ack s.1 t.1
+      → SentRounds (Enters start own) (Refuses start) (λ g h. h ≡ g) remaining contents dials shows before after numbers s t → More is_ack s.1 t.1
   sent_more dials before after numbers s t x =
-      sent_keeps (Enters start) (Refuses start) (λ g h. h ≡ g) shows (More is_ack) (none_more is_ack) (both_more is_ack) (none_more_after is_ack)
+      sent_keeps (Enters start own) (Refuses start) (λ g h. h ≡ g) shows (More is_ack) (none_more is_ack) (both_more is_ack) (none_more_after is_ack)
       remaining contents dials before after numbers s t
-      (λ now e r g h shown at answer done. one_more is_ack start g h e r (ack_sent now e at) done) x
+      (λ now e r g h shown at answer done. one_more is_ack start own g h e r (ack_sent now e at) done) x
 
 -- ---- the ticker
 

@@ -41,8 +41,8 @@ pub fn receive<N: Name, R: Wait, L: Listen + Drop, C: Milliseconds>(
     listener: L,
     exchanges: u32,
 ) -> SeatLeft<N>
-    requires { seat.share.amount ≡ 0 }
-    ensures { IsLeft is_received seat.caller seat.share.parts result }
+    requires { seat.amount ≡ 0 }
+    ensures { IsLeft is_received seat.caller seat.parts result }
 {
     if !*site.go.wait(rt) {
         return SeatLeft::unused(alloc, seat);
@@ -64,9 +64,9 @@ pub fn send<N: Name, R: Wait, D: Dial + Drop, C: Milliseconds>(
     dialer: D,
     taking: Taking,
 ) -> SenderLeft<N>
-    requires seat { seat.share.amount ≡ 0 }
+    requires seat { seat.amount ≡ 0 }
     requires taking { taken_by taking ≡ [] }
-    ensures left { IsLeft is_ack seat.caller seat.share.parts result.left }
+    ensures left { IsLeft is_ack seat.caller seat.parts result.left }
     ensures taken { HasTaken taking result.taken result.numbers.items }
 {
     if !*site.go.wait(rt) {
@@ -100,9 +100,9 @@ pub fn tick<N: Name, R: Wait + Clock, C: Milliseconds, G: Rng + Drop>(
     putting: Putting,
     turns: Turns,
 ) -> TickerLeft<N>
-    requires seat { seat.share.amount ≡ 0 }
+    requires seat { seat.amount ≡ 0 }
     requires putting { put_by putting ≡ [] }
-    ensures left { IsLeft is_tick seat.caller seat.share.parts result.left }
+    ensures left { IsLeft is_tick seat.caller seat.parts result.left }
     ensures put { HasPut putting result.putting result.left.receipts }
 {
     if !*site.go.wait(rt) {
@@ -139,8 +139,8 @@ pub fn operate<N: Name, R: Wait, C: Milliseconds, O: Operate + Drop>(
     operates: O,
     pass: Pass<N>,
 ) -> SeatLeft<N>
-    requires { seat.share.amount ≡ 0 }
-    ensures { IsLeft is_any seat.caller seat.share.parts result }
+    requires { seat.amount ≡ 0 }
+    ensures { IsLeft is_any seat.caller seat.parts result }
 {
     if !*site.go.wait(rt) {
         return SeatLeft::unused(alloc, seat);

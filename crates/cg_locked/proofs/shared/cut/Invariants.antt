@@ -6,4 +6,4 @@ use Rattle.cg_locked.proofs.shared.cut.Given as goal
 abbrev pub invariant-loop-i : goal.invariant-loop-i
 invariant-loop-i g l =
     (l.rest.parts + l.i ≡ l.seats) × (l.rest.amount ≡ 0) × (vec_len l.made ≡ l.i) × (l.seats ≤ vec_capacity l.made)
-    × (sum_by (λ s. s.share.parts) l.made.items ≡ l.i) × (sum_by (λ s. s.share.amount) l.made.items ≡ 0) × (map (λ s. s.caller) l.made.items ≡ callers_up_to l.i)
+    × (sum_by (λ s. s.parts) l.made.items ≡ l.i) × (sum_by (λ s. s.amount) l.made.items ≡ 0) × (map (λ s. s.caller) l.made.items ≡ callers_up_to l.i)

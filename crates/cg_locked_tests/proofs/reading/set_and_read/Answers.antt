@@ -7,6 +7,6 @@ use Rattle.cg_locked_tests.proofs.reading.set_and_read.Goals as goal
 
 pub returns-clause-read : goal.returns-clause-read
 returns-clause-read g c =
-    let shows = subst (λ t. IfSome t (λ t. ShowsSet t g.N.Name.start.table.own (event.Set c.args.key c.args.text) c.in_ok-receipt.receipt.reply)) c.in-Some.is c.in_ok-receipt.ensures.shown in
-    read_has g.N.Naming.opening g.N.Name.start.table c.in-Some.told _ c.args.key c.args.text c.in_ok-receipt.receipt.reply c.in-Done.version c.in_ok-snapshot.snapshot c.requires shows c.in-Done.is
+    let shows = subst (λ t. IfSome t (λ t. ShowsSet t g.N.Naming.opening.own (event.Set c.args.key c.args.text) c.in_ok-receipt.receipt.reply)) c.in-Some.is c.in_ok-receipt.ensures.shown in
+    read_has g.N.Naming.opening c.in-Some.told _ c.args.key c.args.text c.in_ok-receipt.receipt.reply c.in-Done.version c.in_ok-snapshot.snapshot shows c.in-Done.is
     (starts_on _ _ _ c.in_ok-snapshot.ensures.later c.learn.ensures.told) c.in_ok-snapshot.ensures.order c.in_ok-snapshot.ensures.table

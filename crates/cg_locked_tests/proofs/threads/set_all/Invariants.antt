@@ -2,4 +2,4 @@ use Rattle.std.proofs.Common.{◌≡◌}
 use Rattle.cg_locked_tests.proofs.threads.set_all.Given as goal
 
 abbrev pub invariant-loop : goal.invariant-loop
-invariant-loop g l = l.seat.share.parts ≡ l.fn.seat.share.parts
+invariant-loop g l = l.seat.parts ≡ l.fn.seat.parts

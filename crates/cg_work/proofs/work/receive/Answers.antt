@@ -7,6 +7,6 @@ use Rattle.cg_work.proofs.work.receive.Goals as goal
 pub returns : goal.returns
 returns g c =
     let after = c.receiver-came.new.gate in
-    left_more is_received c.args.seat.caller c.args.seat.share.parts after c.left_of.result
-    (subst (λ (x : SeatValue). More is_received x after) c.new-gate.ensures (received_more g.N.Name.start _ _ _ _ _ _ _ _ c.receiver-came.ensures.received))
+    left_more is_received c.args.seat.caller c.args.seat.parts after c.left_of.result
+    (subst (λ (x : SeatValue). More is_received x after) c.new-gate.ensures (received_more g.N.Name.start g.N.Naming.opening.own _ _ _ _ _ _ _ _ c.receiver-came.ensures.received))
     c.left_of.ensures.parts c.left_of.ensures.receipts c.left_of.ensures.own

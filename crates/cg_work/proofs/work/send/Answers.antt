@@ -7,6 +7,6 @@ use Rattle.cg_work.proofs.work.send.Goals as goal
 pub returns-clause-left : goal.returns-clause-left
 returns-clause-left g c =
     let after = c.sender-numbers.new.gate in
-    left_more is_ack c.args.seat.caller c.args.seat.share.parts after c.left_of.result
-    (subst (λ (x : SeatValue). More is_ack x after) c.new-gate.ensures (sent_more g.N.Name.start _ _ _ _ _ _ _ _ _ c.sender-numbers.ensures.sent))
+    left_more is_ack c.args.seat.caller c.args.seat.parts after c.left_of.result
+    (subst (λ (x : SeatValue). More is_ack x after) c.new-gate.ensures (sent_more g.N.Name.start g.N.Naming.opening.own _ _ _ _ _ _ _ _ _ c.sender-numbers.ensures.sent))
     c.left_of.ensures.parts c.left_of.ensures.receipts c.left_of.ensures.own

@@ -1,0 +1,25 @@
+//! Laws of told Sets, of receipts and of the limit: contracts of functions that do nothing.
+
+ghost use Rattle.cg_locked.specs.Entry.{ConfirmedStay, EntriesAreConfirmed, ShownSetsAreRead};
+ghost use Rattle.cg_locked.specs.Limits.{SeatLimitValue};
+
+/// A Set that `submit` or a gate over a seat told is read: a pass that learnt the `Told` reads the key at the reply's
+/// version or a later one.
+pub fn shown_sets_are_read()
+    ensures { ShownSetsAreRead }
+{}
+
+/// The receipts of a seat's events are confirmed by the records that it has seen, and rise.
+pub fn entries_are_confirmed()
+    ensures { EntriesAreConfirmed }
+{}
+
+/// Records confirm all receipts that a prefix of them confirms.
+pub fn confirmed_stay()
+    ensures { ConfirmedStay }
+{}
+
+/// The limit of seats has the value that is documented.
+pub fn seat_limit_has_its_value()
+    ensures { SeatLimitValue }
+{}
