@@ -1,5 +1,5 @@
 -- Each step of the channel keeps its rule.
-use Rattle.std.proofs.Common.{◌≡◌, ◌≢◌, ℕ, zero, suc, ◌⊎◌, true, false, List, [], ◌∷◌, ◌++◌, length, set, refl, sym, ap, ◌∙◌, subst, inl, inr, ⊎_elim, append_assoc}
+use Rattle.std.proofs.Common.{◌≡◌, ◌≢◌, ℕ, zero, suc, ◌⊎◌, ◌||◌, true, false, List, [], ◌∷◌, ◌++◌, length, set, refl, sym, ap, ◌∙◌, subst, inl, inr, ⊎_elim, append_assoc}
 use Rattle.std.proofs.lemmas.List.{append-nil}
 use mathlib.Core.Option.{some, some-injective, some-ne-none}
 use lib.ListN.{get_elem?}
@@ -8,7 +8,7 @@ use Rattle.crossbeam_channel.specs.Fifo.{Pushes, Pops, Forks, Merges, Learns}
 use Rattle.cg_rounds.specs.declared.round.Round.{Round}
 use Rattle.cg_rounds.specs.declared.rule.NextRound.{NextRound}
 use Rattle.cg_rounds.specs.declared.rule.Hand.{Hand}
-use Rattle.cg_rounds.specs.Rounds.{round_of, rounds_of, hand, Fits, InOrder}
+use Rattle.cg_rounds.specs.Rounds.{round_of, rounds_of, is_done, hand, Fits, InOrder}
 
 rounds-append : (xs ys : List NextRound) → rounds_of (xs ++ ys) ≡ rounds_of xs ++ rounds_of ys
 rounds-append [] ys = refl
@@ -25,17 +25,17 @@ off : false ≡ true → ⊥
 off e = absurd cc
 
 -- the first pass may put and take
-pub starts : InOrder [] (hand true true [] [] ∷ [])
+pub starts : InOrder [] (hand true true [] [] false ∷ [])
 starts = (zero, zero, [], [], refl, only)
   where
-    only : (pass : ℕ) (v : Hand) → get_elem? (hand true true [] [] ∷ []) pass ≡ some v → Fits zero zero [] [] pass v
+    only : (pass : ℕ) (v : Hand) → get_elem? (hand true true [] [] false ∷ []) pass ≡ some v → Fits zero zero [] [] pass v
     only zero v e = let s = some-injective _ v e in ((λ p. (refl, ap (λ (h : Hand). h.put) (sym s))), (λ p. (refl, ap (λ (h : Hand). h.taken) (sym s))))
     only (suc j) v e = absurd (some-ne-none v (sym e))
 
-pub puts : (n pass : ℕ) (v : Hand) (x : NextRound) → v.puts ≡ true → v.takes ≡ false → Pushes InOrder n pass v x (λ w. w ≡ hand v.puts v.takes (v.put ++ round_of x) v.taken)
+pub puts : (n pass : ℕ) (v : Hand) (x : NextRound) → v.puts ≡ true → v.takes ≡ false → Pushes InOrder n pass v x (λ w. w ≡ hand v.puts v.takes (v.put ++ round_of x) v.taken (is_done x || v.said))
 puts n pass v x may not_takes items views room h at =
     let putter = h.0 in let taker = h.1 in let put = h.2 in let taken = h.3 in
-    let w = hand v.puts v.takes (v.put ++ round_of x) v.taken in
+    let w = hand v.puts v.takes (v.put ++ round_of x) v.taken (is_done x || v.said) in
     let mine = (h.5 pass v at).0 may in
     let whole : put ++ round_of x ≡ taken ++ rounds_of (items ++ x ∷ []) =
     ap (λ (ns : List Round). ns ++ round_of x) h.4 ∙ append_assoc taken (rounds_of items) (round_of x)
@@ -57,10 +57,10 @@ puts n pass v x may not_takes items views room h at =
       refl,
     )
 
-pub takes : (pass : ℕ) (v : Hand) → v.takes ≡ true → v.puts ≡ false → Pops InOrder pass v (λ x w. w ≡ hand v.puts v.takes v.put (v.taken ++ round_of x))
+pub takes : (pass : ℕ) (v : Hand) → v.takes ≡ true → v.puts ≡ false → Pops InOrder pass v (λ x w. w ≡ hand v.puts v.takes v.put (v.taken ++ round_of x) v.said)
 takes pass v may not_puts x items views h at =
     let putter = h.0 in let taker = h.1 in let put = h.2 in let taken = h.3 in
-    let w = hand v.puts v.takes v.put (v.taken ++ round_of x) in
+    let w = hand v.puts v.takes v.put (v.taken ++ round_of x) v.said in
     let mine = (h.5 pass v at).1 may in (
       w,
       (
@@ -79,10 +79,10 @@ takes pass v may not_puts x items views h at =
       refl,
     )
 
-pub cuts : (pass : ℕ) (v : Hand) → v.puts ≡ true → v.takes ≡ true → Forks InOrder pass v (hand true false v.put []) (hand false true [] v.taken)
+pub cuts : (pass : ℕ) (v : Hand) → v.puts ≡ true → v.takes ≡ true → Forks InOrder pass v (hand true false v.put [] v.said) (hand false true [] v.taken false)
 cuts pass v may can items views h at =
     let putter = h.0 in let put = h.2 in let taken = h.3 in
-    let left = hand true false v.put [] in let right = hand false true [] v.taken in
+    let left = hand true false v.put [] v.said in let right = hand false true [] v.taken false in
     let f = h.5 pass v at in let mine = f.0 may in let his = f.1 can in
     let new = length (set views pass left) in (
       pass,
@@ -100,10 +100,10 @@ cuts pass v may can items views h at =
           (at_end (set views pass left) right u j e)),
     )
 
-pub joins : (pass : ℕ) (v : Hand) (other : ℕ) (w : Hand) → v.puts ≡ true → w.takes ≡ true → Merges InOrder pass v other w (hand true true v.put w.taken) (hand false false [] [])
+pub joins : (pass : ℕ) (v : Hand) (other : ℕ) (w : Hand) → v.puts ≡ true → w.takes ≡ true → Merges InOrder pass v other w (hand true true v.put w.taken v.said) (hand false false [] [] false)
 joins pass v other w may can items views h at apart there =
     let putter = h.0 in let put = h.2 in let taken = h.3 in
-    let both = hand true true v.put w.taken in let spent = hand false false [] [] in
+    let both = hand true true v.put w.taken v.said in let spent = hand false false [] [] false in
     let mine = (h.5 pass v at).0 may in
     let old : get_elem? views other ≡ some w = ⊎_elim (λ (t : (other ≡ pass) × (both ≡ w)). absurd (apart t.0)) (λ (t : (other ≢ pass) × (get_elem? views other ≡ some w)). t.1) (at_set views pass other both w there) in
     let his = (h.5 other w old).1 can in (

@@ -1,5 +1,5 @@
 -- Rounds that were put in at one end of the channel, and taken at the other.
-use Rattle.std.specs.Prelude.{◌≡◌, ℕ, List, [], ◌∷◌, ◌++◌, Option, Some, None}
+use Rattle.std.specs.Prelude.{◌≡◌, ◌⊎◌, ℕ, Bool, true, false, List, [], ◌∷◌, ◌++◌, Option, Some, None}
 use Rattle.crossbeam_channel.specs.Claims.{view, IsSeatAt}
 use Rattle.crossbeam_channel.specs.Ends.{sends_on, receives_on, ruled_capacity}
 use Rattle.cg_rounds.specs.declared.round.Round.{Round}
@@ -37,6 +37,21 @@ PutsWhere putting before = sends_on putting.to ≡ sends_on before.to
 
 abbrev pub TakesWhere : Taking → Taking → Type 0
 TakesWhere taking before = receives_on taking.from ≡ receives_on before.from
+
+-- it was said at this end that no more rounds come
+abbrev pub said_by : Putting → Bool
+said_by end = (view end.pass).said
+
+-- the channel has handed something back, since nobody takes any more
+abbrev pub IsDisconnected : Putting → Type 0
+IsDisconnected end = end.disconnected ≡ true
+
+abbrev pub IsOpen : Putting → Type 0
+IsOpen end = (said_by end ≡ false) × (end.disconnected ≡ false)
+
+-- nobody waits for a round of this end: it said that no more come, or nobody takes any
+abbrev pub HasEnded : Putting → Type 0
+HasEnded end = (said_by end ≡ true) ⊎ IsDisconnected end
 
 -- they were taken at this end of the channel
 abbrev pub IsLeftOf : Taking → Taken → Type 0

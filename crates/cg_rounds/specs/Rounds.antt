@@ -1,5 +1,5 @@
 -- Contents of the channel of rounds, and the knowledge of its passes.
-use Rattle.std.specs.Prelude.{◌≡◌, ℕ, Bool, true, List, [], ◌∷◌, ◌++◌}
+use Rattle.std.specs.Prelude.{◌≡◌, ℕ, Bool, true, false, List, [], ◌∷◌, ◌++◌}
 use mathlib.Core.Option.{some}
 use lib.ListN.{get_elem?}
 use Rattle.cg_rounds.specs.declared.round.Round.{Round}
@@ -16,8 +16,13 @@ abbrev pub rounds_of : List NextRound → List Round
 rounds_of [] = []
 rounds_of (x ∷ xs) = round_of x ++ rounds_of xs
 
-abbrev pub hand : Bool → Bool → List Round → List Round → Hand
-hand puts takes put taken = record { puts = puts; takes = takes; put = put; taken = taken }
+-- it is the word of the end
+abbrev pub is_done : NextRound → Bool
+is_done (Of round) = false
+is_done Done = true
+
+abbrev pub hand : Bool → Bool → List Round → List Round → Bool → Hand
+hand puts takes put taken said = record { puts = puts; takes = takes; put = put; taken = taken; said = said }
 
 -- One pass alone may put, and knows the rounds put in; one alone may take, and knows the rounds taken.
 abbrev pub Fits : ℕ → ℕ → List Round → List Round → ℕ → Hand → Type 0

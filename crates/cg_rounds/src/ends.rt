@@ -19,8 +19,10 @@ pub(crate) type Ticket = Pass<NextRound, Hand>;
 pub struct Putting {
     pub(crate) to: Sender,
     pub(crate) pass: Ticket,
+    /// `true` once the channel has handed something back, since nobody takes any more.
+    pub(crate) disconnected: bool,
     ghost seated: { IsSeatAt (sends_on to) pass },
-    ghost puts: { view pass ≡ hand true false (view pass).put [] },
+    ghost puts: { view pass ≡ hand true false (view pass).put [] (view pass).said },
 }
 
 /// The end where rounds are taken.
@@ -29,12 +31,12 @@ pub struct Taking {
     pub(crate) from: Receiver,
     pub(crate) pass: Ticket,
     ghost seated: { IsSeatAt (receives_on from) pass },
-    ghost takes: { view pass ≡ hand false true [] (view pass).taken },
+    ghost takes: { view pass ≡ hand false true [] (view pass).taken false },
 }
 
 /// The remains of an end that was given up: the rounds taken there.
 #[derive(Drop)]
 pub struct Taken {
     pub(crate) pass: Ticket,
-    ghost takes: { view pass ≡ hand false true [] (view pass).taken },
+    ghost takes: { view pass ≡ hand false true [] (view pass).taken false },
 }

@@ -11,24 +11,26 @@ pub enum NextRound {
     Done,
 }
 
-/// The rights of the holder of a pass, and the rounds that it has put in and taken. No value of it is made.
+/// The rights of the holder of a pass, the rounds that it has put in and taken, and `true` if it said that there are no
+/// more. No value of it is made.
 pub struct Hand {
     pub puts: bool,
     pub takes: bool,
     pub put: LinkedList<Round>,
     pub taken: LinkedList<Round>,
+    pub said: bool,
 }
 
 /// The rule of the channel.
 pub struct ChannelRule;
 
 impl Protocol<NextRound, Hand> for ChannelRule {
-    ghost use Rattle.std.specs.Prelude.{true, []};
+    ghost use Rattle.std.specs.Prelude.{true, false, []};
     ghost use Rattle.cg_rounds.specs.Rounds.{hand, InOrder};
 
     ghost holds = { InOrder };
 
-    ghost first = { hand true true [] [] };
+    ghost first = { hand true true [] [] false };
 }
 
 /// The step in which one pass becomes two: the one puts, the other takes.
@@ -38,28 +40,28 @@ impl Split<Hand> for Cut {
     ghost use Rattle.std.specs.Prelude.{true, false, []};
     ghost use Rattle.cg_rounds.specs.Rounds.{hand};
 
-    ghost left = { λ v. hand true false v.put [] };
+    ghost left = { λ v. hand true false v.put [] v.said };
 
-    ghost right = { λ v. hand false true [] v.taken };
+    ghost right = { λ v. hand false true [] v.taken false };
 }
 
 impl Join<Hand> for Cut {
     ghost use Rattle.std.specs.Prelude.{true, false, []};
     ghost use Rattle.cg_rounds.specs.Rounds.{hand};
 
-    ghost both = { λ v w. hand true true v.put w.taken };
+    ghost both = { λ v w. hand true true v.put w.taken v.said };
 
-    ghost spent = { hand false false [] [] };
+    ghost spent = { hand false false [] [] false };
 }
 
-/// The step that puts a round in.
+/// The step that puts a round in, or the word.
 pub struct PutsRound;
 
 impl Outcome<NextRound, Hand> for PutsRound {
-    ghost use Rattle.std.specs.Prelude.{◌≡◌, ◌++◌};
-    ghost use Rattle.cg_rounds.specs.Rounds.{hand, round_of};
+    ghost use Rattle.std.specs.Prelude.{◌≡◌, ◌++◌, ◌||◌};
+    ghost use Rattle.cg_rounds.specs.Rounds.{hand, round_of, is_done};
 
-    ghost then = { λ v x w. w ≡ hand v.puts v.takes (v.put ++ round_of x) v.taken };
+    ghost then = { λ v x w. w ≡ hand v.puts v.takes (v.put ++ round_of x) v.taken (is_done x || v.said) };
 }
 
 impl Lesson<NextRound, Hand> for PutsRound {
@@ -73,7 +75,7 @@ impl Outcome<NextRound, Hand> for TakesRound {
     ghost use Rattle.std.specs.Prelude.{◌≡◌, ◌++◌};
     ghost use Rattle.cg_rounds.specs.Rounds.{hand, round_of};
 
-    ghost then = { λ v x w. w ≡ hand v.puts v.takes v.put (v.taken ++ round_of x) };
+    ghost then = { λ v x w. w ≡ hand v.puts v.takes v.put (v.taken ++ round_of x) v.said };
 }
 
 impl Lesson<NextRound, Hand> for TakesRound {
