@@ -14,7 +14,7 @@ use cg_records::Receipt;
 use cg_rounds::{Putting, Taking, generator, rounds};
 use cg_seats::SeatGate;
 use cg_table::Table;
-use cg_ticker::{Ticked, ticker};
+use cg_ticker::{Stop, Ticked, ticker};
 use cg_views::{Opened, views};
 use std::alloc::Global;
 use std::marker::Brand;
@@ -173,7 +173,7 @@ fn two_ticks_make_two_rounds(rt: HostRuntime) -> Result<(), Fail> {
     let due = Seen {
         ticked: Ticked {
             refused: 0,
-            stopped: false,
+            stopped: None,
         },
         records: 2,
         confirmed: 2,
@@ -198,7 +198,7 @@ fn a_round_that_is_handed_back_stops_the_ticker(rt: HostRuntime) -> Result<(), F
     let due = Seen {
         ticked: Ticked {
             refused: 0,
-            stopped: true,
+            stopped: Some(Stop::HandedBack),
         },
         records: 1,
         confirmed: 1,
@@ -222,7 +222,7 @@ fn no_ticks_make_no_round(rt: HostRuntime) -> Result<(), Fail> {
     let due = Seen {
         ticked: Ticked {
             refused: 0,
-            stopped: false,
+            stopped: None,
         },
         records: 0,
         confirmed: 0,

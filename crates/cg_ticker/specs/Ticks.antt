@@ -1,14 +1,19 @@
 -- The ticks of a ticker, and their rounds.
-use Rattle.std.specs.Prelude.{ℕ, ◌+◌, ◌≡◌, ◌≤◌, Bool, true, false, List, [], ◌∷◌, ◌++◌, length}
+use Rattle.std.specs.Prelude.{ℕ, suc, ◌≡◌, ◌≤◌, List, [], ◌∷◌, ◌++◌, length, Option, Some, None}
 use Rattle.std.specs.List.{All}
 use Rattle.rand_core.specs.Stream.{Stream}
+use Rattle.cg_types.specs.declared.fault.Fault.{Fault}
 use Rattle.cg_events.specs.declared.event.Event.{Event}
 use Rattle.cg_events.specs.declared.event.Event.TheVariants as event
 use Rattle.cg_events.specs.declared.reply.Reply.{Reply}
 use Rattle.cg_events.specs.declared.reply.Reply.TheVariants as reply
 use Rattle.cg_records.specs.declared.item.Receipt.{Receipt}
 use Rattle.cg_rounds.specs.declared.round.Round.{Round}
-use Rattle.cg_rounds.specs.Words.{four_of, words_of_ticks}
+use Rattle.cg_rounds.specs.declared.ends.Putting.{Putting}
+use Rattle.cg_rounds.specs.Ends.{put_by, said_by, IsDisconnected, HasEnded}
+use Rattle.cg_rounds.specs.Words.{four_of}
+use Rattle.cg_ticker.specs.declared.ticked.Stop.{Stop}
+use Rattle.cg_ticker.specs.declared.ticked.Stop.TheVariants as stop
 use Rattle.cg_ticker.specs.declared.ticked.Ticked.{Ticked}
 use Rattle.cg_ticker.specs.declared.ticking.Turn.{Turn}
 use Rattle.cg_ticker.specs.declared.ticking.Turn.TheVariants as turn
@@ -31,56 +36,80 @@ round_with number answer = []
 abbrev pub round_in : Receipt → List Round
 round_in q = round_with q.number q.reply
 
--- the rounds of receipts
-abbrev pub rounds_in : List Receipt → List Round
-rounds_in [] = []
-rounds_in (q ∷ qs) = round_in q ++ rounds_in qs
-
 -- the words of an event; empty if it is not a tick
 abbrev pub words_in : Event → List ℕ
 words_in (event.Tick now words) = words
 words_in e = []
 
--- the words of the ticks of receipts, one tick after the other
-abbrev pub words_of : List Receipt → List ℕ
-words_of [] = []
-words_of (q ∷ qs) = words_in q.event ++ words_of qs
-
 -- ---- one turn
 
--- There is one receipt more, of a tick with these words, at a time that the clock showed.
-pub record HasTicked (shows : ℕ → Type 0) (drawn : List ℕ) (had has : List Receipt) (q : Receipt) : Type 0 where
-  pub tick : IsTick shows q
-  pub words : words_in q.event ≡ drawn
-  pub receipts : has ≡ had ++ q ∷ []
+-- The round of the receipt was put in; or it was not, since there was no memory for it, or since nobody takes any more.
+abbrev pub IsPassedOn : Receipt → Turn → Putting → Putting → Type 0
+IsPassedOn q turn.Refused before after = ⊥
+IsPassedOn q turn.Put before after = (put_by after ≡ put_by before ++ round_in q) × (said_by after ≡ said_by before)
+IsPassedOn q (turn.Stopped stop.NoMemory) before after = after ≡ before
+IsPassedOn q (turn.Stopped stop.HandedBack) before after =
+    (put_by after ≡ put_by before) × (said_by after ≡ said_by before) × IsDisconnected after
 
--- One turn from the receipts and the rounds put in so far to those after it: a tick with the next words was refused;
--- or it was done, and its round is put in or not.
-abbrev pub IsTurn : (ℕ → Type 0) → Stream → List Receipt → List Round → Turn → List Receipt → List Round → Type 0
-IsTurn shows s had before turn.Refused has after = (has ≡ had) × (after ≡ before)
-IsTurn shows s had before turn.Put has after =
-    (q : Receipt) × HasTicked shows (four_of s).0 had has q × (after ≡ before ++ round_in q)
-IsTurn shows s had before turn.Stopped has after =
-    (q : Receipt) × HasTicked shows (four_of s).0 had has q × (after ≡ before)
+-- no turn follows one that stopped
+abbrev pub GoesOn : Turn → Type 0
+GoesOn (turn.Stopped why) = ⊥
+GoesOn turn = Unit {0}
 
--- ---- all turns
+-- the last turn of a ticker that stopped
+abbrev pub last_of : Option Stop → List Turn
+last_of None = []
+last_of (Some why) = turn.Stopped why ∷ []
 
--- the number of ticks at the end that have no round in the channel
-abbrev pub missing : Bool → ℕ
-missing true = 1
-missing false = 0
+-- the number of refused turns
+abbrev pub refusals : List Turn → ℕ
+refusals [] = 0
+refusals (turn.Refused ∷ turns) = suc (refusals turns)
+refusals (turn ∷ turns) = refusals turns
 
--- There are more receipts, all of ticks at times that the clock showed. First come those whose rounds were put in,
--- then, if the ticker stopped, one whose round was not. If it did not stop, ticks and refused ticks are as many as
--- rounds were wanted. If no tick was refused, the words of the ticks are the generator's.
-pub record Ticks (shows : ℕ → Type 0) (rounds : ℕ) (s : Stream) (had : List Receipt) (before : List Round)
-    (left : Ticked) (has : List Receipt) (after : List Round) : Type 0 where
-  pub passed : List Receipt
-  pub rest : List Receipt
-  pub receipts : has ≡ had ++ (passed ++ rest)
-  pub ticks : All (IsTick shows) (passed ++ rest)
-  pub put : after ≡ before ++ rounds_in passed
-  pub stopped : length rest ≡ missing left.stopped
-  pub most : left.refused + length (passed ++ rest) ≤ rounds
-  pub whole : left.stopped ≡ false → left.refused + length (passed ++ rest) ≡ rounds
-  pub words : left.refused ≡ 0 → words_of (passed ++ rest) ≡ words_of_ticks (length (passed ++ rest)) s
+-- Parameters: the receipts of a gate, its steps and refusals, and the times of a clock.
+module _ {S : Type 0} (receipts_of : S → List Receipt) (does : S → Event → Reply → S → Type 0)
+    (refuses : S → Event → Fault → Type 0) (shows : ℕ → Type 0) where
+  -- a tick with these words, at a time that the clock showed, was refused, and nothing changed
+  pub record WasRefused (drawn : List ℕ) (s t : S × Putting) : Type 0 where
+    pub now : ℕ
+    pub shown : shows now
+    pub fault : Fault
+    pub refused : refuses s.0 (event.Tick now drawn) fault
+    pub same : (t.0 ≡ s.0) × (t.1 ≡ s.1)
+
+  -- a tick with these words, at a time that the clock showed, was done, and this is its receipt
+  pub record HasTicked (drawn : List ℕ) (q : Receipt) (s t : S) : Type 0 where
+    pub tick : IsTick shows q
+    pub words : words_in q.event ≡ drawn
+    pub done : does s q.event q.reply t
+    pub receipts : receipts_of t ≡ receipts_of s ++ q ∷ []
+
+  -- One turn, with these words: a tick was refused, or it was done and its round passed on.
+  abbrev pub IsTurn : List ℕ → Turn → S × Putting → S × Putting → Type 0
+  IsTurn drawn turn.Refused s t = WasRefused drawn s t
+  IsTurn drawn turn s t = (q : Receipt) × HasTicked drawn q s.0 t.0 × IsPassedOn q turn s.1 t.1
+
+  -- ---- all turns
+
+  -- These turns, one after the other, lead from s to t. Each had the next four words of the stream.
+  abbrev pub AreTurns : List Turn → Stream → S × Putting → S × Putting → Type 0
+  AreTurns [] words s t = t ≡ s
+  AreTurns (turn ∷ turns) words s t =
+      (u : S × Putting) × IsTurn (four_of words).0 turn s u × AreTurns turns (four_of words).1 u t
+
+  -- Turns were made, as many as were wanted, or up to one whose round could not be put in.
+  pub record HasTurned (rounds : ℕ) (words : Stream) (left : Ticked) (s t : S × Putting) : Type 0 where
+    pub earlier : List Turn
+    pub go_on : All GoesOn earlier
+    pub made : AreTurns (earlier ++ last_of left.stopped) words s t
+    pub most : length (earlier ++ last_of left.stopped) ≤ rounds
+    pub whole : left.stopped ≡ None → length earlier ≡ rounds
+    pub refused : left.refused ≡ refusals earlier
+
+  -- Turns were made, and then the end of the rounds was said, unless nobody takes any more.
+  pub record Ticks (rounds : ℕ) (words : Stream) (left : Ticked) (s t : S × Putting) : Type 0 where
+    pub there : Putting
+    pub turned : HasTurned rounds words left s (t.0, there)
+    pub put : put_by t.1 ≡ put_by there
+    pub ended : HasEnded t.1

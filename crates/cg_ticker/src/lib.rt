@@ -4,9 +4,10 @@
 //! tick into the channel that the sender takes from.
 #![tactic(auto)]
 
+pub mod laws;
 mod passing;
 mod ticked;
 mod ticking;
 
-pub use ticked::Ticked;
+pub use ticked::{Stop, Ticked};
 pub use ticking::ticker;

@@ -1,10 +1,12 @@
 //! The round of a tick, on its way into the channel.
 
-ghost use Rattle.std.specs.Prelude.{◌≡◌, ◌++◌, ◌∷◌, [], IfOk, MatchBool};
+ghost use Rattle.std.specs.Prelude.{◌≡◌, ◌∷◌, [], IfOk};
 ghost use Rattle.cg_events.specs.Replies.{IsRound};
-ghost use Rattle.cg_rounds.specs.Ends.{put_by, PutsWhere};
-ghost use Rattle.cg_ticker.specs.Ticks.{round_in};
+ghost use Rattle.cg_rounds.specs.Ends.{PutsWhere};
+ghost use Rattle.cg_ticker.specs.Ticks.{IsPassedOn, round_in};
 
+use crate::ticked::Stop;
+use crate::ticking::Turn;
 use cg_events::Reply;
 use cg_records::Receipt;
 use cg_rounds::{Putting, Round};
@@ -26,16 +28,17 @@ pub(crate) fn round_of(alloc: Global, receipt: &Receipt) -> Result<Round, AllocE
     })
 }
 
-/// Puts the round of a tick's receipt into the channel. Returns `false` if no memory is found for the round, or if the
-/// channel hands it back.
-pub(crate) fn pass_on<R: Wait>(rt: &R, alloc: Global, receipt: &Receipt, to: &mut Putting) -> bool
+/// Puts the round of a tick's receipt into the channel.
+pub(crate) fn pass_on<R: Wait>(rt: &R, alloc: Global, receipt: &Receipt, to: &mut Putting) -> Turn
     requires { IsRound receipt.now.reply }
     ensures channel { PutsWhere to.new to.old }
-    ensures put { MatchBool result (put_by to.new ≡ put_by to.old ++ round_in receipt.now)
-        (put_by to.new ≡ put_by to.old) }
+    ensures put { IsPassedOn receipt.now result to.old to.new }
 {
-    match round_of(alloc, receipt) {
-        Ok(round) => to.put(rt, round).is_ok(),
-        Err(_) => false,
+    let Ok(round) = round_of(alloc, receipt) else {
+        return Turn::Stopped(Stop::NoMemory);
+    };
+    match to.put(rt, round) {
+        Ok(()) => Turn::Put,
+        Err(_) => Turn::Stopped(Stop::HandedBack),
     }
 }

@@ -1,13 +1,13 @@
 //! The ticks of a node, one after the other.
 
-ghost use Rattle.std.specs.Prelude.{◌≡◌, ◌≤◌, ℕ};
+ghost use Rattle.std.specs.Prelude.{◌≡◌, ℕ};
 ghost use Rattle.cg_events.specs.declared.event.Event.TheVariants as events;
 ghost use Rattle.cg_rounds.specs.Words.{four_of};
-ghost use Rattle.cg_rounds.specs.Ends.{put_by, PutsWhere};
-ghost use Rattle.cg_ticker.specs.Ticks.{IsTurn, Ticks};
+ghost use Rattle.cg_rounds.specs.Ends.{PutsWhere};
+ghost use Rattle.cg_ticker.specs.Ticks.{IsTurn, HasTurned, Ticks};
 
 use crate::passing::pass_on;
-use crate::ticked::Ticked;
+use crate::ticked::{Stop, Ticked};
 use cg_clock::Milliseconds;
 use cg_events::Event;
 use cg_records::Enter;
@@ -26,7 +26,7 @@ pub(crate) enum Turn {
     /// Its round was put in.
     Put,
     /// Its round could not be put in.
-    Stopped,
+    Stopped(Stop),
 }
 
 /// Makes the next tick: at the clock's time, with the next four words.
@@ -51,8 +51,8 @@ pub(crate) fn tick_once<R: Wait, C: Milliseconds, E: Enter, G: Rng>(
 ) -> Turn
     ensures seat { E.seat gate.new ≡ E.seat gate.old }
     ensures channel { PutsWhere to.new to.old }
-    ensures turn { IsTurn (C.shows clock.now) (G.stream generator.old) (E.receipts gate.old) (put_by to.old) result
-        (E.receipts gate.new) (put_by to.new) }
+    ensures turn { IsTurn E.receipts E.does E.refuses (C.shows clock.now) (four_of (G.stream generator.old)).0 result
+        (gate.old, to.old) (gate.new, to.new) }
     ensures left { G.stream generator.new ≡ (four_of (G.stream generator.old)).1 }
 {
     let event = tick(clock, generator);
@@ -62,11 +62,7 @@ pub(crate) fn tick_once<R: Wait, C: Milliseconds, E: Enter, G: Rng>(
     let Some(receipt) = gate.last() else {
         unreachable!()
     };
-    if pass_on(rt, alloc, receipt, to) {
-        Turn::Put
-    } else {
-        Turn::Stopped
-    }
+    pass_on(rt, alloc, receipt, to)
 }
 
 /// Does `rounds` turns, with a pause of `interval` milliseconds between two; fewer if a round could not be put in.
@@ -82,8 +78,8 @@ fn turns<R: Wait + Clock, C: Milliseconds, E: Enter, G: Rng>(
 ) -> Ticked
     ensures seat { E.seat gate.new ≡ E.seat gate.old }
     ensures channel { PutsWhere to.new to.old }
-    ensures ticks { Ticks (C.shows clock.now) rounds (G.stream generator.old) (E.receipts gate.old) (put_by to.old) result
-        (E.receipts gate.new) (put_by to.new) }
+    ensures turns { HasTurned E.receipts E.does E.refuses (C.shows clock.now) rounds (G.stream generator.old) result
+        (gate.old, to.old) (gate.new, to.new) }
 {
     let mut refused = 0;
     for place in 0..rounds {
@@ -93,15 +89,15 @@ fn turns<R: Wait + Clock, C: Milliseconds, E: Enter, G: Rng>(
         match tick_once(rt, alloc, clock, gate, generator, to) {
             Turn::Refused => refused += 1,
             Turn::Put => {}
-            Turn::Stopped => return Ticked {
+            Turn::Stopped(stop) => return Ticked {
                 refused,
-                stopped: true,
+                stopped: Some(stop),
             },
         }
     }
     Ticked {
         refused,
-        stopped: false,
+        stopped: None,
     }
 }
 
@@ -109,9 +105,9 @@ fn turns<R: Wait + Clock, C: Milliseconds, E: Enter, G: Rng>(
 /// that can't be put in. Between two ticks it pauses for `interval` milliseconds. In the end it puts in the word that
 /// no more rounds come.
 ///
-/// A refused tick makes no round, and counts as one. The ticker stops if it finds no memory to pass a round on, or if
-/// the channel hands it back. The contract does not say that the times of the ticks rise, nor that it pauses, nor that
-/// it puts in that word.
+/// A tick that its gate refuses makes no round, and counts as one. The ticker stops if it finds no memory to pass a
+/// round on, or if the channel hands it back, and for no other reason. The contract does not say that the times of the
+/// ticks rise, nor that it pauses, nor that memory was lacking if it says so.
 pub fn ticker<R: Wait + Clock, C: Milliseconds, E: Enter, G: Rng>(
     rt: &R,
     alloc: Global,
@@ -124,8 +120,8 @@ pub fn ticker<R: Wait + Clock, C: Milliseconds, E: Enter, G: Rng>(
 ) -> Ticked
     ensures seat { E.seat gate.new ≡ E.seat gate.old }
     ensures channel { PutsWhere to.new to.old }
-    ensures ticks { Ticks (C.shows clock.now) rounds (G.stream generator.old) (E.receipts gate.old) (put_by to.old) result
-        (E.receipts gate.new) (put_by to.new) }
+    ensures ticks { Ticks E.receipts E.does E.refuses (C.shows clock.now) rounds (G.stream generator.old) result
+        (gate.old, to.old) (gate.new, to.new) }
 {
     let ticked = turns(rt, alloc, clock, gate, generator, to, rounds, interval);
     to.end(rt);
