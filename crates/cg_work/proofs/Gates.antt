@@ -18,7 +18,8 @@ use Rattle.cg_seats.specs.Seats.{SeatValue, Enters, Refuses, new_gate, GoesOn}
 use Rattle.cg_seats.specs.Seats as seat
 use Rattle.rand_core.specs.Stream.{Stream}
 use Rattle.cg_ticker.specs.declared.ticked.Ticked.{Ticked}
-use Rattle.cg_ticker.specs.Ticks.{IsTickOf, IsTick, round_in, rounds_in, Ticks}
+use Rattle.cg_ticker.specs.Ticks.{IsTickOf, IsTick, round_in, Ticks}
+use Rattle.cg_ticker.specs.Laws.{rounds_in}
 use Rattle.cg_workers.specs.Workers.{numbers_of, Received, SentRounds}
 use Rattle.cg_workers.proofs.Keeping.{IsEventAt, received_keeps, sent_keeps}
 use Rattle.cg_left.specs.Left.{LeftValue, IsOf, AreOf, IsLeft, numbers_of_all, is_received, is_ack, is_tick, is_any}
