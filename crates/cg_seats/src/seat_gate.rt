@@ -123,9 +123,15 @@ impl<'a, N: Name, R: Wait> Gate for SeatGate<'a, N, R> {
 }
 
 impl<'a, N: Name, R: Wait> Enter for SeatGate<'a, N, R> {
+    ghost use Rattle.cg_seats.specs.Seats.{Enters, Refuses};
+
     ghost receipts = { λ g. g.receipts };
 
     ghost seat = { λ g. (g.caller, g.parts) };
+
+    ghost does = { Enters N.start N.opening.own };
+
+    ghost refuses = { Refuses N.start };
 
     fn enter(&mut self, alloc: Global, event: Event) -> Result<(), Fault> {
         self.event(alloc, event)
