@@ -37,6 +37,7 @@ fn ways<N: Name>(
 ) -> Result<(Publisher<N>, Pass<N>, (Putting, Taking)), AllocError>
     requires views { (opened ≡ N.book) × (table ≡ N.opening) }
     ensures publisher { IfOk result (λ w. w.0 ≡ opened_with N.opening) }
+    ensures pass { IfOk result (λ w. w.1 ≡ []) }
     ensures ends { IfOk result (λ w. AreEnds w.2.0 w.2.1) }
     ensures none { IfOk result (λ w. (put_by w.2.0 ≡ []) × (taken_by w.2.1 ≡ [])) }
 {
@@ -63,6 +64,7 @@ pub fn begin<N: Name, R: Wait>(
     ensures amounts { IfOk result (λ b. AreUnused b.seats) }
     ensures parts { IfOk result (λ b. parts_of b.seats ≡ N.parts) }
     ensures list { IfOk result (λ b. (b.list.items ≡ []) × (4 ≤ vec_capacity b.list)) }
+    ensures pass { IfOk result (λ b. b.pass ≡ []) }
     ensures ends { IfOk result (λ b. AreEnds b.ends.0 b.ends.1) }
     ensures none { IfOk result (λ b. (put_by b.ends.0 ≡ []) × (taken_by b.ends.1 ≡ [])) }
 {

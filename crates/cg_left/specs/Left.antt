@@ -1,16 +1,18 @@
 -- The results of a node's workers: models and rules.
-use Rattle.std.specs.Prelude.{ℕ, ◌≡◌, Bool, true, false, List, map, refl}
-use Rattle.std.specs.Coded.{Coded, code_by, coded×, coded_ℕ, coded_list}
+use Rattle.std.specs.Prelude.{ℕ, ◌≡◌, ◌++◌, Bool, true, false, List, map, refl}
+use Rattle.std.specs.Coded.{Coded, code_by, coded×, coded_bool, coded_ℕ, coded_list}
 use Rattle.std.specs.List.{All}
 use mathlib.Core.List.{IsPrefix}
 use Rattle.cg_events.specs.declared.event.Event.{Event}
 use Rattle.cg_events.specs.declared.event.Event.TheVariants as event
 use Rattle.cg_records.specs.declared.item.Receipt.{Receipt}
 use Rattle.cg_records.specs.Items.{receipt_code}
+use Rattle.cg_rounds.specs.declared.round.Round.{Round}
 use Rattle.cg_rounds.specs.declared.ends.Putting.{Putting}
 use Rattle.cg_rounds.specs.declared.ends.Taking.{Taking}
 use Rattle.cg_rounds.specs.declared.ends.Taken.{Taken}
 use Rattle.cg_rounds.specs.Ends.{put_by, taken_in, PutsWhere, IsLeftOf, WereTakenOf}
+use Rattle.cg_ticker.specs.Laws.{rounds_in}
 use Rattle.cg_workers.specs.Workers.{numbers_of}
 use Rattle.cg_left.specs.declared.callers.TheConstants.{RECEIVER, SENDER, TICKER, OPERATOR}
 
@@ -38,16 +40,18 @@ is_any e = true
 
 -- ---- results
 
--- the parts of a seat, and the receipts that it has counted
+-- true if the worker began; the parts of its seat, and the receipts that the seat has counted
 pub record LeftValue : Type 0 where
+  pub began : Bool
   pub parts : ℕ
   pub receipts : List Receipt
 
 -- the code that a model of such a value requires
 abbrev pub left_code : Coded LeftValue
 left_code =
-    code_by (ℕ × List Receipt) (coded× coded_ℕ (coded_list receipt_code)) (λ l. (l.parts, l.receipts))
-    (λ p. record { parts = p.0; receipts = p.1 }) (λ _. refl)
+    code_by (Bool × (ℕ × List Receipt)) (coded× coded_bool (coded× coded_ℕ (coded_list receipt_code)))
+    (λ l. (l.began, (l.parts, l.receipts)))
+    (λ p. record { began = p.0; parts = p.1.0; receipts = p.1.1 }) (λ _. refl)
 
 -- The receipt is the caller's, of an event of the kind.
 pub record IsOf (kind : Event → Bool) (caller : ℕ) (q : Receipt) : Type 0 where
@@ -72,12 +76,29 @@ pub record HasTaken (before : Taking) (taken : Taken) (numbers : List ℕ) : Typ
 abbrev pub numbers_of_all : List Receipt → List ℕ
 numbers_of_all receipts = map (λ (q : Receipt). q.number) receipts
 
+-- The first of the receipts have these rounds, and each receipt has one.
+pub record AreRoundsOf (receipts : List Receipt) (rounds : List Round) : Type 0 where
+  pub are_first : IsPrefix rounds (rounds_in receipts)
+  pub each : numbers_of (rounds_in receipts) ≡ numbers_of_all receipts
+
 -- The end is the same, and the rounds that were put in there are those of the first of the receipts.
 pub record HasPut (before after : Putting) (receipts : List Receipt) : Type 0 where
   pub channel : PutsWhere after before
-  pub are_first : IsPrefix (numbers_of (put_by after)) (numbers_of_all receipts)
+  pub rounds : AreRoundsOf receipts (put_by after)
 
 -- ---- all workers
+
+-- the receipts of each worker, and the rounds that the sender took
+pub record Work : Type 0 where
+  pub receiver : List Receipt
+  pub sender : List Receipt
+  pub ticker : List Receipt
+  pub operator : List Receipt
+  pub taken : List Round
+
+-- all receipts: the receiver's, the sender's, the ticker's and the operator's
+abbrev pub receipts_of : Work → List Receipt
+receipts_of w = w.receiver ++ w.sender ++ w.ticker ++ w.operator
 
 -- The receipts are those of the receiver, the sender, the ticker and the operator.
 pub record AreOfWorkers (receiver sender ticker operator : List Receipt) : Type 0 where
@@ -91,4 +112,4 @@ pub record AreOfWorkers (receiver sender ticker operator : List Receipt) : Type 
 pub record AreTaken (putting : Putting) (taken : Taken) (numbers : List ℕ) (ticker : List Receipt) : Type 0 where
   pub channel : WereTakenOf putting taken
   pub are_of : numbers ≡ numbers_of (taken_in taken)
-  pub are_first : IsPrefix (numbers_of (put_by putting)) (numbers_of_all ticker)
+  pub rounds : AreRoundsOf ticker (put_by putting)

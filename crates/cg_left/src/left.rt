@@ -1,7 +1,8 @@
 //! The results of the workers: seats, receipts and ends of the channel.
 
-ghost use Rattle.std.specs.Prelude.{◌≡◌, [], length};
+ghost use Rattle.std.specs.Prelude.{◌≡◌, [], true, false, length};
 ghost use Rattle.cg_records.specs.Confirming.{AreConfirmed};
+ghost use Rattle.cg_left.specs.Workers.{all_began};
 
 use cg_locked::{Name, Seat};
 use cg_records::Receipt;
@@ -9,10 +10,11 @@ use cg_rounds::{Putting, Taken};
 use std::alloc::Global;
 use std::marker::Model;
 
-/// A worker's seat, and its receipts. A contract sees the seat's parts of the board's ledger, and the receipts, which the
-/// seat has counted. The records that the seat has seen confirm them.
+/// A worker's seat, and its receipts; and `true` if it began. A contract sees this, the seat's parts of the board's
+/// ledger, and the receipts, which the seat has counted. The records that the seat has seen confirm them.
 #[derive(Drop)]
 pub struct SeatLeft<N: Name> {
+    began: bool,
     seat: Seat<N>,
     receipts: Vec<Receipt>,
 }
@@ -26,28 +28,44 @@ impl<N: Name> Model for SeatLeft<N> {
 
     ghost coded = { left_code };
 
-    ghost view = { λ l. record { parts = l.seat.parts; receipts = l.receipts.items } };
+    ghost view = { λ l. record { began = l.began; parts = l.seat.parts; receipts = l.receipts.items } };
 
     ghost invariant = { λ l. (l.seat.amount ≡ length l.receipts.items)
         × AreConfirmed l.seat.seen l.receipts.items };
 }
 
 impl<N: Name> SeatLeft<N> {
-    /// Makes a `SeatLeft` of a seat and the receipts that it has counted, which the records that it has seen confirm.
+    /// Makes the `SeatLeft` of a worker that began: its seat, and the receipts that it has counted, which the records
+    /// that it has seen confirm.
     pub fn of(seat: Seat<N>, receipts: Vec<Receipt>) -> SeatLeft<N>
         requires counted { seat.amount ≡ length receipts.items }
         requires confirmed { AreConfirmed seat.seen receipts.items }
-        ensures { result ≡ record { parts = seat.parts; receipts = receipts.items } }
+        ensures { result ≡ record { began = true; parts = seat.parts; receipts = receipts.items } }
     {
-        SeatLeft { seat, receipts }
+        SeatLeft {
+            began: true,
+            seat,
+            receipts,
+        }
     }
 
-    /// Makes a `SeatLeft` of a seat from which no event was done: one that has counted nothing. It takes no memory.
+    /// Makes the `SeatLeft` of a worker that did not begin: its seat has counted nothing. It takes no memory.
     pub fn unused(alloc: Global, seat: Seat<N>) -> SeatLeft<N>
         requires { seat.amount ≡ 0 }
-        ensures { result ≡ record { parts = seat.parts; receipts = [] } }
+        ensures { result ≡ record { began = false; parts = seat.parts; receipts = [] } }
     {
-        SeatLeft::of(seat, Vec::new(alloc))
+        SeatLeft {
+            began: false,
+            seat,
+            receipts: Vec::new(alloc),
+        }
+    }
+
+    /// Tests whether the worker began.
+    pub fn began(&self) -> bool
+        ensures { result ≡ self.now.began }
+    {
+        self.began
     }
 
     /// Returns the seat and the receipts.
@@ -56,7 +74,7 @@ impl<N: Name> SeatLeft<N> {
         ensures receipts { result.1.items ≡ self.receipts }
         ensures confirmed { AreConfirmed result.0.seen self.receipts }
     {
-        let SeatLeft { seat, receipts } = self;
+        let SeatLeft { seat, receipts, .. } = self;
         (seat, receipts)
     }
 }
@@ -76,12 +94,23 @@ pub struct TickerLeft<N: Name> {
     pub putting: Putting,
 }
 
-/// The results of all workers, and `true` if all of them were started.
+/// The results of all workers.
 #[derive(Drop)]
 pub struct WorkersLeft<N: Name> {
-    pub started: bool,
     pub receiver: SeatLeft<N>,
     pub sender: SenderLeft<N>,
     pub ticker: TickerLeft<N>,
     pub operator: SeatLeft<N>,
+}
+
+impl<N: Name> WorkersLeft<N> {
+    /// Tests whether all workers began.
+    pub fn all_began(&self) -> bool
+        ensures { result ≡ all_began self.now }
+    {
+        self.receiver.began()
+            && self.sender.left.began()
+            && self.ticker.left.began()
+            && self.operator.began()
+    }
 }

@@ -4,3 +4,4 @@ pub mod Ran
 pub use Rattle.cg_records.specs.Confirming
 pub use Rattle.cg_locked.specs.Shared
 pub use Rattle.cg_left.specs.Left
+pub use Rattle.cg_left.specs.Workers

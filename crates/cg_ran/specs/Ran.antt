@@ -15,7 +15,9 @@ use Rattle.cg_locked.specs.Shared.{stray_of}
 use Rattle.cg_left.specs.declared.callers.TheConstants.{RECEIVER, SENDER, TICKER, OPERATOR}
 use Rattle.cg_ran.specs.declared.ran.NotRun.{NotRun}
 use Rattle.cg_ran.specs.declared.ran.NotRun.TheVariants as not_run
-use Rattle.cg_left.specs.Left.{is_received, is_ack, is_tick}
+use Rattle.cg_ticker.specs.Laws.{rounds_in}
+use Rattle.cg_workers.specs.Workers.{numbers_of}
+use Rattle.cg_left.specs.Left.{Work, receipts_of, AreOfWorkers, is_received, is_ack, is_tick}
 use Rattle.cg_ran.specs.Numbers.{numbers_in}
 
 -- The first unconfirmed receipt of these is counted after `before` others.
@@ -30,33 +32,53 @@ IsWork caller e =
     ((caller ≡ RECEIVER) × (is_received e ≡ true)) ⊎ ((caller ≡ SENDER) × (is_ack e ≡ true))
     ⊎ ((caller ≡ TICKER) × (is_tick e ≡ true)) ⊎ (caller ≡ OPERATOR)
 
+-- any work
+abbrev pub AnyWork : Work → Type 0
+AnyWork w = Unit {0}
+
+-- The history began at the start. There are as many receipts of the workers as it has records, and this is how they
+-- worked.
+pub record IsOfWork (start : NodeValue) (worked : Work → Type 0) (h : HistoryValue) (w : Work) : Type 0 where
+  pub base : h.base ≡ start
+  pub done : worked w
+  pub theirs : AreOfWorkers w.receiver w.sender w.ticker w.operator
+  pub counted : length (receipts_of w) ≡ length h.records
+
+-- These are the numbers of the rounds that the sender took, which are the first of the ticker's.
+pub record AreNumbered (h : HistoryValue) (w : Work) (numbers : List ℕ) : Type 0 where
+  pub are_of : numbers ≡ numbers_of w.taken
+  pub are_first : IsPrefix w.taken (rounds_in w.ticker)
+  pub recorded : IsPrefix numbers (numbers_in TICKER is_tick h.records)
+
 -- The history replays from its start, and each record is of a worker's event. It confirms all receipts of the workers,
 -- of which there are as many as records. The rounds taken are the first of the ticker's, in their order.
-pub record IsRun (start : NodeValue) (h : HistoryValue) (rounds : List ℕ) : Type 0 where
-  pub base : h.base ≡ start
+pub record IsRun (start : NodeValue) (worked : Work → Type 0) (h : HistoryValue) (numbers : List ℕ) : Type 0 where
+  pub work : Work
+  pub of_work : IsOfWork start worked h work
+  pub confirmed : AreConfirmed h.records (receipts_of work)
+  pub rounds : AreNumbered h work numbers
   pub replayed : IsReplayed h
-  pub work : All (λ (r : Item). IsWork r.caller r.event) h.records
-  pub receipts : List Receipt
-  pub theirs : All (λ (q : Receipt). IsWork q.caller q.event) receipts
-  pub counted : length receipts ≡ length h.records
-  pub confirmed : AreConfirmed h.records receipts
-  pub are_first : IsPrefix rounds (numbers_in TICKER is_tick h.records)
+  pub kinds : All (λ (r : Item). IsWork r.caller r.event) h.records
 
 -- The history began at the start, and does not confirm all receipts of the workers, of which there are as many as
 -- records. This is the first that it does not confirm.
-pub record IsUnconfirmed (start : NodeValue) (u : Unconfirmed) : Type 0 where
-  pub base : u.history.base ≡ start
-  pub receipts : List Receipt
-  pub theirs : All (λ (q : Receipt). IsWork q.caller q.event) receipts
-  pub counted : length receipts ≡ length u.history.records
-  pub stray : IsFirstStray u.history.records receipts (stray_of u)
+pub record IsUnconfirmed (start : NodeValue) (worked : Work → Type 0) (u : Unconfirmed) : Type 0 where
+  pub work : Work
+  pub of_work : IsOfWork start worked u.history work
+  pub stray : IsFirstStray u.history.records (receipts_of work) (stray_of u)
 
--- If a node did not run, not all workers were started; if its history is not confirmed, they were.
+-- The first of these receipts that the history does not confirm is the one named, and they are as many as its records.
+abbrev pub StraysIn : List Receipt → NotRun → Type 0
+StraysIn receipts (not_run.Unstarted f) = Unit {0}
+StraysIn receipts (not_run.Unconfirmed u) =
+    IsFirstStray u.history.records receipts (stray_of u) × (length receipts ≡ length u.history.records)
+
+-- If a node did not run, not all workers began; if its history is not confirmed, they did.
 abbrev pub TellsStart : Bool → NotRun → Type 0
-TellsStart started (not_run.Unstarted f) = started ≡ false
-TellsStart started (not_run.Unconfirmed u) = started ≡ true
+TellsStart began (not_run.Unstarted f) = began ≡ false
+TellsStart began (not_run.Unconfirmed u) = began ≡ true
 
 -- no node ran, or its history is not confirmed
-abbrev pub IsNotRun : NodeValue → NotRun → Type 0
-IsNotRun start (not_run.Unstarted f) = f ≡ fault.OutOfMemory
-IsNotRun start (not_run.Unconfirmed u) = IsUnconfirmed start u
+abbrev pub IsNotRun : NodeValue → (Work → Type 0) → NotRun → Type 0
+IsNotRun start worked (not_run.Unstarted f) = f ≡ fault.OutOfMemory
+IsNotRun start worked (not_run.Unconfirmed u) = IsUnconfirmed start worked u

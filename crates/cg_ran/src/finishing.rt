@@ -4,8 +4,9 @@ ghost use Rattle.std.specs.Prelude.{◌≡◌, ◌+◌, ◌≤◌, ◌<◌, ◌+
 ghost use Rattle.std.specs.List.{sum_by};
 ghost use Rattle.cg_records.specs.Confirming.{AreConfirmed, IsFirstStray};
 ghost use Rattle.cg_locked.specs.Shared.{history_of, stray_of};
-ghost use Rattle.cg_left.specs.Left.{AreOfWorkers, AreTaken};
-ghost use Rattle.cg_ran.specs.Ran.{IsStrayBehind, IsRun, IsNotRun, TellsStart};
+ghost use Rattle.cg_left.specs.Left.{receipts_of, AreOfWorkers, AreTaken};
+ghost use Rattle.cg_left.specs.Workers.{all_began, work_of};
+ghost use Rattle.cg_ran.specs.Ran.{IsStrayBehind, StraysIn, IsRun, IsNotRun, TellsStart};
 
 use crate::ran::{NotRun, Ran};
 use cg_history::History;
@@ -70,7 +71,7 @@ fn confirm_all<N: Name, R: Wait>(
 /// this order, the receiver's, the sender's, the ticker's and the operator's. Returns that history and the numbers of
 /// the rounds that the sender took.
 ///
-/// `Unstarted`, with OutOfMemory, if not all workers were started, whatever the history confirms. `Unconfirmed` has the
+/// `Unstarted`, with OutOfMemory, if not all workers began, whatever the history confirms. `Unconfirmed` has the
 /// history, and the fault and the place of the first receipt that it does not confirm. Places count from 0 through all
 /// receipts in that order. `work` has the results of this board's workers: all its parts, and both ends of one channel.
 /// `seats` is an empty list with room for four. It may wait for the lock.
@@ -87,17 +88,17 @@ pub fn finish<N: Name, R: Wait>(
         work.ticker.left.receipts work.operator.receipts }
     requires taken { AreTaken work.ticker.putting work.sender.taken work.sender.numbers.items
         work.ticker.left.receipts }
-    ensures ran { IfOk result (λ r. IsRun N.start r.history r.rounds.items) }
-    ensures confirmed { IfOk result (λ r. AreConfirmed r.history.records (work.receiver.receipts
-        ++ work.sender.left.receipts ++ work.ticker.left.receipts ++ work.operator.receipts)) }
+    ensures ran { IfOk result (λ r. IsRun N.start (λ w. w ≡ work_of work) r.history r.rounds.items) }
+    ensures confirmed { IfOk result (λ r. AreConfirmed r.history.records (receipts_of (work_of work))) }
     ensures rounds { IfOk result (λ r. r.rounds.items ≡ work.sender.numbers.items) }
-    ensures started { IfOk result (λ _. work.started ≡ true) }
-    ensures not { IfErr result (IsNotRun N.start) }
-    ensures tells { IfErr result (TellsStart work.started) }
+    ensures began { IfOk result (λ _. all_began work ≡ true) }
+    ensures not { IfErr result (IsNotRun N.start (λ w. w ≡ work_of work)) }
+    ensures stray { IfErr result (StraysIn (receipts_of (work_of work))) }
+    ensures tells { IfErr result (TellsStart (all_began work)) }
 {
     let mut seats = seats;
+    let began = work.all_began();
     let WorkersLeft {
-        started,
         receiver,
         sender,
         ticker,
@@ -122,7 +123,7 @@ pub fn finish<N: Name, R: Wait>(
     let (seat, operator) = operator.into_parts();
     seats.push_reserved(seat);
     let left = confirm_all(rt, shared, seats, &receiver, &sender, &ticker, &operator);
-    if !started {
+    if !began {
         return Err(NotRun::Unstarted(Fault::OutOfMemory));
     }
     match left {

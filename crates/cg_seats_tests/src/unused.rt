@@ -1,4 +1,4 @@
-//! A node put together of workers that did nothing, or that were not all started.
+//! A node put together of workers that did nothing, or of which one did not begin.
 
 ghost use Rattle.std.specs.Prelude.{◌≡◌, []};
 
@@ -35,7 +35,7 @@ fn left_by<N: Name, R: Wait>(
     table: Table,
     history: History,
     fresh: Fresh,
-    started: bool,
+    began: bool,
 ) -> Result<Told, Fail>
     requires views { (opened ≡ N.book) × (table ≡ N.opening) }
     requires history { (history.records ≡ []) × (history.base ≡ N.start) × (history.base.table ≡ table) }
@@ -50,24 +50,28 @@ fn left_by<N: Name, R: Wait>(
         ends,
     } = begun;
     let (putting, taking) = ends;
+    let receiver = if began {
+        SeatLeft::of(seats.receiver, Vec::new(alloc))
+    } else {
+        SeatLeft::unused(alloc, seats.receiver)
+    };
     let work = WorkersLeft {
-        started,
-        receiver: SeatLeft::unused(alloc, seats.receiver),
+        receiver,
         sender: SenderLeft {
-            left: SeatLeft::unused(alloc, seats.sender),
+            left: SeatLeft::of(seats.sender, Vec::new(alloc)),
             taken: taking.leave(),
             numbers: Vec::new(alloc),
         },
         ticker: TickerLeft {
-            left: SeatLeft::unused(alloc, seats.ticker),
+            left: SeatLeft::of(seats.ticker, Vec::new(alloc)),
             putting,
         },
-        operator: SeatLeft::unused(alloc, seats.operator),
+        operator: SeatLeft::of(seats.operator, Vec::new(alloc)),
     };
     Ok(told(finish(rt, shared, list, work)))
 }
 
-fn left_after<R: Wait>(rt: &R, alloc: Global, started: bool) -> Result<Told, Fail> {
+fn left_after<R: Wait>(rt: &R, alloc: Global, began: bool) -> Result<Told, Fail> {
     let history = new_history(alloc)?;
     let table = history.node().table().copy(alloc)?;
     left_by::<Brand, R>(
@@ -77,7 +81,7 @@ fn left_after<R: Wait>(rt: &R, alloc: Global, started: bool) -> Result<Told, Fai
         table,
         history,
         Fresh::new(WORKERS as u64),
-        started,
+        began,
     )
 }
 
@@ -88,7 +92,7 @@ fn workers_that_did_nothing(rt: HostRuntime) -> Result<(), Fail> {
 }
 
 #[test]
-fn workers_that_were_not_all_started(rt: HostRuntime) -> Result<(), Fail> {
+fn a_worker_that_did_not_begin(rt: HostRuntime) -> Result<(), Fail> {
     let left = left_after(&rt, rt.alloc(), false)?;
     expect_eq!(left, Err(Some(Fault::OutOfMemory)))
 }

@@ -7,7 +7,7 @@ use Rattle.cg_settings_file.specs.Settings.{ServeValue}
 use Rattle.cg_ran.specs.declared.ran.Ran.{Ran}
 use Rattle.cg_ran.specs.declared.ran.NotRun.{NotRun}
 use Rattle.cg_ran.specs.declared.ran.NotRun.TheVariants as not_run
-use Rattle.cg_ran.specs.Ran.{IsRun, IsNotRun}
+use Rattle.cg_ran.specs.Ran.{AnyWork, IsRun, IsNotRun}
 use Rattle.cg_node_files.specs.Kept.{IsUnborn, AreTold, IsOfAStart}
 use Rattle.cg_serve.specs.declared.node.Birth.{Birth}
 use Rattle.cg_serve.specs.declared.node.LifeLeft.{LifeLeft}
@@ -31,8 +31,8 @@ left_after (Err (not_run.Unstarted f)) = Err f
 -- fault of the first that it does not confirm.
 abbrev pub IsLifeLeft : NodeValue → LifeLeft → Type 0
 IsLifeLeft start l =
-    (ran : Result Ran NotRun) × IfOk ran (λ r. IsRun start r.history r.rounds.items) × IfErr ran (IsNotRun start)
-    × (left_after ran ≡ Ok l)
+    (ran : Result Ran NotRun) × IfOk ran (λ r. IsRun start AnyWork r.history r.rounds.items)
+    × IfErr ran (IsNotRun start AnyWork) × (left_after ran ≡ Ok l)
 
 -- A node lived by settings that a file held, at its own endpoint in the generation of a start. The path of its journal
 -- is the one in the settings.

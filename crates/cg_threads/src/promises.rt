@@ -1,50 +1,74 @@
 //! The promises of a worker's thread about the values that it leaves.
 
+use cg_clock::Milliseconds;
 use cg_left::{SeatLeft, SenderLeft, TickerLeft};
 use cg_locked::{Name, Seat};
 use cg_rounds::{Putting, Taking};
+use cg_seats::Operate;
+use cg_settings_file::Turns;
+use cg_workers::Dial;
+use rand_core::Rng;
 use std::snapshot::Snapshot;
 use std::thread::Promise;
 
 // The promise of the operator's thread.
 #[derive(Drop)]
-pub(crate) struct Operates<N: Name> {
+pub(crate) struct Operates<N: Name, O: Operate> {
     pub(crate) seat: Snapshot<Seat<N>>,
+    pub(crate) operator: Snapshot<O>,
 }
 
-impl<N: Name> Promise<SeatLeft<N>> for Operates<N> {
+impl<N: Name, O: Operate> Promise<SeatLeft<N>> for Operates<N, O> {
+    ghost use Rattle.std.specs.Prelude.{◌≡◌, true};
     ghost use Rattle.cg_left.specs.Left.{IsLeft, is_any};
+    ghost use Rattle.cg_work.specs.Worked.{HasOperated};
 
     ghost kept_by = { λ p r.
-        IsLeft is_any p.seat.value.caller p.seat.value.parts r };
+        IsLeft is_any p.seat.value.caller p.seat.value.parts r
+        × (r.began ≡ true → HasOperated N.start N.opening p.seat.value.caller O.works p.operator.value r.receipts) };
 }
 
 // The promise of the sender's thread.
 #[derive(Drop)]
-pub(crate) struct Sends<N: Name> {
+pub(crate) struct Sends<N: Name, D: Dial, C: Milliseconds> {
     pub(crate) seat: Snapshot<Seat<N>>,
     pub(crate) taking: Snapshot<Taking>,
+    pub(crate) dialer: Snapshot<D>,
+    pub(crate) clock: Snapshot<C>,
 }
 
-impl<N: Name> Promise<SenderLeft<N>> for Sends<N> {
+impl<N: Name, D: Dial, C: Milliseconds> Promise<SenderLeft<N>> for Sends<N, D, C> {
+    ghost use Rattle.std.specs.Prelude.{◌≡◌, true};
+    ghost use Rattle.cg_rounds.specs.Ends.{taken_in};
     ghost use Rattle.cg_left.specs.Left.{IsLeft, HasTaken, is_ack};
+    ghost use Rattle.cg_work.specs.Worked.{HasSent};
 
     ghost kept_by = { λ p r.
         IsLeft is_ack p.seat.value.caller p.seat.value.parts r.left
-        × HasTaken p.taking.value r.taken r.numbers.items };
+        × HasTaken p.taking.value r.taken r.numbers.items
+        × (r.left.began ≡ true → HasSent N.start N.opening.own D.Reader.remaining D.Writer.contents
+        (C.shows p.clock.value) p.seat.value.caller D.dials p.dialer.value (taken_in r.taken) r.left.receipts) };
 }
 
 // The promise of the ticker's thread.
 #[derive(Drop)]
-pub(crate) struct TicksOn<N: Name> {
+pub(crate) struct TicksOn<N: Name, C: Milliseconds, G: Rng> {
     pub(crate) seat: Snapshot<Seat<N>>,
     pub(crate) putting: Snapshot<Putting>,
+    pub(crate) clock: Snapshot<C>,
+    pub(crate) generator: Snapshot<G>,
+    pub(crate) turns: Turns,
 }
 
-impl<N: Name> Promise<TickerLeft<N>> for TicksOn<N> {
+impl<N: Name, C: Milliseconds, G: Rng> Promise<TickerLeft<N>> for TicksOn<N, C, G> {
+    ghost use Rattle.std.specs.Prelude.{◌≡◌, true};
     ghost use Rattle.cg_left.specs.Left.{IsLeft, HasPut, is_tick};
+    ghost use Rattle.cg_work.specs.Worked.{HasBegun};
 
     ghost kept_by = { λ p r.
         IsLeft is_tick p.seat.value.caller p.seat.value.parts r.left
-        × HasPut p.putting.value r.putting r.left.receipts };
+        × HasPut p.putting.value r.putting r.left.receipts
+        × (r.left.began ≡ true →
+        HasBegun N.start N.opening.own (C.shows p.clock.value) p.seat.value.caller p.turns.rounds
+        (G.stream p.generator.value) r.left.receipts) };
 }

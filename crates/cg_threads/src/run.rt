@@ -1,6 +1,7 @@
 //! The run of a node.
 
 ghost use Rattle.std.specs.Prelude.{◌≡◌, [], IfOk, IfErr};
+ghost use Rattle.cg_work.specs.Worked.{HaveWorked};
 ghost use Rattle.cg_ran.specs.Ran.{IsRun, IsNotRun};
 
 use crate::parts::Parts;
@@ -51,8 +52,12 @@ where
     requires views { (opened ≡ N.book) × (table ≡ N.opening) }
     requires history { (history.records ≡ []) × (history.base ≡ N.start) × (history.base.table ≡ table) }
     requires fresh { (fresh.name ≡ N.name) × (fresh.parts ≡ N.parts) × (fresh.log ≡ N.log) × (N.parts ≡ 4) }
-    ensures ran { IfOk result (λ r. IsRun history.base r.history r.rounds.items) }
-    ensures not { IfErr result (IsNotRun history.base) }
+    ensures ran { IfOk result (λ r. IsRun history.base (HaveWorked history.base L.Reader.remaining L.Writer.contents L.accepts
+        D.Reader.remaining D.Writer.contents D.dials O.works (C.shows parts.clock) parts.listener parts.dialer
+        (G.stream parts.generator) parts.operator turns) r.history r.rounds.items) }
+    ensures not { IfErr result (IsNotRun history.base (HaveWorked history.base L.Reader.remaining L.Writer.contents L.accepts
+        D.Reader.remaining D.Writer.contents D.dials O.works (C.shows parts.clock) parts.listener parts.dialer
+        (G.stream parts.generator) parts.operator turns)) }
 {
     let Ok(begun) = begin::<N, R>(rt, alloc, opened, table, history, fresh) else {
         return Err(NotRun::Unstarted(Fault::OutOfMemory));
@@ -103,7 +108,8 @@ where
 /// channel or a thread was refused. Then nothing was done, and the history is gone. `Unconfirmed` if the history does
 /// not confirm all receipts.
 ///
-/// The clauses are about the history, the receipts and the rounds taken; they do not say how much work is done.
+/// The clauses say by which of the parts each worker did its work, and in how many turns, and that the history has one
+/// record for each of their receipts. They do not say that the ticker pauses.
 pub fn run_node<
     R: Threads + Wait + Clock + Sync,
     L: Listen + Drop,
@@ -122,8 +128,12 @@ where
     D::Reader: Send,
     D::Writer: Send,
     requires { history.records ≡ [] }
-    ensures ran { IfOk result (λ r. IsRun history.base r.history r.rounds.items) }
-    ensures not { IfErr result (IsNotRun history.base) }
+    ensures ran { IfOk result (λ r. IsRun history.base (HaveWorked history.base L.Reader.remaining L.Writer.contents L.accepts
+        D.Reader.remaining D.Writer.contents D.dials O.works (C.shows parts.clock) parts.listener parts.dialer
+        (G.stream parts.generator) parts.operator turns) r.history r.rounds.items) }
+    ensures not { IfErr result (IsNotRun history.base (HaveWorked history.base L.Reader.remaining L.Writer.contents L.accepts
+        D.Reader.remaining D.Writer.contents D.dials O.works (C.shows parts.clock) parts.listener parts.dialer
+        (G.stream parts.generator) parts.operator turns)) }
 {
     let Ok(table) = history.base().table().copy(alloc) else {
         return Err(NotRun::Unstarted(Fault::OutOfMemory));

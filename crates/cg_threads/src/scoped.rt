@@ -1,13 +1,15 @@
 //! The workers in their threads.
 
-ghost use Rattle.std.specs.Prelude.{◌≡◌, []};
-ghost use Rattle.cg_rounds.specs.Ends.{AreEnds, put_by, taken_by};
+ghost use Rattle.std.specs.Prelude.{◌≡◌, [], true};
+ghost use Rattle.cg_rounds.specs.Ends.{AreEnds, put_by, taken_by, taken_in};
 ghost use Rattle.cg_begun.specs.Seats.{AreWorkers, AreUnused};
 ghost use Rattle.cg_left.specs.Left.{IsLeft, HasTaken, HasPut, AreOfWorkers, AreTaken};
 ghost use Rattle.cg_left.specs.Left.{is_received, is_ack, is_tick, is_any};
+ghost use Rattle.cg_left.specs.Workers.{all_began, work_of};
+ghost use Rattle.cg_work.specs.Worked.{HasReceived, HasSent, HasBegun, HasOperated, HaveWorked};
 
 use crate::promises::{Operates, Sends, TicksOn};
-use crate::started::start;
+use crate::started::{start, told};
 use crate::tools::Tools;
 use cg_begun::Seats;
 use cg_clock::Milliseconds;
@@ -54,6 +56,7 @@ where
     requires amounts { AreUnused seats }
     requires ends { AreEnds ends.0 ends.1 }
     requires none { (put_by ends.0 ≡ []) × (taken_by ends.1 ≡ []) }
+    requires views { (N.opening ≡ N.start.table) × (pass ≡ []) }
     ensures parts { (result.receiver.parts ≡ seats.receiver.parts)
         × (result.sender.left.parts ≡ seats.sender.parts)
         × (result.ticker.left.parts ≡ seats.ticker.parts)
@@ -62,6 +65,9 @@ where
         result.ticker.left.receipts result.operator.receipts }
     ensures taken { AreTaken result.ticker.putting result.sender.taken result.sender.numbers.items
         result.ticker.left.receipts }
+    ensures worked { all_began result ≡ true → HaveWorked N.start L.Reader.remaining L.Writer.contents L.accepts
+        D.Reader.remaining D.Writer.contents D.dials O.works (C.shows site.now.clock) parts.listener parts.dialer
+        (G.stream parts.generator) parts.operator turns (work_of result) }
 {
     let Tools {
         listener,
@@ -79,30 +85,49 @@ where
     let sends = Sends {
         seat: Snapshot::of(&second),
         taking: Snapshot::of(&taking),
+        dialer: Snapshot::of(&dialer),
+        clock: Snapshot::of(&site.clock),
     };
     let ticks = TicksOn {
         seat: Snapshot::of(&third),
         putting: Snapshot::of(&putting),
+        clock: Snapshot::of(&site.clock),
+        generator: Snapshot::of(&generator),
+        turns,
     };
     let operates = Operates {
         seat: Snapshot::of(&fourth),
+        operator: Snapshot::of(&operator),
     };
     thread::scope(
         thread::scope_env(),
         rt,
         move |scope| -> WorkersLeft<N>
-            requires sends { (sends.seat.value ≡ second) × (sends.taking.value ≡ taking) }
-            requires ticks { (ticks.seat.value ≡ third) × (ticks.putting.value ≡ putting) }
-            requires operates { operates.seat.value ≡ fourth }
+            requires sends { (sends.seat.value ≡ second) × (sends.taking.value ≡ taking)
+                × (sends.dialer.value ≡ dialer) × (sends.clock.value ≡ site.now.clock) }
+            requires ticks { (ticks.seat.value ≡ third) × (ticks.putting.value ≡ putting)
+                × (ticks.clock.value ≡ site.now.clock) × (ticks.generator.value ≡ generator) × (ticks.turns ≡ turns) }
+            requires operates { (operates.seat.value ≡ fourth) × (operates.operator.value ≡ operator) }
             requires amounts { (first.amount ≡ 0) × (second.amount ≡ 0) × (third.amount ≡ 0)
                 × (fourth.amount ≡ 0) }
-            requires none { (put_by putting ≡ []) × (taken_by taking ≡ []) }
+            requires none { (put_by putting ≡ []) × (taken_by taking ≡ []) × (pass ≡ []) }
             ensures receiver { IsLeft is_received first.caller first.parts result.receiver }
+            ensures received { result.receiver.began ≡ true → HasReceived N.start N.opening.own L.Reader.remaining
+                L.Writer.contents (C.shows site.entry.now.clock) first.caller L.accepts turns.exchanges listener
+                result.receiver.receipts }
             ensures sender { IsLeft is_ack second.caller second.parts result.sender.left }
             ensures taken { HasTaken taking result.sender.taken result.sender.numbers.items }
+            ensures sent { result.sender.left.began ≡ true → HasSent N.start N.opening.own D.Reader.remaining
+                D.Writer.contents (C.shows site.entry.now.clock) second.caller D.dials dialer (taken_in result.sender.taken)
+                result.sender.left.receipts }
             ensures ticker { IsLeft is_tick third.caller third.parts result.ticker.left }
             ensures put { HasPut putting result.ticker.putting result.ticker.left.receipts }
+            ensures begun { result.ticker.left.began ≡ true → HasBegun N.start N.opening.own
+                (C.shows site.entry.now.clock) third.caller turns.rounds (G.stream generator)
+                result.ticker.left.receipts }
             ensures operator { IsLeft is_any fourth.caller fourth.parts result.operator }
+            ensures operated { result.operator.began ≡ true → HasOperated N.start N.opening fourth.caller O.works
+                operator result.operator.receipts }
         {
             let sender = start(
                 scope,
@@ -111,6 +136,9 @@ where
                     requires { (second.amount ≡ 0) × (taken_by taking ≡ []) }
                     ensures left { IsLeft is_ack second.caller second.parts result.left }
                     ensures taken { HasTaken taking result.taken result.numbers.items }
+                    ensures sent { result.left.began ≡ true → HasSent N.start N.opening.own D.Reader.remaining
+                        D.Writer.contents (C.shows site.entry.now.clock) second.caller D.dials dialer
+                        (taken_in result.taken) result.left.receipts }
                 { send(rt, alloc, site, second, dialer, taking) },
             );
             let ticker = start(
@@ -120,21 +148,31 @@ where
                     requires { (third.amount ≡ 0) × (put_by putting ≡ []) }
                     ensures left { IsLeft is_tick third.caller third.parts result.left }
                     ensures put { HasPut putting result.putting result.left.receipts }
+                    ensures begun { result.left.began ≡ true → HasBegun N.start N.opening.own
+                        (C.shows site.entry.now.clock) third.caller turns.rounds (G.stream generator)
+                        result.left.receipts }
                 { tick(rt, alloc, site, third, generator, putting, turns) },
             );
             let operator = start(
                 scope,
                 operates,
                 move || -> SeatLeft<N>
-                    requires { fourth.amount ≡ 0 }
-                    ensures { IsLeft is_any fourth.caller fourth.parts result }
+                    requires { (fourth.amount ≡ 0) × (pass ≡ []) }
+                    ensures left { IsLeft is_any fourth.caller fourth.parts result }
+                    ensures operated { result.began ≡ true → HasOperated N.start N.opening fourth.caller O.works
+                        operator result.receipts }
                 { operate(rt, alloc, site, fourth, operator, pass) },
             );
-            let started = sender.has_thread() && ticker.has_thread() && operator.has_thread();
-            let _said = site.go.try_set(started);
-            let receiver = receive(rt, alloc, site, first, listener, turns.exchanges);
+            let begins = match &told(&site.go, &sender, &ticker, &operator) {
+                Some(token) => *site.go.value(token),
+                None => false,
+            };
+            let receiver = if begins {
+                receive(rt, alloc, site, first, listener, turns.exchanges)
+            } else {
+                SeatLeft::unused(alloc, first)
+            };
             WorkersLeft {
-                started,
                 receiver,
                 sender: sender.ended(rt),
                 ticker: ticker.ended(rt),

@@ -1,8 +1,9 @@
 //! A worker in a thread of its own.
 
-ghost use Rattle.std.specs.Prelude.{◌≡◌, IfOk, IfErr};
+ghost use Rattle.std.specs.Prelude.{◌≡◌, ◌↔◌, IsTrue, IsOk, IfSome, IfOk, IfErr};
 
 use std::snapshot::Snapshot;
+use std::sync::{OnceLock, OnceToken};
 use std::thread::{Promise, PromisedHandle, Scope, SpawnError, Threads};
 
 // A worker's thread, or its work if no thread could be made; and its promise.
@@ -13,7 +14,9 @@ pub(crate) struct Started<T, P: Promise<T>, F> {
 
 impl<T, P: Promise<T>, F: FnOnce() -> T> Started<T, P, F> {
     // Tests whether it has a thread.
-    pub(crate) fn has_thread(&self) -> bool {
+    pub(crate) fn has_thread(&self) -> bool
+        ensures { IsTrue result ↔ IsOk self.now.worker }
+    {
         self.worker.is_ok()
     }
 
@@ -56,4 +59,30 @@ pub(crate) fn start<'s, E, P: Promise<T> + Drop, F: FnOnce() -> T + Send + 's, T
         promise: promised,
         worker: scope.spawn_with(promise, work),
     }
+}
+
+// Tells the workers to begin if each has a thread, and else to end. `None` if they were told before.
+pub(crate) fn told<
+    'a,
+    A,
+    P: Promise<A>,
+    F: FnOnce() -> A,
+    B,
+    Q: Promise<B>,
+    G: FnOnce() -> B,
+    C,
+    S: Promise<C>,
+    H: FnOnce() -> C,
+>(
+    go: &'a OnceLock<bool>,
+    sender: &Started<A, P, F>,
+    ticker: &Started<B, Q, G>,
+    operator: &Started<C, S, H>,
+) -> Option<OnceToken<'a, bool>>
+    ensures of { IfSome result (λ t. t.of ≡ go.now.id) }
+    ensures value { IfSome result (λ t. IsTrue t.value
+        ↔ IsOk sender.now.worker × IsOk ticker.now.worker × IsOk operator.now.worker) }
+{
+    go.try_set(sender.has_thread() && ticker.has_thread() && operator.has_thread())
+        .ok()
 }

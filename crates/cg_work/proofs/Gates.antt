@@ -1,5 +1,5 @@
 -- The receipts that the workers add to a gate's.
-use Rattle.std.proofs.Common.{◌≡◌, ℕ, Bool, true, List, [], ◌∷◌, ◌++◌, Option, Result, refl, sym, ap, ◌∙◌, subst, append_assoc}
+use Rattle.std.proofs.Common.{◌≡◌, ℕ, Bool, true, false, List, [], ◌∷◌, ◌++◌, Option, Result, refl, sym, ap, ◌∙◌, subst, append_assoc}
 use Rattle.std.proofs.lemmas.List.{append-nil, map-append}
 use Rattle.std.specs.List.{All}
 use Rattle.std.proofs.lemmas.List.Elements.{All-nil, All-cons, All-append, All-weaker, All-head, All-tail}
@@ -19,10 +19,14 @@ use Rattle.cg_seats.specs.Seats as seat
 use Rattle.rand_core.specs.Stream.{Stream}
 use Rattle.cg_ticker.specs.declared.ticked.Ticked.{Ticked}
 use Rattle.cg_ticker.specs.Ticks.{IsTickOf, IsTick, round_in, Ticks}
-use Rattle.cg_ticker.specs.Laws.{rounds_in}
-use Rattle.cg_workers.specs.Workers.{numbers_of, Received, SentRounds}
+use Rattle.cg_ticker.specs.Laws.{rounds_in, MakesRounds}
+use Rattle.cg_ticker.proofs.TickLemmas.{ticks_make}
+use Rattle.cg_rounds.specs.declared.ends.Putting.{Putting}
+use Rattle.cg_rounds.specs.Ends.{put_by, taken_by}
+use Rattle.cg_workers.specs.Each.{Each}
+use Rattle.cg_workers.specs.Workers.{numbers_of, Received, SentRound, SentRounds}
 use Rattle.cg_workers.proofs.Keeping.{IsEventAt, received_keeps, sent_keeps}
-use Rattle.cg_left.specs.Left.{LeftValue, IsOf, AreOf, IsLeft, numbers_of_all, is_received, is_ack, is_tick, is_any}
+use Rattle.cg_left.specs.Left.{LeftValue, IsOf, AreOf, IsLeft, AreRoundsOf, numbers_of_all, is_received, is_ack, is_tick, is_any}
 
 -- the gate went on by receipts of events of the kind
 pub record More (kind : Event → Bool) (g h : SeatValue) : Type 0 where
@@ -70,7 +74,7 @@ module _ (kind : Event → Bool) where
       record { same_parts = same_parts ∙ x.seat.1; own_receipts = subst (AreOf kind caller) (sym all) (own_kind caller x.more x.kinds mine) }
 
   -- of a seat from which no event was done
-  pub left_unused : (caller parts : ℕ) (l : LeftValue) → l ≡ record { parts = parts; receipts = [] } → IsLeft kind caller parts l
+  pub left_unused : (caller parts : ℕ) (l : LeftValue) → l ≡ record { began = false; parts = parts; receipts = [] } → IsLeft kind caller parts l
   left_unused caller parts l is = subst (IsLeft kind caller parts) (sym is) (record { same_parts = refl; own_receipts = All-nil (IsOf kind caller) })
 
 -- ---- the receiver and the sender
@@ -111,6 +115,14 @@ module _ (start : NodeValue) (own : ℕ) {R W : Type 0} (remaining : R → Optio
       (λ now e r g h shown at answer done. one_more is_received start own g h e r (syn_received now e at) done)
       (λ now e r g h shown at answer done. one_more is_received start own g h e r (ack2_received now e at) done) x
 
+  -- those that were taken at an end where none had been
+  pub sent_all : {D : Type 0} (dials : D → ℕ → Result (R × W) Fault → D → Type 0) (before after : Taking) (rounds : List Round) (numbers : List ℕ) (s t : D × SeatValue)
+      → taken_by before ≡ [] → rounds ≡ taken_by after → SentRounds (Enters start own) (Refuses start) (λ g h. h ≡ g) remaining contents dials shows before after numbers s t
+      → Each (SentRound (Enters start own) (Refuses start) (λ g h. h ≡ g) remaining contents dials shows) rounds s t
+  sent_all dials before after rounds numbers s t none these x =
+      let all : x.rounds ≡ rounds = sym (these ∙ x.taken ∙ ap (λ (rs : List Round). rs ++ x.rounds) none) in
+      subst (λ (rs : List Round). Each (SentRound (Enters start own) (Refuses start) (λ g h. h ≡ g) remaining contents dials shows) rs s t) all x.sent
+
   pub sent_more : {D : Type 0} (dials : D → ℕ → Result (R × W) Fault → D → Type 0) (before after : Taking) (numbers : List ℕ) (s t : D × SeatValue)
       → SentRounds (Enters start own) (Refuses start) (λ g h. h ≡ g) remaining contents dials shows before after numbers s t → More is_ack s.1 t.1
   sent_more dials before after numbers s t x =
@@ -143,10 +155,6 @@ module _ (shows : ℕ → Type 0) where
   one_round (event.Ack now m) answer number caller is = absurd is
   one_round (event.Ack2 now m) answer number caller is = absurd is
 
-  front_all : (qs rs : List Receipt) → All (IsTick shows) (qs ++ rs) → All (IsTick shows) qs
-  front_all [] rs ticks = All-nil (IsTick shows)
-  front_all (q ∷ qs) rs ticks = All-cons (IsTick shows) q qs (All-head (IsTick shows) q (qs ++ rs) ticks) (front_all qs rs (All-tail (IsTick shows) q (qs ++ rs) ticks))
-
   numbers_passed : (qs : List Receipt) → All (IsTick shows) qs → numbers_of (rounds_in qs) ≡ numbers_of_all qs
   numbers_passed [] ticks = refl
   numbers_passed (q ∷ qs) ticks =
@@ -154,7 +162,14 @@ module _ (shows : ℕ → Type 0) where
       ∙ ap (λ (ns : List ℕ). ns ++ numbers_of (rounds_in qs)) (one_round q.event q.reply q.number q.caller (All-head (IsTick shows) q qs ticks))
       ∙ ap (λ (ns : List ℕ). q.number ∷ ns) (numbers_passed qs (All-tail (IsTick shows) q qs ticks))
 
-  module _ (rounds : ℕ) (s : Stream) (put : List Round) (left : Ticked) (after : List Round) (g h : SeatValue) (x : Ticks shows rounds s g.receipts put left h.receipts after) where
+  rounds_append : (qs rs : List Receipt) → rounds_in (qs ++ rs) ≡ rounds_in qs ++ rounds_in rs
+  rounds_append [] rs = refl
+  rounds_append (q ∷ qs) rs = ap (λ (xs : List Round). round_in q ++ xs) (rounds_append qs rs) ∙ sym (append_assoc (round_in q) (rounds_in qs) (rounds_in rs))
+
+  module _ (start : NodeValue) (own rounds : ℕ) (s : Stream) (left : Ticked) (g h : SeatValue) (put after : Putting) (made : Ticks (λ (k : SeatValue). k.receipts) (Enters start own) (Refuses start) shows rounds s left (g, put) (h, after)) where
+    x : MakesRounds (λ (k : SeatValue). k.receipts) shows rounds s left (g, put) (h, after)
+    x = ticks_make (λ (k : SeatValue). k.receipts) (Enters start own) (Refuses start) shows rounds s left (g, put) (h, after) made
+
     pub ticked_more : ◌≡◌ {A = ℕ × ℕ} (h.caller, h.parts) (g.caller, g.parts) → More is_tick g h
     ticked_more same = record {
       seat = (ap (λ (p : ℕ × ℕ). p.0) same, ap (λ (p : ℕ × ℕ). p.1) same);
@@ -164,12 +179,15 @@ module _ (shows : ℕ → Type 0) where
     }
 
     -- the rounds of the first receipts were put in
-    pub ticked_first : g.receipts ≡ [] → put ≡ [] → IsPrefix (numbers_of after) (numbers_of_all h.receipts)
+    pub ticked_first : g.receipts ≡ [] → put_by put ≡ [] → AreRoundsOf h.receipts (put_by after)
     ticked_first no_receipts none =
-        let passed : numbers_of after ≡ numbers_of_all x.passed = ap numbers_of (x.put ∙ ap (λ (rs : List Round). rs ++ rounds_in x.passed) none) ∙ numbers_passed x.passed (front_all x.passed x.rest x.ticks) in
-        let all : numbers_of_all h.receipts ≡ numbers_of_all x.passed ++ numbers_of_all x.rest =
-        ap numbers_of_all (x.receipts ∙ ap (λ (qs : List Receipt). qs ++ (x.passed ++ x.rest)) no_receipts) ∙ map-append (λ (q : Receipt). q.number) x.passed x.rest in
-        (numbers_of_all x.rest, ap (λ (ns : List ℕ). ns ++ numbers_of_all x.rest) passed ∙ sym all)
+        let all : h.receipts ≡ x.passed ++ x.rest = x.receipts ∙ ap (λ (qs : List Receipt). qs ++ (x.passed ++ x.rest)) no_receipts in
+        let passed : put_by after ≡ rounds_in x.passed = x.put ∙ ap (λ (rs : List Round). rs ++ rounds_in x.passed) none in
+        let joined : rounds_in h.receipts ≡ rounds_in x.passed ++ rounds_in x.rest = ap rounds_in all ∙ rounds_append x.passed x.rest in
+        record {
+          are_first = (rounds_in x.rest, ap (λ (rs : List Round). rs ++ rounds_in x.rest) passed ∙ sym joined);
+          each = subst (λ (qs : List Receipt). numbers_of (rounds_in qs) ≡ numbers_of_all qs) (sym all) (numbers_passed (x.passed ++ x.rest) x.ticks);
+        }
 
 -- ---- the operator
 

@@ -1,9 +1,11 @@
-//! The workers: each waits for the start signal, works over a gate of its seat, and gives the seat back.
+//! The workers: each works over a gate of its seat, and gives the seat back. All but the receiver wait for the start
+//! signal first.
 
-ghost use Rattle.std.specs.Prelude.{◌≡◌, []};
-ghost use Rattle.cg_rounds.specs.Ends.{put_by, taken_by};
+ghost use Rattle.std.specs.Prelude.{◌≡◌, [], true};
+ghost use Rattle.cg_rounds.specs.Ends.{put_by, taken_by, taken_in};
 ghost use Rattle.cg_seats.specs.Seats.{AreOf};
 ghost use Rattle.cg_left.specs.Left.{IsLeft, HasTaken, HasPut, is_received, is_ack, is_tick, is_any};
+ghost use Rattle.cg_work.specs.Worked.{HasReceived, HasSent, HasBegun, HasOperated};
 
 use crate::site::Site;
 use cg_clock::Milliseconds;
@@ -22,6 +24,7 @@ use std::sync::Wait;
 
 // Takes a gate apart: its seat and its receipts, which are all of the seat's caller.
 fn left_of<N: Name, R: Wait>(gate: SeatGate<'_, N, R>) -> SeatLeft<N>
+    ensures began { result.began ≡ true }
     ensures parts { result.parts ≡ gate.entry.parts }
     ensures receipts { result.receipts ≡ gate.entry.receipts }
     ensures own { AreOf gate.entry.caller gate.entry.receipts }
@@ -30,7 +33,7 @@ fn left_of<N: Name, R: Wait>(gate: SeatGate<'_, N, R>) -> SeatLeft<N>
     SeatLeft::of(seat, receipts)
 }
 
-/// Does the receiver's work if all workers were started, and returns its seat with its receipts.
+/// Does the receiver's work, and returns its seat with its receipts.
 ///
 /// It answers up to `exchanges` connections, and a fault of the listener ends it.
 pub fn receive<N: Name, R: Wait, L: Listen + Drop, C: Milliseconds>(
@@ -42,11 +45,11 @@ pub fn receive<N: Name, R: Wait, L: Listen + Drop, C: Milliseconds>(
     exchanges: u32,
 ) -> SeatLeft<N>
     requires { seat.amount ≡ 0 }
-    ensures { IsLeft is_received seat.caller seat.parts result }
+    ensures left { IsLeft is_received seat.caller seat.parts result }
+    ensures began { result.began ≡ true }
+    ensures work { HasReceived N.start N.opening.own L.Reader.remaining L.Writer.contents (C.shows site.now.clock)
+        seat.caller L.accepts exchanges listener result.receipts }
 {
-    if !*site.go.wait(rt) {
-        return SeatLeft::unused(alloc, seat);
-    }
     let mut listener = listener;
     let mut gate = SeatGate::new(rt, alloc, &site.shared, seat);
     let _came = receiver(alloc, &mut gate, &mut listener, &site.clock, exchanges);
@@ -68,6 +71,8 @@ pub fn send<N: Name, R: Wait, D: Dial + Drop, C: Milliseconds>(
     requires taking { taken_by taking ≡ [] }
     ensures left { IsLeft is_ack seat.caller seat.parts result.left }
     ensures taken { HasTaken taking result.taken result.numbers.items }
+    ensures work { result.left.began ≡ true → HasSent N.start N.opening.own D.Reader.remaining D.Writer.contents
+        (C.shows site.now.clock) seat.caller D.dials dialer (taken_in result.taken) result.left.receipts }
 {
     if !*site.go.wait(rt) {
         return SenderLeft {
@@ -104,6 +109,9 @@ pub fn tick<N: Name, R: Wait + Clock, C: Milliseconds, G: Rng + Drop>(
     requires putting { put_by putting ≡ [] }
     ensures left { IsLeft is_tick seat.caller seat.parts result.left }
     ensures put { HasPut putting result.putting result.left.receipts }
+    ensures work { result.left.began ≡ true →
+        HasBegun N.start N.opening.own (C.shows site.now.clock) seat.caller turns.rounds (G.stream generator)
+        result.left.receipts }
 {
     if !*site.go.wait(rt) {
         return TickerLeft {
@@ -139,8 +147,11 @@ pub fn operate<N: Name, R: Wait, C: Milliseconds, O: Operate + Drop>(
     operates: O,
     pass: Pass<N>,
 ) -> SeatLeft<N>
-    requires { seat.amount ≡ 0 }
-    ensures { IsLeft is_any seat.caller seat.parts result }
+    requires seat { seat.amount ≡ 0 }
+    requires pass { pass ≡ [] }
+    ensures left { IsLeft is_any seat.caller seat.parts result }
+    ensures work { result.began ≡ true →
+        HasOperated N.start N.opening seat.caller O.works operates result.receipts }
 {
     if !*site.go.wait(rt) {
         return SeatLeft::unused(alloc, seat);
