@@ -1,10 +1,17 @@
-use Rattle.std.proofs.Common.{List, [], sym, ap, subst}
+use Rattle.std.proofs.Common.{List, sym, ap, subst}
 use Rattle.cg_records.specs.declared.item.Receipt.{Receipt}
 use Rattle.cg_rounds.specs.Ends.{put_by}
 use Rattle.cg_seats.specs.Seats.{SeatValue}
-use Rattle.cg_left.specs.Left.{AreRoundsOf}
-use Rattle.cg_work.proofs.Gates.{ticked_first}
+use Rattle.cg_left.specs.Left.{AreRoundsOf, is_tick}
+use Rattle.cg_work.proofs.Gates.{More, left_more, ticked_first, ticked_more}
 use Rattle.cg_work.proofs.work.tick.Goals as goal
+
+pub returns-clause-left : goal.returns-clause-left
+returns-clause-left g c =
+    let after = c.ticker-ticked.new.gate in
+    left_more is_tick c.args.seat.caller c.args.seat.parts after c.left_of.result
+    (subst (λ (x : SeatValue). More is_tick x after) c.new-gate.ensures (ticked_more _ _ _ _ _ _ _ after _ c.ticker-ticked.new.to c.ticker-ticked.ensures.ticks c.ticker-ticked.ensures.seat))
+    c.left_of.ensures.parts c.left_of.ensures.receipts c.left_of.ensures.own
 
 pub returns-clause-put : goal.returns-clause-put
 returns-clause-put g c =
