@@ -1,11 +1,12 @@
 -- A block's states and places: rows by key, a search among them, and the entry at a place.
 use Rattle.std.proofs.Common.{◌≡◌, ℕ, zero, suc, ◌-◌, ◌<◌, ◌≤◌, true, false, cond, List, [], ◌∷◌, map, length, take, drop, get_or, Some, Result, Ok, Err, IfOk, IfErr, refl, sym, ap, subst, ◌∙◌, arith, nat_lt, length-drop}
-use Rattle.std.specs.Prelude.{nat_le, slice_get}
+use Rattle.std.specs.Prelude.{◌&&◌, nat_le, slice_get}
 use Rattle.std.specs.List.{filter, AllByRecursion}
 use Rattle.std.specs.List.Sorted.{IsSearchInRange, IsBinarySearchResult, IsNonDecreasingBy}
 use Rattle.std.specs.Ordering.{nat_cmp, ordering_index}
 use Rattle.std.specs.FinMap as finmap
 use Rattle.std.proofs.lemmas.Bool.Decides.{nat_tests}
+use Rattle.std.proofs.lemmas.Bool.{lt-ltb}
 use Rattle.std.proofs.lemmas.List.{take_all}
 use Rattle.cg_entry.specs.declared.state.State.{State}
 use Rattle.std.specs.FinMap.Entries.{find}
@@ -88,6 +89,11 @@ lowered_few from (p ∷ ps) =
 pub bumped_few : (at : ℕ) (ps : List ℕ) → length (bumped at ps) ≡ length ps
 bumped_few at [] = refl
 bumped_few at (p ∷ ps) = ap suc (bumped_few at ps)
+
+-- places are bumped slots
+pub bumped_places : (at : ℕ) (ps : List ℕ) → AllByRecursion (λ p. p < 16) ps → map (λ p. cond (nat_lt p 16 && nat_le at p) (suc p) p) ps ≡ bumped at ps
+bumped_places at [] all = refl
+bumped_places at (p ∷ ps) all = (λ i. cond (lt-ltb p 16 all.0 i && nat_le at p) (suc p) p ∷ bumped_places at ps all.1 i)
 
 -- ---- the state that a search finds
 

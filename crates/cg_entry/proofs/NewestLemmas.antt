@@ -136,7 +136,7 @@ module _ (xs : List State) (p : ℕ) (s : State) (within : p < length xs) where
     within_closed qs all.1,
   )
 
-closed_few : (p : ℕ) (qs : List ℕ) → length (closed p qs) ≡ length qs
+pub closed_few : (p : ℕ) (qs : List ℕ) → length (closed p qs) ≡ length qs
 closed_few p [] = refl
 closed_few p (q ∷ qs) = ap suc (closed_few p qs)
 
@@ -309,10 +309,10 @@ module _ (xs : List State) (ps : List ℕ) (bytes n : ℕ) (s : State) (states :
         (subst (λ es. AllByRecursion IsState es) (sym rows_moved) (all_set IsState (pairs (picked xs ps)) n (pair s) b.valid is))
         (bytes_moved ∙ ap listed_bytes (sym listed_moved))
 
-    pub replace_room : (n < length ps) × (get_or ps n 0 < length xs) × (length (remove xs (get_or ps n 0)) < STATE_LIMIT) × (n < length (closed (get_or ps n 0) ps)) × (length xs - 1 ≡ length (remove xs (get_or ps n 0)))
+    pub replace_room : (n < length ps) × (get_or ps n 0 < length xs) × (length (remove xs (get_or ps n 0)) < STATE_LIMIT) × (length xs - 1 ≡ length (remove xs (get_or ps n 0)))
     replace_room =
         let size : length (remove xs (get_or ps n 0)) + 1 ≡ length xs = length-remove xs (get_or ps n 0) place_within in
-        (number_within, place_within, omega (arith, replaced.small, length-append (remove xs (get_or ps n 0)) (s ∷ [])), omega (arith, number_within, closed_few (get_or ps n 0) ps), omega arith)
+        (number_within, place_within, omega (arith, replaced.small, length-append (remove xs (get_or ps n 0)) (s ∷ [])), omega arith)
 
   -- ---- at a key that no state has
 

@@ -7,8 +7,9 @@ use Rattle.std.specs.FinMap as finmap
 use Rattle.std.specs.FinMap.{len-empty}
 use Rattle.std.proofs.lemmas.Bool.{le-leb, ltb-true, ltb-false, le-ltb, or_cases, cases_lt}
 use Rattle.std.proofs.lemmas.Bool.Decides.{nat_tests}
-use Rattle.std.proofs.lemmas.List.{take_more}
+use Rattle.std.proofs.lemmas.List.{take_more, get_or-drop}
 use Rattle.std.proofs.lemmas.List.{map-append}
+use Rattle.cg_map.proofs.RowLemmas.{keys_lt}
 use Rattle.cg_types.specs.Rising.{is_among, is_past, rise_past}
 use Rattle.cg_types.proofs.RisingLemmas.{rise_earlier, first_of, second_of, both, from_sorted-none}
 use Rattle.cg_entry.specs.declared.state.State.{State}
@@ -16,7 +17,7 @@ use Rattle.cg_entry.specs.Entry.{greatest_of, greatest, newer_than}
 use Rattle.cg_entry.specs.State.{pair, pairs, value_at_key, KeysRise}
 use Rattle.cg_entry.specs.Versioned.{Versioned, States}
 use Rattle.cg_entry.specs.Block.{no_state, state_at, picked, lowered, IsBlock}
-use Rattle.cg_entry.proofs.StateLemmas.{entries-pairs, greatest-pairs}
+use Rattle.cg_entry.proofs.StateLemmas.{pairs_rise, entries-pairs, greatest-pairs}
 use Rattle.cg_entry.proofs.DeltaLemmas.{greatest_over}
 use Rattle.cg_entry.proofs.PutLemmas.{put_inserted}
 use Rattle.cg_entry.proofs.BlockLemmas.{len-picked, read_at}
@@ -67,12 +68,12 @@ greatest_none xs ps bytes n states b seen none =
 
 -- ---- nothing newer, and all newer
 
-pub nothing_newer : (xs : List State) (ps : List ℕ) (above from : ℕ) (states : States) → Cut xs ps above from states → from ≤ length xs → nat_lt from (length xs) ≡ false → newer_than above states ≡ finmap.empty
+nothing_newer : (xs : List State) (ps : List ℕ) (above from : ℕ) (states : States) → Cut xs ps above from states → from ≤ length xs → nat_lt from (length xs) ≡ false → newer_than above states ≡ finmap.empty
 nothing_newer xs ps above from states cut le e =
     let none : length (drop from xs) ≡ 0 = omega (arith, ltb-false from (length xs) e, length-drop from xs) in
     sym cut.view ∙ ap (λ (qs : List ℕ). finmap.from_sorted {R = nat_cmp} (pairs (picked (drop from xs) qs))) (no_places (length (drop from xs)) (lowered from ps) cut.within none) ∙ from_sorted-none
 
-pub something_newer : (xs : List State) (ps : List ℕ) (above from : ℕ) (states : States) → Cut xs ps above from states → newer_than above states ≡ finmap.empty → nat_lt from (length xs) ≡ false
+something_newer : (xs : List State) (ps : List ℕ) (above from : ℕ) (states : States) → Cut xs ps above from states → newer_than above states ≡ finmap.empty → nat_lt from (length xs) ≡ false
 something_newer xs ps above from states cut none =
     elim (cases_lt from (length xs)) [
       | inl lt ↦
@@ -82,6 +83,37 @@ something_newer xs ps above from states cut none =
           absurd (omega arith)
       | inr le ↦ le-ltb from (length xs) le
     ]
+
+-- before the vector's end, something is newer
+pub some_newer : (given xs : List State) (ps : List ℕ) (above from : ℕ) (states : States) → Cut xs ps above from states → given ≡ xs → from ≤ length given → (from ≡ length given → ⊥) → newer_than above states ≡ finmap.empty → ⊥
+some_newer given xs ps above from states cut same le before none =
+    let long : length given ≡ length xs = ap (λ (ys : List State). length ys) same in
+    omega (arith, le, before, long, ltb-false from (length xs) (something_newer xs ps above from states cut none))
+
+-- at the vector's end, nothing is newer
+pub end_newer : (given xs : List State) (ps : List ℕ) (above from : ℕ) (states : States) → Cut xs ps above from states → given ≡ xs → from ≡ length given → finmap.empty ≡ newer_than above states
+end_newer given xs ps above from states cut same end =
+    let is : from ≡ length xs = end ∙ ap (λ (ys : List State). length ys) same in
+    sym (nothing_newer xs ps above from states cut (omega arith) (le-ltb from (length xs) (omega arith)))
+
+-- places in a vector of one state
+one_place : (ys : List State) (qs : List ℕ) → length ys ≡ 1 → AllByRecursion (λ q. q < length ys) qs → KeysRise (picked ys qs) → is_among qs 0 ≡ true → qs ≡ 0 ∷ []
+one_place ys [] long all rise e = absurd cc
+one_place ys (q ∷ []) long all rise e = ap (λ n. n ∷ []) (omega (arith, all.0, long))
+one_place ys (q ∷ r ∷ qs) long all rise e =
+    let same : q ≡ r = omega (arith, all.0, all.1.0, long) in
+    let less : (state_at ys q).key < (state_at ys r).key = keys_lt None (pairs (picked ys (q ∷ r ∷ qs))) (pairs_rise (picked ys (q ∷ r ∷ qs)) rise) 0 1 (pair no_state) (omega arith) (omega arith) in
+    absurd (omega (arith, less, ap (λ p. (state_at ys p).key) same))
+
+-- the last state alone is newer
+pub last_newer : (given xs : List State) (ps : List ℕ) (above from : ℕ) (s : State) (states : States) → Cut xs ps above from states → given ≡ xs → from + 1 ≡ length given → s ≡ get_or given from s → finmap.from_sorted {R = nat_cmp} (pair s ∷ []) ≡ newer_than above states
+last_newer given xs ps above from s states cut same last here =
+    let size : from + 1 ≡ length xs = last ∙ ap (λ (ys : List State). length ys) same in
+    let one : length (drop from xs) ≡ 1 = omega (arith, size, length-drop from xs) in
+    let only : lowered from ps ≡ 0 ∷ [] = one_place (drop from xs) (lowered from ps) one cut.within cut.block.rise (cut.block.whole 0 (omega arith)) in
+    let is : state_at (drop from xs) 0 ≡ s = get_or-drop from xs 0 no_state ∙ read_at xs (from + 0) from s (here ∙ ap (λ (ys : List State). get_or ys from s) same) (omega arith) (omega arith) in
+    ap (λ (t : State). finmap.from_sorted {R = nat_cmp} (pair t ∷ [])) (sym is)
+    ∙ ap (λ (qs : List ℕ). finmap.from_sorted {R = nat_cmp} (pairs (picked (drop from xs) qs))) (sym only) ∙ cut.view
 
 lowered_none : (ps : List ℕ) → lowered 0 ps ≡ ps
 lowered_none [] = refl

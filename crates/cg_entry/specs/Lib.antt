@@ -6,6 +6,7 @@ pub mod Entry
 pub mod Contents
 pub mod Held
 pub mod Block
+pub mod Newer
 pub mod Taking
 pub mod History
 pub mod Place

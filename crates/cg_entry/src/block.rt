@@ -1,9 +1,10 @@
 //! Blocks of states: a vector that rises by version, then key, and the places by key.
 
-ghost use Rattle.std.specs.Prelude.{◌≡◌, ◌<◌, ◌≤◌, ◌^◌, IfOk, IfErr, IfSome, IsOk, OnOk, OnErr, length, nat_lt, option_copied, true, false, slice_get, Some};
+ghost use Rattle.std.specs.Prelude.{◌≡◌, ◌<◌, ◌≤◌, ◌^◌, IfOk, IfErr, IfSome, IsOk, OnOk, OnErr, length, nat_lt, option_copied, remove, true, false, slice_get, Some, Ok, ◌++◌, ◌∷◌, []};
 ghost use Rattle.std.specs.FinMap as map;
 ghost use Rattle.std.specs.FinMap.Entries.{find as find_entry};
 ghost use Rattle.std.specs.Option.{option_map};
+ghost use Rattle.std.specs.Arc.{arc_value};
 ghost use Rattle.std.specs.Ordering.{nat_cmp};
 ghost use Rattle.std.specs.List.{AllByRecursion, AllWithin};
 ghost use Rattle.std.specs.List.Sorted.{IsNonDecreasingBy};
@@ -12,6 +13,8 @@ ghost use Rattle.cg_entry.specs.Entry.{greatest, newer_than, overlay, text_bytes
 ghost use Rattle.cg_entry.specs.State.{IsStateList, KeysRise, pair, pairs, value_at_key};
 ghost use Rattle.cg_entry.specs.Versioned.{States};
 ghost use Rattle.cg_entry.specs.Block.{bytes_at, picked, put_all, state_at};
+ghost use Rattle.cg_entry.specs.Newer.{newer_states};
+ghost use Rattle.cg_entry.specs.declared.block.Newer.TheVariants.{Nothing};
 ghost use Rattle.cg_map.specs.Rows.{IsGapAt, IsRowAt};
 
 use crate::places::Places;
@@ -20,6 +23,7 @@ use crate::states::versions_rise;
 use cg_types::{STATE_LIMIT, StateKey, Version};
 use std::alloc::{AllocError, Global};
 use std::marker::Model;
+use std::sync::Arc;
 
 // A finite map from keys to texts with their versions.
 #[derive(Debug, Drop)]
@@ -27,6 +31,14 @@ pub(crate) struct Block {
     items: Vec<State>,
     places: Places,
     text_bytes: usize,
+}
+
+// The states of a block that are newer than a version: none, each, or those in a block of their own.
+#[derive(Debug, Drop)]
+pub(crate) enum Newer {
+    Nothing,
+    Each,
+    Part(Block),
 }
 
 impl Model for Block {
@@ -145,14 +157,38 @@ fn room_for(count: usize, more: usize) -> usize {
     count.saturating_add(more).min(usize::from(STATE_LIMIT))
 }
 
+// Pushes a copy of each state.
+fn push_copies(copies: &mut Vec<State>, items: &[State]) -> Result<(), AllocError>
+    ensures { OnOk result (copies.new.items ≡ copies.old.items ++ items.now) }
+{
+    for state in items {
+        copies.push(state.copy()?)?;
+    }
+    Ok(())
+}
+
 // Copies of states, in a vector with room for more.
 fn copies(alloc: Global, items: &[State], more: usize) -> Result<Vec<State>, AllocError>
     ensures { IfOk result (λ v. v.items ≡ items.now) }
 {
     let mut copies = Vec::with_capacity(alloc, room_for(items.len(), more))?;
-    for state in items {
-        copies.push(state.copy()?)?;
-    }
+    push_copies(&mut copies, items)?;
+    Ok(copies)
+}
+
+// Copies of all states but the one at a place, in a vector with room for more.
+fn other_copies(
+    alloc: Global,
+    items: &[State],
+    at: usize,
+    more: usize,
+) -> Result<Vec<State>, AllocError>
+    requires { at < length items.now }
+    ensures { IfOk result (λ v. v.items ≡ remove items.now at) }
+{
+    let mut copies = Vec::with_capacity(alloc, room_for(items.len() - 1, more))?;
+    push_copies(&mut copies, &items[..at])?;
+    push_copies(&mut copies, &items[at + 1..])?;
     Ok(copies)
 }
 
@@ -244,11 +280,9 @@ impl Block {
         let mut items = self.items;
         let old = items.remove(at as usize);
         items.push(state)?;
-        let mut places = self.places.closed(at);
-        places.set(number, last as u8);
         Ok(Block {
             items,
-            places,
+            places: self.places.moved(number, at, last as u8),
             text_bytes: self.text_bytes - text_size(&old) + size,
         })
     }
@@ -264,30 +298,77 @@ impl Block {
         }
     }
 
-    // A quick test before states are copied: whether `newer` seems to go behind all, in its order.
-    fn is_before(&self, newer: &[State]) -> bool {
+    // A copy with a state that is newer than each, with room for more. The state that has this number among the keys
+    // is replaced: it is not copied.
+    fn with_other(
+        &self,
+        alloc: Global,
+        number: usize,
+        state: State,
+        more: usize,
+    ) -> Result<Block, AllocError>
+        requires newest { AllByRecursion (λ e. e.1.version < state.version) (map.entries self.now) }
+        requires row { IsRowAt (map.entries self.now) state.key number }
+        ensures { IfOk result (λ b. b ≡ map.insert self.now state.key (value_at_key state)) }
+    {
+        show_state(&state);
+        let size = text_size(&state);
+        let last = self.items.as_slice().len() - 1;
+        let at = self.places.as_slice()[number];
+        let old = size_at(&self.items, at);
+        let mut items = other_copies(alloc, &self.items, at as usize, more)?;
+        items.push(state)?;
+        Ok(Block {
+            items,
+            places: self.places.moved(number, at, last as u8),
+            text_bytes: self.text_bytes - old + size,
+        })
+    }
+
+    // A copy with a state that is newer than each, in place of one with its key, with room for more.
+    pub(crate) fn with_newest(
+        &self,
+        alloc: Global,
+        state: State,
+        more: usize,
+    ) -> Result<Block, AllocError>
+        requires { AllByRecursion (λ e. e.1.version < state.version) (map.entries self.now) }
+        ensures { IfOk result (λ b. b ≡ map.insert self.now state.key (value_at_key state)) }
+    {
+        match number_of(&self.items, self.places.as_slice(), state.key) {
+            Ok(number) => self.with_other(alloc, number, state, more),
+            Err(number) => self.copy(alloc, more)?.add(number, state),
+        }
+    }
+
+    // A test before states are copied: the first of `newer` is newer than all, and their versions do not fall.
+    fn is_before(&self, newer: &[State]) -> bool
+        ensures some { result ≡ true → 0 < length newer.now }
+        ensures older { result ≡ true
+            → AllByRecursion (λ e. e.1.version < (state_at newer.now 0).version) (map.entries self.now) }
+    {
         !newer.is_empty() && self.is_older(newer[0].version) && versions_rise(newer)
     }
 
-    // A copy with each of `newer` put. `None` if one is not newer than all before it.
+    // A copy with each of `newer` put, where it is shared. `None` if one is not newer than all before it.
     pub(crate) fn with_all(
         &self,
         alloc: Global,
         newer: &[State],
-    ) -> Result<Option<Block>, AllocError>
-        ensures { IfOk result (λ o. IfSome o (λ b. b ≡ put_all newer.now self.now)) }
+    ) -> Result<Option<Arc<Block, Global>>, AllocError>
+        ensures { IfOk result (λ o. IfSome o (λ b. arc_value b ≡ put_all newer.now self.now)) }
     {
         if !self.is_before(newer) {
             return Ok(None);
         }
-        let mut block = self.copy(alloc, newer.len())?;
-        for state in newer {
+        let mut block = self.with_newest(alloc, newer[0].copy()?, newer.len())?;
+        for state in &newer[1..] {
             if !block.is_older(state.version) {
                 return Ok(None);
             }
             block = block.put_newest(state.copy()?)?;
         }
-        Ok(Some(block))
+        Ok(Some(Arc::new(alloc, block)?))
     }
 
     // The number of states.
@@ -329,6 +410,36 @@ impl Block {
             places,
             text_bytes,
         })
+    }
+
+    // A block of one state.
+    fn one(alloc: Global, state: &State) -> Result<Block, AllocError>
+        ensures { IfOk result (λ b. b ≡ map.from_sorted (pair state.now ∷ [])) }
+    {
+        show_state(state);
+        let mut items = Vec::with_capacity(alloc, 1)?;
+        items.push(state.copy()?)?;
+        Ok(Block::in_order(items, text_size(state)))
+    }
+
+    // The states with a version greater than `above`, which mostly are none, all or the last alone. If none is, it
+    // takes no memory.
+    pub(crate) fn newer(&self, alloc: Global, above: u32) -> Result<Newer, AllocError>
+        ensures value { IfOk result (λ n. newer_states n self.now ≡ newer_than above self.now) }
+        ensures none { newer_than above self.now ≡ map.empty → result ≡ Ok Nothing }
+    {
+        let items = self.items.as_slice();
+        let from = first_above(items, above);
+        if from == items.len() {
+            return Ok(Newer::Nothing);
+        }
+        if from == 0 {
+            return Ok(Newer::Each);
+        }
+        if from + 1 == items.len() {
+            return Ok(Newer::Part(Block::one(alloc, &items[from])?));
+        }
+        Ok(Newer::Part(self.newer_than(alloc, above)?))
     }
 
     // A block without states, with room for this number.
@@ -388,21 +499,6 @@ impl Block {
             return heartbeat;
         }
         heartbeat.max(items[items.len() - 1].version)
-    }
-
-    // Tests whether a state is newer than `above`.
-    pub(crate) fn has_newer(&self, above: u32) -> bool
-        ensures none { result ≡ false → newer_than above self.now ≡ map.empty }
-        ensures some { newer_than above self.now ≡ map.empty → result ≡ false }
-    {
-        first_above(&self.items, above) < self.items.as_slice().len()
-    }
-
-    // Tests whether each state is newer than `above`.
-    pub(crate) fn is_newer(&self, above: u32) -> bool
-        ensures { result ≡ true → newer_than above self.now ≡ self.now }
-    {
-        first_above(&self.items, above) == 0
     }
 
     // Reads the states; the read shows that they are in range.

@@ -10,7 +10,7 @@ ghost use Rattle.cg_entry.specs.Contents.{AreStates};
 ghost use Rattle.std.specs.Option.{option_map};
 ghost use Rattle.std.specs.Arc.{arc_value};
 
-use crate::block::Block;
+use crate::block::{Block, Newer};
 use crate::state::State;
 use crate::states::States;
 use cg_types::{STATE_LIMIT, StateKey, Version};
@@ -240,23 +240,22 @@ impl Held {
         }
     }
 
-    // A block of these with room for one more.
-    fn block(&self, alloc: Global) -> Result<Block, AllocError>
-        ensures { IfOk result (λ b. b ≡ self.now) }
-    {
-        match &self.kept {
-            Kept::Own(states) => states.block(alloc, 1),
-            Kept::Shared(block) => block.deref().copy(alloc, 1),
-        }
-    }
-
     // A block of these with a state put: copied, if the state is newer than each.
     fn with(&self, alloc: Global, state: State) -> Result<Block, AllocError>
         ensures { IfOk result (λ b. b ≡ map.insert self.now state.key (value_at_key state)) }
     {
-        let block = self.block(alloc)?;
-        if block.is_older(state.version) {
-            return block.put_newest(state);
+        match &self.kept {
+            Kept::Own(states) => {
+                let block = states.block(alloc, 1)?;
+                if block.is_older(state.version) {
+                    return block.put_newest(state);
+                }
+            }
+            Kept::Shared(block) => {
+                if block.deref().is_older(state.version) {
+                    return block.deref().with_newest(alloc, state, 1);
+                }
+            }
         }
         let one = Held::own(States::one(alloc, state)?);
         self.laid_under(alloc, &one)
@@ -264,8 +263,12 @@ impl Held {
 
     // A copied block of these with each of `newer` put. `None` if one is not newer than all before it, or if these
     // are no block.
-    fn with_all(&self, alloc: Global, newer: &Held) -> Result<Option<Block>, AllocError>
-        ensures { IfOk result (λ o. IfSome o (λ b. b ≡ overlay self.now newer.now)) }
+    fn with_all(
+        &self,
+        alloc: Global,
+        newer: &Held,
+    ) -> Result<Option<Arc<Block, Global>>, AllocError>
+        ensures { IfOk result (λ o. IfSome o (λ b. arc_value b ≡ overlay self.now newer.now)) }
     {
         match &self.kept {
             Kept::Own(_) => Ok(None),
@@ -273,13 +276,15 @@ impl Held {
         }
     }
 
-    // The same. If it can, it copies these and puts what is newer.
-    fn laid(&self, alloc: Global, newer: &Held) -> Result<Block, AllocError>
-        ensures { IfOk result (λ b. b ≡ overlay self.now newer.now) }
+    // The same in a new block. If it can, it copies these and puts what is newer.
+    fn laid(&self, alloc: Global, newer: &Held) -> Result<Held, AllocError>
+        ensures { IfOk result (λ h. h ≡ overlay self.now newer.now) }
     {
         match self.with_all(alloc, newer)? {
-            Some(block) => Ok(block),
-            None => self.laid_under(alloc, newer),
+            Some(block) => Ok(Held {
+                kept: Kept::Shared(block),
+            }),
+            None => Held::of(alloc, self.laid_under(alloc, newer)?),
         }
     }
 
@@ -308,6 +313,9 @@ impl Held {
     fn is_covered(&self, newer: &Held) -> bool
         ensures { IsTrue result → overlay self.now newer.now ≡ newer.now }
     {
+        if newer.len() < self.len() {
+            return false;
+        }
         for place in 0..self.len() {
             if newer.get(self.at(place).key).is_none() {
                 return false;
@@ -326,7 +334,7 @@ impl Held {
         if self.is_covered(newer) {
             return newer.copy(alloc);
         }
-        Held::of(alloc, self.laid(alloc, newer)?)
+        self.laid(alloc, newer)
     }
 }
 
@@ -345,13 +353,11 @@ fn newer_of_block(alloc: Global, block: &Arc<Block, Global>, above: u32) -> Resu
     ensures value { IfOk result (λ h. h ≡ newer_than above (arc_value block.now)) }
     ensures bare { newer_than above (arc_value block.now) ≡ map.empty → IsOk result }
 {
-    if !block.deref().has_newer(above) {
-        return Ok(Held::none(alloc));
-    }
-    if block.deref().is_newer(above) {
-        return Ok(Held {
+    match block.deref().newer(alloc, above)? {
+        Newer::Nothing => Ok(Held::none(alloc)),
+        Newer::Each => Ok(Held {
             kept: Kept::Shared(Arc::try_clone(block)?),
-        });
+        }),
+        Newer::Part(newer) => Held::of(alloc, newer),
     }
-    Held::of(alloc, block.deref().newer_than(alloc, above)?)
 }

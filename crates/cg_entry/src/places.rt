@@ -1,6 +1,6 @@
 //! Lists of at most 16 places, without memory of their own.
 
-ghost use Rattle.std.specs.Prelude.{◌≡◌, ◌<◌, ◌≤◌, ◌-◌, ◌++◌, [], ◌∷◌, insert, length, map, nat_le, slice_set, take};
+ghost use Rattle.std.specs.Prelude.{◌≡◌, ◌<◌, ◌≤◌, ◌-◌, ◌&&◌, ◌++◌, [], ◌∷◌, insert, length, map, nat_le, nat_lt, slice_set, suc, take, if◌then◌else◌};
 ghost use Rattle.std.specs.List.{filter, range_with_len, AllByRecursion};
 ghost use Rattle.cg_entry.specs.Block.{bumped, closed, lowered};
 
@@ -24,6 +24,46 @@ impl Model for Places {
     ghost view = { λ p. take p.count p.slots };
 
     ghost invariant = { λ p. p.count ≤ 16 };
+}
+
+// A place, once the element at `at` is taken out.
+fn closed_place(place: u8, at: u8) -> u8
+    ensures { result ≡ if nat_lt at place then place - 1 else place }
+{
+    if place > at { place - 1 } else { place }
+}
+
+// All slots, once the element at `at` is taken out: also those behind the count, so that there is no branch.
+fn closed_slots(before: [u8; 16], at: u8) -> [u8; 16]
+    ensures { result ≡ closed at before }
+{
+    let mut slots = before;
+    for number in 0..16 {
+        slots[number] = closed_place(slots[number], at);
+    }
+    slots
+}
+
+// A slot, once an element is put at `at`. One that is no place stays.
+fn bumped_slot(slot: u8, at: u8) -> u8
+    ensures { result ≡ if nat_lt slot 16 && nat_le at slot then suc slot else slot }
+{
+    if slot < 16 && at <= slot {
+        slot + 1
+    } else {
+        slot
+    }
+}
+
+// All slots, once an element is put at `at`: also those behind the count.
+fn bumped_slots(before: [u8; 16], at: u8) -> [u8; 16]
+    ensures { result ≡ map (λ p. (if nat_lt p 16 && nat_le at p then suc p else p)) before }
+{
+    let mut slots = before;
+    for number in 0..16 {
+        slots[number] = bumped_slot(slots[number], at);
+    }
+    slots
 }
 
 impl Places {
@@ -121,15 +161,20 @@ impl Places {
     pub(crate) fn closed(&self, at: u8) -> Places
         ensures { result ≡ closed at self.now }
     {
-        let mut lower = Places::none();
-        for place in self.as_slice() {
-            if *place > at {
-                lower.push(*place - 1);
-            } else {
-                lower.push(*place);
-            }
+        Places {
+            slots: closed_slots(self.slots, at),
+            count: self.count,
         }
-        lower
+    }
+
+    // The places once the element at `at`, whose place has this number, is taken out and another one put at the end.
+    pub(crate) fn moved(&self, number: usize, at: u8, last: u8) -> Places
+        requires { number < length self.now }
+        ensures { result ≡ slice_set (closed at self.now) number last }
+    {
+        let mut places = self.closed(at);
+        places.set(number, last);
+        places
     }
 
     // The same places, once an element is put at `at`.
@@ -137,15 +182,10 @@ impl Places {
         requires { AllByRecursion (λ p. p < 16) self.now }
         ensures { result ≡ bumped at self.now }
     {
-        let mut higher = Places::none();
-        for place in self.as_slice() {
-            if *place >= at {
-                higher.push(*place + 1);
-            } else {
-                higher.push(*place);
-            }
+        Places {
+            slots: bumped_slots(self.slots, at),
+            count: self.count,
         }
-        higher
     }
 
     // The same places, once an element is put at `at` in a vector of `count`: behind all, none is moved.

@@ -23,12 +23,11 @@ remove-old-requires c =
 pub overflow_cast-last : goal.overflow_cast-last
 overflow_cast-last c =
     let r = replace_room c.self.inside.items.items c.self.inside.places c.self.inside.text_bytes c.args.number c.args.state c.args.self c.self.invariant c.self.view_is c.show_state.ensures c.requires.newest c.requires.row in
-    rw c.as_slice.ensures.value (omega (arith, r.2, r.4))
+    rw c.as_slice.ensures.value (omega (arith, r.2, r.3))
 
-pub set-requires : goal.set-requires
-set-requires c =
-    let r = replace_room c.self.inside.items.items c.self.inside.places c.self.inside.text_bytes c.args.number c.args.state c.args.self c.self.invariant c.self.view_is c.show_state.ensures c.requires.newest c.requires.row in
-    rw (c.closed-places.ensures, c.as_slice-2.ensures.value) r.3
+pub moved-requires : goal.moved-requires
+moved-requires c =
+    (replace_room c.self.inside.items.items c.self.inside.places c.self.inside.text_bytes c.args.number c.args.state c.args.self c.self.invariant c.self.view_is c.show_state.ensures c.requires.newest c.requires.row).0
 
 pub overflow_sub-result : goal.overflow_sub-result
 overflow_sub-result c =
@@ -51,10 +50,10 @@ invariant_of-result c =
     let p = replaced c.self.inside.items.items c.self.inside.places c.self.inside.text_bytes c.args.number c.args.state c.args.self c.self.invariant c.self.view_is c.show_state.ensures c.requires.newest c.requires.row in
     let here : state_at c.self.inside.items.items (get_or c.self.inside.places c.args.number 0) ≡ c.remove-old.result = read_at c.self.inside.items.items (get_or c.self.inside.places c.args.number 0) _ c.remove-old.result c.remove-old.ensures.value (ap (λ (ps : List ℕ). get_or ps c.args.number 0) c.as_slice-2.ensures.value) r.1 in
     let size : c.text_size.result ≡ length (state_at c.self.inside.items.items (get_or c.self.inside.places c.args.number 0)).text = c.text_size.ensures ∙ ap (λ (s : State). length s.text) (sym here) in
-    rw (c.in_ok-push.ensures.items, c.set.ensures, c.closed-places.ensures, c.as_slice.ensures.value, c.remove-old.ensures.items, c.as_slice-2.ensures.value, r.4, size, c.text_size-size.ensures) p.block
+    rw (c.in_ok-push.ensures.items, c.moved.ensures, c.as_slice.ensures.value, c.remove-old.ensures.items, c.as_slice-2.ensures.value, r.3, size, c.text_size-size.ensures) p.block
 
 pub returns : goal.returns
 returns c =
     let r = replace_room c.self.inside.items.items c.self.inside.places c.self.inside.text_bytes c.args.number c.args.state c.args.self c.self.invariant c.self.view_is c.show_state.ensures c.requires.newest c.requires.row in
     let p = replaced c.self.inside.items.items c.self.inside.places c.self.inside.text_bytes c.args.number c.args.state c.args.self c.self.invariant c.self.view_is c.show_state.ensures c.requires.newest c.requires.row in
-    rw (c.in_ok-push.ensures.items, c.set.ensures, c.closed-places.ensures, c.as_slice.ensures.value, c.remove-old.ensures.items, c.as_slice-2.ensures.value, r.4) p.view
+    rw (c.in_ok-push.ensures.items, c.moved.ensures, c.as_slice.ensures.value, c.remove-old.ensures.items, c.as_slice-2.ensures.value, r.3) p.view
