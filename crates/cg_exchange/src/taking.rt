@@ -102,15 +102,17 @@ fn grant(alloc: Global, request: Request, held: Option<&Entry>) -> Result<Option
     entry.above(alloc, 0)
 }
 
+// The delta that answers a request. The entry is looked for near a place first.
 fn delta_granted(
     alloc: Global,
     table: &Table,
+    near: usize,
     request: Request,
 ) -> Result<Option<OwnerDelta>, AllocError>
     ensures { IfOk result (λ d. d ≡ delta_granted_of table.now.entries request) }
 {
     let endpoint = request.endpoint();
-    match grant(alloc, request, table.get(endpoint))? {
+    match grant(alloc, request, table.get_near(near, endpoint))? {
         Some(delta) => Ok(Some(OwnerDelta { endpoint, delta })),
         None => Ok(None),
     }
@@ -125,7 +127,7 @@ fn deltas_granted(
 {
     let mut deltas = Vec::new(alloc);
     for request in requests {
-        let delta = delta_granted(alloc, table, *request)?;
+        let delta = delta_granted(alloc, table, deltas.len(), *request)?;
         push_some(&mut deltas, delta)?;
     }
     Ok(deltas)

@@ -7,7 +7,7 @@ ghost use Rattle.cg_types.specs.Rising.{Rises};
 ghost use Rattle.cg_map.specs.Rows.{keys_of};
 ghost use Rattle.cg_map.specs.Map.{put_each};
 
-use crate::rows::{Row, around, search, share_all, walk_rows};
+use crate::rows::{Row, around, search_near, share_all, walk_rows};
 use cg_types::Endpoint;
 use std::alloc::{AllocError, Global};
 use std::marker::Model;
@@ -50,7 +50,15 @@ impl<T: Drop> SharedMap<T> {
     pub fn get(&self, endpoint: Endpoint) -> Option<&T>
         ensures { option_copied result ≡ map.get self.now endpoint }
     {
-        match search(&self.rows, endpoint) {
+        self.get_near(0, endpoint)
+    }
+
+    /// The value held for an endpoint, as `get` gives it, whatever the place `near` is. It looks at that row and the
+    /// next one first: in a walk over endpoints that rise, most are found there.
+    pub fn get_near(&self, near: usize, endpoint: Endpoint) -> Option<&T>
+        ensures { option_copied result ≡ map.get self.now endpoint }
+    {
+        match search_near(&self.rows, near, endpoint) {
             Ok(at) => Some(self.rows[at].value()),
             Err(_) => None,
         }
@@ -60,7 +68,14 @@ impl<T: Drop> SharedMap<T> {
     pub fn row(&self, endpoint: Endpoint) -> Option<&Row<T>>
         ensures { option_copied result ≡ option_map (λ v. (endpoint, v)) (map.get self.now endpoint) }
     {
-        match search(&self.rows, endpoint) {
+        self.row_near(0, endpoint)
+    }
+
+    /// The row of an endpoint, as `row` gives it, looked for near a place first, as `get_near` does.
+    pub fn row_near(&self, near: usize, endpoint: Endpoint) -> Option<&Row<T>>
+        ensures { option_copied result ≡ option_map (λ v. (endpoint, v)) (map.get self.now endpoint) }
+    {
+        match search_near(&self.rows, near, endpoint) {
             Ok(at) => Some(&self.rows[at]),
             Err(_) => None,
         }

@@ -1,6 +1,6 @@
 //! The rows of a map, which share their values.
 
-ghost use Rattle.std.specs.Prelude.{◌≡◌, ◌++◌, IfOk, IfErr, OnOk};
+ghost use Rattle.std.specs.Prelude.{◌≡◌, ◌++◌, IsTrue, IfOk, IfErr, OnOk};
 ghost use Rattle.cg_types.specs.Rising.{Rises};
 ghost use Rattle.cg_map.specs.Rows.{keys_of, before, after, walk, IsRowAt, IsGapAt};
 
@@ -86,15 +86,29 @@ fn halve<T>(rows: &[Row<T>], endpoint: Endpoint) -> Result<usize, usize>
     rows.binary_search_by_key(&endpoint, |row| row.endpoint())
 }
 
-// The place of the endpoint's row, or the place where it would go. It looks at the first row, where a walk finds most,
-// and then halves.
-pub(crate) fn search<T>(rows: &[Row<T>], endpoint: Endpoint) -> Result<usize, usize>
+// Tests whether the endpoint's row is the one at a place.
+fn is_at<T>(rows: &[Row<T>], at: usize, endpoint: Endpoint) -> bool
+    ensures { IsTrue result → IsRowAt rows.now endpoint at }
+{
+    at < rows.len() && rows[at].endpoint() == endpoint
+}
+
+// The place of the endpoint's row, or the place where it would go. It looks at the place `near` and at the next one,
+// where a walk finds most, and then halves.
+pub(crate) fn search_near<T>(
+    rows: &[Row<T>],
+    near: usize,
+    endpoint: Endpoint,
+) -> Result<usize, usize>
     requires { Rises (keys_of rows.now) }
     ensures found { IfOk result (λ at. IsRowAt rows.now endpoint at) }
     ensures absent { IfErr result (λ at. IsGapAt rows.now endpoint at) }
 {
-    if !rows.is_empty() && rows[0].endpoint() == endpoint {
-        return Ok(0);
+    if is_at(rows, near, endpoint) {
+        return Ok(near);
+    }
+    if near < rows.len() && is_at(rows, near + 1, endpoint) {
+        return Ok(near + 1);
     }
     halve(rows, endpoint)
 }
@@ -105,7 +119,7 @@ pub(crate) fn around<T>(rows: &[Row<T>], endpoint: Endpoint) -> (&[Row<T>], &[Ro
     ensures before { result.0.now ≡ before endpoint rows.now }
     ensures after { result.1.now ≡ after endpoint rows.now }
 {
-    match search(rows, endpoint) {
+    match search_near(rows, 0, endpoint) {
         Ok(at) => (&rows[..at], &rows[at + 1..]),
         Err(at) => (&rows[..at], &rows[at..]),
     }

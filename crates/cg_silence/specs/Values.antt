@@ -48,13 +48,13 @@ pub record IsWindow (s : SilenceValue) (gaps : List ℕ) (capacity total : ℕ) 
   pub small : All (λ g. g ≤ s.max_gap) gaps
   pub summed : total ≡ sum gaps
 
--- The shared gaps and the few behind them are no more than there is room for, none is over the settings' greatest, and
--- the total is the sum of those shown.
+-- The shared gaps are no more than there is room for. Of them and the few behind them none is over the settings'
+-- greatest, and the total is their sum.
 pub record IsSharedWindow (s : SilenceValue) (past tail : List ℕ) (total : ℕ) : Type 0 where
   pub settings : IsSilence s
   pub few : length past ≤ s.window
   pub small : All (λ g. g ≤ s.max_gap) (past ++ tail)
-  pub summed : total ≡ sum (keep_last s.window (past ++ tail))
+  pub summed : total ≡ sum (past ++ tail)
 
 -- the codes that models of values with these require
 abbrev pub silence_code : Coded SilenceValue

@@ -1,9 +1,10 @@
 //! A window that the windows made from it share.
 
-ghost use Rattle.std.specs.Prelude.{◌≡◌, ◌+◌, ◌-◌, ◌<◌, ◌≤◌, ◌^◌, ℕ, List, [], ◌∷◌, ◌++◌, length, sum, All, IfOk, Some, drop};
+ghost use Rattle.std.specs.Prelude.{◌≡◌, ◌+◌, ◌*◌, ◌≤◌, ◌^◌, ℕ, List, [], ◌∷◌, ◌++◌, length, sum, IfOk, Some};
 ghost use Rattle.circular_buffer.specs.Buffer.{keep_last};
 ghost use Rattle.cg_silence.specs.Silence.{Shows, after_arrival, verdict};
 
+use crate::limits::WINDOW_LIMIT;
 use crate::silence::Silence;
 use crate::tail::{TAIL_ROOM, Tail};
 use crate::verdict::Verdict;
@@ -13,12 +14,18 @@ use std::marker::Model;
 use std::ops::Deref;
 use std::sync::Arc;
 
+// What windows that were made from one another share: the settings, and all gaps but the last few.
+#[derive(Drop)]
+struct Past {
+    silence: Silence,
+    gaps: Vec<u32>,
+}
+
 /// A window that does not change: an arrival makes another one, and the two share all gaps but the last few. So it
-/// costs as little for a window of 1,000 gaps as for a short one, but for one arrival in 32, which copies all gaps.
+/// costs as little for a window of 1,000 gaps as for a short one, but for one arrival in 18, which copies all gaps.
 #[derive(Drop)]
 pub struct SharedWindow {
-    silence: Silence,
-    past: Arc<Vec<u32>, Global>,
+    past: Arc<Past, Global>,
     tail: Tail,
     total: u64,
     last: Option<u64>,
@@ -34,41 +41,41 @@ impl Model for SharedWindow {
     ghost Value = { WindowValue };
 
     ghost view = { λ w. record {
-      silence = w.silence;
-      shown = record { gaps = keep_last w.silence.window ((arc_value w.past).items ++ w.tail); last = w.last };
+      silence = (arc_value w.past).silence;
+      shown = record {
+        gaps = keep_last (arc_value w.past).silence.window ((arc_value w.past).gaps.items ++ w.tail);
+        last = w.last;
+      };
     } };
 
-    ghost invariant = { λ w. IsSharedWindow w.silence (arc_value w.past).items w.tail w.total };
+    ghost invariant = { λ w. IsSharedWindow (arc_value w.past).silence (arc_value w.past).gaps.items w.tail w.total };
 }
 
-// The gap that leaves those shown when another one comes; 0 if there is room for all.
-fn oldest(past: &[u32], tail: &[u32], window: usize) -> u32
-    requires { 0 < window }
-    ensures { (g : ℕ) → sum (keep_last window (past.now ++ tail.now ++ g ∷ [])) + result
-        ≡ sum (keep_last window (past.now ++ tail.now)) + g }
+// The sum of a few gaps.
+fn sum_of(gaps: &[u32]) -> u64
+    requires { length gaps.now ≤ WINDOW_LIMIT }
+    ensures sum { result ≡ sum gaps.now }
+    ensures small { result ≤ WINDOW_LIMIT * 2 ^ 32 }
 {
-    if past.len() + tail.len() < window {
-        return 0;
+    let mut total = 0u64;
+    for gap in gaps {
+        total += u64::from(*gap);
     }
-    let at = past.len() + tail.len() - window;
-    if at < past.len() {
-        past[at]
-    } else {
-        tail[at - past.len()]
-    }
+    total
 }
 
-// The sum of the gaps shown, once another one has come.
-fn total_after(past: &[u32], tail: &[u32], window: usize, total: u64, gap: u32) -> u64
-    requires some { 0 < window }
-    requires total { total ≡ sum (keep_last window (past.now ++ tail.now)) }
-    requires fits { total + gap < 2 ^ 64 }
-    ensures { result ≡ sum (keep_last window (past.now ++ tail.now ++ gap ∷ [])) }
+// The sum of the gaps that a window keeps no more.
+fn sum_left(past: &[u32], tail: &[u32], window: usize) -> u64
+    requires past { length past.now ≤ WINDOW_LIMIT }
+    requires tail { length tail.now ≤ TAIL_ROOM }
+    ensures { result + sum (keep_last window (past.now ++ tail.now)) ≡ sum (past.now ++ tail.now) }
 {
-    total + u64::from(gap) - u64::from(oldest(past, tail, window))
+    let from = (past.len() + tail.len()).saturating_sub(window);
+    let skipped = from.min(past.len());
+    sum_of(&past[..skipped]) + sum_of(&tail[..from - skipped])
 }
 
-// The gaps shown, in one list.
+// The gaps kept, in one list.
 fn joined(alloc: Global, past: &[u32], tail: &[u32], window: usize) -> Result<Vec<u32>, AllocError>
     ensures { IfOk result (λ v. v.items ≡ keep_last window (past.now ++ tail.now)) }
 {
@@ -86,12 +93,25 @@ impl SharedWindow {
         ensures settings { IfOk result (λ w. w.silence ≡ silence) }
         ensures shows { IfOk result (λ w. Shows w []) }
     {
+        let gaps = Vec::new(alloc);
         Ok(SharedWindow {
-            silence,
-            past: Arc::new(alloc, Vec::new(alloc))?,
+            past: Arc::new(alloc, Past { silence, gaps })?,
             tail: Tail::none(),
             total: 0,
             last: None,
+        })
+    }
+
+    /// The same window, which shares the same gaps. It takes no memory; `AllocError` could come only if a count of
+    /// owners is full.
+    pub fn copy(&self) -> Result<SharedWindow, AllocError>
+        ensures { IfOk result (λ w. w ≡ self.now) }
+    {
+        Ok(SharedWindow {
+            past: Arc::try_clone(&self.past)?,
+            tail: self.tail.copy(),
+            total: self.total,
+            last: self.last,
         })
     }
 
@@ -104,9 +124,10 @@ impl SharedWindow {
         // If the window showed some arrivals, the new one shows them and this one.
         ensures every { IfOk result (λ w. (arrivals : List ℕ) → Shows self.now arrivals → Shows w (arrivals ++ now ∷ [])) }
     {
-        let gap = gap(self.silence, self.last, now);
+        let silence = self.past.deref().silence;
+        let gap = gap(silence, self.last, now);
         let last = Some(latest(self.last, now));
-        if gap > u64::from(self.silence.max_gap()) {
+        if gap > u64::from(silence.max_gap()) {
             return self.without_gap(last);
         }
         self.with_gap(alloc, gap as u32, last)
@@ -117,7 +138,6 @@ impl SharedWindow {
         ensures { IfOk result (λ w. w ≡ record self.now { shown = record self.now.shown { last = last } }) }
     {
         Ok(SharedWindow {
-            silence: self.silence,
             past: Arc::try_clone(&self.past)?,
             tail: self.tail.copy(),
             total: self.total,
@@ -140,29 +160,47 @@ impl SharedWindow {
           };
         }) }
     {
-        let past = self.past.deref().as_slice();
-        let tail = self.tail.as_slice();
-        let window = self.silence.window();
-        let total = total_after(past, tail, window, self.total, gap);
-        if tail.len() < TAIL_ROOM {
-            let mut tail = self.tail.copy();
-            tail.push(gap);
-            return Ok(SharedWindow {
-                silence: self.silence,
-                past: Arc::try_clone(&self.past)?,
-                tail,
-                total,
-                last,
-            });
+        if self.tail.is_full() {
+            return self.behind_joined(alloc, gap, last);
         }
-        let past = Arc::new(alloc, joined(alloc, past, tail, window)?)?;
+        let mut tail = self.tail.copy();
+        tail.push(gap);
+        Ok(SharedWindow {
+            past: Arc::try_clone(&self.past)?,
+            tail,
+            total: self.total + u64::from(gap),
+            last,
+        })
+    }
+
+    // The window with one more gap, behind all others in one list, and another last arrival.
+    fn behind_joined(
+        &self,
+        alloc: Global,
+        gap: u32,
+        last: Option<u64>,
+    ) -> Result<SharedWindow, AllocError>
+        requires { gap ≤ self.now.silence.max_gap }
+        ensures { IfOk result (λ w. w ≡ record self.now {
+          shown = record {
+            gaps = keep_last self.now.silence.window (self.now.shown.gaps ++ gap ∷ []);
+            last = last;
+          };
+        }) }
+    {
+        let silence = self.past.deref().silence;
+        let past = self.past.deref().gaps.as_slice();
+        let tail = self.tail.as_slice();
+        let window = silence.window();
+        let kept = self.total - sum_left(past, tail, window);
+        let gaps = joined(alloc, past, tail, window)?;
+        let past = Arc::new(alloc, Past { silence, gaps })?;
         let mut tail = Tail::none();
         tail.push(gap);
         Ok(SharedWindow {
-            silence: self.silence,
             past,
             tail,
-            total,
+            total: kept + u64::from(gap),
             last,
         })
     }
@@ -172,12 +210,15 @@ impl SharedWindow {
     pub fn verdict(&self, now: u64) -> Verdict
         ensures { result ≡ verdict self.now.silence self.now.shown now }
     {
-        let kept = self.past.deref().len() + self.tail.as_slice().len();
+        let silence = self.past.deref().silence;
+        let past = self.past.deref().gaps.as_slice();
+        let tail = self.tail.as_slice();
+        let window = silence.window();
         judged(
-            self.silence.threshold(),
+            silence.threshold(),
             self.last,
-            kept.min(self.silence.window()),
-            self.total,
+            (past.len() + tail.len()).min(window),
+            self.total - sum_left(past, tail, window),
             now,
         )
     }

@@ -1,11 +1,11 @@
 //! The last few gaps of a window, without memory of their own.
 
-ghost use Rattle.std.specs.Prelude.{◌≡◌, ◌<◌, ◌≤◌, ◌++◌, [], ◌∷◌, length};
+ghost use Rattle.std.specs.Prelude.{◌≡◌, ◌<◌, ◌≤◌, ◌++◌, [], ◌∷◌, length, MatchBool};
 
 use std::marker::Model;
 
 /// The most gaps in a tail.
-pub(crate) const TAIL_ROOM: usize = 32;
+pub(crate) const TAIL_ROOM: usize = 18;
 
 // At most `TAIL_ROOM` gaps, the oldest first.
 #[derive(Drop)]
@@ -40,6 +40,12 @@ impl Tail {
         ensures few { length result.now ≤ TAIL_ROOM }
     {
         &self.slots[..self.count]
+    }
+
+    pub(crate) fn is_full(&self) -> bool
+        ensures { MatchBool result (length self.now ≡ TAIL_ROOM) (length self.now < TAIL_ROOM) }
+    {
+        self.count == TAIL_ROOM
     }
 
     pub(crate) fn copy(&self) -> Tail

@@ -129,7 +129,8 @@ impl Puts {
     {
         let mut rows = Vec::with_capacity(alloc, owners.len())?;
         for owner in owners {
-            push_some(&mut rows, share_some(table.row(*owner))?)?;
+            let row = table.row_near(rows.len(), *owner);
+            push_some(&mut rows, share_some(row)?)?;
         }
         Ok(Puts { rows })
     }

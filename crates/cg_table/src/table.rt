@@ -126,11 +126,26 @@ impl Table {
         self.entries.get(endpoint)
     }
 
+    /// The entry of an endpoint, as `get` gives it, whatever the place `near` is. It looks there first: in a walk over
+    /// endpoints that rise, most are found at the place of the last one or the next.
+    pub fn get_near(&self, near: usize, endpoint: Endpoint) -> Option<&Entry>
+        ensures { option_copied result ≡ table.get self.now.entries endpoint }
+    {
+        self.entries.get_near(near, endpoint)
+    }
+
     /// The row of an endpoint, whose entry can be shared, if there is one.
     pub fn row(&self, endpoint: Endpoint) -> Option<&Row<Entry>>
         ensures { option_copied result ≡ row_at self.now.entries endpoint }
     {
         self.entries.row(endpoint)
+    }
+
+    /// The row of an endpoint, as `row` gives it, looked for near a place first.
+    pub(crate) fn row_near(&self, near: usize, endpoint: Endpoint) -> Option<&Row<Entry>>
+        ensures { option_copied result ≡ row_at self.now.entries endpoint }
+    {
+        self.entries.row_near(near, endpoint)
     }
 
     /// The entry of the member's own endpoint, which every table holds.

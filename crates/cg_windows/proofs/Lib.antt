@@ -1,1 +1,3 @@
 pub mod WindowLemmas
+pub mod ChunkLemmas
+pub mod WalkLemmas

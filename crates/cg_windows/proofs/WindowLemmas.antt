@@ -1,11 +1,10 @@
 -- Windows, and the gaps and arrivals that they show.
-use Rattle.std.proofs.Common.{◌≡◌, ℕ, ◌≤◌, Bool, true, false, cond, List, [], ◌∷◌, map, length, take, Option, Some, None, refl, sym, ap, subst, ◌∙◌}
+use Rattle.std.proofs.Common.{◌≡◌, ℕ, Bool, true, false, cond, List, [], ◌∷◌, map, Option, Some, None, refl, sym, ap, subst, ◌∙◌}
 use Rattle.std.specs.List.{filter_map, cons_option}
 use Rattle.std.specs.Option.{option_map}
 use Rattle.std.specs.Ordering.{nat_cmp, eq_by_cmp}
 use Rattle.std.specs.Cmp.{nat_cmp_total}
 use Rattle.std.specs.FinMap.{FinMap, get, insert, empty, entries, entries_sorted, get-entries, get-insert, get-empty, same_map, nat_cmp-IsAntisymmetric}
-use Rattle.std.proofs.lemmas.List.{take_all}
 use Rattle.cg_types.specs.Rising.{is_past, rise_past, Rises}
 use Rattle.cg_types.proofs.RisingLemmas.{rise_sorted, rise_mapped, get_rising, first_of, second_of}
 use Rattle.cg_map.specs.Rows.{keys_of}
@@ -140,13 +139,6 @@ module _ (w : WindowsValue) (s : SilenceValue) (m : Kept) (is : ◌≡◌ {A = W
   judges : s ≡ w.silence
   judges = ap (λ (w : WindowsValue). w.silence) is
 
-  -- an endpoint's window after one more arrival
-  pub window_heard : (o : Option WindowValue) (now endpoint : ℕ) → o ≡ get m endpoint
-      → ◌≡◌ {A = WindowValue} (record { silence = s; shown = after_arrival s (option_map (λ w. w.shown) o) now }) (window_after w now endpoint)
-  window_heard o now endpoint here =
-      let shows : option_map (λ (w : WindowValue). w.shown) o ≡ get w.shown endpoint = ap (option_map (λ (w : WindowValue). w.shown)) here ∙ sym (get-shown_in m endpoint) ∙ ap (λ (w : WindowsValue). get w.shown endpoint) is in
-      λ i. record { silence = judges i; shown = after_arrival (judges i) (shows i) now }
-
   module _ (all : AllJudge s m) (now : ℕ) (os : List Outcome) (rise : Rises (endpoints_of_outcomes os)) where
     together : (shown_in (put_each (filter_map (arrival w now) os) m) ≡ arrivals w.silence now w.shown os) × AllJudge w.silence (put_each (filter_map (arrival w now) os) m)
     together = heard_at_once w now m os (ap (λ (w : WindowsValue). w.shown) is) (subst (λ (t : SilenceValue). AllJudge t m) judges all) rise
@@ -157,5 +149,17 @@ module _ (w : WindowsValue) (s : SilenceValue) (m : Kept) (is : ◌≡◌ {A = W
     pub after_shows : ◌≡◌ {A = WindowsValue} (record { silence = s; shown = shown_in (put_each (filter_map (arrival w now) os) m) }) (record { silence = w.silence; shown = arrivals w.silence now w.shown os })
     after_shows = λ i. record { silence = judges i; shown = together.0 i }
 
-pub all_mapped : {X Y : Type 0} (f : X → Option Y) (i : ℕ) (xs : List X) (made : List Y) → length xs ≤ i → made ≡ filter_map f (take i xs) → made ≡ filter_map f xs
-all_mapped f i xs made le so_far = so_far ∙ ap (filter_map f) (take_all i xs le)
+-- ---- in the form that the chunks give
+
+abbrev pub seen_in : SilenceValue → Kept → WindowsValue
+seen_in s m = record { silence = s; shown = shown_in m }
+
+abbrev HeardAll : ℕ → List Outcome → WindowsValue → WindowsValue
+HeardAll now os w = record { silence = w.silence; shown = arrivals w.silence now w.shown os }
+
+module _ (s : SilenceValue) (m : Kept) (all : AllJudge s m) (now : ℕ) (os : List Outcome) (rise : Rises (endpoints_of_outcomes os)) where
+  pub heard_judge : AllJudge s (put_each (filter_map (arrival (seen_in s m) now) os) m)
+  heard_judge = after_judge (seen_in s m) s m refl all now os rise
+
+  pub heard_shows : (w : WindowsValue) → seen_in s m ≡ w → seen_in s (put_each (filter_map (arrival (seen_in s m) now) os) m) ≡ HeardAll now os w
+  heard_shows w is = after_shows (seen_in s m) s m refl all now os rise ∙ ap (HeardAll now os) is

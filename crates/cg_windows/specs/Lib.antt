@@ -1,4 +1,5 @@
 pub mod Windows
+pub mod Walking
 pub use Rattle.cg_types.specs.Rising
 pub use Rattle.cg_silence.specs.Silence
 pub use Rattle.cg_silence.specs.Values

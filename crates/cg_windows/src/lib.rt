@@ -4,6 +4,10 @@
 //! `FailureDetector`. An endpoint's window judges by its arrivals alone.
 #![tactic(auto)]
 
+mod chunks;
+mod outcomes;
+mod rows;
 mod windows;
 
-pub use windows::{Windows, any_taken, was_taken};
+pub use outcomes::{any_taken, was_taken};
+pub use windows::Windows;

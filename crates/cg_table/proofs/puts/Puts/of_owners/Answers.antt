@@ -7,7 +7,7 @@ use Rattle.cg_table.proofs.puts.Puts.of_owners.Goals as goal
 
 pub loop-owner-preserved : goal.loop-owner-preserved
 loop-owner-preserved c =
-    c.in_ok-push_some.ensures.ok ∙ (λ i. c.loop-owner.invariant i ++ option_to_list ((c.in_ok-share_some.ensures ∙ c.row.ensures) i))
+    c.in_ok-push_some.ensures.ok ∙ (λ i. c.loop-owner.invariant i ++ option_to_list ((c.in_ok-share_some.ensures ∙ c.row_near-row.ensures) i))
     ∙ sym (filter_map_more (row_at c.args.table.now.entries) c.args.owners.now c.loop-owner.owner-index c.owner-item.result c.loop-owner-test.true c.owner-item.is)
 
 pub invariant_of-result : goal.invariant_of-result

@@ -7,9 +7,9 @@ use Rattle.cg_windows.proofs.WindowLemmas.{none_judge, shown-empty}
 use Rattle.cg_windows.proofs.windows.Windows.none.Goals as goal
 
 pub invariant_of-result : goal.invariant_of-result
-invariant_of-result c = rw c.new.ensures (none_judge c.args.silence)
+invariant_of-result c = rw c.none.ensures (none_judge c.args.silence)
 
 pub returns : goal.returns
 returns c =
-    let none : shown_in c.new.result ≡ map.empty = ap (λ (m : map.FinMap nat_cmp WindowValue). shown_in m) c.new.ensures ∙ shown-empty in
+    let none : shown_in c.none.result ≡ map.empty = ap (λ (m : map.FinMap nat_cmp WindowValue). shown_in m) c.none.ensures ∙ shown-empty in
     λ i. record { silence = c.args.silence; shown = none i }

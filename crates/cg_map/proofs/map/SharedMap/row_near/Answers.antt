@@ -1,7 +1,7 @@
 use Rattle.std.proofs.Common.{◌≡◌, ◌∙◌, ℕ, Some, refl, ap}
 use Rattle.std.specs.Option.{option_map}
 use Rattle.cg_map.proofs.MapLemmas.{got, not_got}
-use Rattle.cg_map.proofs.map.SharedMap.row.Goals as goal
+use Rattle.cg_map.proofs.map.SharedMap.row_near.Goals as goal
 
 pub returns-in-Ok : goal.returns-in-Ok
 returns-in-Ok g c =

@@ -1,0 +1,164 @@
+//! Windows with their endpoints, which lie beside one another.
+
+ghost use Rattle.std.specs.Prelude.{◌≡◌, ◌++◌, ◌≤◌, ◌<◌, IsTrue, IfOk, IfErr, OnOk, length, option_copied};
+ghost use Rattle.std.specs.List.{AllWithin, HoldsAt};
+ghost use Rattle.std.specs.Ordering.{nat_cmp};
+ghost use Rattle.std.specs.FinMap.Entries.{find};
+ghost use Rattle.cg_types.specs.Rising.{Rises};
+ghost use Rattle.cg_map.specs.Rows.{keys_of, before, after, IsRowAt, IsGapAt};
+ghost use Rattle.cg_windows.specs.Walking.{last_key, walk_heard};
+
+use crate::outcomes::{hear, was_taken};
+use cg_messages::Outcome;
+use cg_silence::{SharedWindow, Silence};
+use cg_types::Endpoint;
+use std::alloc::{AllocError, Global};
+use std::marker::Model;
+
+/// The window of an endpoint.
+#[derive(Drop)]
+pub(crate) struct Held {
+    endpoint: Endpoint,
+    window: SharedWindow,
+}
+
+/// A contract sees the endpoint, and what it sees of the window.
+impl Model for Held {
+    ghost use Rattle.std.specs.Prelude.{ℕ};
+    ghost use Rattle.cg_silence.specs.Values.{WindowValue};
+
+    ghost Value = { ℕ × WindowValue };
+
+    ghost view = { λ h. (h.endpoint, h.window) };
+}
+
+impl Held {
+    // The same window of the same endpoint, which shares its gaps.
+    fn copy(&self) -> Result<Held, AllocError>
+        ensures { IfOk result (λ h. h ≡ self.now) }
+    {
+        Ok(Held {
+            endpoint: self.endpoint,
+            window: self.window.copy()?,
+        })
+    }
+
+    // The endpoint of the window.
+    fn endpoint(&self) -> Endpoint
+        ensures { result ≡ self.now.0 }
+    {
+        self.endpoint
+    }
+
+    // The window.
+    fn window(&self) -> &SharedWindow
+        ensures { result.now ≡ self.now.1 }
+    {
+        &self.window
+    }
+}
+
+/// The last endpoint, if there is one.
+pub(crate) fn last_endpoint(rows: &[Held]) -> Option<Endpoint>
+    ensures { result ≡ last_key rows.now }
+{
+    let count = rows.len();
+    if count == 0 {
+        return None;
+    }
+    Some(rows[count - 1].endpoint())
+}
+
+// Tests whether the endpoint's window is the first one.
+fn is_first(rows: &[Held], endpoint: Endpoint) -> bool
+    ensures { IsTrue result → IsRowAt rows.now endpoint 0 }
+{
+    !rows.is_empty() && rows[0].endpoint() == endpoint
+}
+
+// The place of the endpoint's window, or the place where it would go, by halving.
+fn halve(rows: &[Held], endpoint: Endpoint) -> Result<usize, usize>
+    requires { Rises (keys_of rows.now) }
+    ensures found { IfOk result (λ at. IsRowAt rows.now endpoint at) }
+    ensures absent { IfErr result (λ at. IsGapAt rows.now endpoint at) }
+{
+    rows.binary_search_by_key(&endpoint, |row| row.endpoint())
+}
+
+// The place of the endpoint's window, or the place where it would go. It looks at the first one before it halves: in a
+// walk, most are found there.
+fn search(rows: &[Held], endpoint: Endpoint) -> Result<usize, usize>
+    requires { Rises (keys_of rows.now) }
+    ensures found { IfOk result (λ at. IsRowAt rows.now endpoint at) }
+    ensures absent { IfErr result (λ at. IsGapAt rows.now endpoint at) }
+{
+    if is_first(rows, endpoint) {
+        return Ok(0);
+    }
+    halve(rows, endpoint)
+}
+
+/// The window of an endpoint, if there is one.
+pub(crate) fn window_of(rows: &[Held], endpoint: Endpoint) -> Option<&SharedWindow>
+    requires { Rises (keys_of rows.now) }
+    ensures { option_copied result ≡ find nat_cmp endpoint rows.now }
+{
+    match halve(rows, endpoint) {
+        Ok(at) => Some(rows[at].window()),
+        Err(_) => None,
+    }
+}
+
+// The windows of the endpoints before an endpoint, its own if there is one, and those of the endpoints after it.
+fn around(rows: &[Held], endpoint: Endpoint) -> (&[Held], Option<&SharedWindow>, &[Held])
+    requires { Rises (keys_of rows.now) }
+    ensures before { result.0.now ≡ before endpoint rows.now }
+    ensures held { option_copied result.1 ≡ find nat_cmp endpoint rows.now }
+    ensures after { result.2.now ≡ after endpoint rows.now }
+{
+    match search(rows, endpoint) {
+        Ok(at) => (&rows[..at], Some(rows[at].window()), &rows[at + 1..]),
+        Err(at) => (&rows[..at], None, &rows[at..]),
+    }
+}
+
+// Adds copies of windows, which share their gaps.
+fn copy_all(made: &mut Vec<Held>, rows: &[Held]) -> Result<(), AllocError>
+    ensures { OnOk result (made.new.items ≡ made.old.items ++ rows.now) }
+{
+    for row in rows {
+        made.push(row.copy()?)?;
+    }
+    Ok(())
+}
+
+/// The windows after the outcomes, in one walk over both: each delta that was taken is an arrival. It takes memory for
+/// the list, and for what an arrival makes of a window.
+pub(crate) fn hear_rows(
+    alloc: Global,
+    silence: Silence,
+    rows: &[Held],
+    outcomes: &[Outcome],
+    now: u64,
+) -> Result<Vec<Held>, AllocError>
+    requires { Rises (keys_of rows.now) }
+    ensures { IfOk result (λ made. made.items ≡ walk_heard silence now outcomes.now rows.now) }
+{
+    let mut made = Vec::with_capacity(alloc, rows.len().max(outcomes.len()))?;
+    let mut rest = rows;
+    for outcome in outcomes {
+        if !was_taken(outcome) {
+            continue;
+        }
+        let (before, held, after) = around(rest, outcome.endpoint);
+        copy_all(&mut made, before)?;
+        let window = hear(alloc, silence, held, now)?;
+        made.push(Held {
+            endpoint: outcome.endpoint,
+            window,
+        })?;
+        rest = after;
+    }
+    copy_all(&mut made, rest)?;
+    Ok(made)
+}
