@@ -1,16 +1,18 @@
 -- Records that lead from one node to another, with one event more.
-use Rattle.std.proofs.Common.{◌≡◌, ◌≢◌, ℕ, Bool, true, false, cond, List, [], ◌∷◌, ◌++◌, length, refl, sym, ap, subst, Result, Ok, Err, eqb-true}
+use Rattle.std.proofs.Common.{◌≡◌, ◌≢◌, ℕ, Bool, true, false, cond, List, [], ◌∷◌, ◌++◌, length, refl, sym, ap, ◌∙◌, subst, Result, Ok, Err, eqb-true, arith, length-append}
 use Rattle.std.specs.Prelude.{◌==◌}
+use Rattle.std.proofs.lemmas.Bool.{eqb-false}
 use Rattle.cg_types.specs.declared.fault.Fault.{Fault}
 use Rattle.cg_types.specs.declared.fault.Fault.TheVariants as faults
 use Rattle.cg_types.specs.Answer.{IsRefusal}
+use Rattle.cg_types.specs.Numbers.{IsGeneration}
 use Rattle.cg_entry.specs.Entry.{starting_entry}
 use Rattle.cg_table.specs.Puts.{Put, puts}
 use Rattle.cg_table.proofs.TableLemmas.{alone_valid}
 use Rattle.cg_events.specs.declared.event.Event.{Event}
 use Rattle.cg_events.specs.declared.reply.Reply.{Reply}
 use Rattle.cg_settings.specs.Values.{SettingsValue}
-use Rattle.cg_core.specs.Values.{NodeValue}
+use Rattle.cg_core.specs.Values.{NodeValue, IsSmall}
 use Rattle.cg_core.specs.Step.{Step, node_step, then}
 use Rattle.cg_core.specs.Changes.{step_with_puts}
 use Rattle.cg_records.specs.declared.item.Item.{Item}
@@ -23,8 +25,24 @@ replays_more b [] n caller e x is step = (x, rw is step, ap (λ (m : NodeValue).
 replays_more b (r ∷ rs) n caller e x h step = (h.0, h.1, h.2, replays_more h.0.0 rs n caller e x h.3 step)
 
 -- a history of a node that starts
-pub replayed_new : (own generation : ℕ) (settings : SettingsValue) (h : HistoryValue) → h ≡ new_history own generation settings → IsReplayed h
-replayed_new own generation settings h is = subst IsReplayed (sym is) (record { small = alone_valid own (starting_entry generation); replays = refl })
+pub replayed_new : (own generation : ℕ) (settings : SettingsValue) → IsGeneration generation → (h : HistoryValue) → h ≡ new_history own generation settings → IsReplayed h
+replayed_new own generation settings in_range h is =
+    subst IsReplayed (sym is) (record {
+      begun = record { own = own; generation = generation; settings = settings; in_range = in_range; is = refl };
+      front = [];
+      came = refl;
+      whole = refl;
+      replays = refl;
+      few = omega arith;
+    })
+
+-- no record is before the base
+pub base_is_start : (h : HistoryValue) → IsReplayed h → h.base ≡ h.start
+base_is_start h i = sym (subst (λ (rs : List Item). Replays h.start rs h.base) i.whole i.came)
+
+-- the base is a node that a member may be
+pub base_small : (h : HistoryValue) → IsReplayed h → IsSmall h.base
+base_small h i = subst IsSmall (sym (base_is_start h i ∙ i.begun.is)) (alone_valid i.begun.own (starting_entry i.begun.generation))
 
 -- ---- the history after a step
 
@@ -58,15 +76,27 @@ module _ (h : HistoryValue) (caller : ℕ) (e : Event) where
   pub with_step_err : (fault : Fault) → IsRefusal fault (step_with_puts h.node e) → IsRefusal fault (with_step h caller e (node_step h.node e))
   with_step_err fault is = refused_by fault (node_step h.node e) is
 
-  replays_by : (due : Step) (n : NodeValue) (r : Item) (q : Receipt) → node_step h.node e ≡ due → Replays h.base h.records h.node → with_step h caller e due ≡ Ok (with_record h n r, q) → Replays h.base (h.records ++ r ∷ []) n
-  replays_by (Ok x) n r q step rest is =
-      let same = same_ok {A = HistoryValue × Receipt} (with_record h x.0 (record_of caller e h.node x), receipt_of h caller e x.1) (with_record h n r, q) is in
-      subst (λ (y : HistoryValue × Receipt). Replays h.base y.0.records y.0.node) same (replays_more h.base h.records h.node caller e x rest step)
-  replays_by (Err fault) n r q step rest is = absurd cc
+  one_more : (x : NodeValue × Reply) → node_step h.node e ≡ Ok x → length h.records ≢ LAST_NUMBER → IsReplayed h → IsReplayed (with_record h x.0 (record_of caller e h.node x))
+  one_more x step room i = record {
+    begun = i.begun;
+    front = i.front;
+    came = i.came;
+    whole = i.whole;
+    replays = replays_more h.base h.records h.node caller e x i.replays step;
+    few = omega (arith, i.few, room, length-append h.records (record_of caller e h.node x ∷ []));
+  }
+
+  goes_on : (spent : Bool) (due : Step) (y : HistoryValue × Receipt) → (length h.records == LAST_NUMBER) ≡ spent → node_step h.node e ≡ due → IsReplayed h
+      → cond {A = Result (HistoryValue × Receipt) Fault} spent (Err faults.VersionsSpent) (with_step h caller e due) ≡ Ok y → IsReplayed y.0
+  goes_on true due y spent step i is = absurd cc
+  goes_on false (Err fault) y left step i is = absurd cc
+  goes_on false (Ok x) y left step i is =
+      let same = same_ok {A = HistoryValue × Receipt} (with_record h x.0 (record_of caller e h.node x), receipt_of h caller e x.1) y is in
+      subst (λ (y : HistoryValue × Receipt). IsReplayed y.0) same (one_more x step (eqb-false (length h.records) LAST_NUMBER left) i)
 
   -- the record of an event goes on from the others
-  pub replayed_step : (n : NodeValue) (r : Item) (q : Receipt) → IsReplayed h → with_step h caller e (node_step h.node e) ≡ Ok (with_record h n r, q) → IsReplayed (with_record h n r)
-  replayed_step n r q i is = record { small = i.small; replays = replays_by (node_step h.node e) n r q refl i.replays is }
+  pub replayed_after : (after : HistoryValue) (q : Receipt) → IsReplayed h → apply h caller e ≡ Ok (after, q) → IsReplayed after
+  replayed_after after q i is = goes_on (length h.records == LAST_NUMBER) (node_step h.node e) (after, q) refl refl i is
 
   -- the step with its record is expected, unless numbers are spent
   pub apply_unspent : length h.records ≢ LAST_NUMBER → apply h caller e ≡ with_step h caller e (node_step h.node e)

@@ -1,13 +1,14 @@
 -- A history: a node, and records that lead to it.
-use Rattle.std.specs.Prelude.{ℕ, ◌+◌, ◌^◌, ◌-◌, ◌==◌, ◌≡◌, List, [], ◌∷◌, ◌++◌, length, Result, Ok, Err, if◌then◌else◌, refl}
+use Rattle.std.specs.Prelude.{ℕ, ◌+◌, ◌^◌, ◌-◌, ◌==◌, ◌≡◌, ◌≤◌, List, [], ◌∷◌, ◌++◌, length, Result, Ok, Err, if◌then◌else◌, refl}
 use Rattle.std.specs.Coded.{Coded, code_by, coded×, coded_list}
 use Rattle.cg_types.specs.declared.fault.Fault.{Fault}
 use Rattle.cg_types.specs.declared.fault.Fault.TheVariants.{VersionsSpent}
+use Rattle.cg_types.specs.Numbers.{IsGeneration}
 use Rattle.cg_table.specs.Puts.{puts}
 use Rattle.cg_events.specs.declared.event.Event.{Event}
 use Rattle.cg_events.specs.declared.reply.Reply.{Reply}
 use Rattle.cg_settings.specs.Values.{SettingsValue}
-use Rattle.cg_core.specs.Values.{NodeValue, node_code, IsSmall}
+use Rattle.cg_core.specs.Values.{NodeValue, node_code}
 use Rattle.cg_core.specs.Step.{Step, node_step, starting_node}
 use Rattle.cg_records.specs.declared.item.Item.{Item}
 use Rattle.cg_records.specs.declared.item.Receipt.{Receipt}
@@ -17,8 +18,9 @@ use Rattle.cg_records.specs.Items.{item_code}
 abbrev pub record_of : ℕ → Event → NodeValue → NodeValue × Reply → Item
 record_of caller e n x = record { caller = caller; event = e; reply = x.1; puts = puts n.table x.0.table }
 
--- its first node, the records since, and the node to which they lead
+-- the node that started, the node before the records, the records, and the node to which they lead
 pub record HistoryValue : Type 0 where
+  pub start : NodeValue
   pub base : NodeValue
   pub records : List Item
   pub node : NodeValue
@@ -26,9 +28,10 @@ pub record HistoryValue : Type 0 where
 -- the code that a model of such a value requires
 abbrev pub history_code : Coded HistoryValue
 history_code =
-    code_by (NodeValue × (List Item × NodeValue)) (coded× node_code (coded× (coded_list item_code) node_code))
-    (λ h. (h.base, (h.records, h.node)))
-    (λ p. record { base = p.0; records = p.1.0; node = p.1.1 })
+    code_by (NodeValue × (NodeValue × (List Item × NodeValue)))
+    (coded× node_code (coded× node_code (coded× (coded_list item_code) node_code)))
+    (λ h. (h.start, (h.base, (h.records, h.node))))
+    (λ p. record { start = p.0; base = p.1.0; records = p.1.1.0; node = p.1.1.1 })
     (λ _. refl)
 
 -- The records lead from one node to another: each event by one step, with its reply and its puts.
@@ -37,28 +40,46 @@ Replays b [] n = b ≡ n
 Replays b (r ∷ rs) n =
     (x : NodeValue × Reply) × (node_step b r.event ≡ Ok x) × (r ≡ record_of r.caller r.event b x) × Replays x.0 rs n
 
--- It began with a node that a member may be, and its records lead from there to its node.
+-- the number of the last record that there can be
+abbrev pub LAST_NUMBER : ℕ
+LAST_NUMBER = 2 ^ 64 - 1
+
+-- A node that started: an endpoint's, in a generation, with settings.
+pub record IsStart (n : NodeValue) : Type 0 where
+  pub own : ℕ
+  pub generation : ℕ
+  pub settings : SettingsValue
+  pub in_range : IsGeneration generation
+  pub is : n ≡ starting_node own generation settings
+
+-- It began with a node that started. Records led from there to its base, none so far, and its records lead on to its
+-- node. There are numbers for all of them.
 pub record IsReplayed (h : HistoryValue) : Type 0 where
-  pub small : IsSmall h.base
+  pub begun : IsStart h.start
+  pub front : List Item
+  pub came : Replays h.start front h.base
+  pub whole : front ≡ []
   pub replays : Replays h.base h.records h.node
+  pub few : length h.records ≤ LAST_NUMBER
 
 -- the history of a node that starts
 abbrev pub new_history : ℕ → ℕ → SettingsValue → HistoryValue
 new_history own generation settings =
-    record { base = starting_node own generation settings; records = []; node = starting_node own generation settings }
+    record {
+      start = starting_node own generation settings;
+      base = starting_node own generation settings;
+      records = [];
+      node = starting_node own generation settings;
+    }
 
 -- the history with one more record, which led to this node
 abbrev pub with_record : HistoryValue → NodeValue → Item → HistoryValue
-with_record h n r = record { base = h.base; records = h.records ++ r ∷ []; node = n }
+with_record h n r = record { start = h.start; base = h.base; records = h.records ++ r ∷ []; node = n }
 
 -- the receipt of the next record
 abbrev pub receipt_of : HistoryValue → ℕ → Event → Reply → Receipt
 receipt_of h caller e answer =
     record { caller = caller; number = length h.records + 1; event = e; reply = answer }
-
--- the number of the last record that there can be
-abbrev pub LAST_NUMBER : ℕ
-LAST_NUMBER = 2 ^ 64 - 1
 
 -- the outcome of a step: the history with its record, and the receipt; or the fault with which the event is refused
 abbrev pub with_step : HistoryValue → ℕ → Event → Step → Result (HistoryValue × Receipt) Fault

@@ -2,9 +2,8 @@
 
 ghost use Rattle.std.specs.Prelude.{◌≡◌, ◌<◌, IfOk, MatchResult, OnErr, length};
 ghost use Rattle.cg_types.specs.Answer.{Answers};
-ghost use Rattle.cg_core.specs.Step.{node_step};
 ghost use Rattle.cg_records.specs.Confirming.{AreConfirmed, IsFirstStray};
-ghost use Rattle.cg_history.specs.History.{IsReplayed, LAST_NUMBER, new_history, receipt_of, with_record, with_step, apply as apply_of};
+ghost use Rattle.cg_history.specs.History.{IsReplayed, LAST_NUMBER, new_history, receipt_of, with_record, apply as apply_of};
 
 use crate::log::Log;
 use cg_core::Node;
@@ -14,16 +13,19 @@ use cg_settings::Settings;
 use cg_types::{Endpoint, Fault, Generation};
 use std::alloc::{AllocError, Global};
 use std::marker::Model;
+use std::snapshot::Snapshot;
 
 /// A node with the records of all that it did since it started.
 #[derive(Drop)]
 pub struct History {
+    start: Snapshot<Node>,
     base: Node,
     items: Vec<Item>,
     node: Node,
 }
 
-/// A contract sees the node that it began with, the records, and the node to which they lead. They always lead there.
+/// A contract sees the node that started, the node before the records, the records, and the node to which they lead.
+/// They always lead there, and no record is before them.
 impl Model for History {
     ghost use Rattle.cg_history.specs.History.{HistoryValue, IsReplayed, history_code};
 
@@ -31,9 +33,10 @@ impl Model for History {
 
     ghost coded = { history_code };
 
-    ghost view = { λ h. record { base = h.base; records = h.items.items; node = h.node } };
+    ghost view = { λ h. record { start = h.start.value; base = h.base; records = h.items.items; node = h.node } };
 
-    ghost invariant = { λ h. IsReplayed (record { base = h.base; records = h.items.items; node = h.node }) };
+    ghost invariant = { λ h.
+        IsReplayed (record { start = h.start.value; base = h.base; records = h.items.items; node = h.node }) };
 }
 
 impl History {
@@ -46,8 +49,10 @@ impl History {
     ) -> Result<History, AllocError>
         ensures { IfOk result (λ h. h ≡ new_history own generation settings) }
     {
+        let _generation = generation.get();
         let node = Node::start(alloc, own, generation, settings)?;
         Ok(History {
+            start: Snapshot::of(&node),
             base: node.copy()?,
             items: Vec::new(alloc),
             node,
@@ -104,10 +109,11 @@ impl History {
         caller: u32,
         event: Event,
     ) -> Result<(Node, Item, Receipt), Fault>
-        requires { length self.now.records < LAST_NUMBER }
-        ensures { Answers (λ x. (with_record self.now x.0 x.1, x.2))
-            (with_step self.now caller event (node_step self.now.node event)) result }
+        ensures { Answers (λ x. (with_record self.now x.0 x.1, x.2)) (apply_of self.now caller event) result }
     {
+        if self.items.len() == usize::MAX {
+            return Err(Fault::VersionsSpent);
+        }
         let (node, reply, puts) = self.node.stepped_with_puts(alloc, &event)?;
         let receipt = self.receipt(alloc, caller, &event, &reply)?;
         let item = Item {
@@ -128,9 +134,6 @@ impl History {
         ensures due { Answers (λ receipt. (self.new, receipt)) (apply_of self.old caller event) result }
         ensures err { OnErr result (self.new ≡ self.old) }
     {
-        if self.items.len() == usize::MAX {
-            return Err(Fault::VersionsSpent);
-        }
         let (node, item, receipt) = self.record(alloc, caller, event)?;
         self.items.push(item)?;
         self.node = node;
@@ -152,9 +155,6 @@ impl History {
         ensures err { OnErr result (self.new ≡ self.old) }
         ensures told { L.told log.new ≡ self.new.records }
     {
-        if self.items.len() == usize::MAX {
-            return Err(Fault::VersionsSpent);
-        }
         let (node, item, receipt) = self.record(alloc, caller, event)?;
         self.items.reserve(1)?;
         if !log.add(&item) {

@@ -1,20 +1,16 @@
-use Rattle.std.proofs.Common.{rules, refl, ◌≡◌, ◌≢◌, length, sym, ◌∙◌, subst, Ok}
+use Rattle.std.proofs.Common.{rules, refl, ◌≡◌, sym, subst, Ok}
 use Rattle.std.specs.Prelude.{IsOk}
-use Rattle.cg_core.specs.Step.{node_step}
-use Rattle.cg_history.specs.History.{HistoryValue, LAST_NUMBER, with_record, with_step, apply}
-use Rattle.cg_history.proofs.Replaying.{replayed_step, apply_unspent}
+use Rattle.cg_history.specs.History.{HistoryValue, with_record, apply}
+use Rattle.cg_history.proofs.Replaying.{replayed_after}
 use Rattle.cg_history.proofs.history.History.apply.Goals as goal
 
 pub returns-in_err-push-clause-due : goal.returns-in_err-push-clause-due
 returns-in_err-push-clause-due c =
-    let h = c.args.self.now in
-    let room : length h.records ≢ LAST_NUMBER = search rules in
-    let due = apply_unspent h c.args.caller c.args.event room ∙ c.in_ok-node.ensures in
-    let ok : IsOk (apply h c.args.caller c.args.event) = subst IsOk (sym due) refl in
+    let ok : IsOk (apply c.args.self.now c.args.caller c.args.event) = subst IsOk (sym c.in_ok-node.ensures) refl in
     search rules
 
 pub invariant_of-self-2 : goal.invariant_of-self-2
 invariant_of-self-2 c =
-    let h : HistoryValue = record { base = c.self.inside.base; records = c.self.inside.items.items; node = c.self.inside.node } in
-    let step = subst (λ (w : HistoryValue). with_step w c.args.caller c.args.event (node_step w.node c.args.event) ≡ Ok (with_record w c.in_ok-node.node c.in_ok-node.item, c.in_ok-node.receipt)) (sym c.self.view_is) c.in_ok-node.ensures in
-    rw c.in_ok-push.ensures.items (replayed_step h c.args.caller c.args.event c.in_ok-node.node c.in_ok-node.item c.in_ok-node.receipt c.self.invariant step)
+    let h : HistoryValue = record { start = c.self.inside.start.value; base = c.self.inside.base; records = c.self.inside.items.items; node = c.self.inside.node } in
+    let step = subst (λ (w : HistoryValue). apply w c.args.caller c.args.event ≡ Ok (with_record w c.in_ok-node.node c.in_ok-node.item, c.in_ok-node.receipt)) (sym c.self.view_is) c.in_ok-node.ensures in
+    rw c.in_ok-push.ensures.items (replayed_after h c.args.caller c.args.event (with_record h c.in_ok-node.node c.in_ok-node.item) c.in_ok-node.receipt c.self.invariant step)
