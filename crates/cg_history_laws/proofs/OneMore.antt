@@ -27,6 +27,7 @@ one_more_by h caller e after q false (Ok x) step is =
       node = x.0;
       answer = x.1;
       step = step;
+      start = ap (λ (y : HistoryValue × Receipt). y.0.start) (sym same);
       base = ap (λ (y : HistoryValue × Receipt). y.0.base) (sym same);
       led = ap (λ (y : HistoryValue × Receipt). y.0.node) (sym same);
       records = ap (λ (y : HistoryValue × Receipt). y.0.records) (sym same);

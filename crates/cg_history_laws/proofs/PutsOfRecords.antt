@@ -16,6 +16,7 @@ use Rattle.cg_core_laws.proofs.NodeLaws.{puts_keep_their_order, nodes_stay_small
 use Rattle.cg_records.specs.declared.item.Item.{Item}
 use Rattle.cg_records.specs.Items.{puts_of, events_of, replies_of}
 use Rattle.cg_history.specs.History.{HistoryValue, Replays, IsReplayed}
+use Rattle.cg_history.proofs.Replaying.{base_small}
 use Rattle.cg_history_laws.specs.Laws.{RecordsReplay, PutsLead, PutsOfRecordsLead}
 
 -- ---- the events of records
@@ -77,13 +78,13 @@ pub record Fits (t : TableValue) (ps : List Put) : Type 0 where
 pub front_fits : (k : ℕ) (h : HistoryValue) → IsReplayed h → Fits h.base.table (puts_of (take k h.records))
 front_fits k h i =
     let front = replays_front k h.base h.records h.node i.replays in
-    let led = puts_of_records_lead h.base (take k h.records) front.0 i.small front.1 in
+    let led = puts_of_records_lead h.base (take k h.records) front.0 (base_small h i) front.1 in
     record { order = led.order; room = subst (λ (t : TableValue). map.len t.entries ≤ MEMBER_LIMIT) (sym led.lead) led.small.few }
 
 -- the node has the own endpoint that the history began with
 pub own_stays : (h : HistoryValue) → IsReplayed h → h.node.table.own ≡ h.base.table.own
-own_stays h i = sym (ap (λ (t : TableValue). t.own) (puts_of_records_lead h.base h.records h.node i.small i.replays).lead)
+own_stays h i = sym (ap (λ (t : TableValue). t.own) (puts_of_records_lead h.base h.records h.node (base_small h i) i.replays).lead)
 
 -- the node is one that a member may be
 pub node_small : (h : HistoryValue) → IsReplayed h → IsSmall h.node
-node_small h i = (puts_of_records_lead h.base h.records h.node i.small i.replays).small
+node_small h i = (puts_of_records_lead h.base h.records h.node (base_small h i) i.replays).small

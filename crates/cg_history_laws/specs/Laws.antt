@@ -36,6 +36,7 @@ pub record HasOneMore (h : HistoryValue) (caller : ℕ) (e : Event) (after : His
   pub node : NodeValue
   pub answer : Reply
   pub step : node_step h.node e ≡ Ok (node, answer)
+  pub start : after.start ≡ h.start
   pub base : after.base ≡ h.base
   pub led : after.node ≡ node
   pub records : after.records

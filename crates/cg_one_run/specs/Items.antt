@@ -1,11 +1,12 @@
 -- Items: the starts and the records of nodes' lives.
-use Rattle.std.specs.Prelude.{ℕ, suc, ◌==◌, List, [], ◌∷◌, ◌++◌, Option, None, if◌then◌else◌}
+use Rattle.std.specs.Prelude.{ℕ, suc, ◌==◌, ◌≡◌, List, [], ◌∷◌, ◌++◌, Option, None, if◌then◌else◌}
+use Rattle.std.specs.List.{AllByRecursion}
 use Rattle.cg_table.specs.Own.{own_entry}
 use Rattle.cg_messages.specs.declared.message.Message.{Message}
 use Rattle.cg_events.specs.Sending.{message_of}
 use Rattle.cg_steps.specs.Step.{message_in}
 use Rattle.cg_records.specs.declared.item.Item.{Item}
-use Rattle.cg_history.specs.History.{HistoryValue}
+use Rattle.cg_history.specs.History.{HistoryValue, IsReplayed}
 
 -- an item of a life: its start, which is item 0, or a record, by its number
 pub record RunItem : Type 0 where
@@ -20,6 +21,15 @@ pub record RunItem : Type 0 where
 pub record LivesValue : Type 0 where
   pub endpoint : ℕ
   pub histories : List HistoryValue
+
+-- The history began with a start of the endpoint, and its records lead from there to its node.
+pub record IsLife (endpoint : ℕ) (h : HistoryValue) : Type 0 where
+  pub own : h.start.table.own ≡ endpoint
+  pub replayed : IsReplayed h
+
+-- Each of these histories is a life of its endpoint.
+abbrev pub AreLives : List LivesValue → Type 0
+AreLives lives = AllByRecursion (λ (l : LivesValue). AllByRecursion (IsLife l.endpoint) l.histories) lives
 
 abbrev pub start_item : ℕ → ℕ → RunItem
 start_item endpoint generation =
