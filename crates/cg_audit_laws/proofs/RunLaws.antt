@@ -1,5 +1,5 @@
 -- The headline of lives that are one run.
-use Rattle.std.proofs.Common.{◌≡◌, inl, inr, ℕ, zero, suc, ◌<◌, ◌≤◌, List, [], ◌∷◌, ◌++◌, length, map, refl, sym, ◌∙◌, ap, subst, arith, Bool, true, false, cond, Some}
+use Rattle.std.proofs.Common.{◌≡◌, inl, inr, ℕ, zero, suc, ◌<◌, ◌≤◌, List, [], ◌∷◌, length, map, refl, sym, ◌∙◌, ap, subst, arith, Bool, true, false, cond, Some}
 use Rattle.std.specs.Prelude.{◌==◌, All, nat_lt}
 use Rattle.std.specs.List.{AllByRecursion, Contains}
 use Rattle.std.specs.Cmp.{nat_cmp_total}
@@ -17,8 +17,6 @@ use Rattle.cg_table.specs.Table.{digests_of}
 use Rattle.cg_table.proofs.DigestLemmas.{equal_digests_equal_entries}
 use Rattle.cg_ring.specs.Ring.{ring}
 use Rattle.cg_messages.specs.declared.message.Message.{Message}
-use Rattle.cg_events.specs.declared.event.Event.{Event}
-use Rattle.cg_core.specs.Values.{NodeValue}
 use Rattle.cg_places.specs.PlaceWorld.{PlaceWorld, nobody}
 use Rattle.cg_places.specs.Join.{targets, sources}
 use Rattle.cg_places.specs.Laws.{IsWorld}
@@ -30,15 +28,10 @@ use Rattle.cg_steps.proofs.StepLaws.{own_held}
 use Rattle.cg_world.specs.Terms.{AreEqual, Mark, mark_of, HasGreatest}
 use Rattle.cg_world.proofs.MarkLemmas.{mark_at, mark_here}
 use Rattle.cg_world.proofs.HeadlineLaws.{Each, each_all, HasEntries, marks_by_targets, targets_have, greatest_held, same_held}
-use Rattle.cg_records.specs.declared.item.Item.{Item}
-use Rattle.cg_records.specs.declared.item.Receipt.{Receipt}
-use Rattle.cg_history.specs.History.{record_of, HistoryValue, Replays}
-use Rattle.cg_history.proofs.Replaying.{replays_more}
-use Rattle.cg_history_laws.specs.Laws.{HasOneMore}
-use Rattle.cg_history_laws.proofs.OneMore.{each_event_makes_one_record}
-use Rattle.cg_one_run.specs.Items.{RunItem, LivesValue, generation_of, items_of_lives, items_at}
+use Rattle.cg_history.specs.History.{HistoryValue}
+use Rattle.cg_one_run.specs.Items.{RunItem, LivesValue, IsLife, AreLives, generation_of, items_of_lives, items_at}
 use Rattle.cg_one_run.specs.OneRun.{GenerationsRise, IsOneRun, messages_of}
-use Rattle.cg_audit_laws.specs.RunHeadline.{IsLife, AreLives, histories_at, EndsWith, took_from, marks_of, Was, IsMarked, SameMarks, RunsHaveTheHeadline, BegunHistoriesAreLives}
+use Rattle.cg_audit_laws.specs.RunHeadline.{histories_at, EndsWith, took_from, marks_of, Was, IsMarked, SameMarks, RunsHaveTheHeadline}
 use Rattle.cg_audit_laws.proofs.Stages.{Stage, Idle}
 use Rattle.cg_audit_laws.proofs.Walks.{IsAt, EndsAt, Ends, walk, life_generation}
 
@@ -72,9 +65,9 @@ rise_at (l ∷ ls) rise e = by (l.endpoint == e) (rise_at ls rise.1 e)
 rise_past_none : (e : ℕ) (hs : List HistoryValue) → AllByRecursion (IsLife e) hs → Rises (map generation_of hs) → rise_past (Some 0) (map generation_of hs) ≡ true
 rise_past_none e [] lives rise = refl
 rise_past_none e (h ∷ hs) lives rise =
-    let life = lives.0 in
-    let some : 0 < life.generation = life.in_range.0 in
-    let same : generation_of h ≡ life.generation = life_generation e h life in
+    let begun = lives.0.replayed.begun in
+    let some : 0 < begun.generation = begun.in_range.0 in
+    let same : generation_of h ≡ begun.generation = life_generation e h lives.0 in
     let past : nat_lt 0 (generation_of h) ≡ true = grind (arith, nat_tests, some, same) in
     both (nat_lt 0 (generation_of h)) (rise_past (Some (generation_of h)) (map generation_of hs)) past rise
 
@@ -202,26 +195,3 @@ runs_have_the_headline lives order are run = record {
   equal_sets = equal_sets lives order are run;
   equal_digests = equal_digests lives order are run;
 }
-
--- ---- lives
-
-pub begun_histories_are_lives : BegunHistoriesAreLives
-begun_histories_are_lives = record {
-  begin = λ endpoint generation settings in_range. record { generation = generation; settings = settings; in_range = in_range; begun = refl; replays = refl };
-  go_on = λ endpoint caller h e after q life done.
-      let one : HasOneMore h caller e after q = each_event_makes_one_record h caller e after q done in
-      record {
-        generation = life.generation;
-        settings = life.settings;
-        in_range = life.in_range;
-        begun = one.base ∙ life.begun;
-        replays = further h caller e after q life.replays one;
-      };
-}
-  where
-    further : (h : HistoryValue) (caller : ℕ) (e : Event) (after : HistoryValue) (q : Receipt) → Replays h.base h.records h.node → HasOneMore h caller e after q → Replays after.base after.records after.node
-    further h caller e after q rep one =
-        let records : List Item = h.records ++ record_of caller e h.node (one.node, one.answer) ∷ [] in
-        let more : Replays h.base records one.node = replays_more h.base h.records h.node caller e (one.node, one.answer) rep one.step in
-        subst (λ (n : NodeValue). Replays after.base after.records n) (sym one.led)
-        (subst (λ (rs : List Item). Replays after.base rs one.node) (sym one.records) (subst (λ (b : NodeValue). Replays b records one.node) (sym one.base) more))

@@ -1,10 +1,9 @@
 -- The headline of lives that are one run: the tables at the end of each endpoint's last life. It is stated by the marks
 -- of entries and deltas, as the headline of a world is.
-use Rattle.std.specs.Prelude.{ℕ, ◌≡◌, ◌↔◌, ◌⊎◌, ◌==◌, ◌++◌, IsTrue, List, [], ◌∷◌, All, Option, Some, None, Ok, if◌then◌else◌}
+use Rattle.std.specs.Prelude.{ℕ, ◌≡◌, ◌↔◌, ◌⊎◌, ◌==◌, ◌++◌, IsTrue, List, [], ◌∷◌, All, Option, Some, None, if◌then◌else◌}
 use Rattle.std.specs.List.{AllByRecursion, Contains}
 use Rattle.std.specs.Option.{option_and_then}
 use Rattle.std.specs.FinMap as map
-use Rattle.cg_types.specs.Numbers.{IsGeneration}
 use Rattle.cg_entry.specs.Values.{EntryValue}
 use Rattle.cg_table.specs.Own.{own_entry}
 use Rattle.cg_table.specs.Table.{digests_of}
@@ -12,30 +11,16 @@ use Rattle.cg_messages.specs.declared.outcome.Outcome.{Outcome}
 use Rattle.cg_messages.specs.declared.owner_delta.OwnerDelta.{OwnerDelta}
 use Rattle.cg_exchange_laws.specs.Spelling.{delta_about, outcome_about}
 use Rattle.cg_events.specs.declared.event.Event.{Event}
-use Rattle.cg_settings.specs.Values.{SettingsValue}
 use Rattle.cg_core.specs.Values.{NodeValue}
 use Rattle.cg_events.specs.Replies.{outcomes_in}
-use Rattle.cg_core.specs.Step.{starting_node}
 use Rattle.cg_steps.specs.Step.{message_in}
 use Rattle.cg_world.specs.Terms.{AreEqual, deltas_in, is_gap, Mark, mark_of, HasGreatest, LiesPast, with_delta}
 use Rattle.cg_records.specs.declared.item.Item.{Item}
-use Rattle.cg_records.specs.declared.item.Receipt.{Receipt}
-use Rattle.cg_history.specs.History.{HistoryValue, Replays, new_history, apply}
-use Rattle.cg_one_run.specs.Items.{RunItem, LivesValue}
+use Rattle.cg_history.specs.History.{HistoryValue, Replays}
+use Rattle.cg_one_run.specs.Items.{RunItem, LivesValue, AreLives}
 use Rattle.cg_one_run.specs.OneRun.{IsOneRun}
 
 -- ---- lives
-
--- The history began with a node of the endpoint that started, and its records lead from there to its node.
-pub record IsLife (endpoint : ℕ) (h : HistoryValue) : Type 0 where
-  pub generation : ℕ
-  pub settings : SettingsValue
-  pub in_range : IsGeneration generation
-  pub begun : h.base ≡ starting_node endpoint generation settings
-  pub replays : Replays h.base h.records h.node
-
-abbrev pub AreLives : List LivesValue → Type 0
-AreLives lives = AllByRecursion (λ (l : LivesValue). AllByRecursion (IsLife l.endpoint) l.histories) lives
 
 -- the histories of an endpoint, which may have none
 abbrev pub histories_at : List LivesValue → ℕ → List HistoryValue
@@ -139,10 +124,3 @@ module _ (lives : List LivesValue) where
 abbrev pub RunsHaveTheHeadline : Type 0
 RunsHaveTheHeadline =
     (lives : List LivesValue) (order : List RunItem) → AreLives lives → IsOneRun lives order → RunHeadline lives
-
--- A history that begins is a life, and stays one with each event that is done.
-pub record BegunHistoriesAreLives : Type 0 where
-  pub begin : (endpoint generation : ℕ) (settings : SettingsValue) → IsGeneration generation
-      → IsLife endpoint (new_history endpoint generation settings)
-  pub go_on : (endpoint caller : ℕ) (h : HistoryValue) (e : Event) (after : HistoryValue) (q : Receipt)
-      → IsLife endpoint h → apply h caller e ≡ Ok (after, q) → IsLife endpoint after

@@ -1,11 +1,11 @@
 //! Laws of lives that are one run: the headline, of the tables at the end of the last lives.
 //!
-//! An audit that returns an order says that the lives are one run. The laws of a world do not cover them: lives have
-//! settings of their own, and there may be more endpoints than a table holds. The laws of this crate rest on the law of
-//! one step by places. Each function is a law: its contract says it, and its body is empty.
+//! An audit that returns an order says that the lives began with starts and are one run. The laws of a world do not
+//! cover them: lives have settings of their own, and there may be more endpoints than a table holds. The laws of this
+//! crate rest on the law of one step by places. Each function is a law: its contract says it, and its body is empty.
 #![tactic(auto)]
 
-ghost use Rattle.cg_audit_laws.specs.RunHeadline.{RunsHaveTheHeadline, BegunHistoriesAreLives};
+ghost use Rattle.cg_audit_laws.specs.RunHeadline.{RunsHaveTheHeadline};
 
 /// The headline is true of the table at the end of each endpoint's last life, if the lives are one run.
 ///
@@ -14,9 +14,4 @@ ghost use Rattle.cg_audit_laws.specs.RunHeadline.{RunsHaveTheHeadline, BegunHist
 /// digests give equal tables and rings.
 pub fn runs_have_the_headline()
     ensures { RunsHaveTheHeadline }
-{}
-
-/// A history that begins is a life of its endpoint, and stays one whatever events come.
-pub fn begun_histories_are_lives()
-    ensures { BegunHistoriesAreLives }
 {}
