@@ -1,6 +1,7 @@
 -- The text of a history is read as the history, for caller 0.
 use Rattle.std.proofs.Common.{◌≡◌, ℕ, suc, ◌+◌, ◌<◌, ◌≤◌, Bool, List, [], ◌∷◌, ◌++◌, length, map, cond, Option, Some, None, option_map, Ok, Err, refl, sym, ap, subst, ◌∙◌, append_assoc, append-nil, arith, length-append, ne_eqb}
 use Rattle.std.specs.List.{AllByRecursion}
+use Rattle.cg_types.specs.Numbers.{IsGeneration}
 use Rattle.cg_types.specs.declared.fault.Fault.TheVariants.{VersionsSpent}
 use Rattle.cg_events.specs.declared.event.Event.{Event}
 use Rattle.cg_events.specs.declared.reply.Reply.{Reply}
@@ -9,11 +10,12 @@ use Rattle.cg_core.specs.Values.{NodeValue}
 use Rattle.cg_core.specs.Step.{Step, node_step, starting_node}
 use Rattle.cg_records.specs.declared.item.Item.{Item}
 use Rattle.cg_history.specs.History.{record_of, HistoryValue, Replays, LAST_NUMBER, new_history, with_record, with_step}
+use Rattle.cg_history.proofs.Replaying.{base_is_start}
 use Rattle.cg_lines.specs.Lines.{lines_of}
 use Rattle.cg_script.specs.Gives.{readable}
 use Rattle.cg_journal.specs.Text.{life_line, event_line, event_lines, joined}
 use Rattle.cg_journal.specs.Reading.{history_after, on_line, after_lines, journal_in}
-use Rattle.cg_journal_laws.specs.Contents.{IsEvent, IsStart}
+use Rattle.cg_journal_laws.specs.Contents.{IsEvent, MayStart}
 use Rattle.cg_journal_laws.specs.Laws.{for_caller_0, WrittenHistoriesAreRead}
 use Rattle.cg_journal_laws.proofs.LinesRead.{lines_of-ended}
 use Rattle.cg_journal_laws.proofs.EventsRead.{event_words, event_line-ended, event_again, event_words-lack}
@@ -46,14 +48,14 @@ applied h e x step few =
 
 -- the history after more records, each for caller 0
 abbrev after : HistoryValue → List Item → NodeValue → HistoryValue
-after h records node = record { base = h.base; records = h.records ++ records; node = node }
+after h records node = record { start = h.start; base = h.base; records = h.records ++ records; node = node }
 
 records_read : (k : ℕ) (h : HistoryValue) (records : List Item) (node : NodeValue) → Replays h.node records node → EventsOf records
     → length h.records + length records ≤ LAST_NUMBER
     → after_lines k (Some h) (words_of records) ≡ Ok (after h (map for_caller_0 records) node)
 records_read k h [] node is all few =
-    ap (λ (n : NodeValue). Ok (record { base = h.base; records = h.records; node = n })) is
-    ∙ ap (λ (rs : List Item). Ok (record { base = h.base; records = rs; node = node })) (sym (append-nil h.records))
+    ap (λ (n : NodeValue). Ok (record { start = h.start; base = h.base; records = h.records; node = n })) is
+    ∙ ap (λ (rs : List Item). Ok (record { start = h.start; base = h.base; records = rs; node = node })) (sym (append-nil h.records))
 records_read k h (r ∷ records) node is all few =
     let x = is.0 in
     let item = record_of 0 r.event h.node x in
@@ -65,41 +67,46 @@ records_read k h (r ∷ records) node is all few =
     ap (λ (o : Option Event). on_line k (history_after h o) go) (event_again r.event all.0)
     ∙ ap (λ (o : Option HistoryValue). on_line k o go) (applied h r.event x is.1 less)
     ∙ records_read (suc k) g records node is.3 all.1 more
-    ∙ ap (λ (rs : List Item). Ok (record { base = h.base; records = rs; node = node }))
+    ∙ ap (λ (rs : List Item). Ok (record { start = h.start; base = h.base; records = rs; node = node }))
     (append_assoc h.records (item ∷ []) (map for_caller_0 records) ∙ ap (λ (i : Item). h.records ++ i ∷ map for_caller_0 records) same)
 
 -- ---- all of it
 
-text_read : (own generation : ℕ) (s : SettingsValue) (records : List Item) → IsStart own generation s → EventsOf records
+text_read : (own generation : ℕ) (s : SettingsValue) (records : List Item) → IsGeneration generation → MayStart own s → EventsOf records
     → lines_of (joined (life_line (starting_node own generation s) ∷ event_lines records)) ≡ life_words own generation s ∷ words_of records
-text_read own generation s records is all =
+text_read own generation s records first is all =
     let rest = joined (event_lines records) in
     ap (λ (line : List ℕ). lines_of (line ++ rest)) (life_line-ended own generation s)
-    ∙ lines_of-ended (life_words own generation s) rest (life_words-lack own generation s is)
+    ∙ lines_of-ended (life_words own generation s) rest (life_words-lack own generation s first is)
     ∙ ap (λ (lines : List (List ℕ)). life_words own generation s ∷ lines) (events_read records all)
 
-history_read : (own generation : ℕ) (s : SettingsValue) (records : List Item) (node : NodeValue) → IsStart own generation s → EventsOf records
+history_read : (own generation : ℕ) (s : SettingsValue) (records : List Item) (node : NodeValue) → IsGeneration generation → MayStart own s → EventsOf records
     → length records ≤ LAST_NUMBER → Replays (starting_node own generation s) records node
     → journal_in (joined (life_line (starting_node own generation s) ∷ event_lines records)) ≡ Ok (after (new_history own generation s) (map for_caller_0 records) node)
 unfolding journal_in
-history_read own generation s records node is all few replays =
-    ap (after_lines 1 None) (text_read own generation s records is all)
-    ∙ ap (λ (o : Option HistoryValue). on_line 1 o (λ h. after_lines 2 (Some h) (words_of records))) (life_again own generation s is)
+history_read own generation s records node first is all few replays =
+    ap (after_lines 1 None) (text_read own generation s records first is all)
+    ∙ ap (λ (o : Option HistoryValue). on_line 1 o (λ h. after_lines 2 (Some h) (words_of records))) (life_again own generation s first is)
     ∙ records_read 2 (new_history own generation s) records node replays all (omega (arith, few))
 
 read_from : (base : NodeValue) (records : List Item) (node : NodeValue) (own generation : ℕ) (s : SettingsValue) → starting_node own generation s ≡ base
-    → IsStart own generation s → EventsOf records → length records ≤ LAST_NUMBER → Replays base records node
-    → journal_in (joined (life_line base ∷ event_lines records)) ≡ Ok (record { base = base; records = map for_caller_0 records; node = node })
-read_from base records node own generation s from is all few replays =
-    let P : NodeValue → Type 0 = λ b. Replays b records node → journal_in (joined (life_line b ∷ event_lines records)) ≡ Ok (record { base = b; records = map for_caller_0 records; node = node }) in
-    subst P from (history_read own generation s records node is all few) replays
+    → IsGeneration generation → MayStart own s → EventsOf records → length records ≤ LAST_NUMBER → Replays base records node
+    → journal_in (joined (life_line base ∷ event_lines records)) ≡ Ok (record { start = base; base = base; records = map for_caller_0 records; node = node })
+read_from base records node own generation s from first is all few replays =
+    let P : NodeValue → Type 0 = λ b. Replays b records node → journal_in (joined (life_line b ∷ event_lines records)) ≡ Ok (record { start = b; base = b; records = map for_caller_0 records; node = node }) in
+    subst P from (history_read own generation s records node first is all few) replays
 
 same_lines : (records : List Item) → event_lines (map for_caller_0 records) ≡ event_lines records
 same_lines [] = refl
 same_lines (r ∷ records) = ap (λ (lines : List (List ℕ)). event_line r.event ∷ lines) (same_lines records)
 
 pub histories_read : WrittenHistoriesAreRead
-histories_read h is = record {
-  read = read_from h.base h.records h.node is.own is.generation is.settings (sym is.base) is.start is.events is.few is.replayed.replays;
-  again = ap (λ (lines : List (List ℕ)). joined (life_line h.base ∷ lines)) (same_lines h.records);
-}
+histories_read h is =
+    let begun = is.replayed.begun in
+    let may : MayStart begun.own begun.settings = subst (λ (n : NodeValue). MayStart n.table.own n.settings) begun.is is.start in
+    let began = base_is_start h is.replayed in
+    record {
+      read = read_from h.base h.records h.node begun.own begun.generation begun.settings (sym (began ∙ begun.is)) begun.in_range may is.events is.replayed.few is.replayed.replays
+          ∙ ap (λ (n : NodeValue). Ok (record { start = n; base = h.base; records = map for_caller_0 h.records; node = h.node })) began;
+      again = ap (λ (lines : List (List ℕ)). joined (life_line h.base ∷ lines)) (same_lines h.records);
+    }

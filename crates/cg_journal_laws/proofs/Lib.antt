@@ -6,7 +6,7 @@ pub mod BytesRead
 pub mod EventsRead
 pub mod LifeRead
 pub mod HistoryRead
-pub mod LivesGoOn
+pub mod Writable
 pub mod EventsHeld
 pub mod LifeHeld
 pub mod ReadAgain

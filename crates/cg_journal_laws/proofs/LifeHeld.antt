@@ -29,9 +29,9 @@ use Rattle.cg_history.specs.History.{new_history}
 use Rattle.cg_script.specs.Gives.{readable}
 use Rattle.cg_script.specs.Words.{endpoint_before, endpoints_by, endpoints_in}
 use Rattle.cg_journal.specs.Reading.{generation_before, setting_before, silence_before, seeds_in, settings_in, life_behind, life_of_parts, life_in}
-use Rattle.cg_journal_laws.specs.Contents.{IsLife}
+use Rattle.cg_journal_laws.specs.Contents.{IsWritable}
 use Rattle.cg_journal_laws.proofs.EventsHeld.{held_bind, held_cond, held_weaker, held_any}
-use Rattle.cg_journal_laws.proofs.LivesGoOn.{lives_go_on}
+use Rattle.cg_journal_laws.proofs.Writable.{writable_histories_go_on}
 
 abbrev Parts : Type 0
 Parts = List ℕ × List ℕ
@@ -180,22 +180,22 @@ settings_held words =
 
 -- ---- the line
 
-begins : (own generation : ℕ) (s : SettingsValue) → IsEndpoint own → IsGeneration generation → AreAllowed s → IsLife (new_history own generation s)
+begins : (own generation : ℕ) (s : SettingsValue) → IsEndpoint own → IsGeneration generation → AreAllowed s → IsWritable (new_history own generation s)
 begins own generation s endpoint first is =
-    lives_go_on.begins own generation s (record { endpoint = endpoint; first = first; settings = is.settings; cluster = is.cluster; seeds = is.seeds; silence = is.silence })
+    writable_histories_go_on.begins own generation s first (record { endpoint = endpoint; settings = is.settings; cluster = is.cluster; seeds = is.seeds; silence = is.silence })
 
-behind_held : (words : List ℕ) → IfSome (life_behind words) IsLife
+behind_held : (words : List ℕ) → IfSome (life_behind words) IsWritable
 unfolding life_behind
 behind_held words =
-    held_bind (λ (p : ℕ × List ℕ). IsEndpoint p.0) IsLife (endpoint_before words) (λ own. generation_before own.1 >>= λ generation. settings_in generation.1 >>= λ settings. Some (new_history own.0 generation.0 settings)) (endpoint_before-held words)
-    (λ own endpoint. held_bind (λ (p : ℕ × List ℕ). IsGeneration p.0) IsLife (generation_before own.1) (λ generation. settings_in generation.1 >>= λ settings. Some (new_history own.0 generation.0 settings)) (generation_before-held own.1)
-    (λ generation first. held_bind AreAllowed IsLife (settings_in generation.1) (λ settings. Some (new_history own.0 generation.0 settings)) (settings_held generation.1)
+    held_bind (λ (p : ℕ × List ℕ). IsEndpoint p.0) IsWritable (endpoint_before words) (λ own. generation_before own.1 >>= λ generation. settings_in generation.1 >>= λ settings. Some (new_history own.0 generation.0 settings)) (endpoint_before-held words)
+    (λ own endpoint. held_bind (λ (p : ℕ × List ℕ). IsGeneration p.0) IsWritable (generation_before own.1) (λ generation. settings_in generation.1 >>= λ settings. Some (new_history own.0 generation.0 settings)) (generation_before-held own.1)
+    (λ generation first. held_bind AreAllowed IsWritable (settings_in generation.1) (λ settings. Some (new_history own.0 generation.0 settings)) (settings_held generation.1)
     (λ settings is. begins own.0 generation.0 settings endpoint first is)))
 
-parts_held : (parts : Option Parts) → IfSome (life_of_parts parts) IsLife
+parts_held : (parts : Option Parts) → IfSome (life_of_parts parts) IsWritable
 parts_held None = tt
-parts_held (Some p) = held_cond IsLife (bytes_eq p.0 (codes "life")) (life_behind p.1) None (behind_held p.1) tt
+parts_held (Some p) = held_cond IsWritable (bytes_eq p.0 (codes "life")) (life_behind p.1) None (behind_held p.1) tt
 
-pub life_held : (line : List ℕ) → IfSome (life_in line) IsLife
+pub life_held : (line : List ℕ) → IfSome (life_in line) IsWritable
 unfolding life_in
 life_held line = parts_held (cut_at 32 line)

@@ -39,7 +39,7 @@ use Rattle.cg_script.specs.Gives.{readable}
 use Rattle.cg_script.specs.Words.{endpoint_before, endpoints_by, endpoints_in}
 use Rattle.cg_journal.specs.Text.{silence_text, further_seed, seeds_text, settings_text, life_line}
 use Rattle.cg_journal.specs.Reading.{generation_before, setting_before, silence_before, seeds_in, settings_in, life_behind, life_of_parts, life_in}
-use Rattle.cg_journal_laws.specs.Contents.{IsStart}
+use Rattle.cg_journal_laws.specs.Contents.{MayStart}
 use Rattle.cg_journal_laws.proofs.WordsRead.{lacks, lacks-append, lacks-number, lacks-decimal, lacks-endpoint, lacks-plain, cut_at-word, cut_at-none, is_no_dash, generation_in-decimal}
 use Rattle.cg_journal_laws.proofs.LinesRead.{ended}
 
@@ -175,9 +175,9 @@ settings_allowed s is =
     settings_by (s.cluster.partitioner == PARTITIONER) (nat_lt SEED_LIMIT (length s.seeds)) (rise_past None s.seeds) s
     (eq-eqb s.cluster.partitioner PARTITIONER is.in_use) (le-ltb SEED_LIMIT (length s.seeds) is.few) is.rise
 
-settings_again : (own generation : ℕ) (s : SettingsValue) → IsStart own generation s → settings_in (settings_text s) ≡ Some s
+settings_again : (own : ℕ) (s : SettingsValue) → MayStart own s → settings_in (settings_text s) ≡ Some s
 unfolding settings_in settings_text
-settings_again own generation s is =
+settings_again own s is =
     let seeds = seeds_text s.seeds in
     let name = s.cluster.name in
     ap (λ (o : Option (SilenceValue × List ℕ)). o >>= λ silence. cut_at 32 silence.1 >>= λ parts. seeds_in parts.0 >>= λ seeds. readable (cluster_of parts.1 PARTITIONER) >>= λ cluster. readable (settings_or_fault (settings_of cluster seeds silence.0)))
@@ -209,14 +209,14 @@ life_line-ended own generation s =
     ap (λ (n : ℕ). codes "life " ++ (e ++ (codes " " ++ (decimal n ++ (codes " " ++ (t ++ codes "\n")))))) (own_of_start own generation)
     ∙ ap (λ (l : List ℕ). codes "life " ++ l) (sym (append_assoc e (32 ∷ (g ++ 32 ∷ t)) (10 ∷ []) ∙ ap (λ (l : List ℕ). e ++ 32 ∷ l) (append_assoc g (32 ∷ t) (10 ∷ []))))
 
-pub life_again : (own generation : ℕ) (s : SettingsValue) → IsStart own generation s → life_in (life_words own generation s) ≡ Some (new_history own generation s)
+pub life_again : (own generation : ℕ) (s : SettingsValue) → IsGeneration generation → MayStart own s → life_in (life_words own generation s) ≡ Some (new_history own generation s)
 unfolding life_in life_behind
-life_again own generation s is =
+life_again own generation s first is =
     let rest = decimal generation ++ 32 ∷ settings_text s in
     ap life_of_parts (cut_at-word 32 (codes "life") (endpoint_text own ++ 32 ∷ rest) refl)
     ∙ ap (λ (o : Option (ℕ × List ℕ)). o >>= λ own. generation_before own.1 >>= λ generation. settings_in generation.1 >>= λ settings. Some (new_history own.0 generation.0 settings)) (endpoint_before-word own rest is.endpoint)
-    ∙ ap (λ (o : Option (ℕ × List ℕ)). o >>= λ generation. settings_in generation.1 >>= λ settings. Some (new_history own generation.0 settings)) (generation_before-word generation (settings_text s) is.first)
-    ∙ ap (λ (o : Option SettingsValue). o >>= λ settings. Some (new_history own generation settings)) (settings_again own generation s is)
+    ∙ ap (λ (o : Option (ℕ × List ℕ)). o >>= λ generation. settings_in generation.1 >>= λ settings. Some (new_history own generation.0 settings)) (generation_before-word generation (settings_text s) first)
+    ∙ ap (λ (o : Option SettingsValue). o >>= λ settings. Some (new_history own generation settings)) (settings_again own s is)
 
 -- ---- no line feed is in it
 
@@ -227,15 +227,15 @@ silence_lack s is =
     (lacks-number 10 s.initial_gap 32 (decimal s.max_gap ++ 32 ∷ decimal s.threshold) refl refl (omega (arith, is.initial_within, is.max_within))
     (lacks-number 10 s.max_gap 32 (decimal s.threshold) refl refl (omega (arith, is.max_within)) (lacks-decimal 10 s.threshold refl (omega (arith, is.threshold_within)))))
 
-settings_lack : (own generation : ℕ) (s : SettingsValue) → IsStart own generation s → lacks 10 (settings_text s) ≡ true
+settings_lack : (own : ℕ) (s : SettingsValue) → MayStart own s → lacks 10 (settings_text s) ≡ true
 unfolding settings_text
-settings_lack own generation s is =
+settings_lack own s is =
     let seeds = seeds_text s.seeds in
     let name = s.cluster.name in
     lacks-append 10 (silence_text s.silence) (32 ∷ (seeds ++ 32 ∷ name)) (silence_lack s.silence is.silence)
     (lacks-append 10 seeds (32 ∷ name) (seeds_lack 10 refl refl refl refl refl s.seeds is.seeds) (lacks-plain name is.cluster.is_named.is_plain))
 
-pub life_words-lack : (own generation : ℕ) (s : SettingsValue) → IsStart own generation s → lacks 10 (life_words own generation s) ≡ true
-life_words-lack own generation s is =
+pub life_words-lack : (own generation : ℕ) (s : SettingsValue) → IsGeneration generation → MayStart own s → lacks 10 (life_words own generation s) ≡ true
+life_words-lack own generation s first is =
     lacks-append 10 (endpoint_text own) (32 ∷ (decimal generation ++ 32 ∷ settings_text s)) (lacks-endpoint 10 own refl refl refl is.endpoint)
-    (lacks-number 10 generation 32 (settings_text s) refl refl (omega (arith, is.first.1)) (settings_lack own generation s is))
+    (lacks-number 10 generation 32 (settings_text s) refl refl (omega (arith, first.1)) (settings_lack own s is))

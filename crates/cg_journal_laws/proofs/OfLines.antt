@@ -22,6 +22,7 @@ pub record IsNext (h k : HistoryValue) (o : Option Event) : Type 0 where
   pub item : Item
   pub event : o ≡ Some item.event
   pub caller : item.caller ≡ 0
+  pub start : k.start ≡ h.start
   pub base : k.base ≡ h.base
   pub records : k.records ≡ h.records ++ item ∷ []
 
@@ -34,6 +35,7 @@ stepped h k e false (Ok x) is =
       item = record_of 0 e h.node x;
       event = refl;
       caller = refl;
+      start = ap (λ (g : HistoryValue). g.start) (sym same);
       base = ap (λ (g : HistoryValue). g.base) (sym same);
       records = ap (λ (g : HistoryValue). g.records) (sym same);
     }
@@ -47,6 +49,7 @@ pub record AreOf (h k : HistoryValue) (lines : List (List ℕ)) : Type 0 where
   pub items : List Item
   pub events : map event_in lines ≡ map Some (events_of items)
   pub callers : AllByRecursion (λ r. r.caller ≡ 0) items
+  pub start : k.start ≡ h.start
   pub base : k.base ≡ h.base
   pub records : k.records ≡ h.records ++ items
 
@@ -55,6 +58,7 @@ one_more h g k line lines one more = record {
   items = one.item ∷ more.items;
   events = ap (λ (o : Option Event). o ∷ map event_in lines) one.event ∙ ap (λ (os : List (Option Event)). Some one.item.event ∷ os) more.events;
   callers = (one.caller, more.callers);
+  start = more.start ∙ one.start;
   base = more.base ∙ one.base;
   records = more.records ∙ ap (λ (rs : List Item). rs ++ more.items) one.records ∙ append_assoc h.records (one.item ∷ []) more.items;
 }
@@ -72,6 +76,7 @@ of_lines n h k [] e =
       items = [];
       events = refl;
       callers = tt;
+      start = ap (λ (g : HistoryValue). g.start) (sym same);
       base = ap (λ (g : HistoryValue). g.base) (sym same);
       records = ap (λ (g : HistoryValue). g.records) (sym same) ∙ sym (append-nil h.records);
     }
@@ -120,6 +125,7 @@ first_line h line lines (Some g) is e =
       are = refl;
       start = g;
       begins = is;
+      begun = of.start;
       base = of.base;
       events = of.events ∙ ap (λ (rs : List Item). map Some (events_of rs)) (sym all);
       callers = subst (λ (rs : List Item). AllByRecursion (λ r. r.caller ≡ 0) rs) (sym all) of.callers;

@@ -1,16 +1,14 @@
--- Histories whose text is read again: they began with a start, and their numbers and texts are such as the types of
--- events and settings allow.
-use Rattle.std.specs.Prelude.{ℕ, ◌≡◌, ◌<◌, ◌≤◌, ◌^◌, List, length}
+-- Histories whose text is read again: their numbers and texts are such as the types of events and settings allow.
+use Rattle.std.specs.Prelude.{ℕ, ◌≡◌, ◌<◌, ◌^◌, List, length}
 use Rattle.std.specs.List.{AllByRecursion}
-use Rattle.cg_types.specs.Numbers.{IsEndpoint, IsGeneration, IsKey}
+use Rattle.cg_types.specs.Numbers.{IsEndpoint, IsKey}
 use Rattle.cg_types.specs.Text.{IsStateText, IsCluster}
 use Rattle.cg_messages.specs.Contents.{IsSyn, IsAck, IsAck2}
 use Rattle.cg_silence.specs.Values.{IsSilence}
 use Rattle.cg_events.specs.declared.event.Event.{Event}
 use Rattle.cg_events.specs.declared.event.Event.TheVariants as event
 use Rattle.cg_settings.specs.Values.{SettingsValue, IsSettings}
-use Rattle.cg_core.specs.Step.{starting_node}
-use Rattle.cg_history.specs.History.{HistoryValue, IsReplayed, LAST_NUMBER}
+use Rattle.cg_history.specs.History.{HistoryValue, IsReplayed}
 
 -- a time in milliseconds or a random word
 abbrev pub IsCount : ℕ → Type 0
@@ -31,22 +29,16 @@ IsEvent (event.Syn m) = IsSyn m
 IsEvent (event.Ack now m) = IsCount now × IsAck m
 IsEvent (event.Ack2 now m) = IsCount now × IsAck2 m
 
--- An endpoint, a generation and settings that a node may start with.
-pub record IsStart (own generation : ℕ) (s : SettingsValue) : Type 0 where
+-- An endpoint and settings that a node may start with.
+pub record MayStart (own : ℕ) (s : SettingsValue) : Type 0 where
   pub endpoint : IsEndpoint own
-  pub first : IsGeneration generation
   pub settings : IsSettings s
   pub cluster : IsCluster s.cluster
   pub seeds : AllByRecursion IsEndpoint s.seeds
   pub silence : IsSilence s.silence
 
--- The history began with a node that started, and its records are events, at most `LAST_NUMBER` of them.
-pub record IsLife (h : HistoryValue) : Type 0 where
-  pub own : ℕ
-  pub generation : ℕ
-  pub settings : SettingsValue
-  pub start : IsStart own generation settings
-  pub base : h.base ≡ starting_node own generation settings
+-- A history with a text: its node may start, and its records are of events.
+pub record IsWritable (h : HistoryValue) : Type 0 where
   pub replayed : IsReplayed h
+  pub start : MayStart h.start.table.own h.start.settings
   pub events : AllByRecursion (λ r. IsEvent r.event) h.records
-  pub few : length h.records ≤ LAST_NUMBER

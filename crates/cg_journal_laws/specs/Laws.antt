@@ -1,6 +1,7 @@
 -- Statements about journals that are read or written.
 use Rattle.std.specs.Prelude.{◌≡◌, ℕ, List, [], ◌∷◌, ◌++◌, map, Some, Ok}
 use Rattle.std.specs.List.{AllByRecursion}
+use Rattle.cg_types.specs.Numbers.{IsGeneration}
 use Rattle.cg_records.specs.declared.item.Item.{Item}
 use Rattle.cg_records.specs.Items.{events_of}
 use Rattle.cg_events.specs.declared.event.Event.{Event}
@@ -10,7 +11,7 @@ use Rattle.cg_history.specs.History.{HistoryValue, new_history, apply}
 use Rattle.cg_lines.specs.Lines.{lines_of}
 use Rattle.cg_journal.specs.Text.{event_line, journal_of}
 use Rattle.cg_journal.specs.Reading.{life_in, event_in, journal_in}
-use Rattle.cg_journal_laws.specs.Contents.{IsEvent, IsStart, IsLife}
+use Rattle.cg_journal_laws.specs.Contents.{IsEvent, MayStart, IsWritable}
 
 -- The history began as the first of the lines says. It has a record for each other line, with the line's event, for
 -- caller 0.
@@ -20,6 +21,7 @@ pub record IsOfItsLines (lines : List (List ℕ)) (h : HistoryValue) : Type 0 wh
   pub are : lines ≡ first ∷ others
   pub start : HistoryValue
   pub begins : life_in first ≡ Some start
+  pub begun : h.start ≡ start.start
   pub base : h.base ≡ start.base
   pub events : map event_in others ≡ map Some (events_of h.records)
   pub callers : AllByRecursion (λ r. r.caller ≡ 0) h.records
@@ -30,6 +32,7 @@ ReadHistoriesAreOfTheirLines =
 
 -- The history continues another one: it began with the same node, and has the other's records first.
 pub record Continues (g h : HistoryValue) : Type 0 where
+  pub start : h.start ≡ g.start
   pub base : h.base ≡ g.base
   pub more : List Item
   pub records : h.records ≡ g.records ++ more
@@ -57,7 +60,7 @@ for_caller_0 i = record { caller = 0; event = i.event; reply = i.reply; puts = i
 
 -- the history, with each record for caller 0
 abbrev pub uncalled : HistoryValue → HistoryValue
-uncalled h = record { base = h.base; records = map for_caller_0 h.records; node = h.node }
+uncalled h = record { start = h.start; base = h.base; records = map for_caller_0 h.records; node = h.node }
 
 -- The text of the history is read as that history, for caller 0, and that one is written as the same text.
 pub record IsReadAsWritten (h : HistoryValue) : Type 0 where
@@ -65,19 +68,19 @@ pub record IsReadAsWritten (h : HistoryValue) : Type 0 where
   pub again : journal_of (uncalled h) ≡ journal_of h
 
 abbrev pub WrittenHistoriesAreRead : Type 0
-WrittenHistoriesAreRead = (h : HistoryValue) → IsLife h → IsReadAsWritten h
+WrittenHistoriesAreRead = (h : HistoryValue) → IsWritable h → IsReadAsWritten h
 
--- Histories are lives from their start on, whatever event is done.
-pub record LivesGoOn : Type 0 where
-  pub begins : (own generation : ℕ) (s : SettingsValue) → IsStart own generation s
-      → IsLife (new_history own generation s)
+-- Histories are writable from their start on, whatever event is done.
+pub record WritableHistoriesGoOn : Type 0 where
+  pub begins : (own generation : ℕ) (s : SettingsValue) → IsGeneration generation → MayStart own s
+      → IsWritable (new_history own generation s)
   pub goes_on :
-      (h : HistoryValue) (caller : ℕ) (e : Event) (after : HistoryValue) (q : Receipt) → IsLife h → IsEvent e
-      → apply h caller e ≡ Ok (after, q) → IsLife after
+      (h : HistoryValue) (caller : ℕ) (e : Event) (after : HistoryValue) (q : Receipt) → IsWritable h → IsEvent e
+      → apply h caller e ≡ Ok (after, q) → IsWritable after
 
--- The history is a life, and its text is read as it.
+-- The history is writable, and its text is read as it.
 pub record IsReadAgain (h : HistoryValue) : Type 0 where
-  pub life : IsLife h
+  pub writable : IsWritable h
   pub again : journal_in (journal_of h) ≡ Ok h
 
 abbrev pub ReadHistoriesAreReadAgain : Type 0

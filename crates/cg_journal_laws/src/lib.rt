@@ -1,7 +1,7 @@
 //! Laws of journals, each the contract of an empty function, and the law that each event in hand meets their premise.
 #![tactic(auto)]
 
-ghost use Rattle.cg_journal_laws.specs.Laws.{ReadHistoriesAreOfTheirLines, FrontsAreRead, WrittenEventsAreRead, WrittenHistoriesAreRead, LivesGoOn, ReadHistoriesAreReadAgain};
+ghost use Rattle.cg_journal_laws.specs.Laws.{ReadHistoriesAreOfTheirLines, FrontsAreRead, WrittenEventsAreRead, WrittenHistoriesAreRead, WritableHistoriesGoOn, ReadHistoriesAreReadAgain};
 
 mod event;
 
@@ -23,18 +23,18 @@ pub fn written_events_are_read()
     ensures { WrittenEventsAreRead }
 {}
 
-/// The text of a life's history is read as that history, each record for caller 0, and what was read is written as the
-/// same text.
+/// The text of a writable history is read as that history, each record for caller 0, and what was read is written as
+/// the same text.
 ///
-/// The law `lives_go_on` says which histories are lives. The history that was read has the same node that it began
+/// The law `writable_histories_go_on` says which histories these are. The history that was read has the same node that it began
 /// with, the same records, and the same node at its end.
 pub fn written_histories_are_read()
     ensures { WrittenHistoriesAreRead }
 {}
 
 /// A history of a node that starts meets the premise of the law of written histories, and does so after any events.
-pub fn lives_go_on()
-    ensures { LivesGoOn }
+pub fn writable_histories_go_on()
+    ensures { WritableHistoriesGoOn }
 {}
 
 /// The text of a history that was read is read as the same history, whatever journal was read.

@@ -1,5 +1,5 @@
 use Rattle.std.proofs.Common.{arith}
-use Rattle.cg_journal_laws.proofs.LivesGoOn.{counts_of}
+use Rattle.cg_journal_laws.proofs.Writable.{counts_of}
 use Rattle.cg_journal_laws.proofs.event.show_counts.Goals as goal
 
 pub returns : goal.returns
