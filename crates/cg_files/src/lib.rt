@@ -1,7 +1,7 @@
 //! Files that a node that serves keeps: they are read up to a limit, and replaced whole.
 //!
 //! A file is replaced by a new one that was written beside it and synced. So a crash leaves the old one or the new one,
-//! and never a part.
+//! and never a part. What is no regular file is never replaced.
 #![tactic(auto)]
 
 mod generation;
@@ -11,4 +11,4 @@ mod replacing;
 
 pub use generation::{generation_in, generation_text, store_generation, stored_generation};
 pub use reading::read_file;
-pub use replacing::{Replacement, replace};
+pub use replacing::{Replacement, place_of, replace};

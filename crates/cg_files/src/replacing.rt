@@ -1,6 +1,7 @@
 //! Files that are replaced whole.
 
-ghost use Rattle.std.specs.Prelude.{◌≡◌, ◌⊎◌, IfOk, IfErr, string_bytes};
+ghost use Rattle.std.specs.Prelude.{◌≡◌, ◌⊎◌, IfOk, IfErr, IfSome, string_bytes};
+ghost use Rattle.std.specs.Fs.{file_type, IsFile};
 ghost use Rattle.cg_types.specs.declared.fault.Fault.TheVariants as faults;
 ghost use Rattle.cg_links.specs.Counted.{IsNew};
 ghost use Rattle.cg_files.specs.Replacing.{aside_of, link_in, aside_path};
@@ -9,7 +10,8 @@ use crate::reading::fault_of;
 use cg_links::{Counted, write_bytes};
 use cg_types::Fault;
 use std::alloc::{AllocError, Global};
-use std::fs::OpenFile;
+use std::fs::{File, Metadata, OpenFile};
+use std::io::ErrorKind;
 use std::rt::Files;
 use std::{fs, io};
 
@@ -38,10 +40,57 @@ fn path_aside(alloc: Global, path: &str) -> Result<String, AllocError>
     Ok(aside)
 }
 
+/// Returns the place of the file that a path names: where the path is a symlink, the path of what this leads to; else
+/// the path itself.
+///
+/// `WriteFault` if the symlink leads to nothing, `OutOfMemory` if the place finds no memory.
+pub fn place_of<R: Files>(rt: &R, alloc: Global, path: &str) -> Result<String, Fault>
+    ensures { IfErr result (λ f. (f ≡ faults.OutOfMemory) ⊎ (f ≡ faults.WriteFault)) }
+{
+    match fs::symlink_metadata(rt, path) {
+        Ok(found) if found.is_symlink() => match rt.canonicalize(alloc, path) {
+            Ok(place) => Ok(place.into_string()),
+            Err(error) => Err(fault_of(&error, Fault::WriteFault)),
+        },
+        _ => Ok(String::from_str(alloc, path)?),
+    }
+}
+
+// Returns what is known of the file at a path, if there is one. `WriteFault` if it is no regular file.
+fn standing<R: Files>(rt: &R, path: &str) -> Result<Option<Metadata>, Fault>
+    ensures file { IfOk result (λ found. IfSome found (λ m. IsFile (file_type m))) }
+    ensures err { IfErr result (λ f. (f ≡ faults.OutOfMemory) ⊎ (f ≡ faults.WriteFault)) }
+{
+    match fs::symlink_metadata(rt, path) {
+        Ok(found) => {
+            if found.is_file() {
+                Ok(Some(found))
+            } else {
+                Err(Fault::WriteFault)
+            }
+        }
+        Err(error) => match error.kind() {
+            ErrorKind::NotFound => Ok(None),
+            _ => Err(fault_of(&error, Fault::WriteFault)),
+        },
+    }
+}
+
+// Makes a new, empty file. What had its name is removed first, so no symlink is followed.
+fn made_anew<R: Files>(rt: &R, path: &str) -> io::Result<R::File> {
+    match fs::remove_file(rt, path) {
+        Ok(()) => {}
+        Err(error) if error.kind() == ErrorKind::NotFound => {}
+        Err(error) => return Err(error),
+    }
+    File::create_new(rt, path)
+}
+
 impl<F> Replacement<F> {
-    /// Begins a new, empty file beside the one at the path; an older file under its name is written over.
+    /// Begins a new, empty file beside the one at the path; an older one under its name is removed.
     ///
-    /// `WriteFault` if it can't be made, `OutOfMemory` if its path finds no memory.
+    /// `WriteFault` if it can't be made, or if a folder, a device, a symlink or anything else that is no regular file is
+    /// at the path: then nothing changes. `OutOfMemory` if its path finds no memory.
     pub fn begin<R: Files<File = F>>(
         rt: &R,
         alloc: Global,
@@ -52,7 +101,11 @@ impl<F> Replacement<F> {
         ensures err { IfErr result (λ f. (f ≡ faults.OutOfMemory) ⊎ (f ≡ faults.WriteFault)) }
     {
         let aside = path_aside(alloc, path)?;
-        match fs::create(rt, aside.as_str()) {
+        match standing(rt, path) {
+            Ok(_) => {}
+            Err(fault) => return Err(fault),
+        }
+        match made_anew(rt, aside.as_str()) {
             Ok(file) => Ok(Replacement {
                 link: Counted::new(file),
                 aside,
@@ -71,12 +124,17 @@ impl<F: OpenFile + Drop> Replacement<F> {
     /// Puts the new file in the place of the one at the path.
     ///
     /// It first syncs the new file, so that all of it is on the disk. At the end it syncs the folder, so that no crash
-    /// brings the old file back. `WriteFault` if a step fails, `OutOfMemory` if memory is refused: the file at the path
-    /// may then be the old one or the new one. The contract names these faults; no clause speaks of files or crashes.
+    /// brings the old file back. `WriteFault` if a step fails or what is at the path is no regular file, `OutOfMemory`
+    /// if memory is refused: the file at the path may then be the old one or the new one. The contract names these
+    /// faults; no clause speaks of files or crashes.
     pub fn put<R: Files>(self, rt: &R, path: &str) -> Result<(), Fault>
         ensures { IfErr result (λ f. (f ≡ faults.OutOfMemory) ⊎ (f ≡ faults.WriteFault)) }
     {
         let Replacement { link, aside } = self;
+        match standing(rt, path) {
+            Ok(_) => {}
+            Err(fault) => return Err(fault),
+        }
         match put_in_place(rt, link.into_link(), aside.as_str(), path) {
             Ok(()) => Ok(()),
             Err(error) => Err(fault_of(&error, Fault::WriteFault)),
@@ -96,7 +154,7 @@ fn put_in_place<R: Files, F: OpenFile + Drop>(
     fs::open(rt, folder_of(path))?.sync_all()
 }
 
-/// Replaces a file by these bytes, or makes it.
+/// Replaces a file by these bytes, or makes it. A symlink stays, and the file that it leads to is replaced.
 ///
 /// After a crash it has the old bytes or the new ones. `WriteFault` if replacing fails, `OutOfMemory` if memory is
 /// refused: then, too, it has the old bytes or the new ones. The contract names these faults; no clause speaks of the
@@ -104,12 +162,13 @@ fn put_in_place<R: Files, F: OpenFile + Drop>(
 pub fn replace<R: Files>(rt: &R, alloc: Global, path: &str, bytes: &[u8]) -> Result<(), Fault>
     ensures { IfErr result (λ f. (f ≡ faults.OutOfMemory) ⊎ (f ≡ faults.WriteFault)) }
 {
-    let mut new = match Replacement::begin(rt, alloc, path) {
+    let place = place_of(rt, alloc, path)?;
+    let mut new = match Replacement::begin(rt, alloc, place.as_str()) {
         Ok(new) => new,
         Err(fault) => return Err(fault),
     };
     match write_bytes(new.link(), bytes) {
-        Ok(()) => new.put(rt, path),
+        Ok(()) => new.put(rt, place.as_str()),
         Err(fault) => Err(fault),
     }
 }

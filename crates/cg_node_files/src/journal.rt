@@ -3,7 +3,7 @@
 ghost use Rattle.std.specs.Prelude.{◌≡◌, ◌⊎◌, IfErr};
 ghost use Rattle.cg_types.specs.declared.fault.Fault.TheVariants as faults;
 
-use cg_files::Replacement;
+use cg_files::{Replacement, place_of};
 use cg_history::History;
 use cg_journal::write_journal;
 use cg_types::Fault;
@@ -22,12 +22,13 @@ pub fn write_journal_to<R: Files>(
 ) -> Result<(), Fault>
     ensures { IfErr result (λ f. (f ≡ faults.OutOfMemory) ⊎ (f ≡ faults.WriteFault)) }
 {
-    let mut new = match Replacement::begin(rt, alloc, file) {
+    let place = place_of(rt, alloc, file)?;
+    let mut new = match Replacement::begin(rt, alloc, place.as_str()) {
         Ok(new) => new,
         Err(fault) => return Err(fault),
     };
     match write_journal(alloc, history, new.link()) {
-        Ok(()) => new.put(rt, file),
+        Ok(()) => new.put(rt, place.as_str()),
         Err(fault) => Err(fault),
     }
 }

@@ -6,6 +6,7 @@ use cg_links::write_bytes;
 use cg_types::{Fault, Generation};
 use std::alloc::Global;
 use std::fs;
+use std::os::unix::fs::symlink;
 use std::rt::Files;
 use std::test::Fail;
 
@@ -69,6 +70,64 @@ fn a_file_in_no_folder_can_not_be_made(rt: HostRuntime) -> Result<(), Fail> {
             "{path:?}"
         )?;
     }
+    Ok(())
+}
+
+// Expects that what is at a path can't be replaced, and that no file is made beside it.
+fn is_refused<R: Files>(rt: &R, alloc: Global, path: &str, aside: &str) -> Result<(), Fail> {
+    expect!(replace(rt, alloc, path, b"new") == Err(Fault::WriteFault))?;
+    expect!(Replacement::begin(rt, alloc, path).err() == Some(Fault::WriteFault))?;
+    expect!(is_missing(rt, alloc, aside))
+}
+
+#[test]
+fn what_is_no_regular_file_is_not_replaced(rt: HostRuntime) -> Result<(), Fail> {
+    let (alloc, path, link) = (rt.alloc(), "cg_files_folder", "cg_files_to_folder");
+    let _ = fs::remove_dir(&rt, path);
+    let _ = fs::remove_file(&rt, link);
+    let new = Replacement::begin(&rt, alloc, path)?;
+    fs::create_dir(&rt, path)?;
+    expect!(new.put(&rt, path) == Err(Fault::WriteFault))?;
+    fs::remove_file(&rt, "cg_files_folder.new")?;
+    is_refused(&rt, alloc, path, "cg_files_folder.new")?;
+    symlink(&rt, path, link)?;
+    is_refused(&rt, alloc, link, "cg_files_to_folder.new")?;
+    expect!(is_missing(&rt, alloc, "cg_files_folder.new"))?;
+    is_refused(&rt, alloc, "/dev/full", "/dev/full.new")?;
+    fs::remove_file(&rt, link)?;
+    fs::remove_dir(&rt, path)?;
+    Ok(())
+}
+
+#[test]
+fn a_symlink_stays_and_its_file_is_replaced(rt: HostRuntime) -> Result<(), Fail> {
+    let (alloc, path, link) = (rt.alloc(), "cg_files_linked", "cg_files_link");
+    let _ = fs::remove_file(&rt, path);
+    let _ = fs::remove_file(&rt, link);
+    symlink(&rt, path, link)?;
+    is_refused(&rt, alloc, link, "cg_files_link.new")?;
+    expect!(is_missing(&rt, alloc, path))?;
+    expect!(replace(&rt, alloc, path, b"old").is_ok())?;
+    expect!(replace(&rt, alloc, link, b"new").is_ok())?;
+    expect!(fs::symlink_metadata(&rt, link)?.is_symlink())?;
+    expect!(has(&rt, alloc, path, b"new"))?;
+    fs::remove_file(&rt, link)?;
+    fs::remove_file(&rt, path)?;
+    Ok(())
+}
+
+#[test]
+fn a_new_file_is_not_opened_through_a_symlink(rt: HostRuntime) -> Result<(), Fail> {
+    let (alloc, path, other) = (rt.alloc(), "cg_files_aside", "cg_files_other");
+    let _ = fs::remove_file(&rt, path);
+    let _ = fs::remove_file(&rt, "cg_files_aside.new");
+    expect!(replace(&rt, alloc, other, b"other").is_ok())?;
+    symlink(&rt, other, "cg_files_aside.new")?;
+    expect!(replace(&rt, alloc, path, b"new").is_ok())?;
+    expect!(has(&rt, alloc, path, b"new"))?;
+    expect!(has(&rt, alloc, other, b"other"))?;
+    fs::remove_file(&rt, path)?;
+    fs::remove_file(&rt, other)?;
     Ok(())
 }
 
