@@ -4,7 +4,7 @@ use Rattle.std.specs.Prelude.{◌==◌, ◌&&◌, Result, Ok, Err, None}
 use Rattle.cg_types.specs.Rising.{rise_past}
 use Rattle.cg_types.specs.declared.fault.Fault.{Fault}
 use Rattle.cg_types.specs.declared.fault.Fault.TheVariants.{OutOfMemory}
-use Rattle.cg_one_run.specs.Items.{RunItem, LivesValue, generation_of, items_at, items_of_lives}
+use Rattle.cg_one_run.specs.Items.{RunItem, LivesValue, AreLives, generation_of, items_at, items_of_lives}
 use Rattle.cg_one_run.specs.OneRun.{GenerationsRise}
 use Rattle.cg_one_run.specs.Turns as turns
 use Rattle.cg_one_run.specs.Laws.{OrdersAreRuns, StuckLivesAreNoRun, HeadsCanNotGo}
@@ -53,12 +53,12 @@ they_fall (l ∷ ls) e rise = they_fall ls (ap (λ b. b && all_rise ls) (sym ris
 
 -- ---- the answer
 
-module _ (ls : List LivesValue) (rise : GenerationsRise ls) (orders : OrdersAreRuns) (stuck : StuckLivesAreNoRun) (heads : HeadsCanNotGo) where
+module _ (ls : List LivesValue) (are : AreLives ls) (rise : GenerationsRise ls) (orders : OrdersAreRuns) (stuck : StuckLivesAreNoRun) (heads : HeadsCanNotGo) where
   memory : (fault : Fault) → fault ≡ OutOfMemory → IsAudited ls (Err (Other fault))
   memory fault e = subst (λ f. IsAudited ls (Err (Other f))) (sym e) rise
 
   audited_as : (found : turns.Found) → turns.order_of ls ≡ found → (r : Result Order AuditFault) → IsFound found r → IsAudited ls r
-  audited_as (turns.Order items) is (Ok order) f = record { items = items; named = f; is_run = orders ls items rise is; by_turns = is }
+  audited_as (turns.Order items) is (Ok order) f = record { items = items; named = f; are_lives = are; is_run = orders ls items rise is; by_turns = is }
   audited_as (turns.Order items) is (Err (Stuck hs)) f = elim f [ ]
   audited_as (turns.Order items) is (Err (Other fault)) f = memory fault f
   audited_as (turns.Stuck items) is (Ok order) f = elim f [ ]

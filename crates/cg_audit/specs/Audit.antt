@@ -2,7 +2,7 @@
 use Rattle.std.specs.Prelude.{◌≡◌, List, map, Result, Ok, Err}
 use Rattle.cg_types.specs.declared.fault.Fault.{Fault}
 use Rattle.cg_types.specs.declared.fault.Fault.TheVariants.{NotRising, OutOfMemory}
-use Rattle.cg_one_run.specs.Items.{RunItem, LivesValue}
+use Rattle.cg_one_run.specs.Items.{RunItem, LivesValue, AreLives}
 use Rattle.cg_one_run.specs.OneRun.{IsOneRun, GenerationsRise}
 use Rattle.cg_one_run.specs.Turns as turns
 use Rattle.cg_one_run.specs.Laws.{AreStuck}
@@ -15,11 +15,12 @@ use Rattle.cg_audit.specs.declared.item.AuditFault.TheVariants.{Other, Stuck}
 abbrev pub life_item : RunItem → LifeItem
 life_item i = record { endpoint = i.endpoint; generation = i.generation; number = i.number }
 
--- These are all items of all lives, in an order in which they can have been one run. It is the order by turns: at each
--- turn the least endpoint goes whose next item can go.
+-- These are all items of all lives, in an order in which they can have been one run. Each life began with a start of
+-- its endpoint. It is the order by turns: at each turn the least endpoint goes whose next item can go.
 pub record IsOrder (lives : List LivesValue) (order : List LifeItem) : Type 0 where
   pub items : List RunItem
   pub named : order ≡ map life_item items
+  pub are_lives : AreLives lives
   pub is_run : IsOneRun lives items
   pub by_turns : turns.order_of lives ≡ turns.Order items
 

@@ -5,7 +5,7 @@ ghost use Rattle.cg_audit.specs.Lives.{differ};
 ghost use Rattle.cg_audit.specs.Audit.{IsAudited};
 
 use crate::item::{AuditFault, Order};
-use crate::lives::{Lives, all_rise};
+use crate::lives::{Lives, all_rise, show_lives};
 use crate::turns::by_turns;
 use cg_one_run::{heads_can_not_go, orders_are_runs, stuck_lives_are_no_run};
 use cg_types::Fault;
@@ -27,6 +27,7 @@ pub fn audit(alloc: Global, lives: &[Lives]) -> Result<Order, AuditFault>
     if !all_rise(lives) {
         return Err(AuditFault::Other(Fault::NotRising));
     }
+    show_lives(lives);
     orders_are_runs();
     stuck_lives_are_no_run();
     heads_can_not_go();

@@ -1,9 +1,10 @@
 //! All lives of an endpoint.
 
 ghost use Rattle.std.specs.Prelude.{◌≡◌, ◌↔◌, ◌==◌, map, None, IsTrue, IfSome, IsSome};
+ghost use Rattle.std.specs.Bool.{OnTrue};
 ghost use Rattle.cg_types.specs.Rising.{rise_past};
-ghost use Rattle.std.specs.List.{list_any};
-ghost use Rattle.cg_one_run.specs.Items.{LivesValue, generation_of};
+ghost use Rattle.std.specs.List.{list_any, AllByRecursion};
+ghost use Rattle.cg_one_run.specs.Items.{LivesValue, IsLife, AreLives, generation_of};
 ghost use Rattle.cg_audit.specs.LivesCode.{are_of as are_of_lem};
 ghost use Rattle.cg_audit.specs.Lives.{differ, all_rise as all_rise_lem};
 
@@ -18,11 +19,11 @@ pub struct Lives {
     histories: Vec<History>,
 }
 
-/// A contract sees the endpoint and the histories, each of which began with a node of that endpoint.
+/// A contract sees the endpoint and the histories, each of which began with a start of that endpoint.
 impl Model for Lives {
-    ghost use Rattle.std.specs.Prelude.{IsTrue};
-    ghost use Rattle.cg_one_run.specs.Items.{LivesValue};
-    ghost use Rattle.cg_audit.specs.LivesCode.{lives_code, are_of};
+    ghost use Rattle.std.specs.List.{AllByRecursion};
+    ghost use Rattle.cg_one_run.specs.Items.{LivesValue, IsLife};
+    ghost use Rattle.cg_audit.specs.LivesCode.{lives_code};
 
     ghost Value = { LivesValue };
 
@@ -30,19 +31,40 @@ impl Model for Lives {
 
     ghost view = { λ l. record { endpoint = l.endpoint; histories = l.histories.items } };
 
-    ghost invariant = { λ l. IsTrue (are_of l.endpoint l.histories.items) };
+    ghost invariant = { λ l. AllByRecursion (IsLife l.endpoint) l.histories.items };
 }
 
 fn is_of(endpoint: Endpoint, history: &History) -> bool
-    ensures { result ≡ (history.now.base.table.own == endpoint) }
+    ensures value { result ≡ (history.now.base.table.own == endpoint) }
+    ensures life { OnTrue result (IsLife endpoint history.now) }
 {
     history.base().table().own() == endpoint
 }
 
+// Returns `true` if each history began with a node of the endpoint; each is then a life of it.
 fn are_of(endpoint: Endpoint, histories: &[History]) -> bool
-    ensures { result ≡ are_of_lem endpoint histories.now }
+    ensures value { result ≡ are_of_lem endpoint histories.now }
+    ensures lives { OnTrue result (AllByRecursion (IsLife endpoint) histories.now) }
 {
-    histories.iter().all(|history| is_of(endpoint, history))
+    let mut rest = histories;
+    while let Some((first, others)) = rest.split_first() {
+        if !is_of(endpoint, first) {
+            return false;
+        }
+        rest = others;
+    }
+    true
+}
+
+/// Finds that each history of these lives is a life of its endpoint. It takes no memory.
+pub(crate) fn show_lives(lives: &[Lives])
+    ensures { AreLives lives.now }
+{
+    let mut rest = lives;
+    while let Some((first, others)) = rest.split_first() {
+        let _histories = first.histories();
+        rest = others;
+    }
 }
 
 /// Returns the generation of a life.
@@ -111,7 +133,8 @@ impl Lives {
 
     /// The histories of the lives, the first one first.
     pub fn histories(&self) -> &[History]
-        ensures { result.now ≡ self.now.histories }
+        ensures value { result.now ≡ self.now.histories }
+        ensures lives { AllByRecursion (IsLife self.now.endpoint) self.now.histories }
     {
         &self.histories
     }

@@ -7,5 +7,5 @@ returns-then-not-all_rise c = they_fall c.args.lives.now (sym c.all_rise.ensures
 
 pub returns : goal.returns
 returns c =
-    audited c.args.lives.now (they_rise c.args.lives.now (sym c.all_rise.ensures ∙ c.if-not-all_rise.false))
+    audited c.args.lives.now c.show_lives.ensures (they_rise c.args.lives.now (sym c.all_rise.ensures ∙ c.if-not-all_rise.false))
     c.orders_are_runs.ensures c.stuck_lives_are_no_run.ensures c.heads_can_not_go.ensures c.by_turns.result c.by_turns.ensures
