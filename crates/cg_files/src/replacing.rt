@@ -1,6 +1,7 @@
 //! Files that are replaced whole.
 
-ghost use Rattle.std.specs.Prelude.{◌≡◌, ◌⊎◌, IfOk, IfErr, IfSome, string_bytes};
+ghost use Rattle.std.specs.Prelude.{◌≡◌, ◌⊎◌, ◌↔◌, IfOk, IfErr, IfSome, IsTrue, string_bytes};
+ghost use Rattle.std.specs.IoError.{error_kind};
 ghost use Rattle.std.specs.Fs.{file_type, IsFile};
 ghost use Rattle.cg_types.specs.declared.fault.Fault.TheVariants as faults;
 ghost use Rattle.cg_links.specs.Counted.{IsNew};
@@ -10,8 +11,9 @@ use crate::reading::fault_of;
 use cg_links::{Counted, write_bytes};
 use cg_types::Fault;
 use std::alloc::{AllocError, Global};
-use std::fs::{File, Metadata, OpenFile};
-use std::io::ErrorKind;
+use std::fs::{File, Metadata, OpenFile, OpenOptions};
+use std::io::{Error, ErrorKind};
+use std::os::unix::fs::{MetadataExt, OpenOptionsExt};
 use std::rt::Files;
 use std::{fs, io};
 
@@ -76,18 +78,49 @@ fn standing<R: Files>(rt: &R, path: &str) -> Result<Option<Metadata>, Fault>
     }
 }
 
-// Makes a new, empty file. What had its name is removed first, so no symlink is followed.
-fn made_anew<R: Files>(rt: &R, path: &str) -> io::Result<R::File> {
+// The mode of a new file that has yet to get that of an old one: no other user opens it.
+const PRIVATE: u32 = 0o600;
+
+// Makes a new, empty file, with the mode of the old one if there is one, and with its owner if the system lets it. What
+// had its name is removed first, so no symlink is followed.
+fn made_anew<R: Files>(rt: &R, path: &str, old: Option<Metadata>) -> io::Result<R::File> {
     match fs::remove_file(rt, path) {
         Ok(()) => {}
         Err(error) if error.kind() == ErrorKind::NotFound => {}
         Err(error) => return Err(error),
     }
-    File::create_new(rt, path)
+    let Some(old) = old else {
+        return File::create_new(rt, path);
+    };
+    let mut options = OpenOptions::new();
+    options.write(true).create_new(true).mode(PRIVATE);
+    let file = options.open(rt, path)?;
+    let _ = rt.lchown(path, Some(old.uid()), Some(old.gid()));
+    file.set_permissions(old.permissions())?;
+    Ok(file)
+}
+
+// Tests whether an error says that a file system does not sync folders.
+fn syncs_none(error: &Error) -> bool
+    ensures { IsTrue result ↔ ((error_kind error.now ≡ ErrorKind.InvalidInput) ⊎ (error_kind error.now ≡ ErrorKind.Unsupported)) }
+{
+    match error.kind() {
+        ErrorKind::InvalidInput | ErrorKind::Unsupported => true,
+        _ => false,
+    }
+}
+
+// Syncs a folder, if its file system syncs folders.
+fn sync_folder<R: Files>(rt: &R, folder: &str) -> io::Result<()> {
+    match fs::open(rt, folder)?.sync_all() {
+        Err(error) if syncs_none(&error) => Ok(()),
+        synced => synced,
+    }
 }
 
 impl<F> Replacement<F> {
-    /// Begins a new, empty file beside the one at the path; an older one under its name is removed.
+    /// Begins a new, empty file beside the one at the path; an older one under its name is removed. It has the mode of
+    /// the one at the path, and its owner if the system lets it.
     ///
     /// `WriteFault` if it can't be made, or if a folder, a device, a symlink or anything else that is no regular file is
     /// at the path: then nothing changes. `OutOfMemory` if its path finds no memory.
@@ -101,11 +134,11 @@ impl<F> Replacement<F> {
         ensures err { IfErr result (λ f. (f ≡ faults.OutOfMemory) ⊎ (f ≡ faults.WriteFault)) }
     {
         let aside = path_aside(alloc, path)?;
-        match standing(rt, path) {
-            Ok(_) => {}
+        let old = match standing(rt, path) {
+            Ok(old) => old,
             Err(fault) => return Err(fault),
-        }
-        match made_anew(rt, aside.as_str()) {
+        };
+        match made_anew(rt, aside.as_str(), old) {
             Ok(file) => Ok(Replacement {
                 link: Counted::new(file),
                 aside,
@@ -151,7 +184,7 @@ fn put_in_place<R: Files, F: OpenFile + Drop>(
 ) -> io::Result<()> {
     file.sync_all()?;
     fs::rename(rt, aside, path)?;
-    fs::open(rt, folder_of(path))?.sync_all()
+    sync_folder(rt, folder_of(path))
 }
 
 /// Replaces a file by these bytes, or makes it. A symlink stays, and the file that it leads to is replaced.

@@ -1,12 +1,13 @@
 //! Files read and replaced: whole, half written, too long, missing; and the generations that they keep.
 
-use cg_expect::expect;
+use cg_expect::{expect, expect_eq};
 use cg_files::{Replacement, read_file, replace, store_generation, stored_generation};
 use cg_links::write_bytes;
 use cg_types::{Fault, Generation};
 use std::alloc::Global;
 use std::fs;
-use std::os::unix::fs::symlink;
+use std::fs::Permissions;
+use std::os::unix::fs::{MetadataExt, PermissionsExt, chown, symlink};
 use std::rt::Files;
 use std::test::Fail;
 
@@ -128,6 +129,26 @@ fn a_new_file_is_not_opened_through_a_symlink(rt: HostRuntime) -> Result<(), Fai
     expect!(has(&rt, alloc, other, b"other"))?;
     fs::remove_file(&rt, path)?;
     fs::remove_file(&rt, other)?;
+    Ok(())
+}
+
+#[test]
+fn a_new_file_has_the_mode_and_the_owner_of_the_old_one(rt: HostRuntime) -> Result<(), Fail> {
+    let (alloc, path) = (rt.alloc(), "cg_files_mode");
+    let _ = fs::remove_file(&rt, path);
+    for mode in [0o600, 0o640, 0o666] {
+        expect!(replace(&rt, alloc, path, b"old").is_ok())?;
+        fs::set_permissions(&rt, path, Permissions::from_mode(mode))?;
+        // only the system's administrator may give a file away
+        let _ = chown(&rt, path, Some(65534), Some(65534));
+        let old = fs::metadata(&rt, path)?;
+        expect!(replace(&rt, alloc, path, b"new").is_ok())?;
+        let new = fs::metadata(&rt, path)?;
+        expect!(has(&rt, alloc, path, b"new"))?;
+        expect_eq!(new.mode() & 0o777, mode)?;
+        expect_eq!((new.uid(), new.gid()), (old.uid(), old.gid()))?;
+    }
+    fs::remove_file(&rt, path)?;
     Ok(())
 }
 
