@@ -21,7 +21,7 @@ use Rattle.cg_locked.proofs.Confirming.{confirmed_stay, entries_are_confirmed}
 use Rattle.cg_events.specs.Replies.{IsReplyTo}
 use Rattle.cg_engine.specs.Events.{IsGateFault}
 use Rattle.cg_engine.proofs.ReplyLemmas.{reply_kind, step_fault}
-use Rattle.cg_seats.specs.Seats.{SeatValue, AreOf, last_reply, IsReceiptOf, IsSeatOf, Enters}
+use Rattle.cg_seats.specs.Seats.{SeatValue, AreOf, last_reply, IsReceiptOf, IsSeatOf, HasEntered, Enters}
 
 -- ---- a receipt more
 
@@ -113,6 +113,18 @@ module _ (start : NodeValue) (seat : SeatState) (qs : List Receipt) (e : Event) 
         shown = shown;
       } in
       (q.reply, ap last_reply whole ∙ last_of_more qs q, enters, done.kind)
+
+-- a gate whose event was refused, by the entry from its seat
+pub refused : (start : NodeValue) (seat : SeatState) (qs : List Receipt) (e : Event) (seen : List Item) (f : Fault) → seat.amount ≡ length qs → AreConfirmed seat.seen qs → IsEntry start seat e seen (Err f)
+    → (parts : ℕ) (was : Option (List Put)) (g : SeatValue) → (let inside : SeatValue = record { caller = seat.caller; parts = parts; receipts = qs; told = was } in inside) ≡ g → HasEntered start g e (Err f)
+refused start seat qs e seen f counted confirmed entry parts was g is =
+    let receipts : qs ≡ g.receipts = ap (λ (v : SeatValue). v.receipts) is in
+    let its : IsSeatOf g seat = record {
+      caller = ap (λ (v : SeatValue). v.caller) is;
+      counted = counted ∙ ap length receipts;
+      confirmed = subst (λ rs. AreConfirmed seat.seen rs) receipts confirmed;
+    } in
+    record { seat = seat; is = its; seen = seen; entry = entry }
 
 -- after a refused entry the seat has counted the same receipts, which all records that it has then seen confirm
 pub still_left : (start : NodeValue) (seat now : SeatState) (qs room : List Receipt) (e : Event) (f : Fault) → seat.amount ≡ length qs → AreOf seat.caller qs → AreConfirmed seat.seen qs → IsEntry start seat e now.seen (Err f)

@@ -1,12 +1,19 @@
-use Rattle.std.proofs.Common.{refl}
+use Rattle.std.proofs.Common.{refl, inr}
 use Rattle.std.proofs.lemmas.Result.{err_from_is_err_and}
-use Rattle.cg_seats.proofs.SeatLemmas.{entered, still_counted, still_left, entry_fault}
+use Rattle.cg_seats.proofs.SeatLemmas.{entered, refused, still_counted, still_left, entry_fault}
 use Rattle.cg_seats.proofs.seat_gate.SeatGateGate.event.Goals as goal
 
 pub returns-in_err-receipt-clause-known : goal.returns-in_err-receipt-clause-known
 returns-in_err-receipt-clause-known g c =
     let p = err_from_is_err_and c.from_residual-in_err-receipt.result c.from_residual-in_err-receipt.ensures.1 in
     rw (p.1, p.2) (entry_fault _ _ _ _ _ c.in_err-receipt.ensures.entry)
+
+pub returns-in_err-receipt-clause-fault : goal.returns-in_err-receipt-clause-fault
+returns-in_err-receipt-clause-fault g c =
+    let p = err_from_is_err_and c.from_residual-in_err-receipt.result c.from_residual-in_err-receipt.ensures.1 in
+    let i = c.self.invariant in
+    let entry = refused g.N.Name.start c.self.inside.seat c.self.inside.receipts.items c.args.event c.submit.new.seat.seen c.in_err-receipt.field-0.0 i.0 i.2 c.in_err-receipt.ensures.entry c.self.inside.seat.parts c.self.inside.told c.args.self.now c.self.view_is in
+    rw (p.1, p.2) (inr entry)
 
 pub invariant_of-self-in_err-receipt : goal.invariant_of-self-in_err-receipt
 invariant_of-self-in_err-receipt g c =
