@@ -153,6 +153,18 @@ impl<F> Replacement<F> {
     }
 }
 
+impl<F: Drop> Replacement<F> {
+    /// Removes the new file; the one at the path stays. `WriteFault` if it can't be removed.
+    pub fn remove<R: Files>(self, rt: &R) -> Result<(), Fault>
+        ensures { IfErr result (λ f. (f ≡ faults.OutOfMemory) ⊎ (f ≡ faults.WriteFault)) }
+    {
+        match fs::remove_file(rt, self.aside.as_str()) {
+            Ok(()) => Ok(()),
+            Err(error) => Err(fault_of(&error, Fault::WriteFault)),
+        }
+    }
+}
+
 impl<F: OpenFile + Drop> Replacement<F> {
     /// Puts the new file in the place of the one at the path.
     ///

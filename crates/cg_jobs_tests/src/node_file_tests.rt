@@ -4,7 +4,7 @@ use crate::settings_tests::FEW;
 use cg_expect::{expect, expect_eq};
 use cg_history::History;
 use cg_life_samples::{generation_of, journal_of, remove_file, write_file};
-use cg_node_files::{SETTINGS_MOST, next_life, settings_in, write_journal_to};
+use cg_node_files::{SETTINGS_MOST, next_life, settings_in, try_journal, write_journal_to};
 use cg_samples::{A, endpoint, generation, settings};
 use cg_types::Fault;
 use std::alloc::Global;
@@ -95,4 +95,20 @@ fn a_journal_in_a_file(rt: HostRuntime) -> Result<(), Fail> {
         write_journal_to(&rt, alloc, "cg_jobs_no_folder/journal", &history),
         Err(Fault::WriteFault)
     )
+}
+
+#[test]
+fn a_place_of_a_journal_is_tried(rt: HostRuntime) -> Result<(), Fail> {
+    let (alloc, name) = (rt.alloc(), "cg_jobs_tried");
+    remove_file(&rt, alloc, name, "journal")?;
+    try_journal(&rt, alloc, "cg_jobs_tried.journal")?;
+    expect!(journal_of(&rt, alloc, name)?.is_none())?;
+    expect_eq!(
+        port_in(&rt, alloc, "cg_jobs_tried.journal.new"),
+        Err(Fault::ReadFault)
+    )?;
+    for file in ["cg_jobs_no_folder/journal", ".", "/dev/full"] {
+        expect_eq!(try_journal(&rt, alloc, file), Err(Fault::WriteFault))?;
+    }
+    Ok(())
 }

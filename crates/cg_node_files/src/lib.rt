@@ -6,5 +6,5 @@ mod journal;
 mod settings;
 
 pub use generation::next_life;
-pub use journal::write_journal_to;
+pub use journal::{try_journal, write_journal_to};
 pub use settings::{SETTINGS_MOST, settings_in};

@@ -5,12 +5,12 @@ ghost use Rattle.cg_node_files.specs.Kept.{IsUnborn};
 ghost use Rattle.cg_serve.specs.Lives.{IsLived, status_after, EndsWith, EndsALife};
 
 use crate::node::{Birth, LifeLeft, run};
-use cg_node_files::{next_life, settings_in, write_journal_to};
+use cg_node_files::{next_life, settings_in, try_journal, write_journal_to};
 use cg_settings_file::ServeSettings;
 use cg_sockets::Listener;
 use cg_types::Fault;
 use std::alloc::Global;
-use std::io::{Input, Print};
+use std::io::{Eprint, Input, Print};
 use std::net::{Net, TcpListener, TcpStream};
 use std::rt::{Clock, Files};
 use std::sync::Wait;
@@ -23,6 +23,16 @@ struct Lived {
     journal: String,
 }
 
+// Prints a line on standard error if it is seen before a life that its journal can't be written.
+fn foresee<R: Files + Eprint>(rt: &R, alloc: Global, journal: &str) {
+    match try_journal(rt, alloc, journal) {
+        Ok(()) => {}
+        Err(fault) => {
+            let _ = eprintln!(rt; "cg serve: {journal}: {fault}");
+        }
+    }
+}
+
 // Lives by the settings in a file, to the end.
 fn live<R>(rt: &R, alloc: Global, file: &str) -> Result<Lived, Fault>
 where
@@ -33,6 +43,7 @@ where
         + Files
         + Input
         + Print
+        + Eprint
         + Net<Listener = TcpListener, Stream = TcpStream>,
     R::Reader: Send,
     ensures lived { IfOk result IsLived }
@@ -41,6 +52,7 @@ where
     let settings = settings_in(rt, alloc, file)?;
     let generation = next_life(rt, alloc, settings.generation_file.as_str())?;
     let listener = Listener::bind(rt, alloc, settings.listen)?;
+    foresee(rt, alloc, settings.journal.as_str());
     let ServeSettings {
         node,
         listen,
@@ -106,6 +118,8 @@ fn ended<R: Files + Print>(rt: &R, alloc: Global, life: &Result<Lived, Fault>) -
 /// the same; `WriteFault` if it can't. A fault of a worker ends that worker; it is not printed, and does not change the
 /// status.
 ///
+/// Before it begins, it tries whether a file can stand beside the journal's, and prints a line on standard error if not.
+///
 /// The clauses are about the status and a life that fits it; they do not say what is read, printed or written.
 pub fn serve<R>(rt: &R, alloc: Global, file: &str) -> u8
 where
@@ -116,6 +130,7 @@ where
         + Files
         + Input
         + Print
+        + Eprint
         + Net<Listener = TcpListener, Stream = TcpStream>,
     R::Reader: Send,
     ensures status { result ≤ 1 }
