@@ -13,12 +13,11 @@ use cg_settings::Settings;
 use cg_types::{Endpoint, Fault, Generation};
 use std::alloc::{AllocError, Global};
 use std::marker::Model;
-use std::snapshot::Snapshot;
 
 /// A node with the records of all that it did since it started.
 #[derive(Drop)]
 pub struct History {
-    start: Snapshot<Node>,
+    start: Node,
     base: Node,
     items: Vec<Item>,
     node: Node,
@@ -33,10 +32,10 @@ impl Model for History {
 
     ghost coded = { history_code };
 
-    ghost view = { λ h. record { start = h.start.value; base = h.base; records = h.items.items; node = h.node } };
+    ghost view = { λ h. record { start = h.start; base = h.base; records = h.items.items; node = h.node } };
 
     ghost invariant = { λ h.
-        IsReplayed (record { start = h.start.value; base = h.base; records = h.items.items; node = h.node }) };
+        IsReplayed (record { start = h.start; base = h.base; records = h.items.items; node = h.node }) };
 }
 
 impl History {
@@ -52,7 +51,7 @@ impl History {
         let _generation = generation.get();
         let node = Node::start(alloc, own, generation, settings)?;
         Ok(History {
-            start: Snapshot::of(&node),
+            start: node.copy()?,
             base: node.copy()?,
             items: Vec::new(alloc),
             node,
