@@ -14,7 +14,7 @@ use std::alloc::{AllocError, Global};
 use std::marker::Model;
 
 /// Windows of endpoints: one for each that was heard, all with the same settings. Those that are made from one another
-/// share the windows that did not change.
+/// share the chunks in which no window changed, and the gaps of the other windows but the last few.
 #[derive(Drop)]
 pub struct Windows {
     silence: Silence,
@@ -56,7 +56,7 @@ impl Windows {
     }
 
     /// Returns the windows after the outcomes of a message: each delta that was taken is an arrival. They share the
-    /// windows of all other endpoints.
+    /// chunks without an arrival.
     pub fn after(
         &self,
         alloc: Global,
