@@ -1,5 +1,5 @@
 -- The gaps that a window keeps, and shows after one more arrival.
-use Rattle.std.proofs.Common.{◌≡◌, ℕ, zero, suc, ◌+◌, ◌-◌, ◌*◌, ◌<◌, ◌≤◌, min, Bool, true, false, cond, List, [], ◌∷◌, ◌++◌, length, drop, take, sum, Option, Some, None, Result, Ok, Err, IfOk, All, refl, sym, ap, arith, add-one, length-append, append_assoc, ◌∙◌}
+use Rattle.std.proofs.Common.{◌≡◌, ℕ, zero, suc, ◌+◌, ◌-◌, ◌*◌, ◌≤◌, min, Bool, true, false, cond, List, [], ◌∷◌, ◌++◌, length, drop, take, sum, Option, Some, None, Result, Ok, Err, IfOk, All, refl, sym, ap, arith, length-append, append_assoc, ◌∙◌}
 use Rattle.std.specs.Prelude.{filter}
 use Rattle.std.proofs.lemmas.List.{append-nil, drop-append-le, drop-drop, length-drop, take-append-drop}
 use Rattle.std.proofs.lemmas.List.Elements.{filter-append, All-nil, All-cons, All-drop, All-append}
@@ -133,8 +133,3 @@ shared_joined s past tail total g kept w small is = record {
 -- the gaps that it then shows
 pub shown_more : (n : ℕ) (past tail : List ℕ) (g : ℕ) → keep_last n (past ++ (tail ++ g ∷ [])) ≡ keep_last n (keep_last n (past ++ tail) ++ g ∷ [])
 shown_more n past tail g = rw (← append_assoc past tail (g ∷ [])) (sym (keep_last-push n (past ++ tail) g))
-
--- the same of a window that was made, if there was memory
-pub Shows-after : {E : Type 0} (w : WindowValue) (now : ℕ) (r : Result WindowValue E) → IfOk r (λ v. v ≡ record w { shown = after_arrival w.silence (Some w.shown) now }) → IfOk r (λ v. (arrivals : List ℕ) → Shows w arrivals → Shows v (arrivals ++ now ∷ []))
-Shows-after w now (Ok v) step = Shows-heard w v now step
-Shows-after w now (Err e) step = tt

@@ -1,6 +1,6 @@
-//! A window that the windows made from it share.
+//! A window whose copies share most of its gaps.
 
-ghost use Rattle.std.specs.Prelude.{◌≡◌, ◌+◌, ◌*◌, ◌≤◌, ◌^◌, ℕ, List, [], ◌∷◌, ◌++◌, length, sum, IfOk, Some};
+ghost use Rattle.std.specs.Prelude.{◌≡◌, ◌+◌, ◌*◌, ◌≤◌, ◌^◌, ℕ, List, [], ◌∷◌, ◌++◌, length, sum, IfOk, OnOk, OnErr, Some};
 ghost use Rattle.circular_buffer.specs.Buffer.{keep_last};
 ghost use Rattle.cg_silence.specs.Silence.{Shows, after_arrival, verdict};
 
@@ -21,14 +21,14 @@ struct Past {
     gaps: Vec<u32>,
 }
 
-/// A window that does not change: an arrival makes another one, and the two share all gaps but the last few. So it
-/// costs as little for a window of 1,000 gaps as for a short one, but for one arrival in 18, which copies all gaps.
+/// A window whose copies share all gaps but the last few. So a copy and an arrival cost as little for a window of 1,000
+/// gaps as for a short one, but for one arrival in as many as are not shared, which copies all gaps.
 #[derive(Drop)]
 pub struct SharedWindow {
     past: Arc<Past, Global>,
-    tail: Tail,
     total: u64,
     last: Option<u64>,
+    tail: Tail,
 }
 
 /// A contract sees what it sees of a `Window`.
@@ -96,9 +96,9 @@ impl SharedWindow {
         let gaps = Vec::new(alloc);
         Ok(SharedWindow {
             past: Arc::new(alloc, Past { silence, gaps })?,
-            tail: Tail::none(),
             total: 0,
             last: None,
+            tail: Tail::none(),
         })
     }
 
@@ -109,84 +109,60 @@ impl SharedWindow {
     {
         Ok(SharedWindow {
             past: Arc::try_clone(&self.past)?,
-            tail: self.tail.copy(),
             total: self.total,
             last: self.last,
+            tail: self.tail.copy(),
         })
     }
 
-    /// The window after an arrival of the endpoint at `now`, in milliseconds. A time before the last arrival counts as
-    /// no elapsed time.
-    pub fn after(&self, alloc: Global, now: u64) -> Result<SharedWindow, AllocError>
-        ensures step { IfOk result (λ w. w ≡ record self.now {
-          shown = after_arrival self.now.silence (Some self.now.shown) now;
+    /// Records an arrival of the endpoint at `now`, in milliseconds. A time before the last arrival counts as no
+    /// elapsed time. Only where the window's own gaps are put behind the shared ones does it take memory; if there is
+    /// none, the window is unchanged.
+    pub fn arrived(&mut self, alloc: Global, now: u64) -> Result<(), AllocError>
+        ensures step { OnOk result (self.new ≡ record self.old {
+          shown = after_arrival self.old.silence (Some self.old.shown) now;
         }) }
-        // If the window showed some arrivals, the new one shows them and this one.
-        ensures every { IfOk result (λ w. (arrivals : List ℕ) → Shows self.now arrivals → Shows w (arrivals ++ now ∷ [])) }
+        // If the window showed some arrivals, it now shows them and this one.
+        ensures every { OnOk result ((arrivals : List ℕ) → Shows self.old arrivals
+            → Shows self.new (arrivals ++ now ∷ [])) }
+        ensures err { OnErr result (self.new ≡ self.old) }
     {
         let silence = self.past.deref().silence;
         let gap = gap(silence, self.last, now);
-        let last = Some(latest(self.last, now));
-        if gap > u64::from(silence.max_gap()) {
-            return self.without_gap(last);
+        if gap <= u64::from(silence.max_gap()) {
+            self.keep_gap(alloc, gap as u32)?;
         }
-        self.with_gap(alloc, gap as u32, last)
+        self.last = Some(latest(self.last, now));
+        Ok(())
     }
 
-    // The window with another last arrival.
-    fn without_gap(&self, last: Option<u64>) -> Result<SharedWindow, AllocError>
-        ensures { IfOk result (λ w. w ≡ record self.now { shown = record self.now.shown { last = last } }) }
-    {
-        Ok(SharedWindow {
-            past: Arc::try_clone(&self.past)?,
-            tail: self.tail.copy(),
-            total: self.total,
-            last,
-        })
-    }
-
-    // The window with one more gap, and another last arrival.
-    fn with_gap(
-        &self,
-        alloc: Global,
-        gap: u32,
-        last: Option<u64>,
-    ) -> Result<SharedWindow, AllocError>
-        requires { gap ≤ self.now.silence.max_gap }
-        ensures { IfOk result (λ w. w ≡ record self.now {
-          shown = record {
-            gaps = keep_last self.now.silence.window (self.now.shown.gaps ++ gap ∷ []);
-            last = last;
+    // Adds a gap behind the others.
+    fn keep_gap(&mut self, alloc: Global, gap: u32) -> Result<(), AllocError>
+        requires { gap ≤ self.old.silence.max_gap }
+        ensures ok { OnOk result (self.new ≡ record self.old {
+          shown = record self.old.shown {
+            gaps = keep_last self.old.silence.window (self.old.shown.gaps ++ gap ∷ []);
           };
         }) }
+        ensures err { OnErr result (self.new ≡ self.old) }
     {
         if self.tail.is_full() {
-            return self.behind_joined(alloc, gap, last);
+            return self.keep_behind_joined(alloc, gap);
         }
-        let mut tail = self.tail.copy();
-        tail.push(gap);
-        Ok(SharedWindow {
-            past: Arc::try_clone(&self.past)?,
-            tail,
-            total: self.total + u64::from(gap),
-            last,
-        })
+        self.tail.push(gap);
+        self.total += u64::from(gap);
+        Ok(())
     }
 
-    // The window with one more gap, behind all others in one list, and another last arrival.
-    fn behind_joined(
-        &self,
-        alloc: Global,
-        gap: u32,
-        last: Option<u64>,
-    ) -> Result<SharedWindow, AllocError>
-        requires { gap ≤ self.now.silence.max_gap }
-        ensures { IfOk result (λ w. w ≡ record self.now {
-          shown = record {
-            gaps = keep_last self.now.silence.window (self.now.shown.gaps ++ gap ∷ []);
-            last = last;
+    // Adds a gap behind the others, once they are in one list.
+    fn keep_behind_joined(&mut self, alloc: Global, gap: u32) -> Result<(), AllocError>
+        requires { gap ≤ self.old.silence.max_gap }
+        ensures ok { OnOk result (self.new ≡ record self.old {
+          shown = record self.old.shown {
+            gaps = keep_last self.old.silence.window (self.old.shown.gaps ++ gap ∷ []);
           };
         }) }
+        ensures err { OnErr result (self.new ≡ self.old) }
     {
         let silence = self.past.deref().silence;
         let past = self.past.deref().gaps.as_slice();
@@ -194,15 +170,12 @@ impl SharedWindow {
         let window = silence.window();
         let kept = self.total - sum_left(past, tail, window);
         let gaps = joined(alloc, past, tail, window)?;
-        let past = Arc::new(alloc, Past { silence, gaps })?;
         let mut tail = Tail::none();
         tail.push(gap);
-        Ok(SharedWindow {
-            past,
-            tail,
-            total: kept + u64::from(gap),
-            last,
-        })
+        self.past = Arc::new(alloc, Past { silence, gaps })?;
+        self.tail = tail;
+        self.total = kept + u64::from(gap);
+        Ok(())
     }
 
     /// Returns the verdict at `now`, in milliseconds. A time before the last arrival counts as no elapsed time. It

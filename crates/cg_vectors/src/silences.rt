@@ -38,7 +38,7 @@ fn window_of(alloc: Global, silence: Silence, arrivals: &[&str]) -> Result<Windo
 fn shared_of(alloc: Global, silence: Silence, arrivals: &[&str]) -> Result<SharedWindow, Fault> {
     let mut window = SharedWindow::new(alloc, silence)?;
     for arrival in arrivals {
-        window = window.after(alloc, number_in(arrival, u64::MAX)?)?;
+        window.arrived(alloc, number_in(arrival, u64::MAX)?)?;
     }
     Ok(window)
 }

@@ -1,5 +1,5 @@
 -- Walks over windows and outcomes: over chunks one after the other, and as changes put in a map.
-use Rattle.std.proofs.Common.{◌≡◌, ℕ, ◌+◌, ◌<◌, ◌≤◌, Bool, true, false, cond, List, [], ◌∷◌, ◌++◌, length, drop, get_or, append_assoc, Option, Some, None, refl, sym, ap, ◌∙◌, arith, nat_lt}
+use Rattle.std.proofs.Common.{◌≡◌, ℕ, ◌+◌, ◌<◌, ◌≤◌, Bool, true, false, cond, List, [], ◌∷◌, ◌++◌, length, drop, get_or, set, append_assoc, Option, Some, None, Result, Ok, Err, OnOk, refl, sym, ap, ◌∙◌, arith, nat_lt}
 use Rattle.std.specs.Prelude.{◌||◌}
 use Rattle.std.specs.List.{filter_map, cons_option, AllByRecursion}
 use Rattle.std.specs.Option.{option_map}
@@ -8,6 +8,7 @@ use Rattle.std.specs.FinMap.{FinMap, get, from_sorted}
 use Rattle.std.specs.FinMap.Entries.{find}
 use Rattle.std.proofs.lemmas.Bool.{ltb-true, ltb-false, lt-ltb, le-ltb}
 use Rattle.std.proofs.lemmas.List.{drop_more}
+use Rattle.std.proofs.Math.Seq.{set-append_seam}
 use Rattle.cg_types.specs.Rising.{is_past, rise_past, Rises}
 use Rattle.cg_types.proofs.RisingLemmas.{first_of, second_of, rise_earlier, past_trans, other_key, get_rising}
 use Rattle.cg_map.specs.Rows.{keys_of, before, after, walk}
@@ -146,14 +147,13 @@ module _ (s : SilenceValue) (now : ℕ) where
   taken_goes true o os rows taken = refl
   taken_goes false o os rows taken = absurd cc
 
-  pub heard_step : (made rest front back : Rows) (os : List Outcome) (i : ℕ) (o : Outcome) (held : Option WindowValue) (w : WindowValue) → i < length os → o ≡ get_or os i o → was_taken o.took ≡ true
-      → front ≡ before o.endpoint rest → held ≡ find nat_cmp o.endpoint rest → back ≡ after o.endpoint rest → w ≡ heard_from s now held
-      → ((made ++ front) ++ (o.endpoint, w) ∷ []) ++ Walk (drop (i + 1) os) back ≡ made ++ Walk (drop i os) rest
-  heard_step made rest front back os i o held w lt is taken in_front has behind new =
+  pub heard_step : (made rest front back : Rows) (os : List Outcome) (i : ℕ) (o : Outcome) (held : Option WindowValue) → i < length os → o ≡ get_or os i o → was_taken o.took ≡ true
+      → front ≡ before o.endpoint rest → held ≡ find nat_cmp o.endpoint rest → back ≡ after o.endpoint rest
+      → ((made ++ front) ++ (o.endpoint, heard_from s now held) ∷ []) ++ Walk (drop (i + 1) os) back ≡ made ++ Walk (drop i os) rest
+  heard_step made rest front back os i o held lt is taken in_front has behind =
       let here : drop i os ≡ o ∷ drop (i + 1) os = drop_more os i o lt ∙ ap (λ (x : Outcome). x ∷ drop (i + 1) os) (sym is) in
-      let heard : w ≡ heard_from s now (find nat_cmp o.endpoint rest) = new ∙ ap (heard_from s now) has in
       let whole : Walk (drop i os) rest ≡ before o.endpoint rest ++ (o.endpoint, heard_from s now (find nat_cmp o.endpoint rest)) ∷ Walk (drop (i + 1) os) (after o.endpoint rest) = ap (λ (xs : List Outcome). Walk xs rest) here ∙ taken_goes (was_taken o.took) o (drop (i + 1) os) rest taken in
-      rw (in_front, heard, behind, whole)
+      rw (in_front, has, behind, whole)
       (append_assoc (made ++ before o.endpoint rest) ((o.endpoint, heard_from s now (find nat_cmp o.endpoint rest)) ∷ []) (Walk (drop (i + 1) os) (after o.endpoint rest))
       ∙ append_assoc made (before o.endpoint rest) ((o.endpoint, heard_from s now (find nat_cmp o.endpoint rest)) ∷ Walk (drop (i + 1) os) (after o.endpoint rest)))
 
@@ -193,3 +193,13 @@ module _ (s : SilenceValue) (now : ℕ) where
       let found : get m k ≡ find nat_cmp k rows = ap (λ (n : FinMap nat_cmp WindowValue). get n k) (sym seen) ∙ get_rising rows k valid in
       let shows = sym (get-shown_in m k) in
       ap (heard_from s now) (sym found) ∙ heard_of (get m k) k (λ v is. judge.same k v is) ∙ (λ i. record { silence = s; shown = after_arrival s (shows i) now }))
+
+-- the last window, after one more arrival there
+pub last_heard : {A E : Type 0} (r : Result A E) (silence : SilenceValue) (now : ℕ) (rows pushed : List (ℕ × WindowValue)) (last k e : ℕ) (v w x after : WindowValue)
+    → pushed ≡ rows ++ (e, w) ∷ [] → last ≡ length rows → ◌≡◌ {A = ℕ × WindowValue} (k, v) (e, w) → OnOk r (after ≡ heard_from silence now (Some v)) → heard_from silence now (Some w) ≡ x
+    → OnOk r (set pushed last (k, after) ≡ rows ++ (e, x) ∷ [])
+last_heard (Ok y) silence now rows pushed last k e v w x after is at same step found =
+    (λ i. set (is i) (at i) ((same i).0, after))
+    ∙ set-append_seam rows (e, w) [] (e, after)
+    ∙ ap (λ (a : WindowValue). rows ++ (e, a) ∷ []) (step ∙ (λ i. heard_from silence now (Some (same i).1)) ∙ found)
+last_heard (Err y) silence now rows pushed last k e v w x after is at same step found = tt

@@ -1,14 +1,14 @@
 //! Windows with their endpoints, which lie beside one another.
 
-ghost use Rattle.std.specs.Prelude.{◌≡◌, ◌++◌, ◌≤◌, ◌<◌, IsTrue, IfOk, IfErr, OnOk, length, option_copied};
+ghost use Rattle.std.specs.Prelude.{◌≡◌, ◌++◌, ◌∷◌, [], ◌≤◌, ◌<◌, IsTrue, IfOk, IfErr, OnOk, ℕ, length, Some, option_copied};
 ghost use Rattle.std.specs.List.{AllWithin, HoldsAt};
 ghost use Rattle.std.specs.Ordering.{nat_cmp};
 ghost use Rattle.std.specs.FinMap.Entries.{find};
 ghost use Rattle.cg_types.specs.Rising.{Rises};
 ghost use Rattle.cg_map.specs.Rows.{keys_of, before, after, IsRowAt, IsGapAt};
-ghost use Rattle.cg_windows.specs.Walking.{last_key, walk_heard};
+ghost use Rattle.cg_windows.specs.Walking.{last_key, heard_from, walk_heard};
 
-use crate::outcomes::{hear, was_taken};
+use crate::outcomes::was_taken;
 use cg_messages::Outcome;
 use cg_silence::{SharedWindow, Silence};
 use cg_types::Endpoint;
@@ -132,6 +132,38 @@ fn copy_all(made: &mut Vec<Held>, rows: &[Held]) -> Result<(), AllocError>
     Ok(())
 }
 
+// The window that an arrival finds: a copy of the one held, or a new one.
+fn found_window(
+    alloc: Global,
+    silence: Silence,
+    held: Option<&SharedWindow>,
+) -> Result<SharedWindow, AllocError>
+    ensures { IfOk result (λ w. (now : ℕ) → heard_from silence now (Some w) ≡ heard_from silence now (option_copied held.entry)) }
+{
+    match held {
+        Some(window) => window.copy(),
+        None => SharedWindow::new(alloc, silence),
+    }
+}
+
+// Adds the window of an endpoint after one more arrival. It is moved to its place before the arrival, and once.
+fn push_heard(
+    alloc: Global,
+    silence: Silence,
+    made: &mut Vec<Held>,
+    endpoint: Endpoint,
+    held: Option<&SharedWindow>,
+    now: u64,
+) -> Result<(), AllocError>
+    ensures { OnOk result (made.new.items
+        ≡ made.old.items ++ (endpoint, heard_from silence now (option_copied held.entry)) ∷ []) }
+{
+    let window = found_window(alloc, silence, held)?;
+    made.push(Held { endpoint, window })?;
+    let last = made.len() - 1;
+    made[last].window.arrived(alloc, now)
+}
+
 /// The windows after the outcomes, in one walk over both: each delta that was taken is an arrival. It takes memory for
 /// the list, and for what an arrival makes of a window.
 pub(crate) fn hear_rows(
@@ -152,11 +184,7 @@ pub(crate) fn hear_rows(
         }
         let (before, held, after) = around(rest, outcome.endpoint);
         copy_all(&mut made, before)?;
-        let window = hear(alloc, silence, held, now)?;
-        made.push(Held {
-            endpoint: outcome.endpoint,
-            window,
-        })?;
+        push_heard(alloc, silence, &mut made, outcome.endpoint, held, now)?;
         rest = after;
     }
     copy_all(&mut made, rest)?;

@@ -1,4 +1,3 @@
-use Rattle.std.proofs.Common.{refl}
 use Rattle.cg_silence.proofs.WindowLemmas.{sum_left_out}
 use Rattle.cg_silence.proofs.shared.sum_left.Goals as goal
 

@@ -11,7 +11,7 @@ loop-outcome-preserved c =
     record {
       rise = rw c.around.ensures.after (rise_filter (λ r. nat_lt e r.0) None c.loop-outcome.rest.now c.loop-outcome.invariant.rise);
       so_far =
-          rw (c.in_ok-push.ensures.items, c.in_ok-copy_all.ensures)
-          (heard_step c.args.silence c.args.now c.loop-outcome.made.items c.loop-outcome.rest.now c.around.result.0.now c.around.result.2.now c.args.outcomes.now c.loop-outcome.outcome-index c.outcome-item.result held c.in_ok-window.window c.loop-outcome-test.true c.outcome-item.is (sym c.was_taken.ensures ∙ c.if-not-was_taken.false) c.around.ensures.before c.around.ensures.held c.around.ensures.after c.in_ok-window.ensures
+          rw (c.in_ok-push_heard.ensures, c.in_ok-copy_all.ensures)
+          (heard_step c.args.silence c.args.now c.loop-outcome.made.items c.loop-outcome.rest.now c.around.result.0.now c.around.result.2.now c.args.outcomes.now c.loop-outcome.outcome-index c.outcome-item.result held c.loop-outcome-test.true c.outcome-item.is (sym c.was_taken.ensures ∙ c.if-not-was_taken.false) c.around.ensures.before c.around.ensures.held c.around.ensures.after
           ∙ c.loop-outcome.invariant.so_far);
     }

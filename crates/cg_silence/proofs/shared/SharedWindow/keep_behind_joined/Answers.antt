@@ -1,20 +1,20 @@
-use Rattle.std.proofs.Common.{◌≡◌, ◌≤◌, ◌+◌, ◌-◌, [], ◌∷◌, ◌++◌, length, sum, refl, ap, arith}
+use Rattle.std.proofs.Common.{◌≡◌, ◌≤◌, ◌-◌, [], ◌∷◌, ◌++◌, length, refl, ap, arith}
 use Rattle.std.specs.Arc.{arc_value}
 use Rattle.circular_buffer.specs.Buffer.{keep_last}
 use Rattle.cg_silence.specs.Values.{WindowValue}
 use Rattle.cg_silence.specs.declared.tail.TheConstants.{TAIL_ROOM}
 use Rattle.cg_silence.proofs.WindowLemmas.{total-shared, shared_joined, kept_sum}
-use Rattle.cg_silence.proofs.shared.SharedWindow.behind_joined.Goals as goal
+use Rattle.cg_silence.proofs.shared.SharedWindow.keep_behind_joined.Goals as goal
 
-pub overflow_add-result : goal.overflow_add-result
-overflow_add-result c =
+pub overflow_add-self : goal.overflow_add-self
+overflow_add-self c =
     let w = c.self.inside in
     let short : length w.tail ≤ TAIL_ROOM = rw (← c.as_slice-tail.ensures.value) c.as_slice-tail.ensures.few in
     let few = total-shared (arc_value w.past).silence (arc_value w.past).gaps.items w.tail w.total c.self.invariant short in
     omega arith
 
-pub invariant_of-result : goal.invariant_of-result
-invariant_of-result c =
+pub invariant_of-self : goal.invariant_of-self
+invariant_of-self c =
     let w = c.self.inside in
     let v = arc_value w.past in
     let small : c.args.gap ≤ v.silence.max_gap = rw (ap (λ (v : WindowValue). v.silence.max_gap) c.self.view_is) c.requires in
@@ -24,4 +24,4 @@ invariant_of-result c =
     let tail : c.push.new.self ≡ c.args.gap ∷ [] = rw (c.push.ensures, c.none-tail.ensures) refl in
     let kept = kept_sum v.gaps.items w.tail c.as_slice-past.result.now c.as_slice-tail.result.now v.silence.window c.window-window.result c.sum_left.result w.total p t n c.sum_left.ensures c.self.invariant.summed in
     let gaps : c.in_ok-gaps.gaps.items ≡ keep_last v.silence.window (v.gaps.items ++ w.tail) = rw (c.in_ok-gaps.ensures, p, t, n) refl in
-    rw (c.in_ok-past.ensures.ok, gaps, tail, c.from.ensures, c.deref.ensures) (shared_joined v.silence v.gaps.items w.tail w.total c.args.gap (w.total - c.sum_left.result) c.self.invariant small kept)
+    rw (c.in_ok-self-inside.ensures.ok, gaps, tail, c.from.ensures, c.deref.ensures) (shared_joined v.silence v.gaps.items w.tail w.total c.args.gap (w.total - c.sum_left.result) c.self.invariant small kept)
