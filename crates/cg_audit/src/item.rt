@@ -28,8 +28,8 @@ pub enum AuditFault {
     /// The generations of an endpoint do not rise, or the memory that an answer needs was refused.
     #[error("{0}")]
     Other(Fault),
-    /// The lives are not of one run. These are the heads: the next item of each endpoint that has one left. Each handles
-    /// a message that no item which had gone sent.
+    /// The lives are not of one run. These are the heads, in the order of the lives handed over: the next item of each
+    /// endpoint that has one left. Each handles a message that no item which had gone sent.
     #[error("17 Stuck")]
     Stuck(Vec<LifeItem>),
 }
