@@ -1,8 +1,8 @@
 -- If no link failed, the answer to all of the input was written.
-use Rattle.std.proofs.Common.{◌≡◌, ℕ, ◌<◌, ◌⊎◌, List, Option, Some, None, IfSome, ap, ◌∙◌, subst, inl, inr}
+use Rattle.std.proofs.Common.{◌≡◌, ℕ, ◌⊎◌, List, Option, Some, None, IfSome, ap, ◌∙◌, subst, inl, inr}
 use Rattle.std.specs.Io.KnownBytes.{Appends}
 use Rattle.cg_links.specs.declared.counted.Counted.{Counted}
-use Rattle.cg_links.specs.Counted.{calls_of, failed_of, idle_of}
+use Rattle.cg_links.specs.Counted.{failed_of, idle_of, CountsFewer}
 use Rattle.cg_links.specs.declared.transfer.TheConstants.{MOST_READS}
 use Rattle.cg_answering.specs.Answer.{answer_to, text_of, status_of}
 use Rattle.cg_printed.specs.Written.{Wrote}
@@ -10,7 +10,7 @@ use Rattle.cg_printed.proofs.LinkLemmas.{all_read, never_unread, all_written}
 use Rattle.cg_answering.specs.Answered.{IsDue, AnswersAll, SaysOutOfMemory}
 
 pub honest : {R W : Type 0} (before after held holds : Option (List ℕ)) (r0 r1 : Counted R) (w0 w1 : Counted W) (text : List ℕ) (status result : ℕ)
-    → IsDue before after r0 r1 text status → Wrote held holds w0 w1 text status result → failed_of r1 ≡ 0 → calls_of r1 < MOST_READS → failed_of w1 ≡ 0 → idle_of w1 ≡ 0
+    → IsDue before after r0 r1 text status → Wrote held holds w0 w1 text status result → failed_of r1 ≡ 0 → CountsFewer r0 r1 MOST_READS → failed_of w1 ≡ 0 → idle_of w1 ≡ 0
     → IfSome before (λ input. AnswersAll after held holds input result ⊎ SaysOutOfMemory held holds result)
 honest None after held holds r0 r1 w0 w1 text status result due wrote rf few wf wi = tt
 honest (Some input) after held holds r0 r1 w0 w1 text status result (inl answers) wrote rf few wf wi =

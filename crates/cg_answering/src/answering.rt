@@ -1,10 +1,10 @@
 //! `answer`: a node's answer to one SYN, from text to text.
 
-ghost use Rattle.std.specs.Prelude.{◌≡◌, ◌⊎◌, ℕ, ◌<◌, List, Some, None, Ok, IfOk, IfSome, length, string_bytes};
+ghost use Rattle.std.specs.Prelude.{◌≡◌, ◌≤◌, ◌+◌, ◌⊎◌, ℕ, List, Some, None, Ok, IfOk, IfSome, length, string_bytes};
 ghost use Rattle.cg_types.specs.declared.fault.Fault.TheVariants as fault;
 ghost use Rattle.cg_script.specs.Gives.{Gives};
 ghost use Rattle.cg_links.specs.declared.transfer.TheConstants.{MOST_READS};
-ghost use Rattle.cg_links.specs.Counted.{link_of, calls_of, failed_of, idle_of};
+ghost use Rattle.cg_links.specs.Counted.{link_of, calls_of, failed_of, idle_of, CountsFewer};
 ghost use Rattle.cg_answering.specs.Answer.{syn_in as text_syn_in, answer_to_frame, answer_to, text_of, status_of};
 ghost use Rattle.cg_printed.specs.Written.{Wrote};
 ghost use Rattle.cg_answering.specs.Answered.{IsDue, AnswersAll, SaysOutOfMemory};
@@ -95,11 +95,12 @@ fn answer_links<R: Read, W: Write>(
     reader: &mut Counted<R>,
     writer: &mut Counted<W>,
 ) -> u8
-    ensures { (text : List ℕ) × (status : ℕ)
+    ensures answered { (text : List ℕ) × (status : ℕ)
         × IsDue (R.remaining (link_of reader.old)) (R.remaining (link_of reader.new)) reader.old reader.new text status
         × Wrote
         (W.contents (link_of writer.old)) (W.contents (link_of writer.new))
         writer.old writer.new text status result }
+    ensures turns { calls_of reader.new ≤ calls_of reader.old + MOST_READS }
 {
     match read_all(alloc, reader) {
         Ok(input) => match text_due(alloc, &input) {
@@ -140,12 +141,13 @@ pub fn answer<R: Read, W: Write>(
         writer.old writer.new text status result }
     // If no call of a link failed, no write took nothing and the bound on reads was not met, the text is the answer to
     // all of the input, unless memory ran out.
-    ensures honest { failed_of reader.new ≡ 0 → calls_of reader.new < MOST_READS
+    ensures honest { failed_of reader.new ≡ 0 → CountsFewer reader.old reader.new MOST_READS
         → failed_of writer.new ≡ 0 → idle_of writer.new ≡ 0
         → IfSome (R.remaining (link_of reader.old)) (λ input.
         AnswersAll (R.remaining (link_of reader.new))
         (W.contents (link_of writer.old)) (W.contents (link_of writer.new)) input result
         ⊎ SaysOutOfMemory (W.contents (link_of writer.old)) (W.contents (link_of writer.new)) result) }
+    ensures turns { calls_of reader.new ≤ calls_of reader.old + MOST_READS }
 {
     answer_links(alloc, reader, writer)
 }

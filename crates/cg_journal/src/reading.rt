@@ -1,9 +1,10 @@
 //! Reading a journal, line by line.
 
-ghost use Rattle.std.specs.Prelude.{◌≡◌, ◌⊎◌, List, ℕ, MatchResult, None, Some};
+ghost use Rattle.std.specs.Prelude.{◌≡◌, ◌≤◌, ◌+◌, ◌⊎◌, List, ℕ, MatchResult, None, Some};
 ghost use Rattle.cg_types.specs.declared.fault.Fault.TheVariants as faults;
 ghost use Rattle.cg_links.specs.Counts.{one_more};
-ghost use Rattle.cg_links.specs.Counted.{link_of};
+ghost use Rattle.cg_links.specs.Counted.{link_of, calls_of};
+ghost use Rattle.cg_links.specs.declared.transfer.TheConstants.{MOST_READS};
 ghost use Rattle.cg_history.specs.History.{HistoryValue};
 ghost use Rattle.cg_journal.specs.Reading.{event_in as text_event_in, history_after, after_line};
 ghost use Rattle.cg_journal.specs.Read.{TakesLine, RefusesLine, Reads};
@@ -96,8 +97,9 @@ impl TakeLine for Progress {
 /// line. `ReadFault` if a read fails or 4,294,967,295 reads were made, `OutOfMemory` if memory runs out in the line;
 /// then no line before it is unreadable. The memory is that of the history and of the longest line.
 pub fn read_journal<R: Read>(alloc: Global, reader: &mut Counted<R>) -> Result<History, Unread>
-    ensures { Reads (R.remaining (link_of reader.old)) (R.remaining (link_of reader.new))
+    ensures read { Reads (R.remaining (link_of reader.old)) (R.remaining (link_of reader.new))
         reader.old reader.new result }
+    ensures turns { calls_of reader.new ≤ calls_of reader.old + MOST_READS }
 {
     let mut progress = Progress {
         history: None,

@@ -1,9 +1,9 @@
 //! Lines, one after the other, from a reader.
 
-ghost use Rattle.std.specs.Prelude.{◌≡◌, ◌⊎◌, ℕ, List, [], ◌++◌, MatchResult, OnOk, IfErr};
+ghost use Rattle.std.specs.Prelude.{◌≡◌, ◌≤◌, ◌+◌, ◌⊎◌, ℕ, List, [], ◌++◌, MatchResult, OnOk, IfErr};
 ghost use Rattle.cg_types.specs.declared.fault.Fault.{Fault as FaultValue};
 ghost use Rattle.cg_types.specs.declared.fault.Fault.TheVariants as fault;
-ghost use Rattle.cg_links.specs.Counted.{link_of};
+ghost use Rattle.cg_links.specs.Counted.{link_of, calls_of};
 ghost use Rattle.cg_lines.specs.Lines.{ended_lines, open_line, last_line};
 ghost use Rattle.cg_lines.specs.Taken.{Takes, Refuses, Lacks, TakesLines};
 
@@ -117,9 +117,10 @@ fn take_pieces<T: TakeLine, R: Read>(
     reader: &mut Counted<R>,
 ) -> Result<(), Fault>
     requires none { front.old.items ≡ [] }
-    ensures { TakesLines T.takes T.refuses
+    ensures lines { TakesLines T.takes T.refuses
         (R.remaining (link_of reader.old)) (R.remaining (link_of reader.new)) reader.old reader.new
         taker.old taker.new result }
+    ensures turns { calls_of reader.new ≤ calls_of reader.old + MOST_READS }
 {
     let mut piece = [0u8; 4096];
     for _ in 0..MOST_READS {
@@ -145,9 +146,10 @@ pub fn take_lines<T: TakeLine, R: Read>(
     taker: &mut T,
     reader: &mut Counted<R>,
 ) -> Result<(), Fault>
-    ensures { TakesLines T.takes T.refuses
+    ensures lines { TakesLines T.takes T.refuses
         (R.remaining (link_of reader.old)) (R.remaining (link_of reader.new)) reader.old reader.new
         taker.old taker.new result }
+    ensures turns { calls_of reader.new ≤ calls_of reader.old + MOST_READS }
 {
     let mut front = Vec::new(alloc);
     take_pieces(alloc, taker, &mut front, reader)

@@ -38,6 +38,10 @@ pub record IsNew {L : Type 0} (c : Counted L) : Type 0 where
 pub record CountsCalls {L : Type 0} (old new : Counted L) (k : ℕ) : Type 0 where
   pub calls : calls_of new ≡ more_by k (calls_of old)
 
+-- fewer than k calls were made
+abbrev pub CountsFewer : {L : Type 0} → Counted L → Counted L → ℕ → Type 0
+CountsFewer old new k = calls_of new < more_by k (calls_of old)
+
 -- no call failed, and no write took none of its bytes
 pub record KeepsCounts {L : Type 0} (old new : Counted L) : Type 0 where
   pub failed : failed_of new ≡ failed_of old

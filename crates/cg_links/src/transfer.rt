@@ -1,8 +1,8 @@
 //! Reading a link to its end, and writing all of some bytes to one, also flushed.
 
-ghost use Rattle.std.specs.Prelude.{◌≡◌, ℕ, List, ◌⊎◌, take, OnOk, OnErr, IfOk, IfErr, Err};
+ghost use Rattle.std.specs.Prelude.{◌≡◌, ◌≤◌, ◌+◌, ℕ, List, ◌⊎◌, take, OnOk, OnErr, IfOk, IfErr, Err};
 ghost use Rattle.std.specs.Io.KnownBytes.{Appends, Consumes, IsAtEnd};
-ghost use Rattle.cg_links.specs.Counted.{link_of, KeepsCounts, CountsCalls, CountsFailed, CountsIdle, IsFlushed};
+ghost use Rattle.cg_links.specs.Counted.{link_of, calls_of, KeepsCounts, CountsCalls, CountsFailed, CountsIdle, IsFlushed};
 ghost use Rattle.cg_types.specs.declared.fault.Fault.TheVariants as fault;
 
 use crate::counted::Counted;
@@ -67,6 +67,7 @@ pub fn read_all<R: Read>(alloc: Global, reader: &mut Counted<R>) -> Result<Vec<u
     ensures memory { (result ≡ Err fault.OutOfMemory) → KeepsCounts reader.old reader.new }
     ensures caused { (result ≡ Err fault.ReadFault)
         → CountsFailed reader.old reader.new ⊎ CountsCalls reader.old reader.new MOST_READS }
+    ensures turns { calls_of reader.new ≤ calls_of reader.old + MOST_READS }
 {
     let mut bytes = Vec::new(alloc);
     let mut chunk = [0u8; 4096];

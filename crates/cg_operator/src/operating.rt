@@ -1,7 +1,8 @@
 //! The work of an operator, over its lines.
 
-ghost use Rattle.std.specs.Prelude.{◌≡◌, true, false, Ok, Err, IfErr};
-ghost use Rattle.cg_links.specs.Counted.{link_of};
+ghost use Rattle.std.specs.Prelude.{◌≡◌, ◌≤◌, ◌+◌, true, false, Ok, Err, IfErr};
+ghost use Rattle.cg_links.specs.Counted.{link_of, calls_of};
+ghost use Rattle.cg_links.specs.declared.transfer.TheConstants.{MOST_READS};
 ghost use Rattle.cg_views.specs.Lists.{StartsWith};
 ghost use Rattle.cg_seats.specs.Seats.{GoesOn, IsOperatorFault};
 ghost use Rattle.cg_operator.specs.Operating.{Operates, TellsLine};
@@ -88,6 +89,7 @@ fn operate_lines<N: Name, R: Wait, W: Write, I: Read>(
     ensures done { Operates W.contents N.start N.opening
         (I.remaining (link_of reader.old)) (I.remaining (link_of reader.new))
         reader.old reader.new (at_of operating.old) (at_of operating.new) result }
+    ensures turns { calls_of reader.new ≤ calls_of reader.old + MOST_READS }
 {
     match take_lines(alloc, operating, reader) {
         Ok(()) => Ok(()),
@@ -121,6 +123,7 @@ pub fn operate<N: Name, R: Wait, I: Read, W: Write>(
     ensures gate { GoesOn gate.old gate.new }
     ensures later { StartsWith pass.new pass.old }
     ensures fault { IfErr result IsOperatorFault }
+    ensures turns { calls_of reader.new ≤ calls_of reader.old + MOST_READS }
 {
     let mut operating = Operating {
         gate,

@@ -1,9 +1,9 @@
 -- Bytes read and written when no call of a link failed.
-use Rattle.std.proofs.Common.{◌≡◌, ℕ, ◌<◌, ◌⊎◌, inl, inr, List, ◌++◌, Option, Some, None, sym, ap, ◌∙◌, append-nil, arith}
+use Rattle.std.proofs.Common.{◌≡◌, ℕ, ◌⊎◌, inl, inr, List, ◌++◌, Option, Some, None, sym, ap, ◌∙◌, append-nil, arith}
 use Rattle.std.specs.Io.KnownBytes.{Consumes, IsAtEnd}
 use Rattle.cg_links.specs.declared.counted.Counted.{Counted}
 use Rattle.cg_links.specs.declared.transfer.TheConstants.{MOST_READS}
-use Rattle.cg_links.specs.Counted.{calls_of, failed_of, idle_of, CountsCalls, CountsFailed, CountsIdle}
+use Rattle.cg_links.specs.Counted.{failed_of, idle_of, CountsFewer, CountsCalls, CountsFailed, CountsIdle}
 use Rattle.cg_printed.specs.Written.{WroteAll, Wrote}
 
 -- all bytes of the input were read
@@ -11,8 +11,8 @@ pub all_read : (input bytes : List ℕ) (after : Option (List ℕ)) → Consumes
 all_read input bytes None read end = absurd read
 all_read input bytes (Some rest) read end = sym (read ∙ ap (λ (l : List ℕ). bytes ++ l) end ∙ append-nil bytes)
 
--- a link with no failed call and fewer calls than `MOST_READS` has neither cause of a read fault
-pub never_unread : {R : Type 0} (r0 r1 : Counted R) → failed_of r1 ≡ 0 → calls_of r1 < MOST_READS → CountsFailed r0 r1 ⊎ CountsCalls r0 r1 MOST_READS → ⊥
+-- a link with no failed call, on which fewer than `MOST_READS` were made, has neither cause of a read fault
+pub never_unread : {R : Type 0} (r0 r1 : Counted R) → failed_of r1 ≡ 0 → CountsFewer r0 r1 MOST_READS → CountsFailed r0 r1 ⊎ CountsCalls r0 r1 MOST_READS → ⊥
 never_unread r0 r1 f few (inl failed) = omega (arith, failed.failed)
 never_unread r0 r1 f few (inr made) = omega (arith, few, made.calls)
 

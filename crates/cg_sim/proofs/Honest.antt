@@ -1,11 +1,11 @@
 -- If no link failed, all of the script was played, or memory ran out.
-use Rattle.std.proofs.Common.{◌≡◌, ℕ, ◌<◌, ◌⊎◌, inl, inr, List, [], ◌++◌, take, Option, Some, None, IfSome, sym, ap, ◌∙◌, subst, append_assoc}
+use Rattle.std.proofs.Common.{◌≡◌, ℕ, ◌⊎◌, inl, inr, List, [], ◌++◌, take, Option, Some, None, IfSome, sym, ap, ◌∙◌, subst, append_assoc}
 use Rattle.std.specs.Io.KnownBytes.{Appends, Consumes, IsAtEnd}
 use Rattle.cg_types.specs.declared.fault.Fault.TheVariants.{OutOfMemory}
 use Rattle.cg_types.specs.Fault.{fault_text}
 use Rattle.cg_links.specs.declared.counted.Counted.{Counted}
 use Rattle.cg_links.specs.declared.transfer.TheConstants.{MOST_READS}
-use Rattle.cg_links.specs.Counted.{calls_of, failed_of, idle_of}
+use Rattle.cg_links.specs.Counted.{failed_of, idle_of, CountsFewer}
 use Rattle.cg_lines.specs.Lines.{ended_lines, open_line, last_line, lines_of}
 use Rattle.cg_sim.specs.Script.{first_play, lines_text, script_text}
 use Rattle.cg_printed.specs.Written.{WroteAll}
@@ -38,7 +38,7 @@ whole after held holds input script text result same is wrote end status = recor
 }
 
 due_written : {R W : Type 0} (input : List ℕ) (after held holds : Option (List ℕ)) (r0 r1 : Counted R) (w0 w1 : Counted W) (text : List ℕ) (status result : ℕ)
-    → IsDue (Some input) after r0 r1 text status → WroteAll held holds w0 w1 text status result → failed_of r1 ≡ 0 → calls_of r1 < MOST_READS
+    → IsDue (Some input) after r0 r1 text status → WroteAll held holds w0 w1 text status result → failed_of r1 ≡ 0 → CountsFewer r0 r1 MOST_READS
     → PlaysAll after held holds input result ⊎ SaysOutOfMemory held holds input result
 due_written input after held holds r0 r1 w0 w1 text status result (inl w) all rf few =
     inl (whole after held holds input w.script text result (all_read input w.script after w.read w.end) w.text_is all.text_is w.end (all.result_is ∙ w.status_is))
@@ -55,7 +55,7 @@ due_written input after held holds r0 r1 w0 w1 text status result (inr (inr c)) 
     absurd (never_unread r0 r1 rf few c.caused)
 
 pub honest : {R W : Type 0} (before after held holds : Option (List ℕ)) (r0 r1 : Counted R) (w0 w1 : Counted W) (result : ℕ)
-    → Simulates before after held holds r0 r1 w0 w1 result → failed_of r1 ≡ 0 → calls_of r1 < MOST_READS → failed_of w1 ≡ 0 → idle_of w1 ≡ 0
+    → Simulates before after held holds r0 r1 w0 w1 result → failed_of r1 ≡ 0 → CountsFewer r0 r1 MOST_READS → failed_of w1 ≡ 0 → idle_of w1 ≡ 0
     → IfSome before (λ script. PlaysAll after held holds script result ⊎ SaysOutOfMemory held holds script result)
 honest None after held holds r0 r1 w0 w1 result s rf few wf wi = tt
 honest (Some input) after held holds r0 r1 w0 w1 result (inr h) rf few wf wi = absurd (never_broken w0 w1 wf wi h.2.caused)

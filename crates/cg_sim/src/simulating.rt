@@ -1,7 +1,7 @@
 //! `sim`: a script from a reader, its text to a writer.
 
-ghost use Rattle.std.specs.Prelude.{◌≡◌, ◌<◌, ◌⊎◌, MatchResult, IfSome};
-ghost use Rattle.cg_links.specs.Counted.{link_of, calls_of, failed_of, idle_of};
+ghost use Rattle.std.specs.Prelude.{◌≡◌, ◌≤◌, ◌+◌, ◌⊎◌, MatchResult, IfSome};
+ghost use Rattle.cg_links.specs.Counted.{link_of, calls_of, failed_of, idle_of, CountsFewer};
 ghost use Rattle.cg_types.specs.declared.fault.Fault.TheVariants as fault;
 ghost use Rattle.cg_types.specs.Fault.{fault_text};
 ghost use Rattle.cg_sim.specs.Simulated.{IsPlayed, Fails, WritesLine, Simulates, PlaysAll, SaysOutOfMemory};
@@ -20,7 +20,7 @@ fn tell_script<R: Read, W: Write>(
     reader: &mut Counted<R>,
     writer: &mut Counted<W>,
 ) -> Result<(), Fault>
-    ensures { MatchResult result
+    ensures told { MatchResult result
         (λ _. IsPlayed
         (R.remaining (link_of reader.old)) (R.remaining (link_of reader.new))
         (W.contents (link_of writer.old)) (W.contents (link_of writer.new))
@@ -29,6 +29,7 @@ fn tell_script<R: Read, W: Write>(
         (R.remaining (link_of reader.old)) (R.remaining (link_of reader.new))
         (W.contents (link_of writer.old)) (W.contents (link_of writer.new))
         reader.old reader.new writer.old writer.new f) }
+    ensures turns { calls_of reader.new ≤ calls_of reader.old + MOST_READS }
 {
     let Ok(mut play) = Play::new(alloc) else {
         return Err(Fault::OutOfMemory);
@@ -71,10 +72,11 @@ fn sim_links<R: Read, W: Write>(
     reader: &mut Counted<R>,
     writer: &mut Counted<W>,
 ) -> u8
-    ensures { Simulates
+    ensures played { Simulates
         (R.remaining (link_of reader.old)) (R.remaining (link_of reader.new))
         (W.contents (link_of writer.old)) (W.contents (link_of writer.new))
         reader.old reader.new writer.old writer.new result }
+    ensures turns { calls_of reader.new ≤ calls_of reader.old + MOST_READS }
 {
     match tell_script(alloc, reader, writer) {
         Ok(()) => 0,
@@ -112,12 +114,13 @@ pub fn sim<R: Read, W: Write>(alloc: Global, reader: &mut Counted<R>, writer: &m
         reader.old reader.new writer.old writer.new result }
     // If no call of a link failed, no write took nothing and the bound on reads was not met, the text is the one that
     // all of the script prints, unless memory ran out.
-    ensures honest { failed_of reader.new ≡ 0 → calls_of reader.new < MOST_READS
+    ensures honest { failed_of reader.new ≡ 0 → CountsFewer reader.old reader.new MOST_READS
         → failed_of writer.new ≡ 0 → idle_of writer.new ≡ 0
         → IfSome (R.remaining (link_of reader.old)) (λ script.
         PlaysAll (R.remaining (link_of reader.new))
         (W.contents (link_of writer.old)) (W.contents (link_of writer.new)) script result
         ⊎ SaysOutOfMemory (W.contents (link_of writer.old)) (W.contents (link_of writer.new)) script result) }
+    ensures turns { calls_of reader.new ≤ calls_of reader.old + MOST_READS }
 {
     sim_links(alloc, reader, writer)
 }

@@ -1,7 +1,8 @@
 //! Lines that are done and written, one after the other.
 
-ghost use Rattle.std.specs.Prelude.{◌≡◌, ◌⊎◌, [], ◌∷◌, MatchResult};
-ghost use Rattle.cg_links.specs.Counted.{link_of};
+ghost use Rattle.std.specs.Prelude.{◌≡◌, ◌≤◌, ◌+◌, ◌⊎◌, [], ◌∷◌, MatchResult};
+ghost use Rattle.cg_links.specs.Counted.{link_of, calls_of};
+ghost use Rattle.cg_links.specs.declared.transfer.TheConstants.{MOST_READS};
 ghost use Rattle.cg_sim.specs.Script.{first_play};
 ghost use Rattle.cg_sim.specs.Told.{AreTold, IsUntold, BreaksOff};
 ghost use Rattle.cg_sim.specs.Simulated.{IsPlayed, Fails};
@@ -75,6 +76,7 @@ pub(crate) fn tell_lines<R: Read, W: Write>(
         (R.remaining (link_of reader.old)) (R.remaining (link_of reader.new))
         (W.contents (link_of telling.old.writer.now)) (W.contents (link_of telling.new.writer.now))
         reader.old reader.new telling.old.writer.now telling.new.writer.now f) }
+    ensures turns { calls_of reader.new ≤ calls_of reader.old + MOST_READS }
 {
     take_lines(alloc, telling, reader)
 }

@@ -3,17 +3,17 @@ use Rattle.cg_types.specs.declared.fault.Fault.TheVariants as fault
 use Rattle.cg_printed.proofs.FaultLines.{out_of_memory_line, read_fault_line}
 use Rattle.cg_answering.proofs.answering.answer_links.Goals as goal
 
-pub returns-in-Ok : goal.returns-in-Ok
-returns-in-Ok g c =
+pub returns-in-Ok-clause-answered : goal.returns-in-Ok-clause-answered
+returns-in-Ok-clause-answered g c =
     (codes "fault 1 OutOfMemory\n", 1, inr (inl (record { kept = c.in-Ok.ensures.kept; text_is = out_of_memory_line; status_is = refl })), c.written-in-Err-text_due.ensures)
 
-pub returns-in-ReadFault : goal.returns-in-ReadFault
-returns-in-ReadFault g c =
+pub returns-in-ReadFault-clause-answered : goal.returns-in-ReadFault-clause-answered
+returns-in-ReadFault-clause-answered g c =
     let failed : c.read_all.result ≡ Err fault.ReadFault = c.in-Err.is ∙ ap Err c.in-ReadFault.is in
     (codes "fault 14 ReadFault\n", 1, inr (inr (record { caused = c.read_all.ensures.caused failed; text_is = read_fault_line; status_is = refl })), c.written-in-ReadFault.ensures)
 
-pub returns : goal.returns
-returns g c =
+pub returns-clause-answered : goal.returns-clause-answered
+returns-clause-answered g c =
     let memory : c.read_all.result ≡ Err fault.OutOfMemory = c.in-Err.is ∙ ap Err (elim c.in-Err.ensures.fault [
       | inl memory ↦ memory
       | inr failed ↦ absurd (c.in_default.not-ReadFault failed)

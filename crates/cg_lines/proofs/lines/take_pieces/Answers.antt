@@ -5,19 +5,19 @@ use Rattle.cg_lines.proofs.lines.take_pieces.Goals as goal
 pub loop-init : goal.loop-init
 loop-init g c = reading_none _ _ _ _ _ _ c.requires.none
 
-pub returns-in-Ok-eq0 : goal.returns-in-Ok-eq0
-returns-in-Ok-eq0 g c =
+pub returns-in-Ok-eq0-clause-lines : goal.returns-in-Ok-eq0-clause-lines
+returns-in-Ok-eq0-clause-lines g c =
     let bytes = rw c.in-Ok-eq0.field-0-test at c.in-Ok-eq0.ensures.bytes in
     reading_ends _ _ _ _ _ _ _ _ _ _ _ _ _ c.take_last.result c.loop.invariant bytes.0 (bytes.1 refl (omega arith)) c.in-Ok-eq0.ensures.counts
     (rw c.deref.ensures.value at c.take_last.ensures)
 
-pub returns-in-Err-take_piece : goal.returns-in-Err-take_piece
-returns-in-Err-take_piece g c =
+pub returns-in-Err-take_piece-clause-lines : goal.returns-in-Err-take_piece-clause-lines
+returns-in-Err-take_piece-clause-lines g c =
     inl (reading_stops _ _ _ _ _ _ (take c.in-Ok.n c.read.new.buf) _ _ _ _ _ _ _ _ _ c.loop.invariant c.in-Ok.ensures.bytes.0 c.in-Ok.ensures.counts
     c.in-Err-take_piece.ensures.taken refl)
 
-pub returns-in-Err : goal.returns-in-Err
-returns-in-Err g c = inr (inr (reading_fails _ _ _ _ _ _ _ _ _ _ _ _ _ c.loop.invariant c.in-Err.ensures.bytes c.in-Err.ensures.counts refl))
+pub returns-in-Err-clause-lines : goal.returns-in-Err-clause-lines
+returns-in-Err-clause-lines g c = inr (inr (reading_fails _ _ _ _ _ _ _ _ _ _ _ _ _ c.loop.invariant c.in-Err.ensures.bytes c.in-Err.ensures.counts refl))
 
 pub loop-preserved : goal.loop-preserved
 loop-preserved g c =

@@ -25,6 +25,7 @@ returns g c =
       lines = lines;
       gate = on.gate;
       later = on.later;
+      turns = c.operate_lines.ensures.turns;
       fault = operated_faults
           g.N.Name.start g.W.Write.contents g.N.Naming.opening before after c.args.reader.now
           c.operate_lines.new.reader s t c.operate_lines.result lines;

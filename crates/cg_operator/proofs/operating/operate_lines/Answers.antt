@@ -8,16 +8,17 @@ returns-in-Ok g c =
     g.W.Write.contents g.N.Name.start g.N.Naming.opening
     (g.I.Read.remaining (link_of c.args.reader.now)) (g.I.Read.remaining (link_of c.take_lines.new.reader))
     c.args.reader.now c.take_lines.new.reader c.args.operating.now c.take_lines.new.taker c.take_lines.result
-    c.take_lines.ensures in
+    c.take_lines.ensures.lines in
     record {
       gate = same.gate;
       pass = same.pass;
       writer = same.writer;
+      turns = c.take_lines.ensures.turns;
       done = all_end
           g.W.Write.contents g.N.Name.start g.N.Naming.opening
           (g.I.Read.remaining (link_of c.args.reader.now)) (g.I.Read.remaining (link_of c.take_lines.new.reader))
           c.args.reader.now c.take_lines.new.reader c.args.operating.now c.take_lines.new.taker
-          c.in-Ok.ensures;
+          c.in-Ok.ensures.lines;
     }
 
 pub returns-in-Err : goal.returns-in-Err
@@ -26,14 +27,15 @@ returns-in-Err g c =
     g.W.Write.contents g.N.Name.start g.N.Naming.opening
     (g.I.Read.remaining (link_of c.args.reader.now)) (g.I.Read.remaining (link_of c.take_lines.new.reader))
     c.args.reader.now c.take_lines.new.reader c.args.operating.now c.take_lines.new.taker c.take_lines.result
-    c.take_lines.ensures in
+    c.take_lines.ensures.lines in
     record {
       gate = same.gate;
       pass = same.pass;
       writer = same.writer;
+      turns = c.take_lines.ensures.turns;
       done = failed_ends
           g.W.Write.contents g.N.Name.start g.N.Naming.opening
           (g.I.Read.remaining (link_of c.args.reader.now)) (g.I.Read.remaining (link_of c.take_lines.new.reader))
           c.args.reader.now c.take_lines.new.reader c.args.operating.now c.take_lines.new.taker
-          c.in-Err.fault c.ended.result c.requires c.ended.ensures.quit c.ended.ensures.fault c.in-Err.ensures;
+          c.in-Err.fault c.ended.result c.requires c.ended.ensures.quit c.ended.ensures.fault c.in-Err.ensures.lines;
     }
