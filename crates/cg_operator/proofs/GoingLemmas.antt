@@ -13,7 +13,7 @@ use Rattle.cg_links.specs.declared.counted.Counted.{Counted}
 use Rattle.cg_orders.specs.declared.command.OperatorCommand.{OperatorCommand}
 use Rattle.cg_orders.specs.declared.command.OperatorCommand.TheVariants.{Show, Set, Quit}
 use Rattle.cg_orders.specs.Commands.{command_in}
-use Rattle.cg_operator.specs.Doing.{Does, Sets}
+use Rattle.cg_operator.specs.Doing.{Does, SetsKey, Sets, RunsOut}
 use Rattle.cg_operator.specs.Operating.{At, DoesLine, EndsAt, LacksMemory, ReadsNothing, WritesFront, ReachesTheEnd, Operates}
 
 pub goes_nowhere : (g : SeatValue) → GoesOn g g
@@ -45,14 +45,18 @@ pub on_same : (g : SeatValue) (p : List Put) (h : SeatValue) (q : List Put) → 
 on_same g p h q e f = record { gate = goes_same g h e; later = starts_same p q f }
 
 module _ (start : NodeValue) where
+  key_goes : (own key : ℕ) (value : List ℕ) (g : SeatValue) (p : List Put) (text : List ℕ) (h : SeatValue) (q : List Put)
+      → SetsKey start own key value g p text h q → On g p h q
+  key_goes own key value g p text h q k = record {
+    gate = record { seat = k.entered.seat; more = k.entered.receipt ∷ []; receipts = k.entered.receipts };
+    later = k.later;
+  }
+
   set_goes : (own key : ℕ) (value : List ℕ) (g : SeatValue) (p : List Put) (text : List ℕ) (h : SeatValue) (q : List Put)
       → Sets start own key value g p text h q → On g p h q
   set_goes own key value g p text h q s =
       elim s as (λ _. On g p h q) [
-        | inl k ↦ record {
-          gate = record { seat = k.entered.seat; more = k.entered.receipt ∷ []; receipts = k.entered.receipts };
-          later = k.later;
-        }
+        | inl k ↦ key_goes own key value g p text h q k
         | inr k ↦ on_same g p h q k.gate k.pass
       ]
 
@@ -62,6 +66,17 @@ module _ (start : NodeValue) where
   line_goes opening (Ok (Set key value)) g p text h q d = set_goes opening.own key value g p text h q d
   line_goes opening (Ok Quit) g p text h q d = absurd d
   line_goes opening (Err f) g p text h q d = on_same g p h q d.0 d.1
+
+  out_goes : (opening : TableValue) (command : Result OperatorCommand Fault) (g : SeatValue) (p : List Put) (h : SeatValue) (q : List Put)
+      → RunsOut start opening command g p h q → On g p h q
+  out_goes opening (Ok (Show view)) g p h q d = record { gate = goes_same g h d.0; later = d.1 }
+  out_goes opening (Ok (Set key value)) g p h q d =
+      elim d as (λ _. On g p h q) [
+        | inl n ↦ on_same g p h q n.0 n.1
+        | inr k ↦ key_goes opening.own key value g p k.0 h q k.1
+      ]
+  out_goes opening (Ok Quit) g p h q d = on_same g p h q d.0 d.1
+  out_goes opening (Err f) g p h q d = on_same g p h q d.0 d.1
 
   module _ {W : Type 0} (holds : W → Option (List ℕ)) (opening : TableValue) where
     abbrev does : At W → List ℕ → At W → Type 0
@@ -90,8 +105,11 @@ module _ (start : NodeValue) where
       pub on : OnAt s t
       pub fault : IsOperatorFault f
 
-    short_goes : (s t : At W) (f : Fault) → LacksMemory holds start opening s t f → OnTo s t f
-    short_goes s t f h = record { on = record { gate = h.gate; later = h.later }; fault = subst IsOperatorFault (sym h.fault) tt }
+    short_goes : (s t : At W) (line : List ℕ) (f : Fault) → LacksMemory holds start opening s line t f → OnTo s t f
+    short_goes s t line f h = record {
+      on = out_goes opening (command_in line) s.gate s.pass t.gate t.pass h.done;
+      fault = subst IsOperatorFault (sym h.fault) tt;
+    }
 
     unread_goes : (s t : At W) (line : List ℕ) (f : Fault) → ReadsNothing holds start opening s line t f → OnTo s t f
     unread_goes s t line f h = record {
@@ -108,7 +126,7 @@ module _ (start : NodeValue) where
     pub end_goes : (s t : At W) (line : List ℕ) (f : Fault) → ends s line t f → OnTo s t f
     end_goes s t line f h =
         elim h as (λ _. OnTo s t f) [
-          | inl k ↦ short_goes s t f k
+          | inl k ↦ short_goes s t line f k
           | inr k ↦ elim k as (λ _. OnTo s t f) [
             | inl r ↦ unread_goes s t line f r
             | inr w ↦ unwritten_goes s t line f w

@@ -1,2 +1,3 @@
 pub mod GoingLemmas
 pub mod StepLemmas
+pub mod TellingLemmas

@@ -1,12 +1,12 @@
 -- The steps of an operator that holds its gate, its pass and its writer, as steps of these.
-use Rattle.std.proofs.Common.{◌≡◌, ℕ, ◌⊎◌, inl, inr, true, false, List, [], ◌∷◌, ◌++◌, Option, Result, Ok, Err, refl, sym, ap, ◌∙◌, subst, append_assoc}
-use Rattle.std.specs.Io.KnownBytes.{Consumes}
+use Rattle.std.proofs.Common.{◌≡◌, ℕ, ◌⊎◌, inl, inr, true, false, List, [], ◌∷◌, ◌++◌, Option, Result, Ok, Err, refl, sym, ◌∙◌, subst}
+use Rattle.std.specs.Io.KnownBytes.{Consumes, IsAtEnd}
 use Rattle.cg_types.specs.declared.fault.Fault.{Fault}
 use Rattle.cg_table.specs.Values.{TableValue}
 use Rattle.cg_core.specs.Values.{NodeValue}
 use Rattle.cg_links.specs.declared.counted.Counted.{Counted}
 use Rattle.cg_links.specs.Counted.{KeepsCounts}
-use Rattle.cg_lines.specs.Lines.{ended_lines, open_line, last_line, lines_of}
+use Rattle.cg_lines.specs.Lines.{ended_lines, lines_of}
 use Rattle.cg_lines.specs.Taken.{Takes, Refuses, Lacks, Stops, StopsLast, IsUnread, Fails, TakesAll, TakesLines}
 use Rattle.cg_orders.specs.declared.command.OperatorCommand.TheVariants.{Quit}
 use Rattle.cg_operator.specs.declared.operating.Operating.{Operating}
@@ -140,32 +140,21 @@ module _ {N R W : Type 0} (holds : W → Option (List ℕ)) (start : NodeValue) 
 
     -- ---- a quit
 
-    quits_in : (text : List ℕ) (read : Consumes before after text) (kept : KeepsCounts old new)
-        → QuitsIn holds start opening (at_of s) (at_of t) (lines_of text) → Quits holds start opening before after old new (at_of s) (at_of t)
-    quits_in text read kept q = record {
+    quits_in : (text : List ℕ) (read : Consumes before after text) (kept : KeepsCounts old new) (lines : List (List ℕ))
+        (q : QuitsIn holds start opening (at_of s) (at_of t) lines)
+        → (ended_lines [] text ≡ q.front ++ q.line ∷ q.rest) ⊎ (IsAtEnd after × (lines_of text ≡ q.front ++ q.line ∷ q.rest))
+        → Quits holds start opening before after old new (at_of s) (at_of t)
+    quits_in text read kept lines q are = record {
       text = text;
       read = read;
       kept = kept;
       front = q.front;
       line = q.line;
       rest = q.rest;
-      are = q.are;
+      are = are;
       asked = q.asked;
       done = q.done;
     }
-
-    -- with the last line after those that end
-    quits_before : (text : List ℕ) → QuitsIn holds start opening (at_of s) (at_of t) (ended_lines [] text) → QuitsIn holds start opening (at_of s) (at_of t) (lines_of text)
-    quits_before text q =
-        let last = last_line (open_line [] text) in
-        record {
-          front = q.front;
-          line = q.line;
-          rest = q.rest ++ last;
-          are = ap (λ (l : List (List ℕ)). l ++ last) q.are ∙ append_assoc q.front (q.line ∷ q.rest) last;
-          asked = q.asked;
-          done = q.done;
-        }
 
     lacked_quit : (lines : List (List ℕ)) (f : Fault) → s.has_quit ≡ false → t.has_quit ≡ true → Lacks steps stops s lines t f → ⊥
     lacked_quit lines f was is l = let kept = (chained s t l.front l.taken).quit in cc (kept, was, is)
@@ -174,7 +163,9 @@ module _ {N R W : Type 0} (holds : W → Option (List ℕ)) (start : NodeValue) 
         → Quits holds start opening before after old new (at_of s) (at_of t)
     stopped_quits f was is h =
         elim h.stops as (λ _. Quits holds start opening before after old new (at_of s) (at_of t)) [
-          | inl r ↦ quits_in h.text h.read h.kept (quits_before h.text (refused_quits s t (ended_lines [] h.text) f was is r))
+          | inl r ↦
+              let quits = refused_quits s t (ended_lines [] h.text) f was is r in
+              quits_in h.text h.read h.kept (ended_lines [] h.text) quits (inl quits.are)
           | inr l ↦ absurd (lacked_quit (ended_lines [] h.text) f was is l)
         ]
 
@@ -187,7 +178,9 @@ module _ {N R W : Type 0} (holds : W → Option (List ℕ)) (start : NodeValue) 
         elim h as (λ _. Quits holds start opening before after old new (at_of s) (at_of t)) [
           | inl k ↦ stopped_quits f was is k
           | inr k ↦ elim k as (λ _. Quits holds start opening before after old new (at_of s) (at_of t)) [
-            | inl l ↦ quits_in l.text l.read l.kept (refused_quits s t (lines_of l.text) f was is l.stops)
+            | inl l ↦
+                let quits = refused_quits s t (lines_of l.text) f was is l.stops in
+                quits_in l.text l.read l.kept (lines_of l.text) quits (inr (l.end, quits.are))
             | inr u ↦ absurd (unread_quit f was is u)
           ]
         ]

@@ -10,7 +10,7 @@ use Rattle.cg_events.specs.declared.reply.Reply.TheVariants as reply
 use Rattle.cg_core.specs.Values.{NodeValue}
 use Rattle.cg_views.specs.Lists.{StartsWith}
 use Rattle.cg_printed.specs.Printed.{version_line}
-use Rattle.cg_seats.specs.Seats.{SeatValue, with_told, Enters, Refuses, GoesOn}
+use Rattle.cg_seats.specs.Seats.{SeatValue, with_told, Enters, Refuses}
 use Rattle.cg_script.specs.declared.line.View.{View}
 use Rattle.cg_orders.specs.declared.command.OperatorCommand.{OperatorCommand}
 use Rattle.cg_orders.specs.declared.command.OperatorCommand.TheVariants.{Show, Set, Quit}
@@ -29,6 +29,7 @@ module _ (start : NodeValue) where
     pub version : ℕ
     pub told : Option (List Put)
     pub entered : Enters start own g (event.Set key value) (reply.Done version) (with_told h told)
+    pub handed : h.told ≡ None
     pub later : StartsWith q p
     pub tells : TellsSet version told p q text
 
@@ -58,8 +59,17 @@ module _ (start : NodeValue) where
   AnswersLine opening command g p None h q = (command ≡ Ok Quit) × (h ≡ g) × (q ≡ p)
   AnswersLine opening command g p (Some text) h q = Does opening command g p text h q
 
--- A line is not answered: memory ran out, or it is to show the table and there is nothing to read.
-abbrev pub Unanswered : Result OperatorCommand Fault → SeatValue → List Put → SeatValue → List Put → Fault → Type 0
-Unanswered command g p h q f =
-    ((f ≡ OutOfMemory) × GoesOn g h × StartsWith q p)
-    ⊎ ((view : View) × (command ≡ Ok (Show view)) × (f ≡ NoSuchNode) × (h ≡ g) × (q ≡ p))
+  -- Memory ran out in a line, which did nothing but its one Set. Where it shows the table, its pass may have read on.
+  abbrev pub RunsOut : TableValue → Result OperatorCommand Fault → SeatValue → List Put → SeatValue → List Put → Type 0
+  RunsOut opening (Ok (Show view)) g p h q = (h ≡ g) × StartsWith q p
+  RunsOut opening (Ok (Set key value)) g p h q =
+      ((h ≡ g) × (q ≡ p)) ⊎ ((text : List ℕ) × SetsKey opening.own key value g p text h q)
+  RunsOut opening (Ok Quit) g p h q = (h ≡ g) × (q ≡ p)
+  RunsOut opening (Err f) g p h q = (h ≡ g) × (q ≡ p)
+
+  -- A line is not answered: memory ran out, or it is to show the table and there is nothing to read.
+  abbrev pub Unanswered : TableValue → Result OperatorCommand Fault → SeatValue → List Put → SeatValue → List Put → Fault
+      → Type 0
+  Unanswered opening command g p h q f =
+      ((f ≡ OutOfMemory) × RunsOut opening command g p h q)
+      ⊎ ((view : View) × (command ≡ Ok (Show view)) × (f ≡ NoSuchNode) × (h ≡ g) × (q ≡ p))

@@ -1,21 +1,20 @@
 -- Lines of the operator, one after the other, and the text written of them.
-use Rattle.std.specs.Prelude.{ℕ, ◌≡◌, ◌⊎◌, Bool, true, false, List, ◌∷◌, ◌++◌, take, Option, Result, Ok, MatchResult}
-use Rattle.std.specs.Io.KnownBytes.{Appends, Consumes}
+use Rattle.std.specs.Prelude.{ℕ, ◌≡◌, ◌⊎◌, Bool, true, false, List, [], ◌∷◌, ◌++◌, take, Option, Result, Ok, MatchResult}
+use Rattle.std.specs.Io.KnownBytes.{Appends, Consumes, IsAtEnd}
 use Rattle.cg_types.specs.declared.fault.Fault.{Fault}
 use Rattle.cg_types.specs.declared.fault.Fault.TheVariants.{OutOfMemory, WriteFault, NoSuchNode}
 use Rattle.cg_table.specs.Values.{TableValue}
 use Rattle.cg_table.specs.Puts.{Put}
 use Rattle.cg_core.specs.Values.{NodeValue}
-use Rattle.cg_views.specs.Lists.{StartsWith}
 use Rattle.cg_links.specs.declared.counted.Counted.{Counted}
 use Rattle.cg_links.specs.Counted.{link_of, KeepsCounts, CountsFailed, CountsIdle, IsFlushed}
-use Rattle.cg_lines.specs.Lines.{lines_of}
+use Rattle.cg_lines.specs.Lines.{ended_lines, lines_of}
 use Rattle.cg_lines.specs.Taken.{Takes, TakesAll, Fails}
 use Rattle.cg_script.specs.declared.line.View.{View}
-use Rattle.cg_seats.specs.Seats.{SeatValue, GoesOn}
+use Rattle.cg_seats.specs.Seats.{SeatValue}
 use Rattle.cg_orders.specs.declared.command.OperatorCommand.TheVariants.{Show, Quit}
 use Rattle.cg_orders.specs.Commands.{command_in}
-use Rattle.cg_operator.specs.Doing.{Does}
+use Rattle.cg_operator.specs.Doing.{Does, RunsOut}
 
 -- the progress of an operator: its gate, the puts that its pass has read or learnt, and its writer
 pub record At (W : Type 0) : Type 0 where
@@ -36,11 +35,10 @@ module _ {W : Type 0} (holds : W → Option (List ℕ)) (start : NodeValue) (ope
     pub kept : KeepsCounts s.writer t.writer
     pub flushed : IsFlushed t.writer
 
-  -- Memory ran out in the line: its event may be done, and nothing was written of it.
-  pub record LacksMemory (s t : At W) (f : Fault) : Type 0 where
+  -- Memory ran out in the line: it did nothing but its one set, and nothing was written of it.
+  pub record LacksMemory (s : At W) (line : List ℕ) (t : At W) (f : Fault) : Type 0 where
     pub fault : f ≡ OutOfMemory
-    pub gate : GoesOn s.gate t.gate
-    pub later : StartsWith t.pass s.pass
+    pub done : RunsOut start opening (command_in line) s.gate s.pass t.gate t.pass
     pub writer : t.writer ≡ s.writer
 
   -- The line is to show the table, and there is nothing to read it from.
@@ -61,7 +59,7 @@ module _ {W : Type 0} (holds : W → Option (List ℕ)) (start : NodeValue) (ope
 
   -- The line ended the operator by a fault.
   abbrev pub EndsAt : At W → List ℕ → At W → Fault → Type 0
-  EndsAt s line t f = LacksMemory s t f ⊎ (ReadsNothing s line t f ⊎ WritesFront s line t f)
+  EndsAt s line t f = LacksMemory s line t f ⊎ (ReadsNothing s line t f ⊎ WritesFront s line t f)
 
   -- A line goes on with the next one, or requests the end and does nothing.
   abbrev pub Goes : At W → List ℕ → At W → Bool → Type 0
@@ -73,7 +71,8 @@ module _ {W : Type 0} (holds : W → Option (List ℕ)) (start : NodeValue) (ope
   TellsLine s line t result = MatchResult result (Goes s line t) (EndsAt s line t)
 
   module _ {R : Type 0} (before after : Option (List ℕ)) (old new : Counted R) (s t : At W) where
-    -- A line requested the end: those before it were done, and those after it are not looked at.
+    -- A line requested the end: those before it were done, and those after it are not looked at. It ends with a line
+    -- feed, or all was read.
     pub record Quits : Type 0 where
       pub text : List ℕ
       pub read : Consumes before after text
@@ -81,7 +80,7 @@ module _ {W : Type 0} (holds : W → Option (List ℕ)) (start : NodeValue) (ope
       pub front : List (List ℕ)
       pub line : List ℕ
       pub rest : List (List ℕ)
-      pub are : lines_of text ≡ front ++ line ∷ rest
+      pub are : (ended_lines [] text ≡ front ++ line ∷ rest) ⊎ (IsAtEnd after × (lines_of text ≡ front ++ line ∷ rest))
       pub asked : command_in line ≡ Ok Quit
       pub done : Takes DoesLine EndsAt s front t
 

@@ -1,11 +1,12 @@
 //! The answers to the lines of the operator.
 
-ghost use Rattle.std.specs.Prelude.{ℕ, ◌≡◌, ◌⊎◌, Some, None, Ok, Err, IfOk, IfErr, MatchResult, option_map, string_bytes};
+ghost use Rattle.std.specs.Prelude.{ℕ, ◌≡◌, ◌⊎◌, List, Some, None, Ok, Err, IfOk, IfErr, OnErr, MatchResult, option_map, string_bytes};
 ghost use Rattle.cg_types.specs.declared.fault.Fault.TheVariants as faults;
 ghost use Rattle.cg_table.specs.Puts.{with_puts};
 ghost use Rattle.cg_events.specs.declared.reply.Reply.TheVariants as replies;
 ghost use Rattle.cg_views.specs.Lists.{StartsWith};
-ghost use Rattle.cg_seats.specs.Seats.{GoesOn, last_reply};
+ghost use Rattle.cg_seats.specs.Seats.{last_reply};
+ghost use Rattle.cg_orders.specs.declared.command.OperatorCommand.TheVariants as commands;
 ghost use Rattle.cg_orders.specs.Shown.{table_lines};
 ghost use Rattle.cg_orders.specs.Commands.{command_in};
 ghost use Rattle.cg_operator.specs.Doing.{TellsSet, Sets, AnswersLine, Unanswered};
@@ -48,6 +49,7 @@ fn tell_set<N: Name>(
 ) -> Result<String, AllocError>
     ensures later { StartsWith pass.new pass.old }
     ensures text { IfOk result (λ text. TellsSet version told pass.old pass.new (string_bytes text)) }
+    ensures err { OnErr result ((text : List ℕ) × TellsSet version told pass.old pass.new text) }
 {
     let mut text = String::new(alloc);
     match told {
@@ -82,17 +84,18 @@ fn set<N: Name, R: Wait>(
     key: StateKey,
     text: StateText,
 ) -> Result<String, Fault>
-    ensures gate { GoesOn gate.old gate.new }
-    ensures later { StartsWith pass.new pass.old }
-    ensures set { IfOk result (λ shown.
-        Sets N.start N.opening.own key text gate.old pass.old (string_bytes shown) gate.new pass.new) }
-    ensures err { IfErr result (λ f. f ≡ faults.OutOfMemory) }
+    ensures { MatchResult result
+        (λ shown. Sets N.start N.opening.own key text gate.old pass.old (string_bytes shown) gate.new pass.new)
+        (λ f. Unanswered N.start N.opening (Ok (commands.Set key text)) gate.old pass.old gate.new pass.new f) }
 {
     match gate.event(alloc, Event::Set { key, text }) {
         Ok(()) => {
             let version = version_of(gate);
             let told = gate.told();
-            Ok(tell_set(alloc, pass, told, version)?)
+            match tell_set(alloc, pass, told, version) {
+                Ok(shown) => Ok(shown),
+                Err(_) => Err(Fault::OutOfMemory),
+            }
         }
         Err(Fault::OutOfMemory) => Err(Fault::OutOfMemory),
         Err(fault) => Ok(fault.line(alloc)?),
@@ -109,7 +112,7 @@ fn obey<N: Name, R: Wait>(
     ensures { MatchResult result
         (λ text. AnswersLine N.start N.opening (Ok command) gate.old pass.old
         (option_map string_bytes text) gate.new pass.new)
-        (λ f. Unanswered (Ok command) gate.old pass.old gate.new pass.new f) }
+        (λ f. Unanswered N.start N.opening (Ok command) gate.old pass.old gate.new pass.new f) }
 {
     match command {
         OperatorCommand::Show(view) => match show(alloc, pass, view) {
@@ -134,7 +137,7 @@ pub(crate) fn answer<N: Name, R: Wait>(
     ensures { MatchResult result
         (λ text. AnswersLine N.start N.opening (command_in line.now) gate.old pass.old
         (option_map string_bytes text) gate.new pass.new)
-        (λ f. Unanswered (command_in line.now) gate.old pass.old gate.new pass.new f) }
+        (λ f. Unanswered N.start N.opening (command_in line.now) gate.old pass.old gate.new pass.new f) }
 {
     match read_command(alloc, line) {
         Ok(command) => obey(alloc, gate, pass, command),

@@ -107,7 +107,7 @@ fn operate_lines<N: Name, R: Wait, W: Write, I: Read>(
 ///
 /// `OutOfMemory` if memory runs out; `ReadFault` if a read fails or 4,294,967,295 reads were made; `WriteFault` if the
 /// writer fails or takes no byte; `NoSuchNode` if there is nothing to read any more. With `OutOfMemory` and
-/// `WriteFault` the set of that line may have been done.
+/// `WriteFault` the set of that line may have been done, and nothing else.
 pub fn operate<N: Name, R: Wait, I: Read, W: Write>(
     alloc: Global,
     reader: &mut Counted<I>,
