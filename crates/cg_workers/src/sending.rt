@@ -1,6 +1,6 @@
 //! Rounds that are sent.
 
-ghost use Rattle.std.specs.Prelude.{◌≡◌};
+ghost use Rattle.std.specs.Prelude.{◌≡◌, ◌≤◌, ◌⊎◌, [], vec_capacity};
 ghost use Rattle.cg_rounds.specs.Ends.{TakesWhere};
 ghost use Rattle.cg_workers.specs.Workers.{Begun, Reached, SentRound, SentRounds};
 
@@ -13,6 +13,9 @@ use cg_types::Endpoint;
 use std::alloc::Global;
 use std::io::{Read, Write};
 use std::sync::Wait;
+
+// The number of rounds for whose numbers room is made at once.
+const ROUNDS_AT_ONCE: usize = 1_000_000;
 
 // Begins an exchange over a link, with this SYN.
 fn begin<G: Gate, R: Read + Drop, W: Write + Drop, C: Milliseconds>(
@@ -64,12 +67,24 @@ fn send_round<G: Gate, D: Dial, C: Milliseconds>(
     }
 }
 
+// Returns an empty list with room for the numbers of `ROUNDS_AT_ONCE` rounds, or for none if that memory is refused.
+fn with_room(alloc: Global) -> Vec<u64>
+    ensures items { result.items ≡ [] }
+    ensures room { (vec_capacity result ≡ 0) ⊎ (1000000 ≤ vec_capacity result) }
+{
+    match Vec::with_capacity(alloc, ROUNDS_AT_ONCE) {
+        Ok(numbers) => numbers,
+        Err(_) => Vec::new(alloc),
+    }
+}
+
 /// Sends each round that it takes: it dials the round's peers in their order, and begins an exchange with each that it
 /// reaches. A peer that can't be reached and a broken exchange end that exchange alone. Returns the numbers of the
 /// rounds that it took.
 ///
 /// It ends if the channel reports that no more rounds come, or if there is no memory for the number of a further one.
-/// It takes a round only once there is room for its number.
+/// It makes room for a million numbers, 8 MB, before it takes a round. Beyond these, or if that room is refused, it takes
+/// each round only once there is room for its number.
 pub fn sender<G: Gate, D: Dial, C: Milliseconds, R: Wait>(
     rt: &R,
     alloc: Global,
@@ -82,7 +97,7 @@ pub fn sender<G: Gate, D: Dial, C: Milliseconds, R: Wait>(
     ensures sent { SentRounds G.does G.refuses G.stays D.Reader.remaining D.Writer.contents D.dials (C.shows clock.now)
         from.old from.new result.items (dialer.old, gate.old) (dialer.new, gate.new) }
 {
-    let mut numbers = Vec::new(alloc);
+    let mut numbers = with_room(alloc);
     for _ in rt.forever() {
         if numbers.reserve(1).is_err() {
             break;

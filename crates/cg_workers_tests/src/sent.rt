@@ -143,8 +143,9 @@ fn a_broken_exchange_ends_itself_alone(rt: HostRuntime) -> Result<(), Fail> {
     expect_eq!(held, 1)
 }
 
-// The number of rounds that A takes if there are none and nobody can put any in any more.
-fn taken<R: Wait>(rt: &R, alloc: Global) -> Result<usize, Fail> {
+// The number of rounds that A takes if there are none and nobody can put any in any more, and the number of rounds for
+// which it made room.
+fn taken<R: Wait>(rt: &R, alloc: Global) -> Result<(usize, usize), Fail> {
     let mut gate = started(alloc, A, 9)?;
     let mut dialer = Book {
         alloc,
@@ -162,10 +163,11 @@ fn taken<R: Wait>(rt: &R, alloc: Global) -> Result<usize, Fail> {
         &Standing(1000),
         &mut taking,
     );
-    Ok(numbers.len())
+    Ok((numbers.len(), numbers.capacity()))
 }
 
 #[test]
 fn it_ends_where_nobody_puts_any_in(rt: HostRuntime) -> Result<(), Fail> {
-    expect_eq!(taken(&rt, rt.alloc())?, 0)
+    let (taken, room) = taken(&rt, rt.alloc())?;
+    expect!(taken == 0 && room >= 1_000_000, "{room}")
 }

@@ -6,7 +6,7 @@ use Rattle.cg_workers.proofs.WorkLemmas.{rounds_more, numbers_after}
 use Rattle.cg_workers.proofs.sending.sender.Goals as goal
 
 pub loop-init : goal.loop-init
-loop-init g c = ([], refl, sym (append-nil (taken_by c.args.from.now)), c.new-numbers.ensures.items, refl)
+loop-init g c = ([], refl, sym (append-nil (taken_by c.args.from.now)), c.with_room-numbers.ensures.items, refl)
 
 pub loop-preserved : goal.loop-preserved
 loop-preserved g c =
