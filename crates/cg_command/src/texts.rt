@@ -110,6 +110,10 @@ its journal, which `cg audit` reads. A node that is killed writes none. Status 0
 line: 14 ReadFault where the settings or the generation can't be read or nobody can listen there, 2 BadText where they are \
 none, 4 VersionsSpent, 15 WriteFault, 1 OutOfMemory.\n\
 \n\
+Exchanges that peers begin are answered one at a time. Each has a third of the interval, 100 ms to 2 s, and for its first \
+byte a quarter of that, at least 100 ms. What it brings, up to 4.2 MB a message, is kept until the node ends. So let only \
+members reach the port.\n\
+\n\
 Example:\n\
 \n  printf 'set 3 x\\ngossipinfo\\nquit\\n' | cg serve node.toml\n\
 \n  version 2\

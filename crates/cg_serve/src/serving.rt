@@ -7,7 +7,7 @@ ghost use Rattle.cg_serve.specs.Lives.{IsLived, status_after, EndsWith, EndsALif
 use crate::node::{Birth, LifeLeft, run};
 use cg_node_files::{next_life, settings_in, try_journal, write_journal_to};
 use cg_settings_file::ServeSettings;
-use cg_sockets::Listener;
+use cg_sockets::{Listener, answer_limit};
 use cg_types::Fault;
 use std::alloc::Global;
 use std::io::{Eprint, Input, Print};
@@ -51,7 +51,8 @@ where
 {
     let settings = settings_in(rt, alloc, file)?;
     let generation = next_life(rt, alloc, settings.generation_file.as_str())?;
-    let listener = Listener::bind(rt, alloc, settings.listen)?;
+    let limit = answer_limit(settings.turns.interval);
+    let listener = Listener::bind(rt, alloc, settings.listen, limit)?;
     foresee(rt, alloc, settings.journal.as_str());
     let ServeSettings {
         node,

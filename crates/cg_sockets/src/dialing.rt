@@ -47,7 +47,7 @@ impl<'a, R: Net<Stream = TcpStream> + Clock> Dial for Dialer<'a, R> {
             return Err(Fault::ReadFault);
         };
         match self.connect(peer, end) {
-            Ok(stream) => Side::pair(self.rt, self.alloc, stream, end),
+            Ok(stream) => Side::pair(self.rt, self.alloc, stream, end, end),
             Err(error) => match error.kind() {
                 ErrorKind::OutOfMemory => Err(Fault::OutOfMemory),
                 _ => Err(Fault::ReadFault),

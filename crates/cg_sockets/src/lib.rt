@@ -1,7 +1,8 @@
 //! Connections over TCP, each with one end time for all that it does.
 //!
 //! A limit of a socket is for one call, so a peer that sends a byte now and then could hold a connection for ever. Here
-//! each call of a connection has the time that is left until its end, and a call after the end fails.
+//! each call of a connection has the time that is left until its end, and a call after the end fails. Of a connection that
+//! came, reads end sooner until the first byte has come.
 #![tactic(auto)]
 
 mod dialing;
@@ -11,6 +12,9 @@ mod listening;
 mod side;
 
 pub use dialing::Dialer;
-pub use limits::{ACCEPT_PAUSE, ACCEPT_TRIES, CALL_TRIES, LEAST_LIMIT, RESPOND_LIMIT, limit_for};
+pub use limits::{
+    ACCEPT_PAUSE, ACCEPT_TRIES, CALL_TRIES, LEAST_LIMIT, RESPOND_LIMIT, answer_limit,
+    first_byte_limit, limit_for,
+};
 pub use listening::Listener;
 pub use side::Side;

@@ -3,7 +3,7 @@
 ghost use Rattle.std.specs.Prelude.{◌≡◌, ◌⊎◌, IfErr};
 ghost use Rattle.cg_types.specs.declared.fault.Fault.TheVariants as faults;
 
-use crate::limits::{ACCEPT_PAUSE, ACCEPT_TRIES, RESPOND_LIMIT};
+use crate::limits::{ACCEPT_PAUSE, ACCEPT_TRIES, first_byte_limit};
 use crate::side::{Side, end_in};
 use cg_types::{Endpoint, Fault};
 use cg_workers::Listen;
@@ -19,12 +19,14 @@ const NO_DESCRIPTOR: i32 = 24;
 
 const NO_FILE: i32 = 23;
 
-/// A listener over TCP. An exchange ends `RESPOND_LIMIT` milliseconds after its connection came.
+/// A listener over TCP. Each exchange ends a number of milliseconds after its connection was taken, and after
+/// `first_byte_limit` of this number if no byte has come by then.
 #[derive(Drop)]
 pub struct Listener<'a, R: Clock> {
     rt: &'a R,
     alloc: Global,
     listener: TcpListener,
+    limit: u32,
 }
 
 // Tests whether an error says no more than that one connection could not be taken.
@@ -42,9 +44,14 @@ fn is_of_one(error: &Error) -> bool {
 }
 
 impl<'a, R: Net<Listener = TcpListener, Stream = TcpStream> + Clock> Listener<'a, R> {
-    /// Listens at an endpoint. `ReadFault` if that can't be, for example because another program listens there;
-    /// `OutOfMemory` if memory is refused.
-    pub fn bind(rt: &'a R, alloc: Global, at: Endpoint) -> Result<Listener<'a, R>, Fault>
+    /// Listens at an endpoint, and gives each exchange `limit` milliseconds. `ReadFault` if that can't be, for example
+    /// because another program listens there; `OutOfMemory` if memory is refused.
+    pub fn bind(
+        rt: &'a R,
+        alloc: Global,
+        at: Endpoint,
+        limit: u32,
+    ) -> Result<Listener<'a, R>, Fault>
         ensures { IfErr result (λ f. (f ≡ faults.OutOfMemory) ⊎ (f ≡ faults.ReadFault)) }
     {
         let address = SocketAddr::from((at.address(), at.port()));
@@ -53,6 +60,7 @@ impl<'a, R: Net<Listener = TcpListener, Stream = TcpStream> + Clock> Listener<'a
                 rt,
                 alloc,
                 listener,
+                limit,
             }),
             Err(error) => match error.kind() {
                 ErrorKind::OutOfMemory => Err(Fault::OutOfMemory),
@@ -81,12 +89,16 @@ impl<'a, R: Clock> Listener<'a, R> {
                 return Err(Fault::ReadFault);
             }
         };
-        let Ok(end) = end_in(self.rt, RESPOND_LIMIT) else {
-            return Ok(None);
-        };
-        match Side::pair(self.rt, self.alloc, stream, end) {
-            Ok(sides) => Ok(Some(sides)),
-            Err(_) => Ok(None),
+        Ok(self.sides(stream).ok())
+    }
+
+    // Returns both sides of a connection that was just taken.
+    fn sides(&self, stream: TcpStream) -> io::Result<(Side<'a, R>, Side<'a, R>)> {
+        let end = end_in(self.rt, self.limit)?;
+        let first_end = end_in(self.rt, first_byte_limit(self.limit))?.min(end);
+        match Side::pair(self.rt, self.alloc, stream, first_end, end) {
+            Ok(sides) => Ok(sides),
+            Err(_) => Err(io::Error::from(ErrorKind::OutOfMemory)),
         }
     }
 }

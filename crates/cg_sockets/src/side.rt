@@ -14,11 +14,13 @@ use std::rt::Clock;
 use std::sync::Arc;
 use std::time::{Duration, Instant};
 
-/// A connection, to read or to write. A call fails if it is made after the connection's end, or ends after it.
+/// A connection, to read or to write. A call fails if it is made after the connection's end, or ends after it. Until
+/// bytes came, a read fails after an end of its own.
 #[derive(Drop)]
 pub struct Side<'a, R: Clock> {
     rt: &'a R,
     stream: Arc<TcpStream, Global>,
+    read_end: Instant,
     end: Instant,
 }
 
@@ -41,12 +43,13 @@ pub(crate) fn left_until<R: Clock>(rt: &R, end: Instant) -> io::Result<Duration>
 }
 
 impl<'a, R: Clock> Side<'a, R> {
-    /// Makes both sides of a connection that ends at a given time. `OutOfMemory` if there is no memory for them; the
-    /// connection is then closed.
+    /// Makes both sides of a connection that ends at a given time, and earlier if no byte came by `first_end`.
+    /// `OutOfMemory` if there is no memory for them; the connection is then closed.
     pub(crate) fn pair(
         rt: &'a R,
         alloc: Global,
         stream: TcpStream,
+        first_end: Instant,
         end: Instant,
     ) -> Result<(Side<'a, R>, Side<'a, R>), Fault>
         ensures { IfErr result (λ f. f ≡ faults.OutOfMemory) }
@@ -59,10 +62,16 @@ impl<'a, R: Clock> Side<'a, R> {
             Ok(twin) => twin,
             Err(_) => return Err(Fault::OutOfMemory),
         };
-        let reader = Side { rt, stream, end };
+        let reader = Side {
+            rt,
+            stream,
+            read_end: first_end,
+            end,
+        };
         let writer = Side {
             rt,
             stream: twin,
+            read_end: first_end,
             end,
         };
         Ok((reader, writer))
@@ -73,7 +82,7 @@ impl<'a, R: Clock> Side<'a, R> {
         ensures { ReadsAtMost result buf.new }
     {
         self.stream
-            .set_read_timeout(Some(left_until(self.rt, self.end)?))?;
+            .set_read_timeout(Some(left_until(self.rt, self.read_end)?))?;
         let mut stream = &*self.stream;
         stream.read(buf)
     }
@@ -93,7 +102,12 @@ impl<'a, R: Clock> Read for Side<'a, R> {
     fn read(&mut self, buf: &mut [u8]) -> io::Result<usize> {
         for _ in 0..CALL_TRIES {
             match self.read_once(buf) {
-                Ok(count) => return Ok(count),
+                Ok(count) => {
+                    if count > 0 {
+                        self.read_end = self.end;
+                    }
+                    return Ok(count);
+                }
                 Err(error) => {
                     if error.kind() != ErrorKind::Interrupted {
                         return Err(error);

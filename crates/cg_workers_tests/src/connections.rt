@@ -34,7 +34,7 @@ fn ask<D: Dial>(dialer: &mut D, to: Endpoint) -> Option<[u8; 3]> {
 #[test]
 fn a_word_is_answered(rt: HostRuntime) -> Result<(), Fail> {
     let to = free_endpoint(&rt)?;
-    let mut listener = Listener::bind(&rt, rt.alloc(), to)?;
+    let mut listener = Listener::bind(&rt, rt.alloc(), to, 2000)?;
     let mut dialer = Dialer::new(&rt, rt.alloc(), 2000);
     let (answered, asked) = thread::join(&rt, || echo(&mut listener), || ask(&mut dialer, to));
     expect!(answered)?;
@@ -44,8 +44,8 @@ fn a_word_is_answered(rt: HostRuntime) -> Result<(), Fail> {
 #[test]
 fn a_place_is_taken_once(rt: HostRuntime) -> Result<(), Fail> {
     let at = free_endpoint(&rt)?;
-    let _listener = Listener::bind(&rt, rt.alloc(), at)?;
-    expect!(Listener::bind(&rt, rt.alloc(), at).err() == Some(Fault::ReadFault))
+    let _listener = Listener::bind(&rt, rt.alloc(), at, 2000)?;
+    expect!(Listener::bind(&rt, rt.alloc(), at, 2000).err() == Some(Fault::ReadFault))
 }
 
 #[test]
@@ -84,7 +84,7 @@ fn drip<R: Clock, L: Listen>(rt: &R, listener: &mut L, bytes: u32) {
 #[test]
 fn a_silent_peer_is_left_at_the_end(rt: HostRuntime) -> Result<(), Fail> {
     let to = free_endpoint(&rt)?;
-    let _listener = Listener::bind(&rt, rt.alloc(), to)?;
+    let _listener = Listener::bind(&rt, rt.alloc(), to, 2000)?;
     let (lasted, failed) = waited(&rt, rt.alloc(), to)?;
     expect!(failed && lasted >= 199 && lasted < 30000, "{lasted}")
 }
@@ -114,7 +114,7 @@ fn dripped<R: Net<Stream = TcpStream> + Clock>(
 fn a_peer_that_drips_is_left_at_the_end(rt: HostRuntime) -> Result<(), Fail> {
     let to = free_endpoint(&rt)?;
     let alloc = rt.alloc();
-    let mut listener = Listener::bind(&rt, alloc, to)?;
+    let mut listener = Listener::bind(&rt, alloc, to, 2000)?;
     let (_, read) = thread::join(
         &rt,
         || drip(&rt, &mut listener, 20),
@@ -123,6 +123,75 @@ fn a_peer_that_drips_is_left_at_the_end(rt: HostRuntime) -> Result<(), Fail> {
     let (lasted, read) = read?;
     expect!(
         lasted >= 1999 && lasted < 30000 && read > 0 && read < 20,
+        "{lasted} {read}"
+    )
+}
+
+// Takes a connection and reads bytes, one at a time, until a read fails: the milliseconds that it took, and the number
+// of bytes.
+fn heard<R: Clock, L: Listen>(rt: &R, listener: &mut L) -> io::Result<(u128, u64)> {
+    let Ok(Some((mut reader, _writer))) = listener.accept() else {
+        return Err(io::Error::from(ErrorKind::Other));
+    };
+    let began = Instant::now(rt)?;
+    let mut read = 0;
+    for index in 0..100 {
+        if reader.read_exact(&mut [0u8; 1]).is_err() {
+            break;
+        }
+        read = index + 1;
+    }
+    Ok((began.elapsed(rt)?.as_millis(), read))
+}
+
+// Dials a listener, sends `bytes` bytes, one every 300 ms, the first at once, and hangs up after three seconds.
+fn say<R: Net<Stream = TcpStream> + Clock>(rt: &R, alloc: Global, to: Endpoint, bytes: u32) {
+    let Ok((_reader, mut writer)) = Dialer::new(rt, alloc, 10000).dial(to) else {
+        return;
+    };
+    for _ in 0..bytes {
+        let _ = writer.write_all(b"x");
+        thread::sleep(rt, Duration::from_millis(300));
+    }
+    thread::sleep(rt, Duration::from_millis(3000));
+}
+
+#[test]
+fn a_peer_that_says_nothing_is_left_after_a_quarter(rt: HostRuntime) -> Result<(), Fail> {
+    let to = free_endpoint(&rt)?;
+    let alloc = rt.alloc();
+    let mut listener = Listener::bind(&rt, alloc, to, 1600)?;
+    let (heard, _) = thread::join(&rt, || heard(&rt, &mut listener), || say(&rt, alloc, to, 0));
+    let (lasted, read) = heard?;
+    expect!(lasted >= 380 && lasted < 1400 && read == 0, "{lasted}")
+}
+
+#[test]
+fn a_peer_that_began_has_the_whole_time(rt: HostRuntime) -> Result<(), Fail> {
+    let to = free_endpoint(&rt)?;
+    let alloc = rt.alloc();
+    let mut listener = Listener::bind(&rt, alloc, to, 1600)?;
+    let (heard, _) = thread::join(&rt, || heard(&rt, &mut listener), || say(&rt, alloc, to, 1));
+    let (lasted, read) = heard?;
+    expect!(
+        lasted >= 1580 && lasted < 2900 && read == 1,
+        "{lasted} {read}"
+    )
+}
+
+#[test]
+fn a_caller_that_drips_is_left_at_the_end(rt: HostRuntime) -> Result<(), Fail> {
+    let to = free_endpoint(&rt)?;
+    let alloc = rt.alloc();
+    let mut listener = Listener::bind(&rt, alloc, to, 1600)?;
+    let (heard, _) = thread::join(
+        &rt,
+        || heard(&rt, &mut listener),
+        || say(&rt, alloc, to, 20),
+    );
+    let (lasted, read) = heard?;
+    expect!(
+        lasted >= 1580 && lasted < 30000 && read > 0 && read < 20,
         "{lasted} {read}"
     )
 }
