@@ -14,7 +14,7 @@ use cg_sockets::{Dialer, Listener, limit_for};
 use cg_threads::{NotRun, Parts, Ran, run_node};
 use cg_types::{Endpoint, Fault, Generation};
 use std::alloc::Global;
-use std::io::{Input, Print};
+use std::io::{Eprint, Input, Print};
 use std::net::{Net, TcpListener, TcpStream};
 use std::rt::Clock;
 use std::sync::Wait;
@@ -68,6 +68,7 @@ where
         + Sync
         + Input
         + Print
+        + Eprint
         + Net<Listener = TcpListener, Stream = TcpStream>,
     R::Reader: Send,
     ensures left { IfOk result (IsLifeLeft (node_of birth)) }

@@ -116,10 +116,11 @@ fn ended<R: Files + Print>(rt: &R, alloc: Global, life: &Result<Lived, Fault>) -
 /// kept (`WriteFault`); another program listens there (`ReadFault`); memory or a thread is refused (`OutOfMemory`).
 ///
 /// At the end it prints the fault of the first receipt that the history does not confirm, and writes the journal all
-/// the same; `WriteFault` if it can't. A fault of a worker ends that worker; it is not printed, and does not change the
-/// status.
+/// the same; `WriteFault` if it can't. A fault of a worker ends that worker, and does not change the status.
 ///
 /// Before it begins, it tries whether a file can stand beside the journal's, and prints a line on standard error if not.
+/// While it lives, it prints a line there, one a second at most, if a connection can't be taken, and one if no further
+/// connection is taken; no other fault of a worker is printed.
 ///
 /// The clauses are about the status and a life that fits it; they do not say what is read, printed or written.
 pub fn serve<R>(rt: &R, alloc: Global, file: &str) -> u8

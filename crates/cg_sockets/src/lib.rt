@@ -9,11 +9,12 @@ mod dialing;
 pub mod laws;
 mod limits;
 mod listening;
+mod passing;
 mod side;
 
 pub use dialing::Dialer;
 pub use limits::{
-    ACCEPT_PAUSE, ACCEPT_TRIES, CALL_TRIES, LEAST_LIMIT, RESPOND_LIMIT, answer_limit,
+    ACCEPT_PAUSE, CALL_TRIES, LEAST_LIMIT, LINE_PAUSE, RESPOND_LIMIT, answer_limit,
     first_byte_limit, limit_for,
 };
 pub use listening::Listener;

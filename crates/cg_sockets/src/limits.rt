@@ -11,11 +11,11 @@ pub const LEAST_LIMIT: u32 = 100;
 /// The most times that an interrupted call is made.
 pub const CALL_TRIES: u32 = 16;
 
-/// The most times that a connection is waited for if those that came could not be taken.
-pub const ACCEPT_TRIES: u32 = 600;
-
-/// Milliseconds between two such tries.
+/// Milliseconds before the next connection is waited for if one could not be taken.
 pub const ACCEPT_PAUSE: u32 = 100;
+
+/// The fewest milliseconds between two lines about connections that could not be taken.
+pub const LINE_PAUSE: u32 = 1000;
 
 /// Returns the milliseconds for dialing a peer and the exchange with it, given those between two rounds: a third of
 /// these, and at least `LEAST_LIMIT`. So three peers that are gone do not hold up the next round, unless `LEAST_LIMIT`

@@ -3,47 +3,32 @@
 ghost use Rattle.std.specs.Prelude.{◌≡◌, ◌⊎◌, IfErr};
 ghost use Rattle.cg_types.specs.declared.fault.Fault.TheVariants as faults;
 
-use crate::limits::{ACCEPT_PAUSE, ACCEPT_TRIES, first_byte_limit};
+use crate::limits::{ACCEPT_PAUSE, LINE_PAUSE, first_byte_limit};
+use crate::passing::is_passing_error;
 use crate::side::{Side, end_in};
 use cg_types::{Endpoint, Fault};
 use cg_workers::Listen;
 use std::alloc::Global;
-use std::io::{Error, ErrorKind};
-use std::net::{Net, SocketAddr, TcpListener, TcpStream};
+use std::io::{Eprint, Error, ErrorKind};
+use std::net::{Net, OpenListener, SocketAddr, TcpListener, TcpStream};
 use std::rt::Clock;
-use std::time::Duration;
+use std::sync::Wait;
+use std::time::{Duration, Instant};
 use std::{io, thread};
-
-// The system's error numbers if a process, and if the system itself, has no descriptor left.
-const NO_DESCRIPTOR: i32 = 24;
-
-const NO_FILE: i32 = 23;
 
 /// A listener over TCP. Each exchange ends a number of milliseconds after its connection was taken, and after
 /// `first_byte_limit` of this number if no byte has come by then.
 #[derive(Drop)]
-pub struct Listener<'a, R: Clock> {
+pub struct Listener<'a, R: Net<Stream = TcpStream> + Clock> {
     rt: &'a R,
     alloc: Global,
-    listener: TcpListener,
+    listener: R::Listener,
     limit: u32,
+    // when the last line on standard error was printed
+    told: Option<Instant>,
 }
 
-// Tests whether an error says no more than that one connection could not be taken.
-fn is_of_one(error: &Error) -> bool {
-    match error.kind() {
-        ErrorKind::ConnectionAborted
-        | ErrorKind::ConnectionReset
-        | ErrorKind::Interrupted
-        | ErrorKind::OutOfMemory => true,
-        _ => match error.raw_os_error() {
-            Some(code) => code == NO_DESCRIPTOR || code == NO_FILE,
-            None => false,
-        },
-    }
-}
-
-impl<'a, R: Net<Listener = TcpListener, Stream = TcpStream> + Clock> Listener<'a, R> {
+impl<'a, R: Net<Stream = TcpStream> + Clock> Listener<'a, R> {
     /// Listens at an endpoint, and gives each exchange `limit` milliseconds. `ReadFault` if that can't be, for example
     /// because another program listens there; `OutOfMemory` if memory is refused.
     pub fn bind(
@@ -61,6 +46,7 @@ impl<'a, R: Net<Listener = TcpListener, Stream = TcpStream> + Clock> Listener<'a
                 alloc,
                 listener,
                 limit,
+                told: None,
             }),
             Err(error) => match error.kind() {
                 ErrorKind::OutOfMemory => Err(Fault::OutOfMemory),
@@ -68,28 +54,10 @@ impl<'a, R: Net<Listener = TcpListener, Stream = TcpStream> + Clock> Listener<'a
             },
         }
     }
-}
 
-impl<'a, R: Clock> Listener<'a, R> {
     /// Returns the address at which it listens.
     pub fn address(&self) -> io::Result<SocketAddr> {
         self.listener.local_addr()
-    }
-
-    // Returns the next connection; `None` if one could not be taken.
-    fn accept_one(&self) -> Result<Option<(Side<'a, R>, Side<'a, R>)>, Fault>
-        ensures { IfErr result (λ f. f ≡ faults.ReadFault) }
-    {
-        let stream = match self.listener.accept() {
-            Ok((stream, _)) => stream,
-            Err(error) => {
-                if is_of_one(&error) {
-                    return Ok(None);
-                }
-                return Err(Fault::ReadFault);
-            }
-        };
-        Ok(self.sides(stream).ok())
     }
 
     // Returns both sides of a connection that was just taken.
@@ -98,34 +66,81 @@ impl<'a, R: Clock> Listener<'a, R> {
         let first_end = end_in(self.rt, first_byte_limit(self.limit))?.min(end);
         match Side::pair(self.rt, self.alloc, stream, first_end, end) {
             Ok(sides) => Ok(sides),
-            Err(_) => Err(io::Error::from(ErrorKind::OutOfMemory)),
+            Err(_) => Err(Error::from(ErrorKind::OutOfMemory)),
+        }
+    }
+}
+
+impl<'a, R: Net<Stream = TcpStream> + Clock + Eprint> Listener<'a, R> {
+    // Tests whether the last line on standard error is as old as it has to be before the next one.
+    fn may_tell(&self, now: Instant) -> bool {
+        match self.told {
+            Some(told) => {
+                let pause = Duration::from_millis(u64::from(LINE_PAUSE));
+                now.saturating_duration_since(told) >= pause
+            }
+            None => true,
+        }
+    }
+
+    // Prints a line about a connection that could not be taken, unless one was printed shortly before, or the clock
+    // can't be read.
+    fn tell(&mut self, error: &Error) {
+        let Ok(now) = Instant::now(self.rt) else {
+            return;
+        };
+        if self.may_tell(now) {
+            self.told = Some(now);
+            let _ = eprintln!(self.rt; "cg: a connection can't be taken: {error}");
+        }
+    }
+
+    // Returns the next connection; `None` if one could not be taken.
+    fn accept_one(&mut self) -> Result<Option<(Side<'a, R>, Side<'a, R>)>, Fault>
+        ensures { IfErr result (λ f. f ≡ faults.ReadFault) }
+    {
+        let taken = match self.listener.accept() {
+            Ok((stream, _)) => self.sides(stream),
+            Err(error) => {
+                if !is_passing_error(&error) {
+                    let _ = eprintln!(self.rt; "cg: no further connection is taken: {error}");
+                    return Err(Fault::ReadFault);
+                }
+                Err(error)
+            }
+        };
+        match taken {
+            Ok(sides) => Ok(Some(sides)),
+            Err(error) => {
+                self.tell(&error);
+                Ok(None)
+            }
         }
     }
 }
 
 /// Goes on after a connection that can't be taken, for example because its peer gave up, no descriptor is left or
-/// memory is refused. After a pause it waits for the next one, up to `ACCEPT_TRIES` times. Any other failure is
-/// `ReadFault`.
-impl<'a, R: Clock> Listen for Listener<'a, R> {
-    ghost use Rattle.std.specs.Prelude.{◌≡◌, IfErr};
+/// memory is refused, and says so on standard error, in a line a second at most. After a pause it waits for the next
+/// one, however often that takes. Any other failure is `ReadFault`, which it says there too.
+impl<'a, R: Net<Stream = TcpStream> + Clock + Eprint + Wait> Listen for Listener<'a, R> {
+    ghost use Rattle.std.specs.Prelude.{◌≡◌, IsSome, MatchResult};
     ghost use Rattle.cg_types.specs.declared.fault.Fault.TheVariants.{ReadFault};
 
-    ghost accepts = { λ l r m. IfErr r (λ f. f ≡ ReadFault) };
+    ghost accepts = { λ l r m. MatchResult r IsSome (λ f. f ≡ ReadFault) };
 
     type Reader = Side<'a, R>;
 
     type Writer = Side<'a, R>;
 
     fn accept(&mut self) -> Result<Option<(Side<'a, R>, Side<'a, R>)>, Fault> {
-        for _ in 0..ACCEPT_TRIES {
+        let rt = self.rt;
+        for _ in rt.forever() {
             match self.accept_one() {
                 Ok(Some(sides)) => return Ok(Some(sides)),
-                Ok(None) => {
-                    thread::sleep(self.rt, Duration::from_millis(u64::from(ACCEPT_PAUSE)));
-                }
+                Ok(None) => thread::sleep(rt, Duration::from_millis(u64::from(ACCEPT_PAUSE))),
                 Err(fault) => return Err(fault),
             }
         }
-        Err(Fault::ReadFault)
+        unreachable!()
     }
 }
