@@ -32,6 +32,7 @@ use Rattle.cg_history.specs.History.{HistoryValue}
 use Rattle.cg_one_run.specs.Items.{RunItem, LivesValue, IsLife, AreLives, generation_of, items_of_lives, items_at}
 use Rattle.cg_one_run.specs.OneRun.{GenerationsRise, IsOneRun, messages_of}
 use Rattle.cg_audit_laws.specs.RunHeadline.{histories_at, EndsWith, took_from, marks_of, Was, IsMarked, SameMarks, RunsHaveTheHeadline}
+use Rattle.cg_audit_laws.specs.RunWorld.{RunsHaveAWorld}
 use Rattle.cg_audit_laws.proofs.Stages.{Stage, Idle}
 use Rattle.cg_audit_laws.proofs.Walks.{IsAt, EndsAt, Ends, walk, life_generation}
 
@@ -91,7 +92,7 @@ module _ (lives : List LivesValue) (order : List RunItem) (are : AreLives lives)
     };
   }
 
-  ends : Ends nobody stages
+  ends : Ends nobody stages order
   ends = walk order nobody [] stages at_start run.sent (λ e. run.items e ∙ items_by_histories lives e)
 
   abbrev w : PlaceWorld
@@ -195,3 +196,16 @@ runs_have_the_headline lives order are run = record {
   equal_sets = equal_sets lives order are run;
   equal_digests = equal_digests lives order are run;
 }
+
+pub runs_have_a_world : RunsHaveAWorld
+runs_have_a_world lives order are run =
+    let e = ends lives order are run in (
+      e.final,
+      record {
+        actions = e.actions;
+        are = e.are;
+        after = e.after;
+        world = is_world lives order are run;
+        placed = λ endpoint h last. (e.lasts endpoint h last).placed;
+      },
+    )

@@ -23,6 +23,7 @@ use Rattle.cg_records.specs.declared.item.Item.{Item}
 use Rattle.cg_history.specs.History.{record_of, HistoryValue, Replays}
 use Rattle.cg_one_run.specs.Items.{RunItem, IsLife, generation_of, items_from, items_of_lives}
 use Rattle.cg_audit_laws.specs.RunHeadline.{last_or, took_from, GapsLiePast, AllGapsLiePast, WasOwnFrom, WasOwnIn}
+use Rattle.cg_audit_laws.specs.RunWorld.{IsNumbered, IsRecordOf}
 
 -- a life that goes on: its node, the number of its next item, and the marks that it took of each owner so far
 pub record Now : Type 0 where
@@ -55,6 +56,12 @@ abbrev pub GapsIn : Stage → Type 0
 GapsIn (Idle ahead) = AllGapsLiePast ahead
 GapsIn (Going k back ahead) = GapsLiePast k.node back × AllGapsLiePast ahead
 
+-- The record has this number in the life of this generation, and is left.
+abbrev pub RecordIn : Stage → ℕ → ℕ → Item → Type 0
+RecordIn (Idle ahead) generation number r = IsRecordOf ahead generation number r
+RecordIn (Going k back ahead) generation number r =
+    ((generation_of k.life ≡ generation) × IsNumbered k.number back number r) ⊎ IsRecordOf ahead generation number r
+
 -- the invariant before the first life
 pub record IsIdle (w : PlaceWorld) (e : ℕ) (ahead : List HistoryValue) : Type 0 where
   pub idle : runs w e ≡ false
@@ -81,6 +88,7 @@ pub record Goes (w : PlaceWorld) (e : ℕ) (now then : Stage) : Type 0 where
   pub before : (entry : EntryValue) → OwnIn then entry → OwnIn now entry
   pub onward : (entry : EntryValue) → OwnIn now entry → (last_entry (w.histories e) ≡ Some entry) ⊎ OwnIn then entry
   pub gaps : GapsIn then → GapsIn now
+  pub records : (generation number : ℕ) (r : Item) → RecordIn then generation number r → RecordIn now generation number r
 
 -- ---- own entries of a life
 

@@ -25,7 +25,7 @@ use Rattle.cg_core.specs.Values.{NodeValue}
 use Rattle.cg_core.specs.Step.{node_step, starting_node}
 use Rattle.cg_core_laws.specs.Laws.{TableAfter}
 use Rattle.cg_core_laws.proofs.NodeLaws.{tables_go_by_their_rules, only_own_events_change_the_own_entry}
-use Rattle.cg_places.specs.PlaceWorld.{PlaceWorld, Start, put_at, runs, may_start, last_entry, with_start, after_action}
+use Rattle.cg_places.specs.PlaceWorld.{PlaceWorld, PlaceAction, Start, put_at, runs, may_start, last_entry, with_start, after_action, after_actions}
 use Rattle.cg_places.specs.Laws.{IsWorld}
 use Rattle.cg_places.specs.Spelling.{SpellsNode, IsChangedAt}
 use Rattle.cg_places.proofs.PutLemmas.{put_at-each, test_same, test_other}
@@ -49,7 +49,8 @@ use Rattle.cg_history.proofs.Replaying.{base_is_start}
 use Rattle.cg_one_run.specs.Items.{RunItem, IsLife, generation_of, start_item, item_of, items_of_lives}
 use Rattle.cg_one_run.specs.OneRun.{WasSent, EachWasSent, items_by}
 use Rattle.cg_audit_laws.specs.RunHeadline.{WasOwnFrom, WasOwnIn, delta_handed, took_from, GapsLiePast}
-use Rattle.cg_audit_laws.proofs.Stages.{Now, Stage, Idle, Going, items_left, last_of, OwnIn, IsGoing, IsStage, Goes, own_later, own_after, own_at_end, own_here, stage_stays, GapsIn, no_gaps, same_step}
+use Rattle.cg_audit_laws.specs.RunWorld.{IsActionOf, AreActionsOf}
+use Rattle.cg_audit_laws.proofs.Stages.{RecordIn, Now, Stage, Idle, Going, items_left, last_of, OwnIn, IsGoing, IsStage, Goes, own_later, own_after, own_at_end, own_here, stage_stays, GapsIn, no_gaps, same_step}
 use Rattle.cg_audit_laws.proofs.Taking.{others_take_nothing, step_marked, step_told}
 use Rattle.cg_audit_laws.proofs.Items.{AllSaid, sent_before, said_more}
 
@@ -116,6 +117,9 @@ record Next (w : PlaceWorld) (gone : List RunItem) (e : ℕ) (now : Stage) (i : 
   stage : IsStage world e then
   left : rest ≡ items_left e then
   goes : Goes w e now then
+  action : PlaceAction
+  acts : IsActionOf (λ other. RecordIn now) w i action
+  after : after_action w action ≡ world
 
 runs_on : (w v : PlaceWorld) (e : ℕ) (entries : _) → IsChangedAt w v e entries → (other : ℕ) → other ≢ e → runs v other ≡ runs w other
 runs_on w v e entries changed other apart = changed.running other ∙ ap (λ b. cond b true (runs w other)) (test_other other e apart)
@@ -211,6 +215,7 @@ module _ (w : PlaceWorld) (gone : List RunItem) (sound : IsSound w) (knows : Kno
       before = λ entry o. elim o [ inl was ↦ inl (own_later k.node r back x step shape entry was) | inr later ↦ inr later ];
       onward = λ entry o. elim o [ inl was ↦ first entry (own_after k.node r back x step shape entry was) | inr later ↦ inr (inr later) ];
       gaps = λ later. (gaps_before later.0, later.1);
+      records = λ generation number q o. elim o [ inl here ↦ inl (here.0, inr here.1) | inr later ↦ inr later ];
     }
       where
         first : (entry : EntryValue) → (own_entry k.node.table ≡ entry) ⊎ WasOwnFrom x.0 back entry → (last_entry (w.histories e) ≡ Some entry) ⊎ (WasOwnFrom x.0 back entry ⊎ WasOwnIn ahead entry)
@@ -232,6 +237,15 @@ module _ (w : PlaceWorld) (gone : List RunItem) (sound : IsSound w) (knows : Kno
       stage = after_record_is;
       left = cc;
       goes = record_goes;
+      action = action_at e handled.0 r.event;
+      acts = subst (λ (j : RunItem). IsActionOf (λ other. RecordIn (Going k (r ∷ back) ahead)) w j (action_at e handled.0 r.event)) (sym item) (inr (record {
+        done = r;
+        held = inl (refl, inl (refl, refl));
+        message = handled.0;
+        sent = handled.1;
+        is = refl;
+      }));
+      after = refl;
     }
 
   -- a start
@@ -293,14 +307,23 @@ module _ (w : PlaceWorld) (gone : List RunItem) (sound : IsSound w) (knows : Kno
       stage = after_start_is;
       left = cc;
       goes = goes;
+      action = Start e g;
+      acts = acts_here;
+      after = started;
     }
+      where
+        item : i ≡ start_item e (generation_of h)
+        item = cc
+
+        acts_here : IsActionOf (λ other. RecordIn now) w i (Start e g)
+        acts_here = subst (λ (j : RunItem). IsActionOf (λ other. RecordIn now) w j (Start e g)) (sym item) (inl (refl, ap (Start e) (sym (life_generation e h life))))
 
   -- the next item, whichever it is
   next : (now : Stage) → IsStage w e now → (i : RunItem) (rest : List RunItem) → i ∷ rest ≡ items_left e now → WasSent gone i.handled → Next w gone e now i rest
   next (Idle []) st i rest is was = absurd cc
   next (Idle (h ∷ hs)) st i rest is was =
       after_start (Idle (h ∷ hs)) h hs st.lives.0 st.lives.1 0 (idle_generation w e st.idle) st.rise i rest is
-      (record { lasts = refl; before = λ entry o. o; onward = λ entry o. inr o; gaps = λ later. later })
+      (record { lasts = refl; before = λ entry o. o; onward = λ entry o. inr o; gaps = λ later. later; records = λ generation number r o. o })
   next (Going k [] []) st i rest is was = absurd cc
   next (Going k [] (h ∷ hs)) st i rest is was =
       let own : last_entry (w.histories e) ≡ Some (own_entry k.node.table) = own_held w (world_is w sound knows) e k.node st.placed in
@@ -310,6 +333,7 @@ module _ (w : PlaceWorld) (gone : List RunItem) (sound : IsSound w) (knows : Kno
         before = λ entry o. inr o;
         onward = λ entry o. elim o [ inl was ↦ inl (own ∙ ap Some (own_at_end k.node entry was)) | inr later ↦ inr later ];
         gaps = λ later. (no_gaps k.node, later);
+        records = λ generation number r o. inr o;
       })
   next (Going k (r ∷ back) ahead) st i rest is was = after_record k r back ahead st i rest is was
 
@@ -327,9 +351,24 @@ pub record EndsAt (w : PlaceWorld) (e : ℕ) (h : HistoryValue) : Type 0 where
   pub placed : IsPlaced w e h.node
   pub marked : (owner : ℕ) → Marked w e owner (took_from owner [] h.records)
 
--- and the end of all lives
-pub record Ends (w : PlaceWorld) (s : ℕ → Stage) : Type 0 where
+-- actions by more records
+more_records : (P Q : ℕ → ℕ → ℕ → Item → Type 0) → ((e generation number : ℕ) (r : Item) → P e generation number r → Q e generation number r) → (w : PlaceWorld) (items : List RunItem) (actions : List PlaceAction)
+    → AreActionsOf P w items actions → AreActionsOf Q w items actions
+more_records P Q more w [] [] are = tt
+more_records P Q more w [] (a ∷ actions) are = absurd are
+more_records P Q more w (i ∷ items) [] are = absurd are
+more_records P Q more w (i ∷ items) (a ∷ actions) are = (one are.0, more_records P Q more (after_action w a) items actions are.1)
+  where
+    one : IsActionOf P w i a → IsActionOf Q w i a
+    one (inl start) = inl start
+    one (inr event) = inr (record { done = event.done; held = more i.endpoint i.generation i.number event.done event.held; message = event.message; sent = event.sent; is = event.is })
+
+-- and the end of all lives, after these items
+pub record Ends (w : PlaceWorld) (s : ℕ → Stage) (items : List RunItem) : Type 0 where
   pub final : PlaceWorld
+  pub actions : List PlaceAction
+  pub are : AreActionsOf (λ e. RecordIn (s e)) w items actions
+  pub after : final ≡ after_actions w actions
   pub sound : IsSound final
   pub knows : KnowsOwners final
   pub on : AllContinue w.histories final.histories
@@ -369,11 +408,14 @@ stage_gaps e (Going k [] []) none = (no_gaps k.node, tt)
 stage_gaps e (Going k [] (j ∷ js)) none = absurd cc
 stage_gaps e (Going k (r ∷ back) ahead) none = absurd cc
 
-ended : (w : PlaceWorld) (gone : List RunItem) (s : ℕ → Stage) → IsAt w gone s → ((e : ℕ) → [] ≡ items_left e (s e)) → Ends w s
+ended : (w : PlaceWorld) (gone : List RunItem) (s : ℕ → Stage) → IsAt w gone s → ((e : ℕ) → [] ≡ items_left e (s e)) → Ends w s []
 ended w gone s at none =
     let is : IsWorld w = world_is w at.sound at.knows in
     record {
       final = w;
+      actions = [];
+      are = tt;
+      after = refl;
       sound = at.sound;
       knows = at.knows;
       on = λ owner. continues_itself (w.histories owner);
@@ -411,9 +453,15 @@ module _ (w : PlaceWorld) (gone : List RunItem) (s : ℕ → Stage) (at : IsAt w
       all_before : (other : ℕ) → GapsIn (stages_then other) → GapsIn (s other)
       all_before = put_at-each (λ other stage. GapsIn stage → GapsIn (s other)) s i.endpoint n.then n.goes.gaps (λ other apart gaps. gaps)
 
-  ends_before : Ends n.world stages_then → Ends w s
-  ends_before ends = record {
+  records_before : (other generation number : ℕ) (r : Item) → RecordIn (stages_then other) generation number r → RecordIn (s other) generation number r
+  records_before = put_at-each (λ other stage. (generation number : ℕ) (r : Item) → RecordIn stage generation number r → RecordIn (s other) generation number r) s i.endpoint n.then n.goes.records (λ other apart generation number r o. o)
+
+  ends_before : (items : List RunItem) → Ends n.world stages_then items → Ends w s (i ∷ items)
+  ends_before items ends = record {
     final = ends.final;
+    actions = n.action ∷ ends.actions;
+    are = (acts, subst (λ (v : PlaceWorld). AreActionsOf (λ e. RecordIn (s e)) v items ends.actions) (sym n.after) (more_records (λ e. RecordIn (stages_then e)) (λ e. RecordIn (s e)) records_before n.world items ends.actions ends.are));
+    after = ends.after ∙ ap (λ (v : PlaceWorld). after_actions v ends.actions) (sym n.after);
     sound = ends.sound;
     knows = ends.knows;
     on = λ owner. continues_on (n.on owner) (ends.on owner);
@@ -429,16 +477,19 @@ module _ (w : PlaceWorld) (gone : List RunItem) (s : ℕ → Stage) (at : IsAt w
         | inr last ↦ inr (own_before other entry (own_here n.world (world_is n.world n.sound n.knows) other (stages_then other) (at_next.stages other) entry last))
       ]
 
+      acts : IsActionOf (λ e. RecordIn (s e)) w i n.action
+      acts = elim n.acts [ inl start ↦ inl start | inr event ↦ inr (record { done = event.done; held = event.held; message = event.message; sent = event.sent; is = event.is }) ]
+
       stands : (other : ℕ) (entry : EntryValue) → last_entry (w.histories other) ≡ Some entry → (place : ℕ) × (at_place (ends.final.histories other) place ≡ Some entry)
       stands other entry last = (length (w.histories other), (continues_on (n.on other) (ends.on other)).same (length (w.histories other)) (omega arith) ∙ last)
 
-pub walk : (items : List RunItem) (w : PlaceWorld) (gone : List RunItem) (s : ℕ → Stage) → IsAt w gone s → EachWasSent gone items → ((e : ℕ) → items_by e items ≡ items_left e (s e)) → Ends w s
+pub walk : (items : List RunItem) (w : PlaceWorld) (gone : List RunItem) (s : ℕ → Stage) → IsAt w gone s → EachWasSent gone items → ((e : ℕ) → items_by e items ≡ items_left e (s e)) → Ends w s items
 walk [] w gone s at sent left = ended w gone s at left
 walk (i ∷ items) w gone s at sent left =
     let e : ℕ = i.endpoint in
     let here : i ∷ items_by e items ≡ items_left e (s e) = ap (λ b. cond b (i ∷ items_by e items) (items_by e items)) (sym (test_same e)) ∙ left e in
     let n : Next w gone e (s e) i (items_by e items) = next w gone at.sound at.knows at.said e (s e) (at.stages e) i (items_by e items) here sent.0 in
-    ends_before w gone s at i (items_by e items) n (walk items n.world (gone ++ i ∷ []) (put_at s e n.then) (at_next w gone s at i (items_by e items) n) sent.1 (left_by n))
+    ends_before w gone s at i (items_by e items) n items (walk items n.world (gone ++ i ∷ []) (put_at s e n.then) (at_next w gone s at i (items_by e items) n) sent.1 (left_by n))
   where
     left_by : (n : Next w gone i.endpoint (s i.endpoint) i (items_by i.endpoint items)) → (other : ℕ) → items_by other items ≡ items_left other (put_at s i.endpoint n.then other)
     left_by n = put_at-each (λ other stage. items_by other items ≡ items_left other stage) s i.endpoint n.then n.left

@@ -1,1 +1,2 @@
 pub mod RunHeadline
+pub mod RunWorld

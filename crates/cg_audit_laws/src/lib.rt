@@ -6,6 +6,7 @@
 #![tactic(auto)]
 
 ghost use Rattle.cg_audit_laws.specs.RunHeadline.{RunsHaveTheHeadline};
+ghost use Rattle.cg_audit_laws.specs.RunWorld.{RunsHaveAWorld};
 
 /// The headline is true of the table at the end of each endpoint's last life, if the lives are one run.
 ///
@@ -14,4 +15,10 @@ ghost use Rattle.cg_audit_laws.specs.RunHeadline.{RunsHaveTheHeadline};
 /// digests give equal tables and rings.
 pub fn runs_have_the_headline()
     ensures { RunsHaveTheHeadline }
+{}
+
+/// The tables at the end of the last lives, if the lives are one run, are those of the world by places after the order:
+/// after an action for each of its items, the start of a life or the event of a record.
+pub fn runs_have_a_world()
+    ensures { RunsHaveAWorld }
 {}
