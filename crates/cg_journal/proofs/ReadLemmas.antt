@@ -146,7 +146,9 @@ module _ {R : Type 0} (before after : Option (List ℕ)) (old new : Counted R) (
       text = text;
       read = read;
       kept = kept;
-      number = 1 + length front;
+      front = front;
+      rest = rest;
+      are = are;
       told = line_told m front u.line taken (line ∙ ap one_more same);
       unhidden = none_before text front rest m are taken;
     }
@@ -192,7 +194,6 @@ module _ {R : Type 0} (before after : Option (List ℕ)) (old new : Counted R) (
       text = s.text;
       read = s.read;
       caused = s.caused;
-      number = 1 + length (ended_lines [] s.text);
       told = line_told q (ended_lines [] s.text) u.line s.taken line;
       unhidden = none_before s.text (ended_lines [] s.text) (last_line (open_line [] s.text)) q refl s.taken;
     }

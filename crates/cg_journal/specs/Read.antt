@@ -1,5 +1,5 @@
 -- Reading a journal: the history, or the line that ends reading and its fault.
-use Rattle.std.specs.Prelude.{◌≡◌, ℕ, ◌≤◌, ◌⊎◌, List, ◌++◌, Option, Some, None, Result, Ok, Err, MatchResult}
+use Rattle.std.specs.Prelude.{◌≡◌, ℕ, ◌+◌, ◌≤◌, ◌⊎◌, List, [], ◌++◌, length, Option, Some, None, Result, Ok, Err, MatchResult}
 use Rattle.std.specs.Io.KnownBytes.{Consumes, IsAtEnd}
 use Rattle.cg_types.specs.declared.fault.Fault.{Fault}
 use Rattle.cg_types.specs.declared.fault.Fault.TheVariants.{OutOfMemory, BadText, ReadFault}
@@ -8,6 +8,7 @@ use Rattle.cg_links.specs.Counts.{one_more}
 use Rattle.cg_links.specs.Counted.{KeepsCounts, CountsCalls, CountsFailed}
 use Rattle.cg_links.specs.declared.transfer.TheConstants.{MOST_READS}
 use Rattle.cg_history.specs.History.{HistoryValue}
+use Rattle.cg_lines.specs.Lines.{ended_lines, lines_of}
 use Rattle.cg_journal.specs.declared.reading.Progress.{Progress}
 use Rattle.cg_journal.specs.declared.unread.Unread.{Unread}
 use Rattle.cg_journal.specs.Reading.{after_line, journal_in, told_number}
@@ -50,26 +51,27 @@ module _ {R : Type 0} (before after : Option (List ℕ)) (old new : Counted R) w
     pub first : ((rest : List ℕ) → journal_in (text ++ rest) ≡ Err number)
         ⊎ (IsAtEnd after × (journal_in text ≡ Err number))
 
-  -- memory ran out in the line of this number, and no line before is unreadable
+  -- memory ran out in the line after these of the text, and none of them is unreadable
   pub record LacksMemory (u : Unread) : Type 0 where
     pub fault : u.fault ≡ OutOfMemory
     pub text : List ℕ
     pub read : Consumes before after text
     pub kept : KeepsCounts old new
-    pub number : ℕ
-    pub told : u.line ≡ told_number number
-    pub unhidden : NoneBefore text number
+    pub front : List (List ℕ)
+    pub rest : List (List ℕ)
+    pub are : lines_of text ≡ front ++ rest
+    pub told : u.line ≡ told_number (1 + length front)
+    pub unhidden : NoneBefore text (1 + length front)
 
-  -- A read failed, or all reads that are allowed were made, in the line of this number, and no line before is
-  -- unreadable.
+  -- A read failed, or all reads that are allowed were made, in the line after those that end in the text, and none of
+  -- them is unreadable.
   pub record MeetsReadFault (u : Unread) : Type 0 where
     pub fault : u.fault ≡ ReadFault
     pub text : List ℕ
     pub read : Consumes before after text
     pub caused : CountsFailed old new ⊎ CountsCalls old new MOST_READS
-    pub number : ℕ
-    pub told : u.line ≡ told_number number
-    pub unhidden : NoneBefore text number
+    pub told : u.line ≡ told_number (1 + length (ended_lines [] text))
+    pub unhidden : NoneBefore text (1 + length (ended_lines [] text))
 
   abbrev pub FailsToRead : Unread → Type 0
   FailsToRead u = MeetsUnreadable u ⊎ (LacksMemory u ⊎ MeetsReadFault u)
