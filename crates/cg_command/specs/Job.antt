@@ -11,6 +11,10 @@ use Rattle.cg_command.specs.declared.job.Subcommand.TheVariants.{Answer, Sim, Au
 abbrev pub with_version : App → App
 with_version app = record app { top = record app.top { has_version = true } }
 
+-- a command whose words are those after the program's name
+abbrev pub without_name : App → App
+without_name app = record app { top = record app.top { no_binary_name = true } }
+
 -- one file
 abbrev pub file_rule : Rule
 file_rule = record (new_rule (codes "file")) { required = true }
@@ -32,7 +36,7 @@ unfoldable pub program : App
 program =
     with_subcommand
     (with_subcommand
-    (with_subcommand (with_subcommand (with_version (new_app (codes "cg"))) (new_app (codes "answer")).top)
+    (with_subcommand (with_subcommand (without_name (with_version (new_app (codes "cg")))) (new_app (codes "answer")).top)
     (new_app (codes "sim")).top)
     audit_command.top)
     serve_command.top

@@ -3,7 +3,7 @@
 ghost use Rattle.std.specs.Prelude.{◌≡◌, IfOk, IfErr, true, false, codes};
 ghost use Rattle.clap.specs.Words.{app_of, found_of, new_app, rows_of, subcommand_rows_of, kind_of, FailsBy};
 ghost use Rattle.clap.specs.declared.builder.command.Command.TheViews.{out-Command};
-ghost use Rattle.cg_command.specs.Job.{with_version, audit_command, serve_command, program, subcommand_named as named_subcommand, subcommand_met, files_met, files_in, texts, subcommand_in, are_taken, faults_of};
+ghost use Rattle.cg_command.specs.Job.{with_version, without_name, audit_command, serve_command, program, subcommand_named as named_subcommand, subcommand_met, files_met, files_in, texts, subcommand_in, are_taken, faults_of};
 
 use crate::texts::{
     ABOUT, ANSWER_ABOUT, ANSWER_HELP, AUDIT_ABOUT, AUDIT_HELP, SERVE_ABOUT, SERVE_HELP, SIM_ABOUT,
@@ -73,27 +73,29 @@ fn serve<'a>(alloc: Global) -> Result<Command<'a>, AllocError>
     Ok(with_file)
 }
 
-fn top<'a>(alloc: Global) -> Command<'a>
-    ensures { app_of result ≡ with_version (new_app (codes "cg")) }
+fn top<'a>(alloc: Global) -> Result<Command<'a>, AllocError>
+    ensures { IfOk result (λ c. app_of c ≡ without_name (with_version (new_app (codes "cg")))) }
 {
     let command = Command::new(alloc, "cg").about(ABOUT);
-    let command = command.after_help(STATUSES);
-    command.version(VERSION)
+    let helped = command.after_help(STATUSES);
+    let named = helped.version(VERSION).bin_name("cg")?;
+    Ok(named.no_binary_name(true))
 }
 
 fn command<'a>(alloc: Global) -> Result<Command<'a>, AllocError>
     ensures { IfOk result (λ c. app_of c ≡ program) }
 {
+    let top = top(alloc)?;
     let audit = audit(alloc)?;
     let serve = serve(alloc)?;
-    let with_answer = top(alloc).subcommand(answer(alloc))?;
+    let with_answer = top.subcommand(answer(alloc))?;
     let with_sim = with_answer.subcommand(sim(alloc))?;
     let with_audit = with_sim.subcommand(audit)?;
     let with_serve = with_audit.subcommand(serve)?;
     Ok(with_serve)
 }
 
-// Returns the matches of the words, of which the first is the program's name.
+// Returns the matches of the words after the program's name.
 fn matches<'a>(alloc: Global, words: &'a [&'a str]) -> Result<ArgMatches<'a>, Error>
     ensures ok { IfOk result (λ m. subcommand_rows_of m ≡ subcommand_in (texts words.entry.now)) }
     ensures passes { IfErr result (λ e. are_taken (texts words.entry.now) ≡ true → kind_of e ≡ ErrorKind.OutOfMemory) }
@@ -123,7 +125,7 @@ fn files_of<'a>(alloc: Global, found: &ArgMatches<'a>) -> Result<Vec<&'a str>, A
     }
 }
 
-/// Reads the job from the words of a command line, of which the first is the program's name.
+/// Reads the job from the words of a command line after the program's name.
 ///
 /// The job is the subcommand that `clap` finds, or `answer` if it finds none, with the files that it finds. The error
 /// is `clap`'s; for a request of help or of the version, it is their text.

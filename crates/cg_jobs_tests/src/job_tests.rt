@@ -5,13 +5,16 @@ use cg_expect::expect;
 use std::alloc::{AllocError, Global};
 use std::test::Fail;
 
-// The words of a line, which are parted by single spaces.
+// The words of a line, which are parted by single spaces. A line without a byte has none.
 fn words_in(alloc: Global, line: &str) -> Result<Vec<&str>, AllocError> {
+    if line.is_empty() {
+        return Ok(Vec::new(alloc));
+    }
     line.split(' ').collect(alloc)
 }
 
-// Tests whether a line names this job, and as its files, in their order, the words after the first two, of which there
-// are `files`.
+// Tests whether a line names this job, and as its files, in their order, the words after the first, of which there are
+// `files`.
 fn names(
     alloc: Global,
     line: &str,
@@ -29,17 +32,13 @@ fn names(
 #[test]
 fn words_name_jobs(rt: HostRuntime) -> Result<(), Fail> {
     for (line, subcommand, files) in [
-        ("cg", Subcommand::Answer, 0),
-        ("cg answer", Subcommand::Answer, 0),
-        ("cg sim", Subcommand::Sim, 0),
-        ("cg audit a", Subcommand::Audit, 1),
-        (
-            "cg audit b.journal a.journal b.journal",
-            Subcommand::Audit,
-            3,
-        ),
-        ("cg serve f", Subcommand::Serve, 1),
-        ("cg serve a.toml", Subcommand::Serve, 1),
+        ("", Subcommand::Answer, 0),
+        ("answer", Subcommand::Answer, 0),
+        ("sim", Subcommand::Sim, 0),
+        ("audit a", Subcommand::Audit, 1),
+        ("audit b.journal a.journal b.journal", Subcommand::Audit, 3),
+        ("serve f", Subcommand::Serve, 1),
+        ("serve a.toml", Subcommand::Serve, 1),
     ] {
         expect!(names(rt.alloc(), line, subcommand, files)?, "{line}")?;
     }
@@ -66,24 +65,24 @@ fn is_told(
 #[test]
 fn other_words_are_faults_or_ask_for_texts(rt: HostRuntime) -> Result<(), Fail> {
     for (line, status, start, part) in [
-        ("cg sim x", 2, "error: ", ""),
-        ("cg answer x", 2, "error: ", ""),
-        ("cg nothing", 2, "error: ", ""),
-        ("cg ", 2, "error: ", ""),
-        ("cg serve", 2, "error: ", ""),
-        ("cg serve f g", 2, "error: ", ""),
-        ("cg audit", 2, "error: ", ""),
-        ("cg --nothing", 2, "error: ", ""),
-        ("cg --version", 0, "", "cg 0.1.0"),
-        ("cg --help", 0, "", "Play a script"),
-        ("cg --help", 0, "", "Exit status"),
-        ("cg sim --help", 0, "", "deliver N EP NOW"),
-        ("cg answer --help", 0, "", "ENDPOINT GENERATION CLUSTER"),
-        ("cg --help", 0, "", "Run a node"),
-        ("cg serve --help", 0, "", "generation_file"),
-        ("cg serve --help", 0, "", "replicas RF TEXT"),
-        ("cg --help", 0, "", "one run of the gossip"),
-        ("cg audit --help", 0, "", "stuck EP GENERATION ITEM"),
+        ("sim x", 2, "error: ", ""),
+        ("answer x", 2, "error: ", ""),
+        ("nothing", 2, "error: ", ""),
+        (" ", 2, "error: ", ""),
+        ("serve", 2, "error: ", ""),
+        ("serve f g", 2, "error: ", ""),
+        ("audit", 2, "error: ", ""),
+        ("--nothing", 2, "error: ", ""),
+        ("--version", 0, "", "cg 0.1.0"),
+        ("--help", 0, "", "Play a script"),
+        ("--help", 0, "", "Exit status"),
+        ("sim --help", 0, "", "deliver N EP NOW"),
+        ("answer --help", 0, "", "ENDPOINT GENERATION CLUSTER"),
+        ("--help", 0, "", "Run a node"),
+        ("serve --help", 0, "", "generation_file"),
+        ("serve --help", 0, "", "replicas RF TEXT"),
+        ("--help", 0, "", "one run of the gossip"),
+        ("audit --help", 0, "", "stuck EP GENERATION ITEM"),
     ] {
         expect!(
             is_told(rt.alloc(), line, status, start, part)?,

@@ -26,6 +26,14 @@ pub enum Ending {
     Serve(String),
 }
 
+// The words after the first one.
+fn behind_first<'a>(words: &'a [&'a str]) -> &'a [&'a str] {
+    match words {
+        [_, rest @ ..] => rest,
+        [] => words,
+    }
+}
+
 fn texts(alloc: Global, words: &[String]) -> Result<Vec<&str>, AllocError> {
     let mut texts = Vec::with_capacity(alloc, words.len())?;
     for word in words {
@@ -123,12 +131,12 @@ fn unread<R: Print + Eprint>(rt: &R, error: &io::Error) -> u8 {
     MISUSED
 }
 
-// Runs the job that the words name.
+// Runs the job that the words name, of which the first is the program's name.
 fn ran<R: Runtime>(rt: &R, alloc: Global, words: &[String]) -> Ending {
     let Ok(words) = texts(alloc, words) else {
         return Ending::Status(out_of_memory(rt));
     };
-    match job_of(alloc, words.as_slice()) {
+    match job_of(alloc, behind_first(&words)) {
         Ok(job) => done(rt, alloc, &job),
         Err(error) => Ending::Status(told(rt, &error)),
     }
