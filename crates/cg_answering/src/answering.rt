@@ -6,7 +6,7 @@ ghost use Rattle.cg_script.specs.Gives.{Gives};
 ghost use Rattle.cg_links.specs.declared.transfer.TheConstants.{MOST_READS};
 ghost use Rattle.cg_links.specs.Counted.{link_of, calls_of, failed_of, idle_of, CountsFewer};
 ghost use Rattle.cg_answering.specs.Answer.{syn_in as text_syn_in, answer_to_frame, answer_to, text_of, status_of};
-ghost use Rattle.cg_printed.specs.Written.{Wrote};
+ghost use Rattle.cg_printed.specs.Written.{WroteOut};
 ghost use Rattle.cg_answering.specs.Answered.{IsDue, AnswersAll, SaysOutOfMemory};
 
 use crate::request::{Header, request};
@@ -14,8 +14,9 @@ use bytes::Bytes;
 use cg_entry::Entry;
 use cg_exchange::answer_syn;
 use cg_frames::{decode, encode};
-use cg_links::{Counted, read_all, write_bytes};
+use cg_links::{Counted, read_all};
 use cg_messages::{Message, Syn};
+use cg_printed::written;
 use cg_table::Table;
 use cg_types::{Cause, Fault};
 use cg_wire::syn_due;
@@ -78,18 +79,6 @@ fn text_due(alloc: Global, input: &[u8]) -> Result<(String, u8), AllocError>
     }
 }
 
-// Writes a text, and returns the status, which is 1 if the writer failed.
-fn written<W: Write>(writer: &mut Counted<W>, text: &[u8], status: u8) -> u8
-    ensures { Wrote
-        (W.contents (link_of writer.old)) (W.contents (link_of writer.new))
-        writer.old writer.new text.now status result }
-{
-    match write_bytes(writer, text) {
-        Ok(()) => status,
-        Err(_) => 1,
-    }
-}
-
 fn answer_links<R: Read, W: Write>(
     alloc: Global,
     reader: &mut Counted<R>,
@@ -97,7 +86,7 @@ fn answer_links<R: Read, W: Write>(
 ) -> u8
     ensures answered { (text : List ℕ) × (status : ℕ)
         × IsDue (R.remaining (link_of reader.old)) (R.remaining (link_of reader.new)) reader.old reader.new text status
-        × Wrote
+        × WroteOut
         (W.contents (link_of writer.old)) (W.contents (link_of writer.new))
         writer.old writer.new text status result }
     ensures turns { calls_of reader.new ≤ calls_of reader.old + MOST_READS }
@@ -126,8 +115,8 @@ fn answer_links<R: Read, W: Write>(
 /// - BadFrame (bytes after the frame, then a frame of another kind), and then OtherCluster.
 ///
 /// OutOfMemory comes if memory runs out on the way, ReadFault if a read fails or 4,294,967,295 reads do not meet the
-/// end. If the writer fails or takes no byte, a prefix of the text is written, and the status is 1. The whole input is
-/// held in memory, and the writer is not flushed.
+/// end. The text is flushed. If the writer fails or takes no byte, a prefix of the text is written, and the status is 1.
+/// The whole input is held in memory.
 pub fn answer<R: Read, W: Write>(
     alloc: Global,
     reader: &mut Counted<R>,
@@ -136,7 +125,7 @@ pub fn answer<R: Read, W: Write>(
     // The expected text, and the prefix of it that was written.
     ensures answered { (text : List ℕ) × (status : ℕ)
         × IsDue (R.remaining (link_of reader.old)) (R.remaining (link_of reader.new)) reader.old reader.new text status
-        × Wrote
+        × WroteOut
         (W.contents (link_of writer.old)) (W.contents (link_of writer.new))
         writer.old writer.new text status result }
     // If no call of a link failed, no write took nothing and the bound on reads was not met, the text is the answer to

@@ -1,8 +1,17 @@
--- Tests of lives that are to be audited.
-use Rattle.std.specs.Prelude.{Bool, true, ◌==◌, ◌&&◌, not, map, List, [], ◌∷◌, None}
+-- Lives that are to be audited, and tests of them.
+use Rattle.std.specs.Prelude.{Bool, true, ◌==◌, ◌&&◌, not, map, List, [], ◌∷◌, ◌++◌, None}
 use Rattle.std.specs.List.{list_all, list_any}
 use Rattle.cg_types.specs.Rising.{rise_past}
+use Rattle.cg_history.specs.History.{HistoryValue}
 use Rattle.cg_one_run.specs.Items.{LivesValue, generation_of}
+
+-- the lives of an endpoint that has one
+abbrev pub lone_life : HistoryValue → LivesValue
+lone_life h = record { endpoint = h.base.table.own; histories = h ∷ [] }
+
+-- lives of an endpoint, and one more behind them
+abbrev pub then_life : LivesValue → HistoryValue → LivesValue
+then_life l h = record { endpoint = l.endpoint; histories = l.histories ++ h ∷ [] }
 
 -- `true` if no two of these are of one endpoint
 abbrev pub differ : List LivesValue → Bool

@@ -1,15 +1,16 @@
 //! All lives of an endpoint.
 
-ghost use Rattle.std.specs.Prelude.{◌≡◌, ◌↔◌, ◌==◌, map, None, IsTrue, IfSome, IsSome};
+ghost use Rattle.std.specs.Prelude.{◌≡◌, ◌↔◌, ◌==◌, map, None, IsTrue, IfOk, IfSome, IsSome, OnErr, OnOk};
 ghost use Rattle.std.specs.Bool.{OnTrue};
 ghost use Rattle.cg_types.specs.Rising.{rise_past};
 ghost use Rattle.std.specs.List.{list_any, AllByRecursion};
 ghost use Rattle.cg_one_run.specs.Items.{LivesValue, IsLife, AreLives, generation_of};
 ghost use Rattle.cg_audit.specs.LivesCode.{are_of as are_of_lem};
-ghost use Rattle.cg_audit.specs.Lives.{differ, all_rise as all_rise_lem};
+ghost use Rattle.cg_audit.specs.Lives.{differ, all_rise as all_rise_lem, lone_life, then_life};
 
 use cg_history::History;
 use cg_types::{Endpoint, Generation};
+use std::alloc::{AllocError, Global};
 use std::marker::Model;
 
 /// All lives of an endpoint, the first one first.
@@ -39,6 +40,14 @@ fn is_of(endpoint: Endpoint, history: &History) -> bool
     ensures life { OnTrue result (IsLife endpoint history.now) }
 {
     history.base().table().own() == endpoint
+}
+
+// Finds that a history that began with a node of the endpoint is a life of it.
+fn show_life(endpoint: Endpoint, history: &History)
+    requires { history.now.base.table.own ≡ endpoint }
+    ensures { IsLife endpoint history.now }
+{
+    let _base = history.base();
 }
 
 // Returns `true` if each history began with a node of the endpoint; each is then a life of it.
@@ -122,6 +131,31 @@ impl Lives {
             endpoint,
             histories,
         })
+    }
+
+    /// Makes the lives of the endpoint of a history, which is the only one.
+    pub fn of(alloc: Global, history: History) -> Result<Lives, AllocError>
+        ensures { IfOk result (λ l. l ≡ lone_life history) }
+    {
+        let endpoint = history.base().table().own();
+        show_life(endpoint, &history);
+        let mut histories = Vec::with_capacity(alloc, 1)?;
+        histories.push(history)?;
+        Ok(Lives {
+            endpoint,
+            histories,
+        })
+    }
+
+    /// Adds a life behind the others. It has to have begun with a node of their endpoint.
+    pub fn push(&mut self, history: History) -> Result<(), AllocError>
+        requires { history.base.table.own ≡ self.old.endpoint }
+        ensures ok { OnOk result (self.new ≡ then_life self.old history) }
+        ensures err { OnErr result (self.new ≡ self.old) }
+    {
+        show_life(self.endpoint, &history);
+        self.histories.push(history)?;
+        Ok(())
     }
 
     /// The endpoint whose lives these are.

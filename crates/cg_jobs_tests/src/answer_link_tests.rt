@@ -3,6 +3,7 @@
 use cg_answering::answer;
 use cg_expect::{expect, expect_eq};
 use cg_links::{Counted, CountingLink, FailingLink, SlowLink};
+use cg_printed::written;
 use std::alloc::{AllocError, Global};
 use std::test::Fail;
 
@@ -42,12 +43,36 @@ fn each_call_fails_in_turn(rt: HostRuntime) -> Result<(), Fail> {
     for turn in 1..46 {
         expect!(gives(rt.alloc(), turn, 0, unread, (1, 1, 0)), "read {turn}")?;
     }
-    for turn in 1..60 {
+    // the writes of 59 bytes, and the flush
+    for turn in 1..61 {
         expect!(stops(rt.alloc(), turn), "write {turn}")?;
     }
     // one more of each is not called
     expect!(gives(rt.alloc(), 46, 0, ANSWER, (0, 0, 0)))?;
-    expect!(gives(rt.alloc(), 0, 60, ANSWER, (0, 0, 0)))
+    expect!(gives(rt.alloc(), 0, 61, ANSWER, (0, 0, 0)))
+}
+
+// Writes out two bytes while the call of a number fails: the number of bytes written, `true` if all was flushed, and the
+// status.
+fn written_out(alloc: Global, turn: u64) -> (usize, bool, u8) {
+    let mut writer = Counted::new(FailingLink::new(SlowLink::new(Vec::new(alloc)), turn));
+    let status = written(&mut writer, b"ab", 0);
+    let is_flushed = writer.is_flushed();
+    let text = writer.into_link().into_link().into_link();
+    (text.len(), is_flushed, status)
+}
+
+#[test]
+fn a_text_is_written_and_flushed(rt: HostRuntime) -> Result<(), Fail> {
+    for (turn, due) in [
+        (1, (0, true, 1)),
+        (2, (1, false, 1)),
+        (3, (2, false, 1)),
+        (4, (2, true, 0)),
+    ] {
+        expect_eq!(written_out(rt.alloc(), turn), due, "call {turn}")?;
+    }
+    Ok(())
 }
 
 // Answers an input: `true` if the text is the expected one, the status, and the number of reads.

@@ -78,3 +78,8 @@ module _ {R : Type 0} (before after : Option (List ℕ)) (old new : Counted R) w
 
   abbrev pub Reads : Result HistoryValue Unread → Type 0
   Reads result = MatchResult result ReadsHistory FailsToRead
+
+  -- the same, with the fault and without the line
+  abbrev pub ReadsUntold : Result HistoryValue Fault → Type 0
+  ReadsUntold result =
+      MatchResult result ReadsHistory (λ f. (line : ℕ) × FailsToRead (record { line = line; fault = f }))

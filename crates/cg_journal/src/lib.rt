@@ -14,6 +14,6 @@ mod text;
 mod unread;
 mod writing;
 
-pub use reading::read_journal;
+pub use reading::{read_journal, read_journal_telling};
 pub use unread::Unread;
 pub use writing::write_journal;

@@ -7,7 +7,7 @@ ghost use Rattle.cg_links.specs.Counted.{link_of, calls_of};
 ghost use Rattle.cg_links.specs.declared.transfer.TheConstants.{MOST_READS};
 ghost use Rattle.cg_history.specs.History.{HistoryValue};
 ghost use Rattle.cg_journal.specs.Reading.{event_in as text_event_in, history_after, after_line};
-ghost use Rattle.cg_journal.specs.Read.{TakesLine, RefusesLine, Reads};
+ghost use Rattle.cg_journal.specs.Read.{Reads, ReadsUntold};
 
 use crate::event::event_in;
 use crate::life::life_in;
@@ -96,7 +96,10 @@ impl TakeLine for Progress {
 /// incomplete, of another kind or not all of the line, or if the node refuses its event. `BadText` also if there is no
 /// line. `ReadFault` if a read fails or 4,294,967,295 reads were made, `OutOfMemory` if memory runs out in the line;
 /// then no line before it is unreadable. The memory is that of the history and of the longest line.
-pub fn read_journal<R: Read>(alloc: Global, reader: &mut Counted<R>) -> Result<History, Unread>
+pub fn read_journal_telling<R: Read>(
+    alloc: Global,
+    reader: &mut Counted<R>,
+) -> Result<History, Unread>
     ensures read { Reads (R.remaining (link_of reader.old)) (R.remaining (link_of reader.new))
         reader.old reader.new result }
     ensures turns { calls_of reader.new ≤ calls_of reader.old + MOST_READS }
@@ -113,5 +116,17 @@ pub fn read_journal<R: Read>(alloc: Global, reader: &mut Counted<R>) -> Result<H
     match history {
         Some(history) => Ok(history),
         None => Err(unread_behind(lines, Fault::BadText)),
+    }
+}
+
+/// Reads a journal as `read_journal_telling` does, and returns the fault without the line.
+pub fn read_journal<R: Read>(alloc: Global, reader: &mut Counted<R>) -> Result<History, Fault>
+    ensures read { ReadsUntold (R.remaining (link_of reader.old)) (R.remaining (link_of reader.new))
+        reader.old reader.new result }
+    ensures turns { calls_of reader.new ≤ calls_of reader.old + MOST_READS }
+{
+    match read_journal_telling(alloc, reader) {
+        Ok(history) => Ok(history),
+        Err(unread) => Err(unread.fault),
     }
 }

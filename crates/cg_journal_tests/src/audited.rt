@@ -23,6 +23,14 @@ pub(crate) const ONE_RUN: &str = "10.0.0.1:7000 9 0\n10.0.0.1:7000 9 1\n10.0.0.2
 // A life of B that did nothing.
 const B_5: &str = "life 10.0.0.2:7000 5 1000 2000 60000 18421 - c1\n";
 
+// Lives of B and of A that did nothing.
+const B_6: &str = "life 10.0.0.2:7000 6 1000 2000 60000 18421 - c1\n";
+
+const A_9: &str = "life 10.0.0.1:7000 9 1000 2000 60000 18421 - c1\n";
+
+// The starts of A and of B, twice.
+const STARTS: &str = "10.0.0.1:7000 9 0\n10.0.0.2:7000 5 0\n10.0.0.2:7000 6 0\none run\n";
+
 // The text of an audit of journals, and the status.
 fn said(alloc: Global, journals: &[&str]) -> Result<(String, u8), Fail> {
     let mut readers = Vec::new(alloc);
@@ -34,8 +42,10 @@ fn said(alloc: Global, journals: &[&str]) -> Result<(String, u8), Fail> {
     Ok((String::from_utf8(writer.into_link())?, status))
 }
 
-const SAID: [(&[&str], &str, u8); 5] = [
+const SAID: [(&[&str], &str, u8); 7] = [
     (&[A, B], ONE_RUN, 0),
+    (&[B, A], ONE_RUN, 0),
+    (&[B_5, A_9, B_6], STARTS, 0),
     (&[], "one run\n", 0),
     (&[A, B_5], "stuck 10.0.0.1:7000 9 2\nfault 17 Stuck\n", 1),
     (&[B_5, B_5], "fault 11 NotRising\n", 1),

@@ -3,7 +3,7 @@
 use crate::audited::{A, B, ONE_RUN};
 use cg_auditing::audit_files;
 use cg_expect::expect_eq;
-use cg_journal::{read_journal, write_journal};
+use cg_journal::{read_journal, read_journal_telling, write_journal};
 use cg_links::{Counted, FailingLink, SlowLink};
 use std::alloc::Global;
 use std::test::Fail;
@@ -13,7 +13,7 @@ const TEXT: &str = "life 10.0.0.1:7000 9 1000 2000 60000 18421 - c1\nopen\nbeat\
 // Reads while the read of a number fails: the number of records, or the line and the fault; and the number of failures.
 fn read_slowly(alloc: Global, turn: u64) -> (Result<usize, (u64, u8)>, u64) {
     let mut reader = Counted::new(FailingLink::new(SlowLink::new(TEXT.as_bytes()), turn));
-    let end = match read_journal(alloc, &mut reader) {
+    let end = match read_journal_telling(alloc, &mut reader) {
         Ok(history) => Ok(history.records().len()),
         Err(unread) => Err((unread.line, unread.fault.number())),
     };
@@ -91,7 +91,8 @@ fn audits_over_links_that_fail(rt: HostRuntime) -> Result<(), Fail> {
         let end = said_slowly(rt.alloc(), (NEVER, turn, NEVER))?;
         expect_eq!(end, (19, false, true, 1), "B, read {turn}")?;
     }
-    for count in 0..ONE_RUN.len() {
+    // the writes of all bytes, and the flush
+    for count in 0..=ONE_RUN.len() {
         let end = said_slowly(rt.alloc(), (NEVER, NEVER, count as u64 + 1))?;
         expect_eq!(end, (count, true, false, 1), "write {count}")?;
     }

@@ -2,7 +2,7 @@
 
 use cg_auditing::Journals;
 use cg_expect::expect_eq;
-use cg_journal::{Unread, read_journal};
+use cg_journal::{Unread, read_journal, read_journal_telling};
 use cg_links::Counted;
 use cg_types::Fault;
 use std::alloc::Global;
@@ -13,7 +13,7 @@ use std::test::Fail;
 type End = (Result<usize, (u64, u8)>, Result<(), (u64, u8)>);
 
 fn end_of(alloc: Global, text: &[u8]) -> End {
-    let alone = match read_journal(alloc, &mut Counted::new(text)) {
+    let alone = match read_journal_telling(alloc, &mut Counted::new(text)) {
         Ok(history) => Ok(history.records().len()),
         Err(unread) => Err((unread.line, unread.fault.number())),
     };
@@ -158,5 +158,10 @@ fn an_unread_journal_says_where(rt: HostRuntime) -> Result<(), Fail> {
     expect_eq!(
         told.as_str(),
         "the journal can't be read at line 2: 2 BadText"
-    )
+    )?;
+    let quiet = match read_journal(rt.alloc(), &mut Counted::new(&b"live\n"[..])) {
+        Ok(_) => 0,
+        Err(fault) => fault.number(),
+    };
+    expect_eq!(quiet, 2)
 }

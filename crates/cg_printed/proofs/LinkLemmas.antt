@@ -4,7 +4,7 @@ use Rattle.std.specs.Io.KnownBytes.{Consumes, IsAtEnd}
 use Rattle.cg_links.specs.declared.counted.Counted.{Counted}
 use Rattle.cg_links.specs.declared.transfer.TheConstants.{MOST_READS}
 use Rattle.cg_links.specs.Counted.{failed_of, idle_of, CountsFewer, CountsCalls, CountsFailed, CountsIdle}
-use Rattle.cg_printed.specs.Written.{WroteAll, Wrote}
+use Rattle.cg_printed.specs.Written.{WroteAll, Wrote, WroteOut}
 
 -- all bytes of the input were read
 pub all_read : (input bytes : List ℕ) (after : Option (List ℕ)) → Consumes (Some input) after bytes → IsAtEnd after → bytes ≡ input
@@ -25,3 +25,8 @@ pub all_written : {W : Type 0} (held holds : Option (List ℕ)) (w0 w1 : Counted
     → failed_of w1 ≡ 0 → idle_of w1 ≡ 0 → WroteAll held holds w0 w1 text status result
 all_written held holds w0 w1 text status result (inl all) f i = all
 all_written held holds w0 w1 text status result (inr front) f i = absurd (never_broken w0 w1 f i front.caused)
+
+pub wrote_out : {W : Type 0} (held holds : Option (List ℕ)) (w0 w1 : Counted W) (text : List ℕ) (status result : ℕ) → WroteOut held holds w0 w1 text status result
+    → Wrote held holds w0 w1 text status result
+wrote_out held holds w0 w1 text status result (inl all) = inl all.0
+wrote_out held holds w0 w1 text status result (inr front) = inr front

@@ -2,7 +2,7 @@
 use Rattle.std.specs.Prelude.{◌≡◌, ℕ, ◌⊎◌, List, take, Option}
 use Rattle.std.specs.Io.KnownBytes.{Appends}
 use Rattle.cg_links.specs.declared.counted.Counted.{Counted}
-use Rattle.cg_links.specs.Counted.{KeepsCounts, CountsFailed, CountsIdle}
+use Rattle.cg_links.specs.Counted.{KeepsCounts, CountsFailed, CountsIdle, IsFlushed}
 
 -- all of the text was written
 pub record WroteAll {L : Type 0} (before after : Option (List ℕ)) (old new : Counted L) (text : List ℕ)
@@ -24,3 +24,9 @@ abbrev pub Wrote : {L : Type 0}
     → Option (List ℕ) → Option (List ℕ) → Counted L → Counted L → List ℕ → ℕ → ℕ → Type 0
 Wrote before after old new text status result =
     WroteAll before after old new text status result ⊎ WroteFront before after old new text result
+
+-- The same, and a text that was written whole was flushed.
+abbrev pub WroteOut : {L : Type 0}
+    → Option (List ℕ) → Option (List ℕ) → Counted L → Counted L → List ℕ → ℕ → ℕ → Type 0
+WroteOut before after old new text status result =
+    (WroteAll before after old new text status result × IsFlushed new) ⊎ WroteFront before after old new text result

@@ -1,8 +1,10 @@
 //! A run of the program: its words, its streams and its status.
 
 use cg_answering::answer;
-use cg_auditing::{Journals, Unread, write_report, write_unread};
+use cg_auditing::{Source, Unread, audit_files};
 use cg_command::{Error, ErrorKind, Job, Subcommand, job_of};
+use cg_history::History;
+use cg_journal::read_journal_telling;
 use cg_links::Counted;
 use cg_sim::sim;
 use cg_types::Fault;
@@ -48,6 +50,14 @@ fn out_of_memory<R: Print>(rt: &R) -> u8 {
     FAILED
 }
 
+// The fault of a file that can't be opened.
+fn fault_of_open(error: &io::Error) -> Fault {
+    match error.kind() {
+        io::ErrorKind::OutOfMemory => Fault::OutOfMemory,
+        _ => Fault::ReadFault,
+    }
+}
+
 // Prints the fault of the words, or the help or the version that they ask for, and returns the status.
 fn told<R: Print + Eprint>(rt: &R, error: &Error) -> u8 {
     if error.kind() == ErrorKind::OutOfMemory {
@@ -57,45 +67,61 @@ fn told<R: Print + Eprint>(rt: &R, error: &Error) -> u8 {
     if error.use_stderr() { MISUSED } else { 0 }
 }
 
-// Reads the journal of a file, if it can be opened.
-fn read<R: Files>(
-    rt: &R,
-    alloc: Global,
-    journals: &mut Journals,
-    file: &str,
-) -> Result<(), Unread> {
-    match fs::open(rt, file) {
-        Ok(link) => journals.read(alloc, &mut Counted::new(link)),
-        Err(_) => Err(Unread {
-            line: 0,
-            fault: Fault::ReadFault,
-        }),
-    }
+// A file with a journal, which is opened when it is read.
+#[derive(Drop)]
+struct JournalFile<'a, R> {
+    rt: &'a R,
+    path: &'a str,
 }
 
-// Prints on standard error the line at which a journal can't be read, and the fault.
-fn tell_place<R: Eprint>(rt: &R, file: &str, unread: Unread) {
-    let Unread { line, fault } = unread;
-    let _ = match line {
-        0 => eprintln!(rt; "cg audit: {file}: {fault}"),
-        _ => eprintln!(rt; "cg audit: {file}: journal line {line}: {fault}"),
-    };
-}
+// What a file holds is not known to a clause.
+impl<'a, R: Files + Eprint> Source for JournalFile<'a, R> {
+    ghost use Rattle.std.specs.Prelude.{⊤};
 
-// Reads one journal from each file, and writes whether they are one run.
-fn audit<R: Print + Eprint + Files>(rt: &R, alloc: Global, files: &[&str]) -> u8 {
-    let mut writer = Counted::new(io::writer(rt));
-    let mut journals = Journals::new(alloc);
-    for file in files {
-        match read(rt, alloc, &mut journals, file) {
-            Ok(()) => {}
-            Err(unread) => {
-                tell_place(rt, file, unread);
-                return write_unread(alloc, unread.fault, &mut writer);
-            }
+    ghost reads = { λ s t h. ⊤ };
+
+    ghost fails = { λ s t u. ⊤ };
+
+    fn read_history(&mut self, alloc: Global) -> Result<History, Unread> {
+        match fs::open(self.rt, self.path) {
+            Ok(link) => read_journal_telling(alloc, &mut Counted::new(link)),
+            Err(error) => Err(Unread {
+                line: 0,
+                fault: fault_of_open(&error),
+            }),
         }
     }
-    write_report(alloc, journals, &mut writer)
+
+    // Prints on standard error the file, the line and the fault.
+    fn tell(&self, unread: &Unread) {
+        let Unread { line, fault } = *unread;
+        let path = self.path;
+        let _ = match line {
+            0 => eprintln!(self.rt; "cg audit: {path}: {fault}"),
+            _ => eprintln!(self.rt; "cg audit: {path}: journal line {line}: {fault}"),
+        };
+    }
+}
+
+fn journal_files<'a, R>(
+    rt: &'a R,
+    alloc: Global,
+    paths: &'a [&'a str],
+) -> Result<Vec<JournalFile<'a, R>>, AllocError> {
+    let mut files = Vec::with_capacity(alloc, paths.len())?;
+    for path in paths {
+        files.push(JournalFile { rt, path })?;
+    }
+    Ok(files)
+}
+
+// Audits the journals of the files.
+fn audit<R: Print + Eprint + Files>(rt: &R, alloc: Global, paths: &[&str]) -> u8 {
+    let mut writer = Counted::new(io::writer(rt));
+    match journal_files(rt, alloc, paths) {
+        Ok(mut files) => audit_files(alloc, &mut files, &mut writer),
+        Err(_) => out_of_memory(rt),
+    }
 }
 
 // Returns the settings file of the node that is to be served.

@@ -20,13 +20,6 @@ fn syn_in(reply: Reply) -> Option<Syn> {
     }
 }
 
-// The lives of an endpoint that had this one alone.
-fn lives_of(alloc: Global, own: u16, history: History) -> Result<Lives, Fail> {
-    let mut histories = Vec::new(alloc);
-    histories.push(history)?;
-    Ok(Lives::new(endpoint(own), histories).ok_or("lives")?)
-}
-
 // An endpoint that has opened, and its SYN.
 fn opened(alloc: Global, own: u16) -> Result<(History, Syn), Fail> {
     let mut history = begun(alloc, own, 9)?;
@@ -41,7 +34,7 @@ fn linked(alloc: Global, own: u16, handed: Option<Event>) -> Result<(Lives, Even
     if let Some(syn) = handed {
         history.apply(alloc, 0, syn)?;
     }
-    Ok((lives_of(alloc, own, history)?, Event::Syn { m }))
+    Ok((Lives::of(alloc, history)?, Event::Syn { m }))
 }
 
 // The last endpoint comes first.

@@ -41,9 +41,13 @@ const SAID: [(&[(u16, &[(u16, u32)])], &str); 7] = [
     (&[(B, &[(A, 9)])], "another"),
 ];
 
-// The endpoint of these lives, and their number.
+// The endpoint of lives of which one is added to another, and their number.
 fn shown(alloc: Global) -> Result<(Endpoint, usize), Fail> {
-    let lives = lives(alloc, B, &[(B, 5), (B, 6)])?.ok_or("lives")?;
+    let mut lives = Lives::of(alloc, begun(alloc, B, 5)?)?;
+    let next = begun(alloc, B, 6)?;
+    if next.base().table().own() == lives.endpoint() {
+        lives.push(next)?;
+    }
     Ok((lives.endpoint(), lives.histories().len()))
 }
 
