@@ -91,8 +91,10 @@ impl<'a, R> Clock for Faulty<'a, R> {
     }
 
     fn sleep(&self, duration: Duration) {
-        self.slept
-            .fetch_add(duration.as_millis() as u64, Ordering::SeqCst);
+        self.slept.fetch_add(
+            u64::try_from(duration.as_millis()).unwrap_or(u64::MAX),
+            Ordering::SeqCst,
+        );
     }
 }
 
