@@ -1,11 +1,13 @@
-//! Laws of journals, each the contract of an empty function, and the law that each event in hand meets their premise.
+//! Laws of journals, each the contract of an empty function, and the laws that each event and each history in hand meet their premises.
 #![tactic(auto)]
 
 ghost use Rattle.cg_journal_laws.specs.Laws.{ReadHistoriesAreOfTheirLines, FrontsAreRead, WrittenEventsAreRead, WrittenHistoriesAreRead, WritableHistoriesGoOn, ReadHistoriesAreReadAgain};
 
 mod event;
+mod history;
 
 pub use event::every_event_fits;
+pub use history::every_history_fits;
 
 /// A journal is read as a history that began as its first line says, with one record for each other line, in order. The
 /// record has the line's event, for caller 0.

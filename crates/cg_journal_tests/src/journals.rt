@@ -8,7 +8,7 @@ use cg_events::Event;
 use cg_expect::expect_eq;
 use cg_history::History;
 use cg_journal::{read_journal, write_journal};
-use cg_journal_laws::every_event_fits;
+use cg_journal_laws::{every_event_fits, every_history_fits};
 use cg_links::Counted;
 use std::alloc::Global;
 use std::test::Fail;
@@ -21,6 +21,7 @@ fn told(history: &History) -> Told {
     let node = history.node().table();
     let base = history.base().table();
     let records = history.records();
+    every_history_fits(history);
     for record in records {
         every_event_fits(&record.event);
     }

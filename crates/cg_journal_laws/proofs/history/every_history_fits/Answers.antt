@@ -1,0 +1,14 @@
+use Rattle.std.proofs.Common.{subst, ◌∙◌}
+use Rattle.cg_core.specs.Values.{NodeValue}
+use Rattle.cg_history.proofs.Replaying.{base_is_start}
+use Rattle.cg_journal_laws.specs.Contents.{MayStart}
+use Rattle.cg_journal_laws.proofs.history.every_history_fits.Goals as goal
+
+pub returns : goal.returns
+returns c =
+    let at = c.base.ensures.value ∙ base_is_start c.args.history.now c.base.ensures.replayed in
+    record {
+      replayed = c.base.ensures.replayed;
+      start = subst (λ (n : NodeValue). MayStart n.table.own n.settings) at c.show_start.ensures;
+      events = rw c.records.ensures.value at c.show_events.ensures;
+    }
