@@ -1,15 +1,17 @@
 //! The generation that a node keeps from one life to the next.
 
-ghost use Rattle.std.specs.Prelude.{◌≡◌, ◌⊎◌, IfOk, IfErr, string_bytes};
+ghost use Rattle.std.specs.Prelude.{◌≡◌, ◌⊎◌, IfOk, IfErr, OnOk, MatchResult, string_bytes};
 ghost use Rattle.cg_types.specs.declared.fault.Fault.TheVariants as faults;
+ghost use Rattle.cg_files.specs.Disk.{Replaces, Unreplaced};
+ghost use Rattle.cg_files.specs.Storing.{Stored, Unstored};
 ghost use Rattle.cg_files.specs.Generation.{generation_in as generation_of, text_of};
 
+use crate::disk::Disk;
 use crate::reading::read_file;
 use crate::replacing::replace;
 use cg_types::{Fault, Generation, cut};
 use std::alloc::{AllocError, Global};
 use std::fmt::Write;
-use std::rt::Files;
 
 // The length of the longest file that holds a generation: ten digits and a line feed.
 const MOST: u32 = 11;
@@ -43,15 +45,16 @@ pub fn generation_text(alloc: Global, generation: Generation) -> Result<String, 
 /// Reads the generation that a file keeps; `None` if there is no file.
 ///
 /// `BadText` if it holds anything else than one number and perhaps a line feed; `ReadFault` if it can't be read,
-/// `OutOfMemory` if memory is refused. The contract names these faults; no clause speaks of the file.
-pub fn stored_generation<R: Files>(
-    rt: &R,
+/// `OutOfMemory` if memory is refused.
+pub fn stored_generation<D: Disk>(
+    disk: &D,
     alloc: Global,
     path: &str,
 ) -> Result<Option<Generation>, Fault>
-    ensures { IfErr result (λ f. (f ≡ faults.OutOfMemory) ⊎ ((f ≡ faults.BadText) ⊎ (f ≡ faults.ReadFault))) }
+    ensures { MatchResult result
+        (Stored D.did D.File.remaining path.now) (Unstored D.did D.File.remaining path.now) }
 {
-    match read_file(rt, alloc, path, MOST) {
+    match read_file(disk, alloc, path, MOST) {
         Ok(Some(bytes)) => match generation_in(&bytes) {
             Some(generation) => Ok(Some(generation)),
             None => Err(Fault::BadText),
@@ -63,18 +66,19 @@ pub fn stored_generation<R: Files>(
 
 /// Stores a generation in a file, in place of the old one.
 ///
-/// After a crash the file keeps the old one or the new one. `WriteFault` if storing fails, `OutOfMemory` if memory is
-/// refused. The contract names these faults; no clause speaks of the file.
-pub fn store_generation<R: Files>(
-    rt: &R,
+/// After a crash the file keeps the old one or the new one; no clause speaks of crashes. `WriteFault` if storing fails,
+/// `OutOfMemory` if memory is refused.
+pub fn store_generation<D: Disk>(
+    disk: &D,
     alloc: Global,
     path: &str,
     generation: Generation,
 ) -> Result<(), Fault>
-    ensures { IfErr result (λ f. (f ≡ faults.OutOfMemory) ⊎ (f ≡ faults.WriteFault)) }
+    ensures stored { OnOk result (Replaces D.did D.File.contents path.now (text_of generation)) }
+    ensures err { IfErr result (λ f. (f ≡ faults.OutOfMemory) ⊎ Unreplaced D.did path.now f) }
 {
     let text = generation_text(alloc, generation)?;
-    match replace(rt, alloc, path, text.as_bytes()) {
+    match replace(disk, alloc, path, text.as_bytes()) {
         Ok(()) => Ok(()),
         Err(fault) => Err(fault),
     }

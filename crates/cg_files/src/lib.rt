@@ -4,11 +4,14 @@
 //! and never a part. What is no regular file is never replaced.
 #![tactic(auto)]
 
+mod disk;
 mod generation;
 pub mod laws;
 mod reading;
 mod replacing;
+mod system;
 
+pub use disk::Disk;
 pub use generation::{generation_in, generation_text, store_generation, stored_generation};
 pub use reading::read_file;
-pub use replacing::{Replacement, place_of, replace};
+pub use replacing::{Replacement, replace};

@@ -1,41 +1,20 @@
 //! Files that are read.
 
-ghost use Rattle.std.specs.Prelude.{◌≡◌, ◌⊎◌, ◌≤◌, length, IfOk, IfErr, IfSome};
+ghost use Rattle.std.specs.Prelude.{◌≡◌, ◌⊎◌, ◌≤◌, ◌<◌, length, Err, IfOk, IfErr, IfSome, MatchResult, option_map};
 ghost use Rattle.cg_types.specs.declared.fault.Fault.TheVariants as faults;
+ghost use Rattle.cg_files.specs.Disk.{Found, Unfound};
 
+use crate::disk::Disk;
 use cg_links::{Counted, read_all};
 use cg_types::Fault;
 use std::alloc::Global;
-use std::fs;
-use std::io::{Error, ErrorKind, Read};
-use std::rt::Files;
-
-/// Returns the fault of a call that failed: `OutOfMemory` if memory was refused, else the given one.
-pub(crate) fn fault_of(error: &Error, other: Fault) -> Fault
-    ensures { (result ≡ faults.OutOfMemory) ⊎ (result ≡ other) }
-{
-    match error.kind() {
-        ErrorKind::OutOfMemory => Fault::OutOfMemory,
-        _ => other,
-    }
-}
-
-// Opens a file; `None` if there is none.
-fn open<R: Files>(rt: &R, path: &str) -> Result<Option<R::File>, Fault>
-    ensures { IfErr result (λ f. (f ≡ faults.OutOfMemory) ⊎ (f ≡ faults.ReadFault)) }
-{
-    match fs::open(rt, path) {
-        Ok(file) => Ok(Some(file)),
-        Err(error) => match error.kind() {
-            ErrorKind::NotFound => Ok(None),
-            _ => Err(fault_of(&error, Fault::ReadFault)),
-        },
-    }
-}
+use std::io::Read;
 
 // Reads all that a link has, up to `most` bytes.
 fn read_up_to<L: Read + Drop>(alloc: Global, link: L, most: u32) -> Result<Vec<u8>, Fault>
     ensures most { IfOk result (λ v. length v.items ≤ most) }
+    ensures all { IfOk result (λ v. IfSome (L.remaining link) (λ known. v.items ≡ known)) }
+    ensures long { (result ≡ Err faults.BadText) → IfSome (L.remaining link) (λ known. most < length known) }
     ensures err { IfErr result (λ f. (f ≡ faults.OutOfMemory) ⊎ ((f ≡ faults.BadText) ⊎ (f ≡ faults.ReadFault))) }
 {
     let mut link = Counted::new(link.take(u64::from(most) + 1));
@@ -52,17 +31,18 @@ fn read_up_to<L: Read + Drop>(alloc: Global, link: L, most: u32) -> Result<Vec<u
 /// Reads the bytes of a file; `None` if there is no file.
 ///
 /// `BadText` if it has more than `most` bytes, of which no more are read; `ReadFault` if it can't be opened or read,
-/// `OutOfMemory` if the bytes find no memory. No clause says which bytes a file has.
-pub fn read_file<R: Files>(
-    rt: &R,
+/// `OutOfMemory` if the bytes find no memory.
+pub fn read_file<D: Disk>(
+    disk: &D,
     alloc: Global,
     path: &str,
     most: u32,
 ) -> Result<Option<Vec<u8>>, Fault>
-    ensures most { IfOk result (λ found. IfSome found (λ v. length v.items ≤ most)) }
-    ensures err { IfErr result (λ f. (f ≡ faults.OutOfMemory) ⊎ ((f ≡ faults.BadText) ⊎ (f ≡ faults.ReadFault))) }
+    ensures { MatchResult result
+        (λ found. Found D.did D.File.remaining path.now most (option_map (λ v. v.items) found))
+        (Unfound D.did D.File.remaining path.now most) }
 {
-    let file = match open(rt, path) {
+    let file = match disk.open_to_read(path) {
         Ok(Some(file)) => file,
         Ok(None) => return Ok(None),
         Err(fault) => return Err(fault),

@@ -8,11 +8,12 @@ use cg_node_files::{SETTINGS_MOST, next_life, settings_in, try_journal, write_jo
 use cg_samples::{A, endpoint, generation, settings};
 use cg_types::Fault;
 use std::alloc::Global;
+use std::fs::File;
 use std::rt::Files;
 use std::test::Fail;
 
 // The port at which the settings of a file have the node listen, or their fault.
-fn port_in<R: Files>(rt: &R, alloc: Global, file: &str) -> Result<u16, Fault> {
+fn port_in<R: Files<File = File>>(rt: &R, alloc: Global, file: &str) -> Result<u16, Fault> {
     let settings = settings_in(rt, alloc, file)?;
     Ok(settings.listen.port())
 }

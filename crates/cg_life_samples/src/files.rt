@@ -5,6 +5,7 @@ use cg_journal::read_journal;
 use cg_links::Counted;
 use cg_types::{Endpoint, Fault, Generation};
 use std::alloc::Global;
+use std::fs::File;
 use std::net::{Net, TcpListener, TcpStream};
 use std::rt::Files;
 use std::test::Fail;
@@ -22,7 +23,7 @@ fn path_of(alloc: Global, name: &str, ending: &str) -> Result<String, Fail> {
 }
 
 /// Writes a node's file, as a whole.
-pub fn write_file<R: Files>(
+pub fn write_file<R: Files<File = File>>(
     rt: &R,
     alloc: Global,
     name: &str,
@@ -35,7 +36,7 @@ pub fn write_file<R: Files>(
 }
 
 /// Writes the settings of a node that begins two rounds and takes no exchange, and returns their path.
-pub fn write_settings<R: Files>(
+pub fn write_settings<R: Files<File = File>>(
     rt: &R,
     alloc: Global,
     name: &str,
@@ -50,14 +51,19 @@ pub fn write_settings<R: Files>(
 }
 
 /// Removes a node's file, if there is one.
-pub fn remove_file<R: Files>(rt: &R, alloc: Global, name: &str, ending: &str) -> Result<(), Fail> {
+pub fn remove_file<R: Files<File = File>>(
+    rt: &R,
+    alloc: Global,
+    name: &str,
+    ending: &str,
+) -> Result<(), Fail> {
     let path = path_of(alloc, name, ending)?;
     let _ = fs::remove_file(rt, path.as_str());
     Ok(())
 }
 
 /// Reads the generation that a node kept, if it kept one; or returns the fault by which it can't be read.
-pub fn generation_of<R: Files>(
+pub fn generation_of<R: Files<File = File>>(
     rt: &R,
     alloc: Global,
     name: &str,
@@ -72,7 +78,7 @@ pub fn generation_of<R: Files>(
 
 /// Reads the journal that a node left: its endpoint, its generation, and the number of its records; `None` if there is
 /// no file. A journal that can't be read is a failure.
-pub fn journal_of<R: Files>(
+pub fn journal_of<R: Files<File = File>>(
     rt: &R,
     alloc: Global,
     name: &str,

@@ -1,37 +1,99 @@
--- The settings and the generation that a life takes from files, and the faults that prevent it.
-use Rattle.std.specs.Prelude.{◌≡◌, ◌⊎◌, ◌≤◌, ℕ, List, length, Option, Some, Result, Ok, Err, MatchResult}
+-- The settings and the generation that a life takes from files, its journal, and the faults that prevent it.
+use Rattle.std.specs.Prelude.{◌≡◌, ◌⊎◌, ℕ, true, false, List, ◌++◌, codes, Option, Some, None, Result, Ok, Err, IfSome}
 use Rattle.cg_types.specs.declared.fault.Fault.{Fault}
 use Rattle.cg_types.specs.declared.fault.Fault.TheVariants as fault
+use Rattle.cg_files.specs.Disk.{Call, Opened, Placed, Made, Compared, OpenedToLock, Locked, HasBytes, Unfound, Replaces, Unreplaced}
+use Rattle.cg_files.specs.Generation.{text_of}
+use Rattle.cg_files.specs.Replacing.{aside_of}
+use Rattle.cg_files.specs.Storing.{Stored, Unstored}
 use Rattle.cg_settings_file.specs.Settings.{ServeValue, settings_in_bytes}
 use Rattle.cg_version.specs.Version.{generation_at_start}
 use Rattle.cg_node_files.specs.declared.settings.TheConstants.{SETTINGS_MOST}
 
--- faults of its settings
-abbrev pub IsUnsettled : Fault → Type 0
-IsUnsettled fault.OutOfMemory = Unit {0}
-IsUnsettled fault.BadText = Unit {0}
-IsUnsettled fault.ReadFault = Unit {0}
-IsUnsettled f = ⊥
+-- by the calls of a disk that were made, and the bytes that an open file has left or holds
+module _ {F : Type 0} (did : Call F → Type 0) (remaining contents : F → Option (List ℕ)) (path : List ℕ) where
+  -- ---- settings
 
--- faults of its settings or its generation; a life that can't listen, or whose workers do not start, has no others
-abbrev pub IsUnborn : Fault → Type 0
-IsUnborn fault.OutOfMemory = Unit {0}
-IsUnborn fault.BadText = Unit {0}
-IsUnborn fault.VersionsSpent = Unit {0}
-IsUnborn fault.ReadFault = Unit {0}
-IsUnborn fault.WriteFault = Unit {0}
-IsUnborn f = ⊥
+  -- This file, the one of the generation and the journal are three.
+  pub record AreApart (s : ServeValue) : Type 0 where
+    pub generation : did (Compared path s.generation_file false)
+    pub journal : did (Compared path s.journal false)
+    pub both : did (Compared s.generation_file s.journal false)
 
--- The bytes of some file within the limit hold these settings.
-abbrev pub AreTold : ServeValue → Type 0
-AreTold s = (bytes : List ℕ) × (length bytes ≤ SETTINGS_MOST) × (settings_in_bytes bytes ≡ Some s)
+  -- Two of them are one.
+  abbrev pub AreShared : ServeValue → Type 0
+  AreShared s =
+      did (Compared path s.generation_file true)
+      ⊎ (did (Compared path s.journal true) ⊎ did (Compared s.generation_file s.journal true))
 
--- The generation is that of a start, by the stored one and the seconds since 1970.
-abbrev pub IsOfAStart : ℕ → Type 0
-IsOfAStart generation = (stored : Option ℕ) × (seconds : ℕ) × (generation_at_start stored seconds ≡ Ok generation)
+  -- The bytes of the file, within the limit, hold these settings, by which no two files are one.
+  pub record Settles (s : ServeValue) : Type 0 where
+    pub bytes : List ℕ
+    pub are : HasBytes did remaining path SETTINGS_MOST bytes
+    pub hold : settings_in_bytes bytes ≡ Some s
+    pub apart : AreApart s
 
--- The expected generation is kept; or no generation is expected, or it can't be kept.
-abbrev pub KeepsOf : Result ℕ Fault → Result ℕ Fault → Type 0
-KeepsOf due kept =
-    MatchResult kept (λ g. due ≡ Ok g)
-    (λ f. (due ≡ Err f) × (f ≡ fault.VersionsSpent) ⊎ ((f ≡ fault.OutOfMemory) ⊎ (f ≡ fault.WriteFault)))
+  -- They hold settings by which two files are one.
+  pub record IsShared (f : Fault) : Type 0 where
+    pub bytes : List ℕ
+    pub are : HasBytes did remaining path SETTINGS_MOST bytes
+    pub settings : ServeValue
+    pub hold : settings_in_bytes bytes ≡ Some settings
+    pub shared : AreShared settings
+    pub is : f ≡ fault.BadText
+
+  -- The bytes of the file hold no settings, or memory ran out.
+  pub record HoldsNone (f : Fault) : Type 0 where
+    pub bytes : List ℕ
+    pub are : HasBytes did remaining path SETTINGS_MOST bytes
+    pub caused : (f ≡ fault.OutOfMemory) ⊎ ((f ≡ fault.BadText) × (settings_in_bytes bytes ≡ None))
+
+  -- the file can't be read, is missing, or holds no settings by which the files are three
+  abbrev pub Unsettled : Fault → Type 0
+  Unsettled f =
+      Unfound did remaining path SETTINGS_MOST f
+      ⊎ (((f ≡ fault.ReadFault) × did (Opened path (Ok None))) ⊎ (HoldsNone f ⊎ IsShared f))
+
+  -- ---- a generation, by the one that was stored and the seconds since 1970
+
+  -- Stored next, or why not.
+  abbrev pub StoresNext : Option ℕ → ℕ → Result ℕ Fault → Type 0
+  StoresNext stored seconds (Ok g) =
+      (generation_at_start stored seconds ≡ Ok g) × Replaces did contents path (text_of g)
+  StoresNext stored seconds (Err f) =
+      (generation_at_start stored seconds ≡ Err f)
+      ⊎ ((g : ℕ) × (generation_at_start stored seconds ≡ Ok g) × ((f ≡ fault.OutOfMemory) ⊎ Unreplaced did path f))
+
+  -- the file beside it that is locked
+  abbrev pub lock_path : List ℕ
+  lock_path = path ++ codes ".lock"
+
+  -- Under its lock, if there is one, the file was read, and the generation of a start was stored in it; or it could not
+  -- be.
+  pub record Advances (next : Result ℕ Fault) : Type 0 where
+    pub lock : Option F
+    pub opened : did (OpenedToLock lock_path lock)
+    pub locked : IfSome lock (λ l. did (Locked l true))
+    pub stored : Option ℕ
+    pub was : Stored did remaining path stored
+    pub seconds : ℕ
+    pub is : StoresNext stored seconds next
+
+  -- another has the lock
+  pub record IsHeld (f : Fault) : Type 0 where
+    pub lock : F
+    pub opened : did (OpenedToLock lock_path (Some lock))
+    pub held : did (Locked lock false)
+    pub is : f ≡ fault.ReadFault
+
+  abbrev pub IsUnkept : Fault → Type 0
+  IsUnkept f = (f ≡ fault.OutOfMemory) ⊎ (IsHeld f ⊎ (Unstored did remaining path f ⊎ Advances (Err f)))
+
+-- ---- a journal
+
+-- A new file was made beside the one that the path leads to.
+pub record IsTried {F : Type 0} (did : Call F → Type 0) (path : List ℕ) : Type 0 where
+  pub place : List ℕ
+  pub placed : did (Placed path (Ok place))
+  pub new : F
+  pub made : did (Made (aside_of place) place (Ok new))

@@ -1,48 +1,56 @@
 //! The journal that a file holds at the end of a life.
 
-ghost use Rattle.std.specs.Prelude.{◌≡◌, ◌⊎◌, IfErr};
-ghost use Rattle.cg_types.specs.declared.fault.Fault.TheVariants as faults;
+ghost use Rattle.std.specs.Prelude.{IfErr, OnOk};
+ghost use Rattle.cg_files.specs.Disk.{Replaces, Unreplaced};
+ghost use Rattle.cg_journal.specs.Text.{joined, journal_lines};
+ghost use Rattle.cg_node_files.specs.Kept.{IsTried};
 
-use cg_files::{Replacement, place_of};
+use cg_files::{Disk, Replacement};
 use cg_history::History;
 use cg_journal::write_journal;
 use cg_types::Fault;
 use std::alloc::Global;
-use std::rt::Files;
 
 /// Tries whether a file can hold a journal: a new file is begun beside it, and removed.
 ///
-/// `WriteFault` if that can't be done, `OutOfMemory` if memory is refused. The contract names these faults; no clause
-/// speaks of the file.
-pub fn try_journal<R: Files>(rt: &R, alloc: Global, file: &str) -> Result<(), Fault>
-    ensures { IfErr result (λ f. (f ≡ faults.OutOfMemory) ⊎ (f ≡ faults.WriteFault)) }
+/// `WriteFault` if that can't be done, `OutOfMemory` if memory is refused.
+pub fn try_journal<D: Disk>(disk: &D, alloc: Global, file: &str) -> Result<(), Fault>
+    ensures tried { OnOk result (IsTried D.did file.now) }
+    ensures err { IfErr result (Unreplaced D.did file.now) }
 {
-    let place = place_of(rt, alloc, file)?;
-    match Replacement::begin(rt, alloc, place.as_str()) {
-        Ok(new) => new.remove(rt),
+    let place = match disk.place(alloc, file) {
+        Ok(place) => place,
+        Err(fault) => return Err(fault),
+    };
+    match Replacement::begin(disk, alloc, place.as_str()) {
+        Ok(new) => new.remove(disk),
         Err(fault) => Err(fault),
     }
 }
 
 /// Writes the journal of a history to a file, in place of its old text.
 ///
-/// After a crash the file holds the old text or the new one. `WriteFault` if writing fails, `OutOfMemory` if memory is
-/// refused. The contract names these faults; no clause speaks of the file.
-pub fn write_journal_to<R: Files>(
-    rt: &R,
+/// After a crash the file holds the old text or the new one; no clause speaks of crashes. `WriteFault` if writing
+/// fails, `OutOfMemory` if memory is refused.
+pub fn write_journal_to<D: Disk>(
+    disk: &D,
     alloc: Global,
     file: &str,
     history: &History,
 ) -> Result<(), Fault>
-    ensures { IfErr result (λ f. (f ≡ faults.OutOfMemory) ⊎ (f ≡ faults.WriteFault)) }
+    ensures written { OnOk result (Replaces D.did D.File.contents file.now (joined (journal_lines history.now))) }
+    ensures err { IfErr result (Unreplaced D.did file.now) }
 {
-    let place = place_of(rt, alloc, file)?;
-    let mut new = match Replacement::begin(rt, alloc, place.as_str()) {
+    let place = match disk.place(alloc, file) {
+        Ok(place) => place,
+        Err(fault) => return Err(fault),
+    };
+    let mut new = match Replacement::begin(disk, alloc, place.as_str()) {
         Ok(new) => new,
         Err(fault) => return Err(fault),
     };
-    match write_journal(alloc, history, new.link()) {
-        Ok(()) => new.put(rt, place.as_str()),
+    match write_journal(alloc, history, &mut new.link) {
+        Ok(()) => new.put(disk, place.as_str()),
         Err(fault) => Err(fault),
     }
 }

@@ -1,14 +1,19 @@
 -- The lives of a node: their beginnings and their results.
-use Rattle.std.specs.Prelude.{◌≡◌, ℕ, Option, Some, None, Result, Ok, Err, IfOk, IfErr, MatchResult, string_bytes}
+use Rattle.std.specs.Prelude.{◌≡◌, ◌⊎◌, ℕ, List, [], ◌++◌, Option, Some, None, Result, Ok, Err, IfOk, IfErr, MatchResult, string_bytes}
 use Rattle.cg_types.specs.declared.fault.Fault.{Fault}
+use Rattle.cg_types.specs.declared.fault.Fault.TheVariants as fault
+use Rattle.cg_types.specs.Fault.{fault_text}
 use Rattle.cg_core.specs.Values.{NodeValue}
 use Rattle.cg_core.specs.Step.{starting_node}
+use Rattle.cg_history.specs.History.{HistoryValue}
+use Rattle.cg_journal.specs.Text.{joined, journal_lines}
 use Rattle.cg_settings_file.specs.Settings.{ServeValue}
 use Rattle.cg_ran.specs.declared.ran.Ran.{Ran}
 use Rattle.cg_ran.specs.declared.ran.NotRun.{NotRun}
 use Rattle.cg_ran.specs.declared.ran.NotRun.TheVariants as not_run
 use Rattle.cg_ran.specs.Ran.{AnyWork, IsRun, IsNotRun}
-use Rattle.cg_node_files.specs.Kept.{IsUnborn, AreTold, IsOfAStart}
+use Rattle.cg_files.specs.Disk.{Call, Replaces, Unreplaced}
+use Rattle.cg_node_files.specs.Kept.{Settles, Unsettled, Advances, IsUnkept}
 use Rattle.cg_serve.specs.declared.node.Birth.{Birth}
 use Rattle.cg_serve.specs.declared.node.LifeLeft.{LifeLeft}
 use Rattle.cg_serve.specs.declared.serving.Lived.{Lived}
@@ -18,6 +23,10 @@ use Rattle.cg_serve.specs.declared.serving.Lived.{Lived}
 -- the node that begins with these values
 abbrev pub node_of : Birth → NodeValue
 node_of b = starting_node b.own b.generation b.settings
+
+-- the faults of a node that can't listen, or of which no worker began
+abbrev pub IsUnstarted : Fault → Type 0
+IsUnstarted f = (f ≡ fault.OutOfMemory) ⊎ (f ≡ fault.ReadFault)
 
 -- ---- its result
 
@@ -34,28 +43,65 @@ IsLifeLeft start l =
     (ran : Result Ran NotRun) × IfOk ran (λ r. IsRun start AnyWork r.history r.rounds.items)
     × IfErr ran (IsNotRun start AnyWork) × (left_after ran ≡ Ok l)
 
--- A node lived by settings that a file held, at its own endpoint in the generation of a start. The path of its journal
--- is the one in the settings.
-pub record IsLived (l : Lived) : Type 0 where
-  pub told : ServeValue
-  pub are_told : AreTold told
-  pub generation : ℕ
-  pub of_a_start : IsOfAStart generation
-  pub left : IsLifeLeft (starting_node told.listen generation told.node) l.left
-  pub journal : string_bytes l.journal ≡ told.journal
+-- ---- a life, by the calls of a disk that were made, and the bytes that an open file has left or holds
 
--- ---- its status
+module _ {F : Type 0} (did : Call F → Type 0) (remaining contents : F → Option (List ℕ)) (file : List ℕ) where
+  -- A node lived by the settings that the file held, at its own endpoint, in the generation that was stored for it. The
+  -- path of its journal is the one in the settings.
+  pub record IsLived (l : Lived) : Type 0 where
+    pub told : ServeValue
+    pub are_told : Settles did remaining contents file told
+    pub generation : ℕ
+    pub kept : Advances did remaining contents told.generation_file (Ok generation)
+    pub left : IsLifeLeft (starting_node told.listen generation told.node) l.left
+    pub journal : string_bytes l.journal ≡ told.journal
+
+  -- There are settings, and no generation could be stored; or one was, and no node started.
+  pub record IsUnborn (f : Fault) : Type 0 where
+    pub told : ServeValue
+    pub are_told : Settles did remaining contents file told
+    pub caused : IsUnkept did remaining contents told.generation_file f
+        ⊎ ((generation : ℕ) × Advances did remaining contents told.generation_file (Ok generation) × IsUnstarted f)
+
+  abbrev pub Lives : Result Lived Fault → Type 0
+  Lives life = MatchResult life IsLived (λ f. Unsettled did remaining contents file f ⊎ IsUnborn f)
+
+-- ---- its end, by the fault of its receipts and that of its journal
+
+abbrev pub fault_lines : Option Fault → List ℕ
+fault_lines None = []
+fault_lines (Some f) = fault_text f
+
+abbrev pub text_after : Option Fault → Option Fault → List ℕ
+text_after stray unwritten = fault_lines stray ++ fault_lines unwritten
 
 -- 0 exactly if every receipt is confirmed and the journal was written
-abbrev pub status_after : Option Fault → Result (Unit {0}) Fault → ℕ
-status_after None (Ok u) = 0
-status_after stray written = 1
+abbrev pub status_after : Option Fault → Option Fault → ℕ
+status_after None None = 0
+status_after stray unwritten = 1
 
--- A life that was not lived ends with 1, another by its unconfirmed receipt and its journal.
-abbrev pub EndsWith : Result Lived Fault → ℕ → Type 0
-EndsWith (Ok l) status = (written : Result (Unit {0}) Fault) × (status ≡ status_after l.left.stray written)
-EndsWith (Err f) status = status ≡ 1
+-- The text and the status are these; or memory ran out, and the text says that.
+abbrev pub Says : Option Fault → Option Fault → List ℕ → ℕ → Type 0
+Says stray unwritten text status =
+    ((text ≡ text_after stray unwritten) × (status ≡ status_after stray unwritten))
+    ⊎ ((text ≡ fault_text fault.OutOfMemory) × (status ≡ 1))
 
--- A life was lived, or a fault prevented it, and the status is that of its end.
-abbrev pub EndsALife : ℕ → Type 0
-EndsALife status = (life : Result Lived Fault) × MatchResult life IsLived IsUnborn × EndsWith life status
+module _ {F : Type 0} (did : Call F → Type 0) (contents : F → Option (List ℕ)) where
+  -- The journal of the history was written to the file, or could not be.
+  abbrev pub WritesJournal : List ℕ → HistoryValue → Option Fault → Type 0
+  WritesJournal path h None = Replaces did contents path (joined (journal_lines h))
+  WritesJournal path h (Some f) = Unreplaced did path f
+
+  -- A life that was lived ends by its unconfirmed receipt and its journal, another by its fault.
+  abbrev pub Ends : Result Lived Fault → List ℕ → ℕ → Type 0
+  Ends (Ok l) text status =
+      (unwritten : Option Fault) × WritesJournal (string_bytes l.journal) l.left.history unwritten
+      × Says l.left.stray unwritten text status
+  Ends (Err f) text status = Says (Some f) None text status
+
+-- A life was lived, or a fault prevented it; the text and the status are those of its end.
+pub record Serves {F : Type 0} (did : Call F → Type 0) (remaining contents : F → Option (List ℕ)) (file text : List ℕ)
+    (status : ℕ) : Type 0 where
+  pub life : Result Lived Fault
+  pub is : Lives did remaining contents file life
+  pub ends : Ends did contents life text status

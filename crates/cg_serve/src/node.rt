@@ -1,8 +1,7 @@
 //! A node that runs over sockets, the system's clock and the standard streams.
 
 ghost use Rattle.std.specs.Prelude.{◌≡◌, IfOk, IfErr};
-ghost use Rattle.cg_types.specs.declared.fault.Fault.TheVariants as faults;
-ghost use Rattle.cg_serve.specs.Lives.{node_of, left_after, IsLifeLeft};
+ghost use Rattle.cg_serve.specs.Lives.{node_of, left_after, IsLifeLeft, IsUnstarted};
 
 use cg_clock::HostClock;
 use cg_history::History;
@@ -10,7 +9,7 @@ use cg_operator::Console;
 use cg_rounds::generator;
 use cg_settings::Settings;
 use cg_settings_file::Turns;
-use cg_sockets::{Dialer, Listener, limit_for};
+use cg_sockets::{Dialer, Listener, answer_limit, limit_for};
 use cg_threads::{NotRun, Parts, Ran, run_node};
 use cg_types::{Endpoint, Fault, Generation};
 use std::alloc::Global;
@@ -52,12 +51,12 @@ fn left_of(ran: Result<Ran, NotRun>) -> Result<LifeLeft, Fault>
     }
 }
 
-// Runs a node until its workers have ended. `OutOfMemory` if none began.
+// Listens at a node's endpoint, and runs the node until its workers have ended. `ReadFault` if it can't listen,
+// `OutOfMemory` if no worker began.
 pub(crate) fn run<R>(
     rt: &R,
     alloc: Global,
     birth: Birth,
-    listener: Listener<'_, R>,
     turns: Turns,
     random: u64,
 ) -> Result<LifeLeft, Fault>
@@ -72,13 +71,14 @@ where
         + Net<Listener = TcpListener, Stream = TcpStream>,
     R::Reader: Send,
     ensures left { IfOk result (IsLifeLeft (node_of birth)) }
-    ensures err { IfErr result (λ f. f ≡ faults.OutOfMemory) }
+    ensures err { IfErr result IsUnstarted }
 {
     let Birth {
         own,
         generation,
         settings,
     } = birth;
+    let listener = Listener::bind(rt, alloc, own, answer_limit(turns.interval))?;
     let history = History::begin(alloc, own, generation, settings)?;
     let parts = Parts {
         listener,

@@ -1,18 +1,22 @@
 //! The life of a node that serves.
 
-ghost use Rattle.std.specs.Prelude.{◌≡◌, ◌≤◌, IfOk, IfErr};
-ghost use Rattle.cg_node_files.specs.Kept.{IsUnborn};
-ghost use Rattle.cg_serve.specs.Lives.{IsLived, status_after, EndsWith, EndsALife};
+ghost use Rattle.std.specs.Prelude.{◌≡◌, ◌++◌, ℕ, List, OnOk, IfOk, string_bytes};
+ghost use Rattle.cg_links.specs.Counted.{link_of};
+ghost use Rattle.cg_printed.specs.Written.{WroteOut};
+ghost use Rattle.cg_serve.specs.Lives.{Lives, fault_lines, text_after, status_after, Says, Ends, WritesJournal, Serves};
 
 use crate::node::{Birth, LifeLeft, run};
+use cg_files::Disk;
+use cg_history::History;
+use cg_links::Counted;
 use cg_node_files::{next_life, settings_in, try_journal, write_journal_to};
+use cg_printed::written;
 use cg_settings_file::ServeSettings;
-use cg_sockets::{Listener, answer_limit};
 use cg_types::Fault;
-use std::alloc::Global;
-use std::io::{Eprint, Input, Print};
+use std::alloc::{AllocError, Global};
+use std::io::{Eprint, Input, Print, Write};
 use std::net::{Net, TcpListener, TcpStream};
-use std::rt::{Clock, Files};
+use std::rt::Clock;
 use std::sync::Wait;
 use std::thread::Threads;
 
@@ -24,7 +28,7 @@ struct Lived {
 }
 
 // Prints a line on standard error if it is seen before a life that its journal can't be written.
-fn foresee<R: Files + Eprint>(rt: &R, alloc: Global, journal: &str) {
+fn foresee<R: Disk + Eprint>(rt: &R, alloc: Global, journal: &str) {
     match try_journal(rt, alloc, journal) {
         Ok(()) => {}
         Err(fault) => {
@@ -40,19 +44,22 @@ where
         + Wait
         + Clock
         + Sync
-        + Files
+        + Disk
         + Input
         + Print
         + Eprint
         + Net<Listener = TcpListener, Stream = TcpStream>,
     R::Reader: Send,
-    ensures lived { IfOk result IsLived }
-    ensures err { IfErr result IsUnborn }
+    ensures { Lives R.did R.File.remaining R.File.contents file.now result }
 {
-    let settings = settings_in(rt, alloc, file)?;
-    let generation = next_life(rt, alloc, settings.generation_file.as_str())?;
-    let limit = answer_limit(settings.turns.interval);
-    let listener = Listener::bind(rt, alloc, settings.listen, limit)?;
+    let settings = match settings_in(rt, alloc, file) {
+        Ok(settings) => settings,
+        Err(fault) => return Err(fault),
+    };
+    let generation = match next_life(rt, alloc, settings.generation_file.as_str()) {
+        Ok(generation) => generation,
+        Err(fault) => return Err(fault),
+    };
     foresee(rt, alloc, settings.journal.as_str());
     let ServeSettings {
         node,
@@ -67,76 +74,132 @@ where
         generation,
         settings: node,
     };
-    let left = run(rt, alloc, birth, listener, turns, random)?;
-    Ok(Lived { left, journal })
-}
-
-// Prints a fault, if it can be printed, and returns the status after one.
-fn told<R: Print>(rt: &R, fault: Fault) -> u8
-    ensures { result ≡ 1 }
-{
-    let _ = println!(rt; "fault {fault}");
-    1
-}
-
-// Prints the faults of a life's receipts and of its journal, and returns the status after it.
-fn status_of<R: Print>(rt: &R, stray: Option<Fault>, written: Result<(), Fault>) -> u8
-    ensures { result ≡ status_after stray written }
-{
-    let status = match stray {
-        Some(fault) => told(rt, fault),
-        None => 0,
-    };
-    match written {
-        Ok(()) => status,
-        Err(fault) => told(rt, fault),
+    match run(rt, alloc, birth, turns, random) {
+        Ok(left) => Ok(Lived { left, journal }),
+        Err(fault) => Err(fault),
     }
 }
 
-// Writes the journal of a life, if one was lived, prints its faults, and returns the status.
-fn ended<R: Files + Print>(rt: &R, alloc: Global, life: &Result<Lived, Fault>) -> u8
-    ensures { EndsWith life.now result }
+// Adds the line of a fault, if there is one.
+fn add_fault(text: &mut String, alloc: Global, fault: Option<Fault>) -> Result<(), AllocError>
+    ensures { OnOk result (string_bytes text.new ≡ string_bytes text.old ++ fault_lines fault) }
+{
+    let Some(fault) = fault else {
+        return Ok(());
+    };
+    let line = fault.line(alloc)?;
+    text.push_str(line.as_str())
+}
+
+// Returns the lines of the faults of a life's receipts and of its journal.
+fn end_text(
+    alloc: Global,
+    stray: Option<Fault>,
+    unwritten: Option<Fault>,
+) -> Result<String, AllocError>
+    ensures { IfOk result (λ text. string_bytes text ≡ text_after stray unwritten) }
+{
+    let mut text = String::new(alloc);
+    add_fault(&mut text, alloc, stray)?;
+    add_fault(&mut text, alloc, unwritten)?;
+    Ok(text)
+}
+
+// Returns the status after a life whose receipts and whose journal have these faults.
+fn status_of(stray: Option<Fault>, unwritten: Option<Fault>) -> u8
+    ensures { result ≡ status_after stray unwritten }
+{
+    match (stray, unwritten) {
+        (None, None) => 0,
+        _ => 1,
+    }
+}
+
+// Writes the lines of the faults of a life's receipts and of its journal, and returns the status after it.
+fn told<W: Write>(
+    alloc: Global,
+    writer: &mut Counted<W>,
+    stray: Option<Fault>,
+    unwritten: Option<Fault>,
+) -> u8
+    ensures { (text : List ℕ) × (status : ℕ) × Says stray unwritten text status
+        × WroteOut
+        (W.contents (link_of writer.old)) (W.contents (link_of writer.new))
+        writer.old writer.new text status result }
+{
+    match end_text(alloc, stray, unwritten) {
+        Ok(text) => written(writer, text.as_bytes(), status_of(stray, unwritten)),
+        Err(_) => written(writer, b"fault 1 OutOfMemory\n", 1),
+    }
+}
+
+// Writes a journal, and returns the fault if that fails.
+fn unwritten<D: Disk>(disk: &D, alloc: Global, file: &str, history: &History) -> Option<Fault>
+    ensures { WritesJournal D.did D.File.contents file.now history.now result }
+{
+    match write_journal_to(disk, alloc, file, history) {
+        Ok(()) => None,
+        Err(fault) => Some(fault),
+    }
+}
+
+// Writes the journal of a life, if one was lived, and the lines of its faults, and returns the status.
+fn ended<D: Disk, W: Write>(
+    disk: &D,
+    alloc: Global,
+    life: &Result<Lived, Fault>,
+    writer: &mut Counted<W>,
+) -> u8
+    ensures { (text : List ℕ) × (status : ℕ) × Ends D.did D.File.contents life.now text status
+        × WroteOut
+        (W.contents (link_of writer.old)) (W.contents (link_of writer.new))
+        writer.old writer.new text status result }
 {
     match life {
         Ok(lived) => {
-            let file = lived.journal.as_str();
-            let written = write_journal_to(rt, alloc, file, &lived.left.history);
-            status_of(rt, lived.left.stray, written)
+            let fault = unwritten(disk, alloc, lived.journal.as_str(), &lived.left.history);
+            told(alloc, writer, lived.left.stray, fault)
         }
-        Err(fault) => told(rt, *fault),
+        Err(fault) => told(alloc, writer, Some(*fault), None),
     }
 }
 
-/// Lives as a node by the settings in a file, and returns the exit status. The status is 0, or 1 after a fault; each
-/// fault is one line on standard output.
+/// Lives as a node by the settings in a file, writes a line for each fault, and returns the exit status: 0, or 1 after a
+/// fault.
 ///
 /// A life ends once its rounds are done and sent, its exchanges were taken and its operator has ended. The first of
 /// these faults that comes ends it before it begins: the settings can't be read (`ReadFault`) or are none (`BadText`);
 /// the generation can't be read (`ReadFault`), is none (`BadText`), has none above it (`VersionsSpent`) or can't be
 /// kept (`WriteFault`); another program listens there (`ReadFault`); memory or a thread is refused (`OutOfMemory`).
 ///
-/// At the end it prints the fault of the first receipt that the history does not confirm, and writes the journal all
-/// the same; `WriteFault` if it can't. A fault of a worker ends that worker, and does not change the status.
+/// At the end it says the fault of the first receipt that the history does not confirm, and writes the journal all the
+/// same; `WriteFault` if it can't. If memory is refused for these lines, it says `OutOfMemory` in their place. A fault
+/// of a worker ends that worker, and does not change the status. The lines are flushed. If the writer fails or takes no
+/// byte, a prefix of the lines is written, and the status is 1.
 ///
 /// Before it begins, it tries whether a file can stand beside the journal's, and prints a line on standard error if not.
 /// While it lives, it prints a line there, one a second at most, if a connection can't be taken, and one if no further
 /// connection is taken; no other fault of a worker is printed.
-///
-/// The clauses are about the status and a life that fits it; they do not say what is read, printed or written.
-pub fn serve<R>(rt: &R, alloc: Global, file: &str) -> u8
+pub fn serve<R, W>(rt: &R, alloc: Global, file: &str, writer: &mut Counted<W>) -> u8
 where
     R: Threads
         + Wait
         + Clock
         + Sync
-        + Files
+        + Disk
         + Input
         + Print
         + Eprint
         + Net<Listener = TcpListener, Stream = TcpStream>,
     R::Reader: Send,
-    ensures status { result ≤ 1 }
-    ensures life { EndsALife result }
+    W: Write,
+    // A life by the file's settings in the generation that was kept for it, or the first fault that prevented it; the
+    // expected text, and the prefix of it that was written.
+    ensures { (text : List ℕ) × (status : ℕ)
+        × Serves R.did R.File.remaining R.File.contents file.now text status
+        × WroteOut
+        (W.contents (link_of writer.old)) (W.contents (link_of writer.new))
+        writer.old writer.new text status result }
 {
-    ended(rt, alloc, &live(rt, alloc, file))
+    ended(rt, alloc, &live(rt, alloc, file), writer)
 }

@@ -4,15 +4,45 @@ use cg_expect::{expect, expect_eq};
 use cg_life_samples::{
     free_port, generation_of, journal_of, remove_file, write_file, write_settings,
 };
+use cg_links::Counted;
 use cg_serve::serve;
 use cg_types::{Endpoint, Fault, Generation};
 use std::alloc::Global;
-use std::net::TcpListener;
-use std::rt::Files;
+use std::fs;
+use std::fs::File;
+use std::io::{Eprint, Input, Print};
+use std::net::{Net, TcpListener, TcpStream};
+use std::rt::{Clock, Files};
+use std::sync::Wait;
 use std::test::Fail;
+use std::thread::Threads;
+
+// Expects that a life by the settings in a file ends with this status, and that it writes this text.
+fn ends<R>(rt: &R, alloc: Global, file: &str, status: u8, text: &str) -> Result<(), Fail>
+where
+    R: Threads
+        + Wait
+        + Clock
+        + Sync
+        + Files<File = File>
+        + Input
+        + Print
+        + Eprint
+        + Net<Listener = TcpListener, Stream = TcpStream>,
+    R::Reader: Send,
+{
+    let mut writer = Counted::new(Vec::new(alloc));
+    expect_eq!(serve(rt, alloc, file, &mut writer), status)?;
+    expect!(writer.into_link().as_slice() == text.as_bytes())
+}
 
 // Expects that the journal is of one life, in the greatest generation, with two records.
-fn is_of_the_last_life<R: Files>(rt: &R, alloc: Global, name: &str, port: u16) -> Result<(), Fail> {
+fn is_of_the_last_life<R: Files<File = File>>(
+    rt: &R,
+    alloc: Global,
+    name: &str,
+    port: u16,
+) -> Result<(), Fail> {
     let own = Endpoint::new([127, 0, 0, 1], port).ok_or("endpoint")?;
     let generation = Generation::new(2147483647).ok_or("generation")?;
     expect!(journal_of(rt, alloc, name)? == Some((own, generation, 2)))
@@ -25,16 +55,16 @@ fn a_node_alone(rt: HostRuntime) -> Result<(), Fail> {
     let settings = write_settings(&rt, alloc, name, port)?;
     remove_file(&rt, alloc, name, "journal")?;
     write_file(&rt, alloc, name, "generation", b"2147483646\n")?;
-    expect_eq!(serve(&rt, alloc, settings.as_str()), 0)?;
+    ends(&rt, alloc, settings.as_str(), 0, "")?;
     expect!(generation_of(&rt, alloc, name)? == Ok(Some(2147483647)))?;
     is_of_the_last_life(&rt, alloc, name, port)?;
     // there is no greater generation, and the journal of the first life stays
-    expect_eq!(serve(&rt, alloc, settings.as_str()), 1)?;
+    ends(&rt, alloc, settings.as_str(), 1, "fault 4 VersionsSpent\n")?;
     is_of_the_last_life(&rt, alloc, name, port)
 }
 
 // The generation that its file keeps.
-fn kept_generation<R: Files>(rt: &R, alloc: Global, name: &str) -> Result<u32, Fail> {
+fn kept_generation<R: Files<File = File>>(rt: &R, alloc: Global, name: &str) -> Result<u32, Fail> {
     let kept = generation_of(rt, alloc, name)?;
     Ok(kept.ok().flatten().ok_or("generation")?)
 }
@@ -44,55 +74,124 @@ fn a_first_life_is_in_the_generation_of_its_second(rt: HostRuntime) -> Result<()
     let (alloc, name) = (rt.alloc(), "cg_serve_first");
     let settings = write_settings(&rt, alloc, name, free_port(&rt)?)?;
     remove_file(&rt, alloc, name, "generation")?;
-    expect_eq!(serve(&rt, alloc, settings.as_str()), 0)?;
+    ends(&rt, alloc, settings.as_str(), 0, "")?;
     let first = kept_generation(&rt, alloc, name)?;
     expect!(first > 1700000000)?;
-    expect_eq!(serve(&rt, alloc, settings.as_str()), 0)?;
+    ends(&rt, alloc, settings.as_str(), 0, "")?;
     expect!(kept_generation(&rt, alloc, name)? > first)
 }
 
-#[test]
-fn settings_that_are_missing_or_none(rt: HostRuntime) -> Result<(), Fail> {
-    let (alloc, name) = (rt.alloc(), "cg_serve_unset");
-    remove_file(&rt, alloc, name, "toml")?;
-    expect_eq!(serve(&rt, alloc, "cg_serve_unset.toml"), 1)?;
-    write_file(&rt, alloc, name, "toml", b"cluster = \"\xff\"\n")?;
-    expect_eq!(serve(&rt, alloc, "cg_serve_unset.toml"), 1)?;
-    expect_eq!(serve(&rt, alloc, "."), 1)
+// Writes settings of a node that begins no round and takes no exchange, with its files and its port.
+fn settle<R: Files<File = File>>(
+    rt: &R,
+    alloc: Global,
+    name: &str,
+    generation_file: &str,
+    journal: &str,
+    port: u16,
+) -> Result<(), Fail> {
+    let text = format!(in alloc;
+        "cluster = \"c1\"\nlisten = \"127.0.0.1:{port}\"\ngeneration_file = \"{generation_file}\"\n\
+         journal = \"{journal}\"\nrounds = 0\nexchanges = 0\n"
+    )?;
+    write_file(rt, alloc, name, "toml", text.as_bytes())
 }
 
 #[test]
-fn a_generation_that_is_none_stays(rt: HostRuntime) -> Result<(), Fail> {
+fn each_fault_in_its_order(rt: HostRuntime) -> Result<(), Fail> {
+    let (alloc, name, file) = (rt.alloc(), "cg_serve_faults", "cg_serve_faults.toml");
+    let (generation, lost) = ("cg_serve_faults.generation", "cg_serve_no_folder/file");
+    let taken = TcpListener::bind(&rt, "127.0.0.1:0")?;
+    let port = taken.local_addr()?.port();
+    // each step mends one fault, and the next one shows
+    remove_file(&rt, alloc, name, "toml")?;
+    ends(&rt, alloc, file, 1, "fault 14 ReadFault\n")?;
+    write_file(&rt, alloc, name, "toml", b"cluster = \"\xff\"\n")?;
+    ends(&rt, alloc, file, 1, "fault 2 BadText\n")?;
+    write_file(&rt, alloc, name, "toml", b"cluster = \"c1\"\n")?;
+    ends(&rt, alloc, file, 1, "fault 2 BadText\n")?;
+    for shared in [file, "cg_serve_faults.generation"] {
+        // the text is read, and two of the three files are one
+        settle(&rt, alloc, name, shared, generation, port)?;
+        ends(&rt, alloc, file, 1, "fault 2 BadText\n")?;
+    }
+    settle(&rt, alloc, name, ".", lost, port)?;
+    ends(&rt, alloc, file, 1, "fault 14 ReadFault\n")?;
+    settle(&rt, alloc, name, generation, lost, port)?;
+    write_file(&rt, alloc, name, "generation", b"five\n")?;
+    ends(&rt, alloc, file, 1, "fault 2 BadText\n")?;
+    write_file(&rt, alloc, name, "generation", b"2147483647\n")?;
+    ends(&rt, alloc, file, 1, "fault 4 VersionsSpent\n")?;
+    settle(&rt, alloc, name, "cg_serve_no_folder/other", lost, port)?;
+    ends(&rt, alloc, file, 1, "fault 15 WriteFault\n")?;
+    settle(&rt, alloc, name, generation, lost, port)?;
+    write_file(&rt, alloc, name, "generation", b"2147483600\n")?;
+    ends(&rt, alloc, file, 1, "fault 14 ReadFault\n")?;
+    // the generation is kept before the node listens
+    expect!(generation_of(&rt, alloc, name)? == Ok(Some(2147483601)))?;
+    settle(&rt, alloc, name, generation, lost, free_port(&rt)?)?;
+    ends(&rt, alloc, file, 1, "fault 15 WriteFault\n")?;
+    expect!(generation_of(&rt, alloc, name)? == Ok(Some(2147483602)))?;
+    settle(
+        &rt,
+        alloc,
+        name,
+        generation,
+        "cg_serve_faults.journal",
+        free_port(&rt)?,
+    )?;
+    ends(&rt, alloc, file, 0, "")
+}
+
+#[test]
+fn a_fault_before_the_life_leaves_no_journal(rt: HostRuntime) -> Result<(), Fail> {
     let (alloc, name) = (rt.alloc(), "cg_serve_unborn");
     let settings = write_settings(&rt, alloc, name, free_port(&rt)?)?;
     write_file(&rt, alloc, name, "generation", b"five\n")?;
     remove_file(&rt, alloc, name, "journal")?;
-    expect_eq!(serve(&rt, alloc, settings.as_str()), 1)?;
+    ends(&rt, alloc, settings.as_str(), 1, "fault 2 BadText\n")?;
     expect!(generation_of(&rt, alloc, name)? == Err(Fault::BadText))?;
     expect!(journal_of(&rt, alloc, name)?.is_none())
 }
 
 #[test]
-fn the_generation_is_kept_before_the_node_listens(rt: HostRuntime) -> Result<(), Fail> {
-    let (alloc, name) = (rt.alloc(), "cg_serve_taken");
-    let listener = TcpListener::bind(&rt, "127.0.0.1:0")?;
-    let settings = write_settings(&rt, alloc, name, listener.local_addr()?.port())?;
-    write_file(&rt, alloc, name, "generation", b"2147483600\n")?;
+fn files_that_are_one(rt: HostRuntime) -> Result<(), Fail> {
+    let (alloc, name, file) = (rt.alloc(), "cg_serve_one", "cg_serve_one.toml");
+    let (generation, journal) = ("cg_serve_one.generation", "cg_serve_one.journal");
+    remove_file(&rt, alloc, name, "generation")?;
     remove_file(&rt, alloc, name, "journal")?;
-    expect_eq!(serve(&rt, alloc, settings.as_str()), 1)?;
-    expect!(generation_of(&rt, alloc, name)? == Ok(Some(2147483601)))?;
-    expect!(journal_of(&rt, alloc, name)?.is_none())
+    settle(&rt, alloc, name, generation, journal, free_port(&rt)?)?;
+    ends(&rt, alloc, file, 0, "")?;
+    // a journal with a second name
+    remove_file(&rt, alloc, name, "generation")?;
+    rt.hard_link(journal, generation)?;
+    ends(&rt, alloc, file, 1, "fault 2 BadText\n")?;
+    // settings with a second name
+    remove_file(&rt, alloc, name, "generation")?;
+    rt.hard_link(file, generation)?;
+    ends(&rt, alloc, file, 1, "fault 2 BadText\n")?;
+    remove_file(&rt, alloc, name, "generation")
 }
 
 #[test]
-fn a_journal_that_can_not_be_written(rt: HostRuntime) -> Result<(), Fail> {
-    let (alloc, name) = (rt.alloc(), "cg_serve_unwritten");
-    let port = free_port(&rt)?;
-    let text = format!(in alloc;
-        "cluster = \"c1\"\nlisten = \"127.0.0.1:{port}\"\ngeneration_file = \"{name}.generation\"\n\
-         journal = \"cg_serve_no_folder/journal\"\nrounds = 1\nexchanges = 0\n"
-    )?;
-    write_file(&rt, alloc, name, "toml", text.as_bytes())?;
-    write_file(&rt, alloc, name, "generation", b"5")?;
-    expect_eq!(serve(&rt, alloc, "cg_serve_unwritten.toml"), 1)
+fn a_generation_that_is_locked(rt: HostRuntime) -> Result<(), Fail> {
+    let (alloc, name) = (rt.alloc(), "cg_serve_locked");
+    let settings = write_settings(&rt, alloc, name, free_port(&rt)?)?;
+    write_file(&rt, alloc, name, "generation", b"5\n")?;
+    let lock = File::create(&rt, "cg_serve_locked.generation.lock")?;
+    lock.lock()?;
+    ends(&rt, alloc, settings.as_str(), 1, "fault 14 ReadFault\n")?;
+    expect!(generation_of(&rt, alloc, name)? == Ok(Some(5)))?;
+    lock.unlock()?;
+    ends(&rt, alloc, settings.as_str(), 0, "")?;
+    fs::remove_file(&rt, "cg_serve_locked.generation.lock")?;
+    Ok(())
+}
+
+#[test]
+fn a_fault_that_is_not_written(rt: HostRuntime) -> Result<(), Fail> {
+    let mut none = [0u8; 5];
+    let mut writer = Counted::new(none.as_mut_slice());
+    let status = serve(&rt, rt.alloc(), "cg_serve_missing.toml", &mut writer);
+    expect_eq!((status, writer.failed(), writer.idle()), (1, 0, 1))
 }

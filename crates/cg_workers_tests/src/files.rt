@@ -6,18 +6,22 @@ use cg_links::write_bytes;
 use cg_types::{Fault, Generation};
 use std::alloc::Global;
 use std::fs;
-use std::fs::Permissions;
+use std::fs::{File, Permissions};
 use std::os::unix::fs::{MetadataExt, PermissionsExt, chown, symlink};
 use std::rt::Files;
 use std::test::Fail;
 
 // The bytes of a file, or its fault.
-fn found<R: Files>(rt: &R, alloc: Global, path: &str) -> Result<Option<Vec<u8>>, Fault> {
+fn found<R: Files<File = File>>(
+    rt: &R,
+    alloc: Global,
+    path: &str,
+) -> Result<Option<Vec<u8>>, Fault> {
     read_file(rt, alloc, path, 64)
 }
 
 // Tests whether a file has these bytes.
-fn has<R: Files>(rt: &R, alloc: Global, path: &str, bytes: &[u8]) -> bool {
+fn has<R: Files<File = File>>(rt: &R, alloc: Global, path: &str, bytes: &[u8]) -> bool {
     match found(rt, alloc, path) {
         Ok(Some(read)) => read.as_slice() == bytes,
         _ => false,
@@ -25,7 +29,7 @@ fn has<R: Files>(rt: &R, alloc: Global, path: &str, bytes: &[u8]) -> bool {
 }
 
 // Tests whether there is no such file.
-fn is_missing<R: Files>(rt: &R, alloc: Global, path: &str) -> bool {
+fn is_missing<R: Files<File = File>>(rt: &R, alloc: Global, path: &str) -> bool {
     match found(rt, alloc, path) {
         Ok(found) => found.is_none(),
         Err(_) => false,
@@ -53,7 +57,7 @@ fn a_file_that_is_not_put_in_place_stays_aside(rt: HostRuntime) -> Result<(), Fa
     let path = "cg_files_begun";
     expect!(replace(&rt, alloc, path, b"old").is_ok())?;
     let mut new = Replacement::begin(&rt, alloc, path)?;
-    write_bytes(new.link(), b"half")?;
+    write_bytes(&mut new.link, b"half")?;
     expect!(has(&rt, alloc, path, b"old"))?;
     expect!(has(&rt, alloc, "cg_files_begun.new", b"half"))?;
     new.put(&rt, path)?;
@@ -75,7 +79,12 @@ fn a_file_in_no_folder_can_not_be_made(rt: HostRuntime) -> Result<(), Fail> {
 }
 
 // Expects that what is at a path can't be replaced, and that no file is made beside it.
-fn is_refused<R: Files>(rt: &R, alloc: Global, path: &str, aside: &str) -> Result<(), Fail> {
+fn is_refused<R: Files<File = File>>(
+    rt: &R,
+    alloc: Global,
+    path: &str,
+    aside: &str,
+) -> Result<(), Fail> {
     expect!(replace(rt, alloc, path, b"new") == Err(Fault::WriteFault))?;
     expect!(Replacement::begin(rt, alloc, path).err() == Some(Fault::WriteFault))?;
     expect!(is_missing(rt, alloc, aside))
@@ -172,7 +181,7 @@ fn a_folder_can_not_be_read(rt: HostRuntime) -> Result<(), Fail> {
 }
 
 // Tests whether a file that holds these bytes keeps no generation, as `BadText`.
-fn refuses<R: Files>(rt: &R, alloc: Global, path: &str, bytes: &[u8]) -> bool {
+fn refuses<R: Files<File = File>>(rt: &R, alloc: Global, path: &str, bytes: &[u8]) -> bool {
     replace(rt, alloc, path, bytes).is_ok()
         && stored_generation(rt, alloc, path) == Err(Fault::BadText)
 }
