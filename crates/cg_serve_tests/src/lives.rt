@@ -10,30 +10,24 @@ use cg_types::{Endpoint, Fault, Generation};
 use std::alloc::Global;
 use std::fs;
 use std::fs::File;
-use std::io::{Eprint, Input, Print};
-use std::net::{Net, TcpListener, TcpStream};
-use std::rt::{Clock, Files};
-use std::sync::Wait;
+use std::net::TcpListener;
+use std::rt::Files;
 use std::test::Fail;
-use std::thread::Threads;
 
-// Expects that a life by the settings in a file ends with this status, and that it writes this text.
-fn ends<R>(rt: &R, alloc: Global, file: &str, status: u8, text: &str) -> Result<(), Fail>
-where
-    R: Threads
-        + Wait
-        + Clock
-        + Sync
-        + Files<File = File>
-        + Input
-        + Print
-        + Eprint
-        + Net<Listener = TcpListener, Stream = TcpStream>,
-    R::Reader: Send,
-{
-    let mut writer = Counted::new(Vec::new(alloc));
-    expect_eq!(serve(rt, alloc, file, &mut writer), status)?;
+// Expects that a life ended with this status, and that it wrote this text.
+fn ended(writer: Counted<Vec<u8>>, status: u8, due: u8, text: &str) -> Result<(), Fail> {
+    expect_eq!(status, due)?;
     expect!(writer.into_link().as_slice() == text.as_bytes())
+}
+
+// Expects that a life by the settings in a file ends with this status, and that it writes this text. Only a test itself
+// can start the life's threads.
+macro_rules! ends {
+    ($rt:expr, $alloc:expr, $file:expr, $status:expr, $text:expr) => {{
+        let mut writer = Counted::new(Vec::new($alloc));
+        let status = serve($rt, $alloc, $file, &mut writer);
+        ended(writer, status, $status, $text)
+    }};
 }
 
 // Expects that the journal is of one life, in the greatest generation, with two records.
@@ -55,11 +49,11 @@ fn a_node_alone(rt: HostRuntime) -> Result<(), Fail> {
     let settings = write_settings(&rt, alloc, name, port)?;
     remove_file(&rt, alloc, name, "journal")?;
     write_file(&rt, alloc, name, "generation", b"2147483646\n")?;
-    ends(&rt, alloc, settings.as_str(), 0, "")?;
+    ends!(&rt, alloc, settings.as_str(), 0, "")?;
     expect!(generation_of(&rt, alloc, name)? == Ok(Some(2147483647)))?;
     is_of_the_last_life(&rt, alloc, name, port)?;
     // there is no greater generation, and the journal of the first life stays
-    ends(&rt, alloc, settings.as_str(), 1, "fault 4 VersionsSpent\n")?;
+    ends!(&rt, alloc, settings.as_str(), 1, "fault 4 VersionsSpent\n")?;
     is_of_the_last_life(&rt, alloc, name, port)
 }
 
@@ -74,10 +68,10 @@ fn a_first_life_is_in_the_generation_of_its_second(rt: HostRuntime) -> Result<()
     let (alloc, name) = (rt.alloc(), "cg_serve_first");
     let settings = write_settings(&rt, alloc, name, free_port(&rt)?)?;
     remove_file(&rt, alloc, name, "generation")?;
-    ends(&rt, alloc, settings.as_str(), 0, "")?;
+    ends!(&rt, alloc, settings.as_str(), 0, "")?;
     let first = kept_generation(&rt, alloc, name)?;
     expect!(first > 1700000000)?;
-    ends(&rt, alloc, settings.as_str(), 0, "")?;
+    ends!(&rt, alloc, settings.as_str(), 0, "")?;
     expect!(kept_generation(&rt, alloc, name)? > first)
 }
 
@@ -97,50 +91,68 @@ fn settle<R: Files<File = File>>(
     write_file(rt, alloc, name, "toml", text.as_bytes())
 }
 
+// In the next three tests each step mends one fault, and the next one shows.
+
 #[test]
-fn each_fault_in_its_order(rt: HostRuntime) -> Result<(), Fail> {
+fn faults_of_settings_in_their_order(rt: HostRuntime) -> Result<(), Fail> {
+    let (alloc, name, file) = (rt.alloc(), "cg_serve_unset", "cg_serve_unset.toml");
+    remove_file(&rt, alloc, name, "toml")?;
+    ends!(&rt, alloc, file, 1, "fault 14 ReadFault\n")?;
+    write_file(&rt, alloc, name, "toml", b"cluster = \"\xff\"\n")?;
+    ends!(&rt, alloc, file, 1, "fault 2 BadText\n")?;
+    // the text is read, and two of the three files are one
+    settle(
+        &rt,
+        alloc,
+        name,
+        file,
+        "cg_serve_no_folder/file",
+        free_port(&rt)?,
+    )?;
+    ends!(&rt, alloc, file, 1, "fault 2 BadText\n")
+}
+
+#[test]
+fn faults_of_a_generation_in_their_order(rt: HostRuntime) -> Result<(), Fail> {
     let (alloc, name, file) = (rt.alloc(), "cg_serve_faults", "cg_serve_faults.toml");
     let (generation, lost) = ("cg_serve_faults.generation", "cg_serve_no_folder/file");
-    let taken = TcpListener::bind(&rt, "127.0.0.1:0")?;
-    let port = taken.local_addr()?.port();
-    // each step mends one fault, and the next one shows
-    remove_file(&rt, alloc, name, "toml")?;
-    ends(&rt, alloc, file, 1, "fault 14 ReadFault\n")?;
-    write_file(&rt, alloc, name, "toml", b"cluster = \"\xff\"\n")?;
-    ends(&rt, alloc, file, 1, "fault 2 BadText\n")?;
-    write_file(&rt, alloc, name, "toml", b"cluster = \"c1\"\n")?;
-    ends(&rt, alloc, file, 1, "fault 2 BadText\n")?;
-    for shared in [file, "cg_serve_faults.generation"] {
-        // the text is read, and two of the three files are one
-        settle(&rt, alloc, name, shared, generation, port)?;
-        ends(&rt, alloc, file, 1, "fault 2 BadText\n")?;
-    }
-    settle(&rt, alloc, name, ".", lost, port)?;
-    ends(&rt, alloc, file, 1, "fault 14 ReadFault\n")?;
-    settle(&rt, alloc, name, generation, lost, port)?;
-    write_file(&rt, alloc, name, "generation", b"five\n")?;
-    ends(&rt, alloc, file, 1, "fault 2 BadText\n")?;
-    write_file(&rt, alloc, name, "generation", b"2147483647\n")?;
-    ends(&rt, alloc, file, 1, "fault 4 VersionsSpent\n")?;
-    settle(&rt, alloc, name, "cg_serve_no_folder/other", lost, port)?;
-    ends(&rt, alloc, file, 1, "fault 15 WriteFault\n")?;
-    settle(&rt, alloc, name, generation, lost, port)?;
-    write_file(&rt, alloc, name, "generation", b"2147483600\n")?;
-    ends(&rt, alloc, file, 1, "fault 14 ReadFault\n")?;
-    // the generation is kept before the node listens
-    expect!(generation_of(&rt, alloc, name)? == Ok(Some(2147483601)))?;
+    settle(&rt, alloc, name, ".", lost, free_port(&rt)?)?;
+    ends!(&rt, alloc, file, 1, "fault 14 ReadFault\n")?;
     settle(&rt, alloc, name, generation, lost, free_port(&rt)?)?;
-    ends(&rt, alloc, file, 1, "fault 15 WriteFault\n")?;
-    expect!(generation_of(&rt, alloc, name)? == Ok(Some(2147483602)))?;
+    write_file(&rt, alloc, name, "generation", b"five\n")?;
+    ends!(&rt, alloc, file, 1, "fault 2 BadText\n")?;
+    write_file(&rt, alloc, name, "generation", b"2147483647\n")?;
+    ends!(&rt, alloc, file, 1, "fault 4 VersionsSpent\n")?;
+    settle(
+        &rt,
+        alloc,
+        name,
+        "cg_serve_no_folder/other",
+        lost,
+        free_port(&rt)?,
+    )?;
+    ends!(&rt, alloc, file, 1, "fault 15 WriteFault\n")
+}
+
+#[test]
+fn faults_behind_a_kept_generation_in_their_order(rt: HostRuntime) -> Result<(), Fail> {
+    let (alloc, name, file) = (rt.alloc(), "cg_serve_taken", "cg_serve_taken.toml");
+    let (generation, lost) = ("cg_serve_taken.generation", "cg_serve_no_folder/file");
+    let taken = TcpListener::bind(&rt, "127.0.0.1:0")?;
+    write_file(&rt, alloc, name, "generation", b"2147483600\n")?;
     settle(
         &rt,
         alloc,
         name,
         generation,
-        "cg_serve_faults.journal",
-        free_port(&rt)?,
+        lost,
+        taken.local_addr()?.port(),
     )?;
-    ends(&rt, alloc, file, 0, "")
+    ends!(&rt, alloc, file, 1, "fault 14 ReadFault\n")?;
+    expect!(generation_of(&rt, alloc, name)? == Ok(Some(2147483601)))?;
+    settle(&rt, alloc, name, generation, lost, free_port(&rt)?)?;
+    ends!(&rt, alloc, file, 1, "fault 15 WriteFault\n")?;
+    expect!(generation_of(&rt, alloc, name)? == Ok(Some(2147483602)))
 }
 
 #[test]
@@ -149,7 +161,7 @@ fn a_fault_before_the_life_leaves_no_journal(rt: HostRuntime) -> Result<(), Fail
     let settings = write_settings(&rt, alloc, name, free_port(&rt)?)?;
     write_file(&rt, alloc, name, "generation", b"five\n")?;
     remove_file(&rt, alloc, name, "journal")?;
-    ends(&rt, alloc, settings.as_str(), 1, "fault 2 BadText\n")?;
+    ends!(&rt, alloc, settings.as_str(), 1, "fault 2 BadText\n")?;
     expect!(generation_of(&rt, alloc, name)? == Err(Fault::BadText))?;
     expect!(journal_of(&rt, alloc, name)?.is_none())
 }
@@ -161,15 +173,15 @@ fn files_that_are_one(rt: HostRuntime) -> Result<(), Fail> {
     remove_file(&rt, alloc, name, "generation")?;
     remove_file(&rt, alloc, name, "journal")?;
     settle(&rt, alloc, name, generation, journal, free_port(&rt)?)?;
-    ends(&rt, alloc, file, 0, "")?;
+    ends!(&rt, alloc, file, 0, "")?;
     // a journal with a second name
     remove_file(&rt, alloc, name, "generation")?;
     rt.hard_link(journal, generation)?;
-    ends(&rt, alloc, file, 1, "fault 2 BadText\n")?;
+    ends!(&rt, alloc, file, 1, "fault 2 BadText\n")?;
     // settings with a second name
     remove_file(&rt, alloc, name, "generation")?;
     rt.hard_link(file, generation)?;
-    ends(&rt, alloc, file, 1, "fault 2 BadText\n")?;
+    ends!(&rt, alloc, file, 1, "fault 2 BadText\n")?;
     remove_file(&rt, alloc, name, "generation")
 }
 
@@ -180,10 +192,10 @@ fn a_generation_that_is_locked(rt: HostRuntime) -> Result<(), Fail> {
     write_file(&rt, alloc, name, "generation", b"5\n")?;
     let lock = File::create(&rt, "cg_serve_locked.generation.lock")?;
     lock.lock()?;
-    ends(&rt, alloc, settings.as_str(), 1, "fault 14 ReadFault\n")?;
+    ends!(&rt, alloc, settings.as_str(), 1, "fault 14 ReadFault\n")?;
     expect!(generation_of(&rt, alloc, name)? == Ok(Some(5)))?;
     lock.unlock()?;
-    ends(&rt, alloc, settings.as_str(), 0, "")?;
+    ends!(&rt, alloc, settings.as_str(), 0, "")?;
     fs::remove_file(&rt, "cg_serve_locked.generation.lock")?;
     Ok(())
 }
