@@ -128,7 +128,10 @@ fn states_of(
     requires { IsRead layout.now }
     ensures { spec.GivesField (λ v. v.items) result reader.new (spec.states_at layout.now above count None reader.old) }
 {
-    let mut states = Vec::with_capacity(alloc, reader.room(usize::from(count), STATE_LEAST))?;
+    if !reader.can_hold(u16::from(count), STATE_LEAST) {
+        check_states(layout, above, &mut reader.again(), count)?;
+    }
+    let mut states = Vec::with_capacity(alloc, usize::from(count))?;
     let mut last: Option<StateKey> = None;
     for _ in 0..count {
         let state = state_of(alloc, layout, above, reader, last)?;
@@ -185,7 +188,10 @@ pub(crate) fn deltas_of(
     requires { IsRead layout.now }
     ensures { spec.GivesField (λ v. v.items) result reader.new (spec.deltas_at layout.now count None reader.old) }
 {
-    let mut deltas = Vec::with_capacity(alloc, reader.room(usize::from(count), DELTA_LEAST))?;
+    if !reader.can_hold(count, DELTA_LEAST) {
+        check_deltas(layout, &mut reader.again(), count)?;
+    }
+    let mut deltas = Vec::with_capacity(alloc, usize::from(count))?;
     let mut last: Option<Endpoint> = None;
     for _ in 0..count {
         let delta = delta_of(alloc, layout, reader, last)?;

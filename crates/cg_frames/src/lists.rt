@@ -23,7 +23,8 @@ pub(crate) fn check_digests(reader: &mut Reader<'_>, count: u16) -> Result<(), M
     Ok(())
 }
 
-/// Reads this number of digests, rising by endpoint.
+/// Reads this number of digests, rising by endpoint. If more are announced than the bytes left can hold, the fault is
+/// found before room is taken.
 pub(crate) fn digests_of(
     alloc: Global,
     reader: &mut Reader<'_>,
@@ -31,7 +32,10 @@ pub(crate) fn digests_of(
 ) -> Result<Vec<Digest>, ReadError>
     ensures { spec.GivesField (λ v. v.items) result reader.new (spec.digests_at count None reader.old) }
 {
-    let mut digests = Vec::with_capacity(alloc, reader.room(usize::from(count), MEMBER_LENGTH))?;
+    if !reader.can_hold(count, MEMBER_LENGTH) {
+        check_digests(&mut reader.again(), count)?;
+    }
+    let mut digests = Vec::with_capacity(alloc, usize::from(count))?;
     let mut last: Option<Endpoint> = None;
     for _ in 0..count {
         let digest = reader.digest(last)?;
@@ -53,7 +57,8 @@ pub(crate) fn check_requests(reader: &mut Reader<'_>, count: u16) -> Result<(), 
     Ok(())
 }
 
-/// Reads this number of requests, rising by endpoint.
+/// Reads this number of requests, rising by endpoint. If more are announced than the bytes left can hold, the fault is
+/// found before room is taken.
 pub(crate) fn requests_of(
     alloc: Global,
     reader: &mut Reader<'_>,
@@ -61,7 +66,10 @@ pub(crate) fn requests_of(
 ) -> Result<Vec<Request>, ReadError>
     ensures { spec.GivesField (λ v. v.items) result reader.new (spec.requests_at count None reader.old) }
 {
-    let mut requests = Vec::with_capacity(alloc, reader.room(usize::from(count), MEMBER_LENGTH))?;
+    if !reader.can_hold(count, MEMBER_LENGTH) {
+        check_requests(&mut reader.again(), count)?;
+    }
+    let mut requests = Vec::with_capacity(alloc, usize::from(count))?;
     let mut last: Option<Endpoint> = None;
     for _ in 0..count {
         let request = reader.request(last)?;

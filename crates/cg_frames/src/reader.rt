@@ -1,6 +1,6 @@
 //! Fields at the start of the rest of a frame, read with no memory.
 
-ghost use Rattle.std.specs.Prelude.{◌≡◌, ◌<◌, ◌≤◌, ◌/◌, true, length, min, IfOk};
+ghost use Rattle.std.specs.Prelude.{◌≡◌, ◌<◌, ◌≤◌, ◌*◌, ◌^◌, nat_le, true, length, IfOk};
 ghost use Rattle.cg_types.specs.Text.{plain};
 ghost use Rattle.cg_types.specs.declared.limits.TheConstants.{NAME_LIMIT, NUMBER_LIMIT};
 ghost use Rattle.std.specs.Int.{w8, w16, w32};
@@ -42,13 +42,19 @@ impl<'a> Reader<'a> {
         self.rest.len()
     }
 
-    /// The number of members of a list to take room for: as many as are announced, but no more than the bytes that are
-    /// left can hold, if each has at least this many.
-    pub(crate) fn room(&self, count: usize, least: usize) -> usize
-        requires { 0 < least }
-        ensures { result ≡ min count (length self.now / least) }
+    /// A reader of the same bytes.
+    pub(crate) fn again(&self) -> Reader<'a>
+        ensures { result ≡ self.now }
     {
-        count.min(self.rest.len() / least)
+        Reader { rest: self.rest }
+    }
+
+    /// Tests whether the bytes that are left can hold this number of members, if each has at least `least` bytes.
+    pub(crate) fn can_hold(&self, count: u16, least: usize) -> bool
+        requires { least < 2 ^ 16 }
+        ensures { result ≡ nat_le (count * least) (length self.now) }
+    {
+        usize::from(count) * least <= self.rest.len()
     }
 
     /// Tests whether nothing is left.

@@ -177,7 +177,7 @@ impl Table {
         let owners = self.owners();
         let mut digests = Vec::with_capacity(alloc, owners.len())?;
         for row in owners {
-            digests.push(digest_of_row(row))?;
+            digests.push_reserved(digest_of_row(row));
         }
         Ok(digests)
     }
