@@ -61,6 +61,8 @@ pub fn read_all<R: Read>(alloc: Global, reader: &mut Counted<R>) -> Result<Vec<u
     ensures ok { IfOk result (λ v.
         Consumes (R.remaining (link_of reader.old)) (R.remaining (link_of reader.new)) v.items) }
     ensures end { OnOk result (IsAtEnd (R.remaining (link_of reader.new))) }
+    ensures taken { OnErr result ((bytes : List ℕ)
+        × Consumes (R.remaining (link_of reader.old)) (R.remaining (link_of reader.new)) bytes) }
     ensures kept { OnOk result (KeepsCounts reader.old reader.new) }
     ensures fault { IfErr result (λ f. (f ≡ fault.OutOfMemory) ⊎ (f ≡ fault.ReadFault)) }
     // a failed read is never reported as want of memory
