@@ -8,4 +8,4 @@ mod trials;
 
 pub use counted::Counted;
 pub use transfer::{MOST_READS, read_all, write_and_flush, write_bytes};
-pub use trials::{CountingLink, FailingLink, SlowLink};
+pub use trials::{CountingLink, FailingLink, FullLink, SlowLink};

@@ -1,6 +1,7 @@
-//! Links for trials: one fails at one of its calls, one moves a byte a call, and one counts its calls.
+//! Links for trials: one fails at one of its calls, one moves a byte a call, one takes nothing, and one counts its
+//! calls.
 
-ghost use Rattle.std.specs.Prelude.{◌≡◌, ◌≤◌, ◌↔◌, length, max, IfOk, IsErr, IsTrue};
+ghost use Rattle.std.specs.Prelude.{◌≡◌, ◌≤◌, ◌↔◌, [], Ok, Some, length, max, IfOk, IsErr, IsOk, IsTrue};
 ghost use Rattle.std.specs.Io.{ReadsAtMost, WritesAtMost};
 ghost use Rattle.std.specs.Io.KnownBytes.{Keeps, ReadConsumes, WriteAppends};
 ghost use Rattle.cg_links.specs.Counts.{one_more};
@@ -175,6 +176,29 @@ impl<W: Write> Write for SlowLink<W> {
         ensures bytes { Keeps (W.contents (link_of_slow self.old)) (W.contents (link_of_slow self.new)) }
     {
         self.link.flush()
+    }
+}
+
+/// A writer that takes no byte, and whose calls do not fail.
+#[derive(Drop)]
+pub struct FullLink;
+
+impl Write for FullLink {
+    ghost contents = { λ _. Some [] };
+
+    fn write(&mut self, buf: &[u8]) -> io::Result<usize>
+        ensures bound { WritesAtMost result buf.now }
+        ensures bytes { WriteAppends (Some []) (Some []) result buf.now }
+        ensures none { result ≡ Ok 0 }
+    {
+        Ok(0)
+    }
+
+    fn flush(&mut self) -> io::Result<()>
+        ensures bytes { Keeps (Some []) (Some []) }
+        ensures ok { IsOk result }
+    {
+        Ok(())
     }
 }
 
