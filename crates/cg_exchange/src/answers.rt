@@ -9,7 +9,7 @@ ghost use Rattle.cg_exchange.specs.Walking.{of_member, row_request, row_delta};
 
 use crate::walking::next;
 use cg_entry::{Delta, Digest, Entry};
-use cg_lists::push_some;
+use cg_lists::{push_some, push_some_with_room};
 use cg_map::Row;
 use cg_messages::{Ack, OwnerDelta, Request, Syn};
 use cg_table::Table;
@@ -122,7 +122,7 @@ fn lists_for(
         let request = request_of_next(digest, row);
         push_some(&mut requests, request)?;
         let delta = delta_of_next(alloc, row, digest)?;
-        push_some(&mut deltas, delta)?;
+        push_some_with_room(&mut deltas, delta, rows.len())?;
         rows = rows_behind;
         named = named_behind;
     }

@@ -3,4 +3,4 @@
 
 mod push;
 
-pub use push::push_some;
+pub use push::{push_some, push_some_with_room};

@@ -17,3 +17,20 @@ pub fn push_some<T: Drop>(items: &mut Vec<T>, item: Option<T>) -> Result<(), All
     }
     Ok(())
 }
+
+/// Does what `push_some` does, but takes room for `room` items before the first one: a list that gets as many does not
+/// move while it grows.
+pub fn push_some_with_room<T: Drop>(
+    items: &mut Vec<T>,
+    item: Option<T>,
+    room: usize,
+) -> Result<(), AllocError>
+    ensures ok { OnOk result (items.new.items ≡ items.old.items ++ option_to_list item) }
+    ensures none { IsNone item → IsOk result }
+    ensures err { OnErr result (items.new.items ≡ items.old.items) }
+{
+    if item.is_some() && items.is_empty() {
+        items.reserve(room)?;
+    }
+    push_some(items, item)
+}

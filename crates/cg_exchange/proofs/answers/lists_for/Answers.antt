@@ -21,7 +21,7 @@ loop-rows-preserved c =
       named = rw digest.behind (rise_behind key owner named rows c.loop-rows.invariant.named);
       asked = rw (c.in_ok-push_some.ensures.ok, c.request_of_next-request.ensures, row.first, row.behind, digest.first, digest.behind)
           (join_step key owner row_request c.loop-rows.requests.items named rows c.loop-rows.invariant.named ∙ c.loop-rows.invariant.asked);
-      sent = rw (c.in_ok-push_some-2.ensures.ok, c.in_ok-delta.ensures, row.first, row.behind, digest.first, digest.behind)
+      sent = rw (c.in_ok-push_some_with_room.ensures.ok, c.in_ok-delta.ensures, row.first, row.behind, digest.first, digest.behind)
           (join_step owner key row_delta c.loop-rows.deltas.items rows named c.loop-rows.invariant.rows ∙ c.loop-rows.invariant.sent);
     }
 
