@@ -1,6 +1,7 @@
 pub mod Codes
 pub mod EventCodes
 pub mod Handed
+pub mod Borrowed
 pub mod Sending
 pub mod Replies
 pub use Rattle.cg_types.specs.Equality

@@ -6,11 +6,13 @@
 
 mod event;
 mod handed;
+mod lent;
 mod outcomes;
 mod reply;
 mod same;
 mod sending;
 
 pub use event::Event;
+pub use lent::LentEvent;
 pub use outcomes::Outcomes;
 pub use reply::Reply;

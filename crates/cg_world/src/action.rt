@@ -1,8 +1,10 @@
 //! Actions on the nodes of a cluster.
 
 ghost use Rattle.std.specs.Prelude.{◌≡◌, IfOk};
-ghost use Rattle.cg_world.specs.World.{starts};
+ghost use Rattle.cg_events.specs.Borrowed.{lent_event};
+ghost use Rattle.cg_world.specs.World.{event_of, starts};
 
+use cg_events::LentEvent;
 use cg_types::{Endpoint, Generation, StateKey, StateText};
 use std::alloc::AllocError;
 
@@ -36,6 +38,21 @@ impl LocalEvent {
                 words: *words,
             },
         })
+    }
+
+    /// Returns the event that the node handles, borrowed.
+    pub fn lent(&self) -> LentEvent<'_>
+        ensures { lent_event result ≡ event_of self.now }
+    {
+        match self {
+            LocalEvent::Beat => LentEvent::Beat,
+            LocalEvent::Set { key, text } => LentEvent::Set { key, text },
+            LocalEvent::Opening => LentEvent::Opening,
+            LocalEvent::Tick { now, words } => LentEvent::Tick {
+                now: *now,
+                words: *words,
+            },
+        }
     }
 }
 

@@ -5,14 +5,13 @@ ghost use Rattle.std.specs.Option.{option_map};
 ghost use Rattle.std.specs.FinMap as map;
 ghost use Rattle.cg_types.specs.Answer.{Answers};
 ghost use Rattle.cg_entry.specs.History.{at_place};
-ghost use Rattle.cg_core.specs.Step.{node_step};
 ghost use Rattle.cg_world.specs.Acting.{showing};
-ghost use Rattle.cg_world.specs.World.{Start, Local, Deliver, new_world, act as after_act, with_node, with_sent, message_of as message_of_reply, generation_held, has_room as has_room_in, event_of};
+ghost use Rattle.cg_world.specs.World.{Start, Local, Deliver, new_world, act as after_act, with_node, with_sent, message_of as message_of_reply, generation_held, has_room as has_room_in};
 
 use crate::action::{Action, LocalEvent};
 use crate::world::Shown;
 use cg_core::Node;
-use cg_events::Reply;
+use cg_events::{LentEvent, Reply};
 use cg_map::SharedMap;
 use cg_messages::Message;
 use cg_settings::Settings;
@@ -36,18 +35,6 @@ impl Model for Nodes {
     ghost coded = { world_code };
 
     ghost view = { λ c. record { settings = c.settings; nodes = c.nodes; sent = c.sent.items } };
-}
-
-// A node's step at a local event.
-fn stepped(alloc: Global, node: &Node, event: &LocalEvent) -> Result<(Node, Reply), Fault>
-    ensures { Answers (λ x. x) (node_step node.now (event_of event.now)) result }
-{
-    match event {
-        LocalEvent::Beat => node.beat(alloc),
-        LocalEvent::Set { key, text } => node.set(alloc, *key, text),
-        LocalEvent::Opening => node.open(alloc),
-        LocalEvent::Tick { now, words } => node.tick(alloc, *now, words),
-    }
 }
 
 // The message that a reply sends, if it sends one.
@@ -213,7 +200,7 @@ impl Nodes {
         let Some(node) = self.node(endpoint) else {
             return Err(Fault::NoSuchNode);
         };
-        let (after, reply) = stepped(alloc, node, event)?;
+        let (after, reply) = node.stepped_lent(alloc, event.lent())?;
         Ok(self.done(alloc, endpoint, after, reply)?)
     }
 
@@ -235,7 +222,8 @@ impl Nodes {
         let Some(node) = self.node(to) else {
             return Err(Fault::NoSuchNode);
         };
-        let (after, reply) = node.received(alloc, now, message)?;
+        let arriving = LentEvent::arriving(message.lent(), now);
+        let (after, reply) = node.stepped_lent(alloc, arriving)?;
         Ok(self.done(alloc, to, after, reply)?)
     }
 
