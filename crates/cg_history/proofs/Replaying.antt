@@ -6,18 +6,16 @@ use Rattle.cg_types.specs.declared.fault.Fault.{Fault}
 use Rattle.cg_types.specs.declared.fault.Fault.TheVariants as faults
 use Rattle.cg_types.specs.Answer.{IsRefusal}
 use Rattle.cg_types.specs.Numbers.{IsGeneration}
-use Rattle.cg_entry.specs.Entry.{starting_entry}
 use Rattle.cg_table.specs.Puts.{Put, puts}
-use Rattle.cg_table.proofs.TableLemmas.{alone_valid}
 use Rattle.cg_events.specs.declared.event.Event.{Event}
 use Rattle.cg_events.specs.declared.reply.Reply.{Reply}
 use Rattle.cg_settings.specs.Values.{SettingsValue}
-use Rattle.cg_core.specs.Values.{NodeValue, IsSmall}
+use Rattle.cg_core.specs.Values.{NodeValue}
 use Rattle.cg_core.specs.Step.{Step, node_step, then}
 use Rattle.cg_core.specs.Changes.{step_with_puts}
 use Rattle.cg_records.specs.declared.item.Item.{Item}
 use Rattle.cg_records.specs.declared.item.Receipt.{Receipt}
-use Rattle.cg_history.specs.History.{record_of, HistoryValue, Replays, IsReplayed, new_history, with_record, receipt_of, LAST_NUMBER, with_step, apply}
+use Rattle.cg_history.specs.History.{record_of, HistoryValue, Replays, IsReplayed, new_history, with_record, receipt_of, LAST_NUMBER, count_of, with_step, apply}
 
 -- one record more
 pub replays_more : (b : NodeValue) (rs : List Item) (n : NodeValue) (caller : ℕ) (e : Event) (x : NodeValue × Reply) → Replays b rs n → node_step n e ≡ Ok x → Replays b (rs ++ record_of caller e n x ∷ []) x.0
@@ -31,18 +29,18 @@ replayed_new own generation settings in_range h is =
       begun = record { own = own; generation = generation; settings = settings; in_range = in_range; is = refl };
       front = [];
       came = refl;
-      whole = refl;
+      gone = refl;
       replays = refl;
       few = omega arith;
     })
 
--- no record is before the base
-pub base_is_start : (h : HistoryValue) → IsReplayed h → h.base ≡ h.start
-base_is_start h i = sym (subst (λ (rs : List Item). Replays h.start rs h.base) i.whole i.came)
+-- where nothing is folded, the base is the node that started
+none_before : (start : NodeValue) (front : List Item) (base : NodeValue) → length front ≡ 0 → Replays start front base → base ≡ start
+none_before start [] base none came = sym came
+none_before start (r ∷ rs) base none came = absurd cc
 
--- the base is a node that a member may be
-pub base_small : (h : HistoryValue) → IsReplayed h → IsSmall h.base
-base_small h i = subst IsSmall (sym (base_is_start h i ∙ i.begun.is)) (alone_valid i.begun.own (starting_entry i.begun.generation))
+pub base_is_start : (h : HistoryValue) → IsReplayed h → h.folded ≡ 0 → h.base ≡ h.start
+base_is_start h i none = none_before h.start i.front h.base (i.gone ∙ none) i.came
 
 -- ---- the history after a step
 
@@ -76,32 +74,32 @@ module _ (h : HistoryValue) (caller : ℕ) (e : Event) where
   pub with_step_err : (fault : Fault) → IsRefusal fault (step_with_puts h.node e) → IsRefusal fault (with_step h caller e (node_step h.node e))
   with_step_err fault is = refused_by fault (node_step h.node e) is
 
-  one_more : (x : NodeValue × Reply) → node_step h.node e ≡ Ok x → length h.records ≢ LAST_NUMBER → IsReplayed h → IsReplayed (with_record h x.0 (record_of caller e h.node x))
+  one_more : (x : NodeValue × Reply) → node_step h.node e ≡ Ok x → count_of h ≢ LAST_NUMBER → IsReplayed h → IsReplayed (with_record h x.0 (record_of caller e h.node x))
   one_more x step room i = record {
     begun = i.begun;
     front = i.front;
     came = i.came;
-    whole = i.whole;
+    gone = i.gone;
     replays = replays_more h.base h.records h.node caller e x i.replays step;
     few = omega (arith, i.few, room, length-append h.records (record_of caller e h.node x ∷ []));
   }
 
-  goes_on : (spent : Bool) (due : Step) (y : HistoryValue × Receipt) → (length h.records == LAST_NUMBER) ≡ spent → node_step h.node e ≡ due → IsReplayed h
+  goes_on : (spent : Bool) (due : Step) (y : HistoryValue × Receipt) → (count_of h == LAST_NUMBER) ≡ spent → node_step h.node e ≡ due → IsReplayed h
       → cond {A = Result (HistoryValue × Receipt) Fault} spent (Err faults.VersionsSpent) (with_step h caller e due) ≡ Ok y → IsReplayed y.0
   goes_on true due y spent step i is = absurd cc
   goes_on false (Err fault) y left step i is = absurd cc
   goes_on false (Ok x) y left step i is =
       let same = same_ok {A = HistoryValue × Receipt} (with_record h x.0 (record_of caller e h.node x), receipt_of h caller e x.1) y is in
-      subst (λ (y : HistoryValue × Receipt). IsReplayed y.0) same (one_more x step (eqb-false (length h.records) LAST_NUMBER left) i)
+      subst (λ (y : HistoryValue × Receipt). IsReplayed y.0) same (one_more x step (eqb-false (count_of h) LAST_NUMBER left) i)
 
   -- the record of an event goes on from the others
   pub replayed_after : (after : HistoryValue) (q : Receipt) → IsReplayed h → apply h caller e ≡ Ok (after, q) → IsReplayed after
-  replayed_after after q i is = goes_on (length h.records == LAST_NUMBER) (node_step h.node e) (after, q) refl refl i is
+  replayed_after after q i is = goes_on (count_of h == LAST_NUMBER) (node_step h.node e) (after, q) refl refl i is
 
   -- the step with its record is expected, unless numbers are spent
-  pub apply_unspent : length h.records ≢ LAST_NUMBER → apply h caller e ≡ with_step h caller e (node_step h.node e)
-  apply_unspent room = unspent (length h.records == LAST_NUMBER) refl
+  pub apply_unspent : count_of h ≢ LAST_NUMBER → apply h caller e ≡ with_step h caller e (node_step h.node e)
+  apply_unspent room = unspent (count_of h == LAST_NUMBER) refl
     where
-      unspent : (b : Bool) → (length h.records == LAST_NUMBER) ≡ b → cond {A = Result (HistoryValue × Receipt) Fault} b (Err faults.VersionsSpent) (with_step h caller e (node_step h.node e)) ≡ with_step h caller e (node_step h.node e)
-      unspent true spent = absurd (room (eqb-true (length h.records) LAST_NUMBER spent))
+      unspent : (b : Bool) → (count_of h == LAST_NUMBER) ≡ b → cond {A = Result (HistoryValue × Receipt) Fault} b (Err faults.VersionsSpent) (with_step h caller e (node_step h.node e)) ≡ with_step h caller e (node_step h.node e)
+      unspent true spent = absurd (room (eqb-true (count_of h) LAST_NUMBER spent))
       unspent false left = refl

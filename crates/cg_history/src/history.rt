@@ -1,9 +1,11 @@
 //! A node with the records of all that it did.
 
-ghost use Rattle.std.specs.Prelude.{◌≡◌, ◌<◌, IfOk, MatchResult, OnErr, length};
+ghost use Rattle.std.specs.Prelude.{◌≡◌, ◌<◌, ◌≤◌, IfOk, MatchResult, OnOk, OnErr, length, take};
 ghost use Rattle.cg_types.specs.Answer.{Answers};
+ghost use Rattle.cg_core.specs.Step.{after_event};
 ghost use Rattle.cg_records.specs.Confirming.{AreConfirmed, IsFirstStray};
-ghost use Rattle.cg_history.specs.History.{IsReplayed, LAST_NUMBER, new_history, receipt_of, with_record, apply as apply_of};
+ghost use Rattle.cg_history.specs.History.{IsReplayed, IsFoldOf, LAST_NUMBER, count_of, new_history, receipt_of};
+ghost use Rattle.cg_history.specs.History.{with_record, apply as apply_of, node_after, with_folded, unfolded};
 
 use crate::log::Log;
 use cg_core::Node;
@@ -14,17 +16,19 @@ use cg_types::{Endpoint, Fault, Generation};
 use std::alloc::{AllocError, Global};
 use std::marker::Model;
 
-/// A node with the records of all that it did since it started.
+/// A node with the records of all that it did since it started, of which the first may have been folded.
 #[derive(Drop)]
 pub struct History {
     start: Node,
     base: Node,
+    folded: u64,
     items: Vec<Item>,
     node: Node,
 }
 
-/// A contract sees the node that started, the node before the records, the records, and the node to which they lead.
-/// They always lead there, and no record is before them.
+/// A contract sees the node that started, the node before the records that are kept, the number of those folded, the
+/// records that are kept, and the node to which they lead. They always lead there, and as many as were folded led from
+/// the start to the base.
 impl Model for History {
     ghost use Rattle.cg_history.specs.History.{HistoryValue, IsReplayed, history_code};
 
@@ -32,10 +36,22 @@ impl Model for History {
 
     ghost coded = { history_code };
 
-    ghost view = { λ h. record { start = h.start; base = h.base; records = h.items.items; node = h.node } };
+    ghost view = { λ h.
+        record { start = h.start; base = h.base; folded = h.folded; records = h.items.items; node = h.node } };
 
-    ghost invariant = { λ h.
-        IsReplayed (record { start = h.start; base = h.base; records = h.items.items; node = h.node }) };
+    ghost invariant = { λ h. IsReplayed
+        (record { start = h.start; base = h.base; folded = h.folded; records = h.items.items; node = h.node }) };
+}
+
+// Returns the node after an event: a refused one leaves it as it is.
+fn after(alloc: Global, node: &Node, event: &Event) -> Result<Node, AllocError>
+    ensures { IfOk result (λ m. m ≡ after_event node.now event.now) }
+{
+    match node.stepped(alloc, event) {
+        Ok((after, _)) => Ok(after),
+        Err(Fault::OutOfMemory) => Err(AllocError),
+        Err(_) => node.copy(),
+    }
 }
 
 impl History {
@@ -53,12 +69,14 @@ impl History {
         Ok(History {
             start: node.copy()?,
             base: node.copy()?,
+            folded: 0,
             items: Vec::new(alloc),
             node,
         })
     }
 
-    /// The node that the history began with.
+    /// The node before the records that are kept. It is the one that the history began with, if none was folded; else
+    /// the folded records led there.
     pub fn base(&self) -> &Node
         ensures value { result.now ≡ self.now.base }
         ensures replayed { IsReplayed self.now }
@@ -66,7 +84,7 @@ impl History {
         &self.base
     }
 
-    /// The node after all records, to which they lead from the `base` node.
+    /// The node after all records, to which those that are kept lead from the `base` node.
     pub fn node(&self) -> &Node
         ensures value { result.now ≡ self.now.node }
         ensures replayed { IsReplayed self.now }
@@ -74,12 +92,20 @@ impl History {
         &self.node
     }
 
-    /// The records, the first one first; they are numbered from 1.
+    /// The records that are kept, the first one first; they are numbered from `folded` + 1.
     pub fn records(&self) -> &[Item]
         ensures value { result.now ≡ self.now.records }
         ensures replayed { IsReplayed self.now }
     {
         &self.items
+    }
+
+    /// The number of records that were folded.
+    pub fn folded(&self) -> u64
+        ensures value { result ≡ self.now.folded }
+        ensures replayed { IsReplayed self.now }
+    {
+        self.folded
     }
 
     // The receipt of the next record.
@@ -90,12 +116,12 @@ impl History {
         event: &Event,
         reply: &Reply,
     ) -> Result<Receipt, AllocError>
-        requires { length self.now.records < LAST_NUMBER }
+        requires { count_of self.now < LAST_NUMBER }
         ensures { IfOk result (λ r. r ≡ receipt_of self.now caller event.now reply.now) }
     {
         Ok(Receipt {
             caller,
-            number: self.items.len() as u64 + 1,
+            number: self.folded + self.items.len() as u64 + 1,
             event: event.copy(alloc)?,
             reply: reply.copy(alloc)?,
         })
@@ -110,7 +136,7 @@ impl History {
     ) -> Result<(Node, Item, Receipt), Fault>
         ensures { Answers (λ x. (with_record self.now x.0 x.1, x.2)) (apply_of self.now caller event) result }
     {
-        if self.items.len() == usize::MAX {
+        if self.folded + self.items.len() as u64 == u64::MAX {
             return Err(Fault::VersionsSpent);
         }
         let (node, reply, puts) = self.node.stepped_with_puts(alloc, &event)?;
@@ -139,7 +165,8 @@ impl History {
         Ok(receipt)
     }
 
-    /// Does an event as `apply` does, and tells a log of the record before it is kept. All memory is found before.
+    /// Does an event as `apply` does, and tells a log of the record before it is kept. All memory is found before. The
+    /// log was told all records, also those that were folded.
     ///
     /// `OutOfMemory` also if the log does not take the record in: then it is not kept.
     pub fn apply_logged<L: Log>(
@@ -149,10 +176,13 @@ impl History {
         caller: u32,
         event: Event,
     ) -> Result<Receipt, Fault>
-        requires { L.told log.old ≡ self.old.records }
+        requires { IsFoldOf (L.told log.old) self.old }
         ensures due { Answers (λ receipt. (self.new, receipt)) (apply_of self.old caller event) result }
+        ensures whole { Answers (λ receipt. (unfolded (L.told log.new) self.new, receipt))
+            (apply_of (unfolded (L.told log.old) self.old) caller event) result }
         ensures err { OnErr result (self.new ≡ self.old) }
-        ensures told { L.told log.new ≡ self.new.records }
+        ensures told { IsFoldOf (L.told log.new) self.new }
+        ensures log { OnErr result (log.new ≡ log.old) }
     {
         let (node, item, receipt) = self.record(alloc, caller, event)?;
         self.items.reserve(1)?;
@@ -164,14 +194,51 @@ impl History {
         Ok(receipt)
     }
 
+    // Returns the node after the first `n` records: the history's node, if they are all.
+    fn node_after(&self, alloc: Global, n: usize) -> Result<Node, AllocError>
+        requires { n ≤ length self.now.records }
+        ensures { IfOk result (λ m. m ≡ node_after self.now.base (take n self.now.records)) }
+    {
+        if n == self.items.len() {
+            return self.node.copy();
+        }
+        let mut node = self.base.copy()?;
+        for item in &self.items[..n] {
+            node = after(alloc, &node, &item.event)?;
+        }
+        Ok(node)
+    }
+
+    /// Folds the first `n` of the records that are kept: the base is then the node after them, and they are gone. The
+    /// other records, their numbers and the node stay.
+    ///
+    /// The node does the `n` events again, so this takes as long as they took; if it folds all that are kept, it does
+    /// none. The room of the folded records is given back. If memory is refused, nothing changes; `n` = 0 takes none.
+    pub fn fold_front(&mut self, alloc: Global, n: usize) -> Result<(), AllocError>
+        requires { n ≤ length self.old.records }
+        ensures ok { OnOk result (self.new ≡ with_folded n self.old) }
+        ensures err { OnErr result (self.new ≡ self.old) }
+    {
+        if n == 0 {
+            return Ok(());
+        }
+        let base = self.node_after(alloc, n)?;
+        let kept = self.items.split_off(n)?;
+        self.items = kept;
+        self.folded += n as u64;
+        self.base = base;
+        Ok(())
+    }
+
     /// Tests whether each receipt is in the history at its number, with its caller, event and reply, and numbers rise
-    /// for each caller. If not, it returns the first receipt that does not pass, as `Stranger`. It takes no memory;
-    /// `confirms` of `cg_records`, which it calls, says how long it takes.
+    /// for each caller. If not, it returns the first receipt that does not pass: as `Folded` if its number is that of a
+    /// folded record, else as `Stranger`. It takes no memory; `confirms` of `cg_records`, which it calls, says how long
+    /// it takes.
     pub fn confirms(&self, receipts: &[Receipt]) -> Result<(), Stray>
         ensures { MatchResult result
-            (λ _. AreConfirmed self.now.records receipts.now)
-            (λ stray. IsFirstStray self.now.records receipts.now stray) }
+            (λ _. AreConfirmed self.now.folded self.now.records receipts.now)
+            (λ stray. IsFirstStray self.now.folded self.now.records receipts.now stray) }
     {
-        confirms(&self.items, receipts)
+        confirms(self.folded, &self.items, receipts)
     }
 }

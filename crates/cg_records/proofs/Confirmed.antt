@@ -82,11 +82,11 @@ take_whole [] = refl
 take_whole (x ∷ xs) = ap (λ zs. x ∷ zs) (take_whole xs)
 
 -- one receipt more is confirmed
-pub confirmed_more : (records : List Item) (before : List Receipt) (r : Receipt) → AreConfirmed records before → IsConfirmed records before r → AreConfirmed records (before ++ r ∷ [])
-confirmed_more records before r all one k q at = by (at_more before r q k at)
+pub confirmed_more : (folded : ℕ) (records : List Item) (before : List Receipt) (r : Receipt) → AreConfirmed folded records before → IsConfirmed folded records before r → AreConfirmed folded records (before ++ r ∷ [])
+confirmed_more folded records before r all one k q at = by (at_more before r q k at)
   where
-    by : ((k < length before) × (slice_get before k ≡ Some q)) ⊎ ((k ≡ length before) × (r ≡ q)) → IsConfirmed records (take k (before ++ r ∷ [])) q
-    by (inl a) = subst (λ (b : List Receipt). IsConfirmed records b q) (sym (take_front before (r ∷ []) k (let l = a.0 in omega arith))) (all k q a.1)
+    by : ((k < length before) × (slice_get before k ≡ Some q)) ⊎ ((k ≡ length before) × (r ≡ q)) → IsConfirmed folded records (take k (before ++ r ∷ [])) q
+    by (inl a) = subst (λ (b : List Receipt). IsConfirmed folded records b q) (sym (take_front before (r ∷ []) k (let l = a.0 in omega arith))) (all k q a.1)
     by (inr a) =
         let here : take k (before ++ r ∷ []) ≡ before = ap (λ n. take n (before ++ r ∷ [])) a.0 ∙ take_front before (r ∷ []) (length before) (omega arith) ∙ take_whole before in
-        subst (λ (b : List Receipt). IsConfirmed records b q) (sym here) (subst (λ (x : Receipt). IsConfirmed records before x) a.1 one)
+        subst (λ (b : List Receipt). IsConfirmed folded records b q) (sym here) (subst (λ (x : Receipt). IsConfirmed folded records before x) a.1 one)

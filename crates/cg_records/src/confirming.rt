@@ -1,8 +1,9 @@
 //! The test of receipts against records.
 
-ghost use Rattle.std.specs.Prelude.{◌↔◌, IsTrue, MatchResult};
+ghost use Rattle.std.specs.Prelude.{◌≡◌, ◌↔◌, IsTrue, MatchResult};
 ghost use Rattle.cg_records.specs.Greatest.{AreAtMost};
 ghost use Rattle.cg_records.specs.Confirming.{IsOf, Stands, Follows, AreInOrder, AreConfirmed, IsFirstStray};
+ghost use Rattle.cg_records.specs.Confirming.{stray_fault};
 
 use crate::greatest::Greatest;
 use crate::item::{Item, Receipt, Stray};
@@ -36,11 +37,11 @@ fn is_of(item: &Item, receipt: &Receipt) -> bool
     item.caller == receipt.caller && item.event == receipt.event && item.reply == receipt.reply
 }
 
-// Returns `true` if the record of a receipt is among the records.
-fn has(records: &[Item], receipt: &Receipt) -> bool
-    ensures { IsTrue result ↔ Stands records.now receipt.now }
+// Returns `true` if the record of a receipt is among the records, before which some were folded.
+fn has(folded: u64, records: &[Item], receipt: &Receipt) -> bool
+    ensures { IsTrue result ↔ Stands folded records.now receipt.now }
 {
-    match receipt.number.checked_sub(1) {
+    match receipt.number.saturating_sub(folded).checked_sub(1) {
         None => false,
         Some(place) => match records.get(place as usize) {
             None => false,
@@ -49,25 +50,39 @@ fn has(records: &[Item], receipt: &Receipt) -> bool
     }
 }
 
+// Returns the fault of a receipt that is not confirmed.
+fn fault_of(folded: u64, receipt: &Receipt) -> Fault
+    ensures { result ≡ stray_fault folded receipt.now }
+{
+    if receipt.number > 0 && receipt.number <= folded {
+        Fault::Folded
+    } else {
+        Fault::Stranger
+    }
+}
+
 /// Tests whether each receipt is in the records at its number, with its caller, event and reply, and numbers rise for
-/// each caller. If not, it returns the first receipt that does not pass, as `Stranger`. It takes no memory.
+/// each caller. The records are those after the first `folded`, which are no longer kept. It takes no memory.
+///
+/// If not, it returns the first receipt that does not pass: as `Folded` if its number is 1 to `folded`, else as
+/// `Stranger`.
 ///
 /// Each receipt is compared with its record, and its number with the greatest so far among callers that leave the same
 /// remainder by 1,024. Only if the number is not greater is the receipt compared with the nearest earlier one of its
 /// caller. That takes as many steps as there are receipts of others between the two. So the time is linear in the
 /// receipts if numbers rise, and if no two callers leave the same remainder; it is quadratic at worst.
-pub fn confirms(records: &[Item], receipts: &[Receipt]) -> Result<(), Stray>
+pub fn confirms(folded: u64, records: &[Item], receipts: &[Receipt]) -> Result<(), Stray>
     ensures { MatchResult result
-        (λ _. AreConfirmed records.now receipts.now)
-        (λ stray. IsFirstStray records.now receipts.now stray) }
+        (λ _. AreConfirmed folded records.now receipts.now)
+        (λ stray. IsFirstStray folded records.now receipts.now stray) }
 {
     let mut greatest = Greatest::new();
     for place in 0..receipts.len() {
         let receipt = &receipts[place];
-        if !has(records, receipt) || !follows(&receipts[..place], &greatest, receipt) {
+        if !has(folded, records, receipt) || !follows(&receipts[..place], &greatest, receipt) {
             return Err(Stray {
                 place,
-                fault: Fault::Stranger,
+                fault: fault_of(folded, receipt),
             });
         }
         greatest.raise(receipt.caller, receipt.number);

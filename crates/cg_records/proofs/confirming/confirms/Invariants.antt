@@ -5,6 +5,6 @@ use Rattle.cg_records.proofs.confirming.confirms.Given as goal
 
 abbrev pub invariant-loop-place : goal.invariant-loop-place
 invariant-loop-place l = record {
-  confirmed : AreConfirmed l.records (take l.place l.receipts);
+  confirmed : AreConfirmed l.folded l.records (take l.place l.receipts);
   at_most : AreAtMost l.greatest (take l.place l.receipts);
 }
