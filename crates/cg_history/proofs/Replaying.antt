@@ -6,16 +6,18 @@ use Rattle.cg_types.specs.declared.fault.Fault.{Fault}
 use Rattle.cg_types.specs.declared.fault.Fault.TheVariants as faults
 use Rattle.cg_types.specs.Answer.{IsRefusal}
 use Rattle.cg_types.specs.Numbers.{IsGeneration}
+use Rattle.cg_entry.specs.Entry.{starting_entry}
 use Rattle.cg_table.specs.Puts.{Put, puts}
+use Rattle.cg_table.proofs.TableLemmas.{alone_valid}
 use Rattle.cg_events.specs.declared.event.Event.{Event}
 use Rattle.cg_events.specs.declared.reply.Reply.{Reply}
 use Rattle.cg_settings.specs.Values.{SettingsValue}
-use Rattle.cg_core.specs.Values.{NodeValue}
+use Rattle.cg_core.specs.Values.{NodeValue, IsSmall}
 use Rattle.cg_core.specs.Step.{Step, node_step, then}
 use Rattle.cg_core.specs.Changes.{step_with_puts}
 use Rattle.cg_records.specs.declared.item.Item.{Item}
 use Rattle.cg_records.specs.declared.item.Receipt.{Receipt}
-use Rattle.cg_history.specs.History.{record_of, HistoryValue, Replays, IsReplayed, new_history, with_record, receipt_of, LAST_NUMBER, count_of, with_step, apply}
+use Rattle.cg_history.specs.History.{record_of, HistoryValue, Replays, IsStart, IsReplayed, new_history, with_record, receipt_of, LAST_NUMBER, count_of, with_step, apply}
 
 -- one record more
 pub replays_more : (b : NodeValue) (rs : List Item) (n : NodeValue) (caller : ℕ) (e : Event) (x : NodeValue × Reply) → Replays b rs n → node_step n e ≡ Ok x → Replays b (rs ++ record_of caller e n x ∷ []) x.0
@@ -33,6 +35,10 @@ replayed_new own generation settings in_range h is =
       replays = refl;
       few = omega arith;
     })
+
+-- a node that started is one that a member may be
+pub start_small : (n : NodeValue) → IsStart n → IsSmall n
+start_small n begun = subst IsSmall (sym begun.is) (alone_valid begun.own (starting_entry begun.generation))
 
 -- where nothing is folded, the base is the node that started
 none_before : (start : NodeValue) (front : List Item) (base : NodeValue) → length front ≡ 0 → Replays start front base → base ≡ start

@@ -1,5 +1,5 @@
--- Each record has a receipt if confirmed receipts are as many as records.
-use Rattle.std.proofs.Common.{◌≡◌, ◌≢◌, ℕ, zero, suc, ◌+◌, ◌<◌, ◌≤◌, Bool, true, false, cond, List, [], ◌∷◌, length, map, Option, Some, None, refl, sym, ap, ◌∙◌, subst, arith, nat_lt, eqb-true, eq-eqb}
+-- Each record that is kept has a receipt if confirmed receipts are as many as these; more there are not.
+use Rattle.std.proofs.Common.{◌≡◌, ◌≢◌, ℕ, zero, suc, ◌-◌, ◌<◌, ◌≤◌, Bool, true, false, cond, List, [], ◌∷◌, length, map, Some, refl, sym, ap, ◌∙◌, subst, arith, nat_lt, eqb-true}
 use Rattle.std.specs.Prelude.{◌&&◌, ◌||◌, ◌==◌, not, slice_get}
 use Rattle.std.specs.List.{filter, list_all}
 use Rattle.std.proofs.lemmas.Bool.{ltb-true}
@@ -11,7 +11,7 @@ use Rattle.cg_types.specs.ListPlace.{at_place}
 use Rattle.cg_records.specs.declared.item.Item.{Item}
 use Rattle.cg_records.specs.declared.item.Receipt.{Receipt}
 use Rattle.cg_records.specs.Confirming.{AreConfirmed}
-use Rattle.cg_history_laws.specs.Laws.{EachRecordHasItsReceipt}
+use Rattle.cg_history_laws.specs.Laws.{EachRecordHasItsReceipt, AllConfirmedAreKept}
 use Rattle.cg_history_laws.proofs.Receipts.{confirmed_stand_once}
 
 -- ---- numbers that differ
@@ -95,15 +95,16 @@ few (suc m) xs d lt =
     let rest = few m (without m xs) (still_differ m xs d) (still_below m xs lt) in
     omega (arith, one, rest)
 
--- ---- the numbers of receipts
+-- ---- the places of receipts
 
-abbrev numbers : List Receipt → List ℕ
-numbers rs = map (λ r. r.number) rs
+-- the places of their records among those that are kept, from 1
+abbrev places : ℕ → List Receipt → List ℕ
+places folded rs = map (λ r. r.number - folded) rs
 
-at_number : (rs : List Receipt) (k a : ℕ) → slice_get (numbers rs) k ≡ Some a → (r : Receipt) × (slice_get rs k ≡ Some r) × (r.number ≡ a)
-at_number [] k a is = absurd cc
-at_number (r ∷ rs) zero a is = (r, refl, same_Some r.number a is)
-at_number (r ∷ rs) (suc k) a is = at_number rs k a is
+at_number : (folded : ℕ) (rs : List Receipt) (k a : ℕ) → slice_get (places folded rs) k ≡ Some a → (r : Receipt) × (slice_get rs k ≡ Some r) × (r.number - folded ≡ a)
+at_number folded [] k a is = absurd cc
+at_number folded (r ∷ rs) zero a is = (r, refl, same_Some (r.number - folded) a is)
+at_number folded (r ∷ rs) (suc k) a is = at_number folded rs k a is
 
 among_at : (xs : List ℕ) (x : ℕ) → is_among xs x ≡ true → (k : ℕ) × (slice_get xs k ≡ Some x)
 among_at [] x is = absurd cc
@@ -134,39 +135,57 @@ placed : (records : List Item) (number : ℕ) (i : Item) → at_place records nu
 placed records zero i is = absurd cc
 placed records (suc k) i is = let within = slice_get_within records k i is in ((omega arith), grind (arith, nat_tests))
 
-module _ (records : List Item) (receipts : List Receipt) (all : AreConfirmed records receipts) (many : length receipts ≡ length records) where
-  in_range : (k a : ℕ) → slice_get (numbers receipts) k ≡ Some a → (0 < a) × (nat_lt a (suc (length records)) ≡ true)
+module _ (folded : ℕ) (records : List Item) (receipts : List Receipt) (all : AreConfirmed folded records receipts) where
+  in_range : (k a : ℕ) → slice_get (places folded receipts) k ≡ Some a → (0 < a) × (nat_lt a (suc (length records)) ≡ true)
   in_range k a is =
-      let at = at_number receipts k a is in
-      let p = placed records at.0.number (all k at.0 at.1).stands.0 (all k at.0 at.1).stands.1 in
+      let at = at_number folded receipts k a is in
+      let p = placed records (at.0.number - folded) (all k at.0 at.1).stands.0 (all k at.0 at.1).stands.1 in
       subst (λ n. (0 < n) × (nat_lt n (suc (length records)) ≡ true)) at.2 p
 
-  numbers_apart : Apart (numbers receipts)
-  numbers_apart i j a b at_i at_j less same =
-      let p = at_number receipts i a at_i in
-      let q = at_number receipts j b at_j in
-      confirmed_stand_once records receipts i j p.0 q.0 all p.1 q.1 less (p.2 ∙ same ∙ sym q.2)
+  places_apart : Apart (places folded receipts)
+  places_apart i j a b at_i at_j less same =
+      let p = at_number folded receipts i a at_i in
+      let q = at_number folded receipts j b at_j in
+      let first = (in_range i a at_i).0 in
+      let one : p.0.number ≡ q.0.number = omega (arith, p.2, q.2, same, first) in
+      confirmed_stand_once folded records receipts i j p.0 q.0 all p.1 q.1 less one
 
-  length_numbers : (rs : List Receipt) → length (numbers rs) ≡ length rs
-  length_numbers [] = refl
-  length_numbers (r ∷ rs) = ap suc (length_numbers rs)
+  length_places : (rs : List Receipt) → length (places folded rs) ≡ length rs
+  length_places [] = refl
+  length_places (r ∷ rs) = ap suc (length_places rs)
 
-  zero_out : is_among (numbers receipts) 0 ≡ false
-  zero_out = out_of (numbers receipts) 0 (is_among (numbers receipts) 0) refl (λ k is. absurd (let r = in_range k 0 is in let l = r.0 in omega arith))
+  zero_out : is_among (places folded receipts) 0 ≡ false
+  zero_out = out_of (places folded receipts) 0 (is_among (places folded receipts) 0) refl (λ k is. absurd (let r = in_range k 0 is in let l = r.0 in omega arith))
 
-  covered : (n : ℕ) → n < length records → (b : Bool) → is_among (numbers receipts) (suc n) ≡ b → is_among (numbers receipts) (suc n) ≡ true
-  covered n less true is = is
-  covered n less false is =
-      let xs = numbers receipts in
-      let whole : differ (suc n ∷ 0 ∷ xs) ≡ true = both (not (is_among (0 ∷ xs) (suc n))) (differ (0 ∷ xs)) (not_false (is_among (0 ∷ xs) (suc n)) (either_not (0 == suc n) (is_among xs (suc n)) (grind (arith, nat_tests)) is))
-      (both (not (is_among xs 0)) (differ xs) (not_false (is_among xs 0) zero_out) (differ_of xs numbers_apart)) in
+  none_twice : differ (0 ∷ places folded receipts) ≡ true
+  none_twice = both (not (is_among (places folded receipts) 0)) (differ (places folded receipts)) (not_false (is_among (places folded receipts) 0) zero_out) (differ_of (places folded receipts) places_apart)
+
+  all_below : below (suc (length records)) (0 ∷ places folded receipts) ≡ true
+  all_below = both (nat_lt 0 (suc (length records))) (below (suc (length records)) (places folded receipts)) (grind (arith, nat_tests)) (below_of (suc (length records)) (places folded receipts) (λ k a is. (in_range k a is).1))
+
+  -- confirmed receipts are at most as many as the records that are kept
+  pub few_confirmed : length receipts ≤ length records
+  few_confirmed =
+      let most = few (suc (length records)) (0 ∷ places folded receipts) none_twice all_below in
+      omega (arith, most, length_places receipts)
+
+  covered : length receipts ≡ length records → (n : ℕ) → n < length records → (b : Bool) → is_among (places folded receipts) (suc n) ≡ b → is_among (places folded receipts) (suc n) ≡ true
+  covered many n less true is = is
+  covered many n less false is =
+      let xs = places folded receipts in
+      let whole : differ (suc n ∷ 0 ∷ xs) ≡ true = both (not (is_among (0 ∷ xs) (suc n))) (differ (0 ∷ xs)) (not_false (is_among (0 ∷ xs) (suc n)) (either_not (0 == suc n) (is_among xs (suc n)) (grind (arith, nat_tests)) is)) none_twice in
       let here : nat_lt (suc n) (suc (length records)) ≡ true = grind (arith, nat_tests) in
-      let lower : below (suc (length records)) (suc n ∷ 0 ∷ xs) ≡ true = both (nat_lt (suc n) (suc (length records))) (below (suc (length records)) (0 ∷ xs)) here (both (nat_lt 0 (suc (length records))) (below (suc (length records)) xs) (grind (arith, nat_tests)) (below_of (suc (length records)) xs (λ k a is. (in_range k a is).1))) in
+      let lower : below (suc (length records)) (suc n ∷ 0 ∷ xs) ≡ true = both (nat_lt (suc n) (suc (length records))) (below (suc (length records)) (0 ∷ xs)) here all_below in
       let most = few (suc (length records)) (suc n ∷ 0 ∷ xs) whole lower in
-      absurd (omega (arith, most, length_numbers receipts, many))
+      absurd (omega (arith, most, length_places receipts, many))
 
 pub each_record_has_its_receipt : EachRecordHasItsReceipt
-each_record_has_its_receipt records receipts n all many less =
-    let at = among_at (numbers receipts) (suc n) (covered records receipts all many n less (is_among (numbers receipts) (suc n)) refl) in
-    let r = at_number receipts at.0 (suc n) at.1 in
-    (at.0, r.0, r.1, r.2)
+each_record_has_its_receipt folded records receipts n all many less =
+    let at = among_at (places folded receipts) (suc n) (covered folded records receipts all many n less (is_among (places folded receipts) (suc n)) refl) in
+    let r = at_number folded receipts at.0 (suc n) at.1 in
+    (at.0, r.0, r.1, omega (arith, r.2))
+
+pub all_confirmed_are_kept : AllConfirmedAreKept
+all_confirmed_are_kept h receipts all many =
+    let most = few_confirmed h.folded h.records receipts all in
+    omega (arith, most, many)

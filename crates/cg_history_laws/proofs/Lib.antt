@@ -2,3 +2,4 @@ pub mod PutsOfRecords
 pub mod OneMore
 pub mod Receipts
 pub mod Covering
+pub mod Folds

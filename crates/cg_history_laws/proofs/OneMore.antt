@@ -1,5 +1,5 @@
 -- One event more in a history: its step, its record and its receipt.
-use Rattle.std.proofs.Common.{◌≡◌, ℕ, Bool, true, false, cond, refl, sym, ap, subst, length}
+use Rattle.std.proofs.Common.{◌≡◌, ℕ, Bool, true, false, cond, refl, sym, ap, subst}
 use Rattle.std.specs.Prelude.{◌==◌, Result, Ok, Err}
 use Rattle.cg_types.specs.declared.fault.Fault.{Fault}
 use Rattle.cg_types.specs.declared.fault.Fault.TheVariants.{VersionsSpent}
@@ -11,7 +11,7 @@ use Rattle.cg_places.specs.PlaceWorld.{after_action}
 use Rattle.cg_steps.specs.Step.{action_at, span_handed, IsStepAt}
 use Rattle.cg_steps.proofs.StepLaws.{steps_are_by_places}
 use Rattle.cg_records.specs.declared.item.Receipt.{Receipt}
-use Rattle.cg_history.specs.History.{record_of, HistoryValue, receipt_of, LAST_NUMBER, with_record, with_step, apply}
+use Rattle.cg_history.specs.History.{record_of, HistoryValue, receipt_of, LAST_NUMBER, count_of, with_record, with_step}
 use Rattle.cg_history_laws.specs.Laws.{HasOneMore, EachEventMakesOneRecord, RecordsAreStepsByPlaces}
 
 same_ok : {A F : Type 0} (x y : A) → (let r : Result A F = Ok x in r) ≡ Ok y → x ≡ y
@@ -29,13 +29,14 @@ one_more_by h caller e after q false (Ok x) step is =
       step = step;
       start = ap (λ (y : HistoryValue × Receipt). y.0.start) (sym same);
       base = ap (λ (y : HistoryValue × Receipt). y.0.base) (sym same);
+      folded = ap (λ (y : HistoryValue × Receipt). y.0.folded) (sym same);
       led = ap (λ (y : HistoryValue × Receipt). y.0.node) (sym same);
       records = ap (λ (y : HistoryValue × Receipt). y.0.records) (sym same);
       receipt = ap (λ (y : HistoryValue × Receipt). y.1) (sym same);
     }
 
 pub each_event_makes_one_record : EachEventMakesOneRecord
-each_event_makes_one_record h caller e after q is = one_more_by h caller e after q (length h.records == LAST_NUMBER) (node_step h.node e) refl is
+each_event_makes_one_record h caller e after q is = one_more_by h caller e after q (count_of h == LAST_NUMBER) (node_step h.node e) refl is
 
 pub records_are_steps_by_places : RecordsAreStepsByPlaces
 records_are_steps_by_places w node number h caller e after q world placed sent is =

@@ -1,5 +1,5 @@
 -- Puts of records, and the nodes that the records lead to.
-use Rattle.std.proofs.Common.{◌≡◌, ℕ, zero, suc, ◌+◌, ◌<◌, ◌≤◌, Bool, true, List, [], ◌∷◌, ◌++◌, length, take, refl, sym, ap, ◌∙◌, subst, append_assoc, arith, Ok}
+use Rattle.std.proofs.Common.{◌≡◌, ℕ, zero, suc, ◌+◌, ◌<◌, ◌≤◌, true, List, [], ◌∷◌, ◌++◌, length, take, refl, sym, ap, ◌∙◌, subst, append_assoc, arith, Ok}
 use Rattle.std.specs.Prelude.{slice_index_or}
 use Rattle.std.specs.FinMap as map
 use Rattle.std.proofs.lemmas.List.{append-nil}
@@ -16,7 +16,7 @@ use Rattle.cg_core_laws.proofs.NodeLaws.{puts_keep_their_order, nodes_stay_small
 use Rattle.cg_records.specs.declared.item.Item.{Item}
 use Rattle.cg_records.specs.Items.{puts_of, events_of, replies_of}
 use Rattle.cg_history.specs.History.{HistoryValue, Replays, IsReplayed}
-use Rattle.cg_history.proofs.Replaying.{base_small}
+use Rattle.cg_history.proofs.Replaying.{start_small}
 use Rattle.cg_history_laws.specs.Laws.{RecordsReplay, PutsLead, PutsOfRecordsLead}
 
 -- ---- the events of records
@@ -52,6 +52,10 @@ puts_of_records_lead b (r ∷ rs) n small h =
     let rest = puts_of_records_lead x.0 rs n next h.3 in
     let on = lead_on b x.0 n r.puts rs (ap (λ i. i.puts) h.2) (puts_keep_their_order b r.event x.0 x.1 small h.1) rest in
     record { lead = on.0; order = on.1; small = rest.small }
+
+-- the base is a node that a member may be
+pub base_small : (h : HistoryValue) → IsReplayed h → IsSmall h.base
+base_small h i = (puts_of_records_lead h.start i.front h.base (start_small h.start i.begun) i.came).small
 
 -- ---- prefixes of the records
 

@@ -2,9 +2,16 @@
 #![tactic(auto)]
 
 ghost use Rattle.cg_history_laws.specs.Laws.{
+  AllConfirmedAreKept,
+  ConfirmedBeforeAFold,
+  ConfirmedPastAFold,
   ConfirmedStandOnce,
+  ConfirmedUncounted,
   EachEventMakesOneRecord,
   EachRecordHasItsReceipt,
+  FoldedHistoriesGoOn,
+  FoldingChangesNoAnswer,
+  FoldsAddUp,
   PutsOfRecordsLead,
   RecordsAreStepsByPlaces,
   RecordsReplay,
@@ -15,8 +22,7 @@ pub fn records_replay()
     ensures { RecordsReplay }
 {}
 
-/// The puts of the records lead from the table that the history began with to the node's, each later than what was
-/// held. The own entry keeps its generation and its keys, and the node's table is one that a member may hold.
+/// The puts of the records lead from the table before them to the node's, each later than what was held. The own entry keeps its generation and its keys, and the node's table is one that a member may hold.
 pub fn puts_of_records_lead()
     ensures { PutsOfRecordsLead }
 {}
@@ -38,7 +44,42 @@ pub fn confirmed_stand_once()
     ensures { ConfirmedStandOnce }
 {}
 
-/// Each record has a confirmed receipt if there are as many confirmed receipts as records.
+/// Each record that is kept has a confirmed receipt if there are as many confirmed receipts as such records.
 pub fn each_record_has_its_receipt()
     ensures { EachRecordHasItsReceipt }
+{}
+
+/// If there are as many confirmed receipts as a history has records, those folded among them, then none was folded.
+pub fn all_confirmed_are_kept()
+    ensures { AllConfirmedAreKept }
+{}
+
+/// A fold changes no later answer, receipt or number.
+pub fn folding_changes_no_answer()
+    ensures { FoldingChangesNoAnswer }
+{}
+
+/// Folding m records and then n is folding m + n.
+pub fn folds_add_up()
+    ensures { FoldsAddUp }
+{}
+
+/// A receipt whose number is past the folded records stays confirmed.
+pub fn confirmed_past_a_fold()
+    ensures { ConfirmedPastAFold }
+{}
+
+/// What is confirmed after a fold was confirmed before.
+pub fn confirmed_before_a_fold()
+    ensures { ConfirmedBeforeAFold }
+{}
+
+/// Confirmed receipts are confirmed by the kept records alone, once their numbers do not count the folded ones.
+pub fn confirmed_uncounted()
+    ensures { ConfirmedUncounted }
+{}
+
+/// The list of all records, of which a history folded the first, goes on with the history.
+pub fn folded_histories_go_on()
+    ensures { FoldedHistoriesGoOn }
 {}
