@@ -22,7 +22,8 @@ pub record LivesValue : Type 0 where
   pub endpoint : ℕ
   pub histories : List HistoryValue
 
--- The history began with a start of the endpoint, and its records lead from there to its node.
+-- The history began with a start of the endpoint. Records led from there to its base, and those kept lead on to its
+-- node.
 pub record IsLife (endpoint : ℕ) (h : HistoryValue) : Type 0 where
   pub own : h.start.table.own ≡ endpoint
   pub replayed : IsReplayed h
@@ -30,6 +31,11 @@ pub record IsLife (endpoint : ℕ) (h : HistoryValue) : Type 0 where
 -- Each of these histories is a life of its endpoint.
 abbrev pub AreLives : List LivesValue → Type 0
 AreLives lives = AllByRecursion (λ (l : LivesValue). AllByRecursion (IsLife l.endpoint) l.histories) lives
+
+-- No record of any of these histories is folded, so each has all records since its start.
+abbrev pub AreWhole : List LivesValue → Type 0
+AreWhole lives =
+    AllByRecursion (λ (l : LivesValue). AllByRecursion (λ (h : HistoryValue). h.folded ≡ 0) l.histories) lives
 
 abbrev pub start_item : ℕ → ℕ → RunItem
 start_item endpoint generation =
