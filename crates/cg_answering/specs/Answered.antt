@@ -19,13 +19,19 @@ pub record AnswersInput {L : Type 0} (before after : Option (List ℕ)) (old new
   pub status_is : status ≡ status_of (answer_to input)
 
 -- memory ran out, no read failed, and the text says so
-pub record OutOfMemoryDue {L : Type 0} (old new : Counted L) (text : List ℕ) (status : ℕ) : Type 0 where
+pub record OutOfMemoryDue {L : Type 0} (before after : Option (List ℕ)) (old new : Counted L)
+    (text : List ℕ) (status : ℕ) : Type 0 where
+  pub input : List ℕ
+  pub read : Consumes before after input
   pub kept : KeepsCounts old new
   pub text_is : text ≡ fault_text fault.OutOfMemory
   pub status_is : status ≡ 1
 
 -- a read failed, or all reads that are allowed were made, and the text says so
-pub record ReadFaultDue {L : Type 0} (old new : Counted L) (text : List ℕ) (status : ℕ) : Type 0 where
+pub record ReadFaultDue {L : Type 0} (before after : Option (List ℕ)) (old new : Counted L)
+    (text : List ℕ) (status : ℕ) : Type 0 where
+  pub input : List ℕ
+  pub read : Consumes before after input
   pub caused : CountsFailed old new ⊎ CountsCalls old new MOST_READS
   pub text_is : text ≡ fault_text fault.ReadFault
   pub status_is : status ≡ 1
@@ -34,7 +40,7 @@ pub record ReadFaultDue {L : Type 0} (old new : Counted L) (text : List ℕ) (st
 abbrev pub IsDue : {L : Type 0} → Option (List ℕ) → Option (List ℕ) → Counted L → Counted L → List ℕ → ℕ → Type 0
 IsDue before after old new text status =
     AnswersInput before after old new text status
-    ⊎ (OutOfMemoryDue old new text status ⊎ ReadFaultDue old new text status)
+    ⊎ (OutOfMemoryDue before after old new text status ⊎ ReadFaultDue before after old new text status)
 
 -- all of the input was read, and its answer was written
 pub record AnswersAll (after held holds : Option (List ℕ)) (input : List ℕ) (result : ℕ) : Type 0 where
