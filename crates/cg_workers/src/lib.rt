@@ -5,10 +5,11 @@
 //! who hands out links has to bound them.
 #![tactic(auto)]
 
+pub mod laws;
 mod links;
 mod receiving;
 mod sending;
 
 pub use links::{Dial, Listen};
 pub use receiving::receiver;
-pub use sending::sender;
+pub use sending::{ROUNDS_AT_ONCE, sender};

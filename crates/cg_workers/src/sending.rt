@@ -2,6 +2,7 @@
 
 ghost use Rattle.std.specs.Prelude.{◌≡◌, ◌≤◌, ◌⊎◌, [], vec_capacity};
 ghost use Rattle.cg_rounds.specs.Ends.{TakesWhere};
+ghost use Rattle.cg_workers.specs.declared.sending.TheConstants.{ROUNDS_AT_ONCE};
 ghost use Rattle.cg_workers.specs.Workers.{Begun, Reached, SentRound, SentRounds};
 
 use crate::links::Dial;
@@ -14,8 +15,8 @@ use std::alloc::Global;
 use std::io::{Read, Write};
 use std::sync::Wait;
 
-// The number of rounds for whose numbers room is made at once.
-const ROUNDS_AT_ONCE: usize = 1_000_000;
+/// The number of rounds for whose numbers room is made at once.
+pub const ROUNDS_AT_ONCE: usize = 1_000_000;
 
 // Begins an exchange over a link, with this SYN.
 fn begin<G: Gate, R: Read + Drop, W: Write + Drop, C: Milliseconds>(
@@ -70,7 +71,7 @@ fn send_round<G: Gate, D: Dial, C: Milliseconds>(
 // Returns an empty list with room for the numbers of `ROUNDS_AT_ONCE` rounds, or for none if that memory is refused.
 fn with_room(alloc: Global) -> Vec<u64>
     ensures items { result.items ≡ [] }
-    ensures room { (vec_capacity result ≡ 0) ⊎ (1000000 ≤ vec_capacity result) }
+    ensures room { (vec_capacity result ≡ 0) ⊎ (ROUNDS_AT_ONCE ≤ vec_capacity result) }
 {
     match Vec::with_capacity(alloc, ROUNDS_AT_ONCE) {
         Ok(numbers) => numbers,
