@@ -1,8 +1,8 @@
 //! Texts by which a program shows what nodes hold and what they did, and the calls that add them.
 //!
-//! Each call but `written` adds to a text, of which the last line ends with one line feed. Numbers are decimal with no leading zeros,
-//! tokens are 32 lower-case hexadecimal digits, endpoints are as `10.0.0.1:7000`. A call returns `AllocError` if the
-//! text finds no memory; a part may then be added.
+//! Each call but `written` adds to a text, of which the last line ends with one line feed. Numbers are decimal with no
+//! leading zeros, tokens are 32 lower-case hexadecimal digits, endpoints are as `10.0.0.1:7000`. A call returns
+//! `AllocError` if the text finds no memory; a part may then be added.
 #![tactic(auto)]
 
 mod done;
