@@ -12,7 +12,7 @@ use std::alloc::Global;
 const READ_AT_ONCE: usize = 8_192;
 
 // The longest frames that are cut in two at each of their bytes.
-const CUT: usize = 64;
+const CUT: usize = 320;
 
 // Adds a space before a word that is not the first.
 fn add_space(text: &mut String) -> Result<(), Fault> {
