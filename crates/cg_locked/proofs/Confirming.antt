@@ -1,5 +1,5 @@
 -- The receipts of a seat are confirmed by what it has seen.
-use Rattle.std.proofs.Common.{◌≡◌, ℕ, zero, suc, ◌+◌, ◌≤◌, List, [], ◌∷◌, ◌++◌, length, get_or, Some, refl, sym, ap, ◌∙◌, subst, arith, append_assoc, length-append}
+use Rattle.std.proofs.Common.{◌≡◌, ℕ, zero, suc, ◌+◌, ◌-◌, ◌≤◌, List, [], ◌∷◌, ◌++◌, length, get_or, Some, refl, sym, ap, ◌∙◌, subst, arith, append_assoc, length-append}
 use Rattle.std.specs.Prelude.{slice_get}
 use Rattle.std.proofs.lemmas.Option.{slice_get_within}
 use mathlib.Core.List.{IsPrefix}
@@ -10,6 +10,7 @@ use Rattle.cg_records.specs.declared.item.Receipt.{Receipt}
 use Rattle.cg_records.specs.Confirming.{Stands, Follows}
 use Rattle.cg_records.proofs.Confirmed.{at_place_within, confirmed_more}
 use Rattle.cg_history_laws.proofs.OneMore.{each_event_makes_one_record}
+use Rattle.cg_history.specs.History.{count_of}
 use Rattle.cg_locked.specs.Entry.{ConfirmedStay, EntriesAreConfirmed}
 
 at_more : (xs ys : List Item) (n : ℕ) (x : Item) → slice_get xs n ≡ Some x → slice_get (xs ++ ys) n ≡ Some x
@@ -36,10 +37,10 @@ place_at_end xs x =
 
 -- more records confirm as much
 pub confirmed_stay : ConfirmedStay
-confirmed_stay seen records receipts begins all k r at =
+confirmed_stay folded seen records receipts begins all k r at =
     let one = all k r at in
     record {
-      stands = (one.stands.0, subst (λ (l : List Item). at_place l r.number ≡ Some one.stands.0) begins.1 (place_more seen begins.0 r.number one.stands.0 one.stands.1), one.stands.2);
+      stands = (one.stands.0, subst (λ (l : List Item). at_place l (r.number - folded) ≡ Some one.stands.0) begins.1 (place_more seen begins.0 (r.number - folded) one.stands.0 one.stands.1), one.stands.2);
       follows = one.follows;
     }
 
@@ -51,9 +52,11 @@ entries_are_confirmed start seat e seen q told receipts all entry =
     let r : Item = record { caller = seat.caller; event = e; reply = one.answer; puts = puts h.node.table one.node.table } in
     let rows : seen ≡ h.records ++ r ∷ [] = entry.seen_are ∙ one.records in
     let front : IsPrefix seat.seen seen = (entry.begins.0 ++ r ∷ [], sym (append_assoc seat.seen entry.begins.0 (r ∷ [])) ∙ ap (λ l. l ++ r ∷ []) entry.begins.1 ∙ sym rows) in
-    let number : q.number ≡ length h.records + 1 = ap (λ (p : Receipt). p.number) one.receipt in
+    let whole = entry.whole in
+    let counted : q.number ≡ count_of h + 1 = ap (λ (p : Receipt). p.number) one.receipt in
+    let number : q.number - 0 ≡ length h.records + 1 = omega (arith, whole, counted) in
     let short : length seat.seen ≤ length h.records = omega (arith, sym (ap length entry.begins.1) ∙ length-append seat.seen entry.begins.0) in
-    let stands : Stands seen q = (
+    let stands : Stands 0 seen q = (
       r,
       ap (at_place seen) number ∙ subst (λ (l : List Item). at_place l (length h.records + 1) ≡ Some r) (sym rows) (place_at_end h.records r),
       (sym (ap (λ (p : Receipt). p.caller) one.receipt), sym (ap (λ (p : Receipt). p.event) one.receipt), sym (ap (λ (p : Receipt). p.reply) one.receipt)),
@@ -62,7 +65,7 @@ entries_are_confirmed start seat e seen q told receipts all entry =
     λ k d less. λ same. (
     let p = get_or receipts k d in
     let earlier = all k p (at_place_within receipts k d less) in
-    let within = place_within seat.seen p.number earlier.stands.0 earlier.stands.1 in
+    let within = place_within seat.seen (p.number - 0) earlier.stands.0 earlier.stands.1 in
     omega (arith, within, short, number)
     ) in
-    confirmed_more seen receipts q (confirmed_stay seat.seen seen receipts front all) (record { stands = stands; follows = follows })
+    confirmed_more 0 seen receipts q (confirmed_stay 0 seat.seen seen receipts front all) (record { stands = stands; follows = follows })

@@ -1,3 +1,4 @@
 pub mod Logging
 pub mod Showing
 pub mod Confirming
+pub mod Folding

@@ -1,9 +1,9 @@
 -- The puts that are appended to the views, and those that are published.
-use Rattle.std.proofs.Common.{arith, length-append, zero, suc, ◌≤◌, ◌≡◌, ℕ, ◌+◌, List, [], ◌∷◌, ◌++◌, length, take, refl, sym, ap, ◌∙◌, subst}
+use Rattle.std.proofs.Common.{arith, length-append, ◌≤◌, ◌≡◌, ℕ, ◌+◌, List, [], ◌∷◌, ◌++◌, length, take, refl, sym, ap, ◌∙◌, subst}
 use Rattle.std.specs.Prelude.{Result, Ok, Err, IfOk, IfSome, Option, Some, None}
 use mathlib.Core.List.{IsPrefix}
 use Rattle.std.specs.FinMap as map
-use Rattle.std.proofs.lemmas.List.{append-nil}
+use Rattle.std.proofs.lemmas.List.{append-nil, take-append-le}
 use Rattle.cg_types.specs.declared.fault.Fault.{Fault}
 use Rattle.cg_types.specs.Answer.{IsRefusal}
 use Rattle.cg_types.specs.declared.limits.TheConstants.{MEMBER_LIMIT}
@@ -21,7 +21,9 @@ use Rattle.cg_core_laws.proofs.NodeLaws.{sets_put_their_text}
 use Rattle.cg_records.specs.declared.item.Item.{Item}
 use Rattle.cg_records.specs.declared.item.Receipt.{Receipt}
 use Rattle.cg_records.specs.Items.{puts_of}
-use Rattle.cg_history.specs.History.{HistoryValue, IsReplayed, apply}
+use Rattle.cg_history.specs.History.{HistoryValue, Replays, IsReplayed, IsFoldOf, count_of, apply, unfolded}
+use Rattle.cg_history.proofs.Folding.{all_counted}
+use Rattle.cg_history.proofs.Replaying.{replays_more}
 use Rattle.cg_history_laws.proofs.OneMore.{each_event_makes_one_record}
 use Rattle.cg_history_laws.proofs.PutsOfRecords.{puts_of-append, front_fits, own_stays, node_small}
 use Rattle.cg_views.specs.Lists.{MayFollow}
@@ -44,25 +46,32 @@ next_may_follow h k all ps i is next =
 
 -- ---- properties that one more record keeps
 
--- the base, and the prefix of the records that was appended; there is one record more
-pub record IsKept (h after : HistoryValue) (appended : ℕ) : Type 0 where
-  pub base : after.base ≡ h.base
+-- the start, the prefix of all records that was appended, and where all lead; there is one record more
+pub record IsKept (begun : NodeValue) (all more : List Item) (h after : HistoryValue) (appended : ℕ) : Type 0 where
+  pub start : after.start ≡ h.start
+  pub count : count_of after ≡ count_of h + 1
   pub long : length after.records ≡ length h.records + 1
-  pub front : take appended after.records ≡ take appended h.records
+  pub front : take (after.folded + appended) more ≡ take (h.folded + appended) all
+  pub led : Replays begun more after.node
 
-take_front : (xs ys : List Item) (k : ℕ) → k ≤ length xs → take k (xs ++ ys) ≡ take k xs
-take_front xs ys zero le = refl
-take_front [] ys (suc k) le = absurd (omega arith)
-take_front (x ∷ xs) ys (suc k) le = ap (λ zs. x ∷ zs) (take_front xs ys k (omega arith))
-
-pub kept : (h : HistoryValue) (caller : ℕ) (e : Event) (after : HistoryValue) (q : Receipt) (appended : ℕ) → appended ≤ length h.records → apply h caller e ≡ Ok (after, q) → IsKept h after appended
-kept h caller e after q appended few is =
-    let one = each_event_makes_one_record h caller e after q is in
-    let r : Item = record { caller = caller; event = e; reply = one.answer; puts = puts h.node.table one.node.table } in record {
-      base = one.base;
-      long = ap length one.records ∙ length-append h.records (r ∷ []);
-      front = ap (take appended) one.records ∙ take_front h.records (r ∷ []) appended few;
-    }
+module _ (start : NodeValue) (all more : List Item) (h : HistoryValue) (caller : ℕ) (e : Event) (after : HistoryValue) (q : Receipt) (fold : IsFoldOf all h) (led : Replays start all h.node)
+    (is : apply h caller e ≡ Ok (after, q)) (whole : apply (unfolded all h) caller e ≡ Ok (unfolded more after, q)) where
+  pub kept : (appended : ℕ) → appended ≤ length h.records → IsKept start all more h after appended
+  kept appended few =
+      let one = each_event_makes_one_record h caller e after q is in
+      let all_one = each_event_makes_one_record (unfolded all h) caller e (unfolded more after) q whole in
+      let r : Item = record { caller = caller; event = e; reply = all_one.answer; puts = puts h.node.table all_one.node.table } in
+      let folded = one.folded in
+      let count = all_counted all h fold in
+      let long : length after.records ≡ length h.records + 1 =
+      ap length one.records ∙ length-append h.records (record { caller = caller; event = e; reply = one.answer; puts = puts h.node.table one.node.table } ∷ []) in
+      let on : Replays start (all ++ r ∷ []) all_one.node = replays_more start all h.node caller e (all_one.node, all_one.answer) led all_one.step in record {
+        start = one.start;
+        count = omega (arith, folded, long);
+        long = long;
+        front = ap (λ (n : ℕ). take (n + appended) more) folded ∙ ap (take (h.folded + appended)) all_one.records ∙ take-append-le (h.folded + appended) all (r ∷ []) (omega (arith, count, few));
+        led = subst (λ (n : NodeValue). Replays start more n) (sym all_one.led) (subst (λ (l : List Item). Replays start l all_one.node) (sym all_one.records) on);
+      }
 
 -- ---- the puts that are published of a Set
 
@@ -104,14 +113,14 @@ shown_sets_are_read opening told read key version text shows begins order =
 
 -- ---- entries
 
-module _ (start : NodeValue) (seat : SeatState) (e : Event) (seen : List Item) (h : HistoryValue) (starts : h.base ≡ start) (replayed : IsReplayed h) (begins : IsPrefix seat.seen h.records) (long : seat.amount ≤ length h.records) where
+module _ (start : NodeValue) (seat : SeatState) (e : Event) (seen : List Item) (h : HistoryValue) (whole : h.folded ≡ 0) (starts : h.base ≡ start) (replayed : IsReplayed h) (begins : IsPrefix seat.seen h.records) (long : seat.amount ≤ length h.records) where
   -- an event that was entered, with the puts that were published
   pub entry_done : (after : HistoryValue) (q : Receipt) (told : Option (List Put)) → apply h seat.caller e ≡ Ok (after, q) → seen ≡ after.records → IfSome told (λ t. t ≡ puts_of after.records) → IsEntry start seat e seen (Ok (q, told))
-  entry_done after q told is are all = record { before = h; after = after; starts = starts; replayed = replayed; begins = begins; long = long; entered = is; seen_are = are; told = all }
+  entry_done after q told is are all = record { before = h; after = after; whole = whole; starts = starts; replayed = replayed; begins = begins; long = long; entered = is; seen_are = are; told = all }
 
   -- an event that was refused
   pub entry_refused : (fault : Fault) → IsRefusal fault (apply h seat.caller e) → seen ≡ h.records → IsEntry start seat e seen (Err fault)
-  entry_refused fault is are = record { before = h; after = h; starts = starts; replayed = replayed; begins = begins; long = long; entered = is; seen_are = are; told = tt }
+  entry_refused fault is are = record { before = h; after = h; whole = whole; starts = starts; replayed = replayed; begins = begins; long = long; entered = is; seen_are = are; told = tt }
 
 -- the puts published with an entry show its Set
 pub entry_shows : (start : NodeValue) (seat : SeatState) (e : Event) (seen : List Item) (result : Result Answer Fault) → IsEntry start seat e seen result → (opening : TableValue) → start.table ≡ opening → IfOk result (λ r. IfSome r.1 (λ t. ShowsSet t opening.own e r.0.reply))

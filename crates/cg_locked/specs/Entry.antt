@@ -46,14 +46,15 @@ ShownSetsAreRead =
 abbrev pub Answer : Type 0
 Answer = Receipt × Option (List Put)
 
--- The event was entered for the seat's caller into the history of a node, which replays from the start, begins with all
--- records that the seat has seen, and has as many as the seat counted, or more. The seat has then seen all its records,
--- with that of the event as the last one; if the event was refused, there is none. If puts were published, they are
--- those of the history after the event.
+-- The event was entered for the seat's caller into the history of a node, as it is with no record folded: it replays
+-- from the start, begins with all records that the seat has seen, and has as many as the seat counted, or more. The seat
+-- has then seen all its records, with that of the event as the last one; if the event was refused, there is none. If puts
+-- were published, they are those of the history after the event.
 pub record IsEntry (start : NodeValue) (seat : SeatState) (e : Event) (seen : List Item) (result : Result Answer Fault)
     : Type 0 where
   pub before : HistoryValue
   pub after : HistoryValue
+  pub whole : before.folded ≡ 0
   pub starts : before.base ≡ start
   pub replayed : IsReplayed before
   pub begins : IsPrefix seat.seen before.records
@@ -67,11 +68,11 @@ abbrev pub EntriesAreConfirmed : Type 0
 EntriesAreConfirmed =
     (start : NodeValue) (seat : SeatState) (e : Event) (seen : List Item) (q : Receipt) (told : Option (List Put))
     (receipts : List Receipt)
-    → AreConfirmed seat.seen receipts → IsEntry start seat e seen (Ok (q, told))
-    → AreConfirmed seen (receipts ++ q ∷ [])
+    → AreConfirmed 0 seat.seen receipts → IsEntry start seat e seen (Ok (q, told))
+    → AreConfirmed 0 seen (receipts ++ q ∷ [])
 
 -- Records confirm all receipts that a prefix of them confirms.
 abbrev pub ConfirmedStay : Type 0
 ConfirmedStay =
-    (seen records : List Item) (receipts : List Receipt)
-    → IsPrefix seen records → AreConfirmed seen receipts → AreConfirmed records receipts
+    (folded : ℕ) (seen records : List Item) (receipts : List Receipt)
+    → IsPrefix seen records → AreConfirmed folded seen receipts → AreConfirmed folded records receipts

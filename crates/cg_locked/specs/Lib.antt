@@ -4,6 +4,7 @@ pub mod Board
 pub mod Shared
 pub mod Limits
 pub mod Log
+pub mod Replaying
 pub use Rattle.cg_types.specs.Answer
 pub use Rattle.cg_core.specs.Values
 pub use Rattle.cg_records.specs.Confirming

@@ -1,16 +1,17 @@
 //! The board: the data under the lock.
 
 ghost use Rattle.std.specs.Prelude.{◌≡◌, ◌+◌, ◌++◌, ◌<◌, ◌≤◌, [], length, take, IfOk, IfSome, MatchOption, OnOk, OnErr};
-ghost use Rattle.std.specs.Coded.{Coded-set, coded_list};
+ghost use Rattle.std.specs.Coded.{Coded-set, ×_prop, le_prop};
 ghost use mathlib.Core.List.{IsPrefix};
 ghost use Rattle.cg_table.specs.Values.{table_code};
 ghost use Rattle.cg_table.specs.Puts.{puts_code};
 ghost use Rattle.cg_core.specs.Values.{node_code};
 ghost use Rattle.cg_types.specs.Answer.{Answers};
-ghost use Rattle.cg_records.specs.Items.{item_code, puts_of};
-ghost use Rattle.cg_history.specs.History.{apply};
+ghost use Rattle.cg_records.specs.Items.{puts_of};
+ghost use Rattle.cg_history.specs.History.{IsFoldOf, Replays, apply, count_of, history_code, unfolded, with_folded};
 ghost use Rattle.cg_views.specs.Lists.{opened_with, are_all};
-ghost use Rattle.cg_locked.specs.Board.{shows_all};
+ghost use Rattle.cg_locked.specs.Board.{fold_length, shows_all};
+ghost use Rattle.cg_locked.specs.Replaying.{Replays-prop};
 ghost use Rattle.cg_locked.specs.Entry.{IsEntry, ShowsSet};
 
 use crate::log::Log;
@@ -28,9 +29,9 @@ use std::sync::ledger::Book;
 
 /// The data under the lock: a node's history, and the publisher of its table.
 ///
-/// The records replay from the node that the name's history began with (`History` keeps that). The publisher has the
-/// puts of the first `appended` of them, and has published those of the first `published`. The book counts the records,
-/// and the log lists them.
+/// All records replay from the node that the name's history began with. The log lists them and the book counts them,
+/// also those that the history has folded. The publisher has the puts of those folded and of the first `appended` that
+/// are kept, and has published those of the folded ones and of the first `published`.
 pub struct Board<N: Name> {
     pub(crate) history: History,
     pub(crate) publisher: Publisher<N>,
@@ -38,13 +39,14 @@ pub struct Board<N: Name> {
     pub(crate) published: usize,
     pub(crate) book: Book<N>,
     pub(crate) log: Log<N>,
-    ghost listed: { log ≡ history.records } by { Coded-set (coded_list item_code) _ _ },
-    ghost counted: { book.total ≡ length history.records },
+    ghost listed: { IsFoldOf log history } by { ×_prop le_prop (Coded-set history_code _ _) },
+    ghost replays: { Replays N.start log history.node } by { Replays-prop N.start log history.node },
+    ghost counted: { book.total ≡ count_of history },
     ghost within: { (published ≤ appended) × (appended ≤ length history.records) },
-    ghost shown: { are_all publisher ≡ puts_of (take appended history.records) } by { Coded-set puts_code _ _ },
-    ghost shows: { publisher.published ≡ puts_of (take published history.records) } by { Coded-set puts_code _ _ },
-    ghost start: { history.base ≡ N.start } by { Coded-set node_code _ _ },
-    ghost opening: { publisher.opening ≡ history.base.table } by { Coded-set table_code _ _ },
+    ghost shown: { are_all publisher ≡ puts_of (take (history.folded + appended) log) } by { Coded-set puts_code _ _ },
+    ghost shows: { publisher.published ≡ puts_of (take (history.folded + published) log) } by { Coded-set puts_code _ _ },
+    ghost start: { history.start ≡ N.start } by { Coded-set node_code _ _ },
+    ghost opening: { publisher.opening ≡ N.start.table } by { Coded-set table_code _ _ },
 }
 
 impl<N: Name> Board<N> {
@@ -54,11 +56,12 @@ impl<N: Name> Board<N> {
         book: Book<N>,
         log: Log<N>,
     ) -> Board<N>
-        requires history { (history.records ≡ []) × (history.base ≡ N.start) }
+        requires history { (history.records ≡ []) × (history.folded ≡ 0) × (history.base ≡ N.start) }
         requires publisher { publisher ≡ opened_with history.base.table }
         requires book { book.total ≡ 0 }
         requires log { log ≡ [] }
     {
+        let _records = history.records();
         Board {
             history,
             publisher,
@@ -69,10 +72,11 @@ impl<N: Name> Board<N> {
         }
     }
 
-    /// The node's history.
+    /// The node's history. It began with the node of the name, and is a fold of the records that the log lists.
     pub fn history(&self) -> &History
         ensures value { result.now ≡ self.now.history }
-        ensures start { result.now.base ≡ N.start }
+        ensures start { result.now.start ≡ N.start }
+        ensures fold { IsFoldOf self.now.log result.now }
     {
         &self.history
     }
@@ -80,7 +84,8 @@ impl<N: Name> Board<N> {
     /// Returns the number of records behind those whose puts are published. It takes no memory.
     pub fn unpublished(&self) -> u64
         ensures count { result + self.now.published ≡ length self.now.history.records }
-        ensures shows { self.now.publisher.published ≡ puts_of (take self.now.published self.now.history.records) }
+        ensures shows { self.now.publisher.published
+            ≡ puts_of (take (self.now.history.folded + self.now.published) self.now.log) }
     {
         (self.history.records().len() - self.published) as u64
     }
@@ -95,9 +100,11 @@ impl<N: Name> Board<N> {
     ) -> Result<Receipt, Fault>
         ensures due { Answers (λ receipt. (self.new.history, receipt))
             (apply self.old.history seat.old.caller event) result }
-        ensures begins { IsPrefix seat.old.seen self.old.history.records }
-        ensures long { seat.old.amount ≤ length self.old.history.records }
-        ensures seen { seat.new.seen ≡ self.new.history.records }
+        ensures whole { Answers (λ receipt. (unfolded self.new.log self.new.history, receipt))
+            (apply (unfolded self.old.log self.old.history) seat.old.caller event) result }
+        ensures begins { IsPrefix seat.old.seen self.old.log }
+        ensures long { seat.old.amount ≤ count_of self.old.history }
+        ensures seen { seat.new.seen ≡ self.new.log }
         ensures amount { OnOk result (seat.new.amount ≡ seat.old.amount + 1) }
         ensures views { (self.new.publisher ≡ self.old.publisher) × (self.new.appended ≡ self.old.appended)
             × (self.new.published ≡ self.old.published) }
@@ -121,8 +128,8 @@ impl<N: Name> Board<N> {
     // Returns the puts of the next record that is not appended.
     fn next_puts(&self, alloc: Global) -> Result<Puts, AllocError>
         requires { self.now.appended < length self.now.history.records }
-        ensures { IfOk result (λ ps. puts_of (take (self.now.appended + 1) self.now.history.records)
-            ≡ puts_of (take self.now.appended self.now.history.records) ++ ps) }
+        ensures { IfOk result (λ ps. puts_of (take (self.now.history.folded + (self.now.appended + 1)) self.now.log)
+            ≡ puts_of (take (self.now.history.folded + self.now.appended) self.now.log) ++ ps) }
     {
         let item = &self.history.records()[self.appended];
         let puts = item.puts.copy(alloc)?;
@@ -133,7 +140,7 @@ impl<N: Name> Board<N> {
     fn append_next(&mut self, alloc: Global) -> Result<(), AllocError>
         requires { self.old.appended < length self.old.history.records }
         ensures same { (self.new.history ≡ self.old.history) × (self.new.book ≡ self.old.book)
-            × (self.new.published ≡ self.old.published) }
+            × (self.new.log ≡ self.old.log) × (self.new.published ≡ self.old.published) }
         ensures publisher { (self.new.publisher.opening ≡ self.old.publisher.opening)
             × (self.new.publisher.published ≡ self.old.publisher.published) }
         ensures ok { OnOk result (self.new.appended ≡ self.old.appended + 1) }
@@ -156,11 +163,11 @@ impl<N: Name> Board<N> {
     /// If memory is refused, nothing is published. The records appended so far stay appended, and the next call goes on
     /// there.
     pub fn catch_up<R: Wait>(&mut self, rt: &R, alloc: Global) -> Result<Told<N>, AllocError>
-        ensures same { (self.new.history ≡ self.old.history) × (self.new.book ≡ self.old.book) }
-        ensures told { IfOk result (λ t. t ≡ puts_of self.new.history.records) }
+        ensures same { (self.new.history ≡ self.old.history) × (self.new.book ≡ self.old.book)
+            × (self.new.log ≡ self.old.log) }
+        ensures told { IfOk result (λ t. t ≡ puts_of self.new.log) }
         ensures opening { OnOk result (N.start.table ≡ N.opening) }
-        ensures published { OnOk result (
-            (self.new.publisher ≡ shows_all self.new.history.base.table (puts_of self.new.history.records))
+        ensures published { OnOk result ((self.new.publisher ≡ shows_all N.start.table (puts_of self.new.log))
             × (self.new.published ≡ length self.new.history.records)) }
         ensures err { OnErr result ((self.new.published ≡ self.old.published)
             × (self.new.publisher.published ≡ self.old.publisher.published)
@@ -172,6 +179,35 @@ impl<N: Name> Board<N> {
         self.publisher.publish(rt)?;
         self.published = self.appended;
         Ok(self.publisher.tell())
+    }
+
+    /// Folds the longest front of the records that leaves at least `keep` of them, and holds none that `unpublished`
+    /// counts: they lead to the history's base, and are gone. What is shown and counted stays. It takes as many steps as
+    /// records are folded. If memory is refused, nothing changes.
+    pub fn fold(&mut self, alloc: Global, keep: usize) -> Result<(), AllocError>
+        ensures ok { OnOk result (self.new.history
+            ≡ with_folded (fold_length keep self.old.published (length self.old.history.records)) self.old.history) }
+        ensures same { (self.new.publisher ≡ self.old.publisher) × (self.new.book ≡ self.old.book)
+            × (self.new.log ≡ self.old.log) }
+        ensures unpublished { self.new.published + length self.old.history.records
+            ≡ self.old.published + length self.new.history.records }
+        ensures appended { self.new.appended + length self.old.history.records
+            ≡ self.old.appended + length self.new.history.records }
+        ensures err { OnErr result ((self.new.history ≡ self.old.history) × (self.new.appended ≡ self.old.appended)
+            × (self.new.published ≡ self.old.published)) }
+    {
+        let kept = self.history.records().len();
+        let count = kept.saturating_sub(keep).min(self.published);
+        let Board {
+            history,
+            appended,
+            published,
+            ..
+        } = self;
+        history.fold_front(alloc, count)?;
+        *appended -= count;
+        *published -= count;
+        Ok(())
     }
 
     /// Applies an event as `enter` does, and then publishes all records by `catch_up` if memory is found.
@@ -187,7 +223,7 @@ impl<N: Name> Board<N> {
     ) -> Result<(Receipt, Option<Told<N>>), Fault>
         ensures entered { Answers (λ r. (self.new.history, r.0))
             (apply self.old.history seat.old.caller event) result }
-        ensures told { IfOk result (λ r. IfSome r.1 (λ t. t ≡ puts_of self.new.history.records)) }
+        ensures told { IfOk result (λ r. IfSome r.1 (λ t. t ≡ puts_of self.new.log)) }
         ensures entry { IsEntry N.start seat.old event seat.new.seen result }
         ensures shown { IfOk result (λ r. IfSome r.1 (λ t. ShowsSet t N.opening.own event r.0.reply)) }
         ensures published { IfOk result (λ r. MatchOption r.1
@@ -195,7 +231,8 @@ impl<N: Name> Board<N> {
             × (self.new.publisher.published ≡ self.old.publisher.published))
             (λ _. self.new.published ≡ length self.new.history.records)) }
         ensures amount { OnOk result (seat.new.amount ≡ seat.old.amount + 1) }
-        ensures err { OnErr result ((self.new.history ≡ self.old.history) × (seat.new.amount ≡ seat.old.amount)) }
+        ensures err { OnErr result ((self.new.history ≡ self.old.history) × (self.new.log ≡ self.old.log)
+            × (seat.new.amount ≡ seat.old.amount)) }
         ensures views { OnErr result ((self.new.publisher ≡ self.old.publisher)
             × (self.new.appended ≡ self.old.appended) × (self.new.published ≡ self.old.published)) }
         ensures seat { (seat.new.caller ≡ seat.old.caller) × (seat.new.parts ≡ seat.old.parts) }
@@ -210,8 +247,7 @@ impl<N: Name> Board<N> {
 
     /// Takes the board apart: the history, the publisher, the book and the log.
     pub(crate) fn apart(self) -> (History, Publisher<N>, Book<N>, Log<N>)
-        ensures { (result.0.base ≡ N.start) × (result.2.total ≡ length result.0.records)
-            × (result.3 ≡ result.0.records) }
+        ensures { (result.0.start ≡ N.start) × (result.2.total ≡ count_of result.0) × IsFoldOf result.3 result.0 }
     {
         let Board {
             history,

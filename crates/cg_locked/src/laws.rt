@@ -1,5 +1,6 @@
 //! Laws of told Sets, of receipts and of the limit: contracts of functions that do nothing.
 
+ghost use Rattle.cg_locked.specs.Board.{NoneIsFolded};
 ghost use Rattle.cg_locked.specs.Entry.{ConfirmedStay, EntriesAreConfirmed, ShownSetsAreRead};
 ghost use Rattle.cg_locked.specs.Limits.{SeatLimitValue};
 
@@ -17,6 +18,11 @@ pub fn entries_are_confirmed()
 /// Records confirm all receipts that a prefix of them confirms.
 pub fn confirmed_stay()
     ensures { ConfirmedStay }
+{}
+
+/// A board's history keeps all records that its log lists, if none is folded, and its base is then the node that started.
+pub fn none_is_folded()
+    ensures { NoneIsFolded }
 {}
 
 /// The limit of seats has the value that is documented.

@@ -1,10 +1,12 @@
 //! The board behind its lock.
 
-ghost use Rattle.std.specs.Prelude.{◌≡◌, ◌+◌, ◌<◌, ◌≤◌, [], length, map, vec_len, vec_capacity, IfOk, IfSome};
+ghost use Rattle.std.specs.Prelude.{◌≡◌, ◌+◌, ◌<◌, ◌≤◌, List, [], map, vec_len, vec_capacity, IfOk, IfSome};
 ghost use Rattle.std.specs.Prelude.{OnOk, OnErr, MatchResult};
 ghost use Rattle.std.specs.List.{All, sum_by};
 ghost use mathlib.Core.List.{IsPrefix};
+ghost use Rattle.cg_records.specs.declared.item.Item.{Item};
 ghost use Rattle.cg_records.specs.Confirming.{AreConfirmed, IsFirstStray};
+ghost use Rattle.cg_history.specs.History.{IsFoldOf, count_of};
 ghost use Rattle.cg_views.specs.Lists.{opened_with};
 ghost use Rattle.cg_locked.specs.Entry.{IsEntry, ShowsSet};
 ghost use Rattle.cg_locked.specs.Shared.{callers_up_to, history_of, stray_of};
@@ -93,7 +95,7 @@ impl<N: Name> Shared<N> {
     ) -> Result<(Shared<N>, Vec<Seat<N>>), AllocError>
         requires fresh { (fresh.name ≡ N.name) × (fresh.parts ≡ N.parts) × (fresh.log ≡ N.log) × (N.parts ≡ seats) }
         requires seats { (0 < seats) × (seats ≤ SEAT_LIMIT) }
-        requires history { (history.records ≡ []) × (history.base ≡ N.start) }
+        requires history { (history.records ≡ []) × (history.folded ≡ 0) × (history.base ≡ N.start) }
         requires publisher { publisher ≡ opened_with history.base.table }
         ensures seats { IfOk result (λ r. (vec_len r.1 ≡ seats) × (sum_by (λ s. s.parts) r.1.items ≡ N.parts)
             × (sum_by (λ s. s.amount) r.1.items ≡ 0)) }
@@ -152,9 +154,10 @@ impl<N: Name> Shared<N> {
 
     /// Ends the board with all its seats, and returns the history if it confirms the receipts.
     ///
-    /// Else it returns the history with the first receipt that it does not confirm. The history has as many records as
-    /// the seats counted, and begins with all that each has seen: by the laws `entries_are_confirmed` and
-    /// `confirmed_stay` it confirms what `submit` answered. Passes read nothing from then on.
+    /// Else it returns the history with the first receipt that it does not confirm. The history has counted as many
+    /// records as the seats, and is a fold of records that begin with all that each seat has seen. If none is folded, it
+    /// confirms what `submit` answered, by the laws `entries_are_confirmed` and `confirmed_stay`. Passes read nothing
+    /// from then on.
     pub fn finish<R: Wait>(
         self,
         rt: &R,
@@ -162,11 +165,12 @@ impl<N: Name> Shared<N> {
         receipts: &[Receipt],
     ) -> Result<History, Unconfirmed>
         requires seats { (sum_by (λ s. s.parts) seats.items ≡ N.parts) × (0 < vec_len seats) }
-        ensures start { (history_of result).base ≡ N.start }
-        ensures count { length (history_of result).records ≡ sum_by (λ s. s.amount) seats.items }
-        ensures seen { All (λ s. IsPrefix s.seen (history_of result).records) seats.items }
-        ensures confirmed { MatchResult result (λ h. AreConfirmed h.records receipts.now)
-            (λ u. IsFirstStray u.history.records receipts.now (stray_of u)) }
+        ensures start { (history_of result).start ≡ N.start }
+        ensures count { count_of (history_of result) ≡ sum_by (λ s. s.amount) seats.items }
+        ensures seen { (all : List Item) × IsFoldOf all (history_of result)
+            × All (λ s. IsPrefix s.seen all) seats.items }
+        ensures confirmed { MatchResult result (λ h. AreConfirmed h.folded h.records receipts.now)
+            (λ u. IsFirstStray u.history.folded u.history.records receipts.now (stray_of u)) }
     {
         let Shared { board } = self;
         let (history, publisher, mut book, mut log) = board.into_inner().apart();

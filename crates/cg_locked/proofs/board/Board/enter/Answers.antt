@@ -1,5 +1,7 @@
-use Rattle.std.proofs.Common.{◌+◌, arith, sym, ap, ◌∙◌}
+use Rattle.std.proofs.Common.{◌≡◌, ◌≤◌, ◌+◌, List, length, Ok, arith, sym, ap, ◌∙◌, subst}
+use Rattle.cg_records.specs.declared.item.Item.{Item}
 use Rattle.cg_records.specs.Items.{puts_of}
+use Rattle.cg_history.specs.History.{apply, unfolded}
 use Rattle.cg_locked.proofs.Showing.{kept}
 use Rattle.cg_locked.proofs.board.Board.enter.Goals as goal
 
@@ -8,13 +10,18 @@ invariant_of-self-2 g c =
     let s = c.args.self.now in
     let done = c.in_ok-receipt.ensures in
     let few = s.within in
-    let k = kept s.history c.caller-caller.result c.args.event c.apply_logged.new.self c.in_ok-receipt.receipt s.appended few.1 done.due in
-    let shown = kept s.history c.caller-caller.result c.args.event c.apply_logged.new.self c.in_ok-receipt.receipt s.published (omega (arith, few.0, few.1)) done.due in record {
+    let published : s.published ≤ length s.history.records = omega (arith, few.0, few.1) in
+    let whole =
+    subst (λ (l : List Item). apply (unfolded l s.history) c.caller-caller.result c.args.event ≡ Ok (unfolded c.apply_logged.new.log c.apply_logged.new.self, c.in_ok-receipt.receipt))
+    c.meet.ensures.log done.whole in
+    let keeps = kept g.N.Name.start s.log c.apply_logged.new.log s.history c.caller-caller.result c.args.event c.apply_logged.new.self c.in_ok-receipt.receipt s.listed s.replays done.due whole in
+    let k = keeps s.appended few.1 in record {
       listed = done.told;
-      counted = c.count.ensures.book ∙ ap (λ n. n + 1) (c.meet.ensures.book ∙ s.counted) ∙ sym k.long;
+      replays = k.led;
+      counted = c.count.ensures.book ∙ ap (λ n. n + 1) (c.meet.ensures.book ∙ s.counted) ∙ sym k.count;
       within = (few.0, (let long = k.long in omega (arith, few.1)));
       shown = s.shown ∙ ap puts_of (sym k.front);
-      shows = s.shows ∙ ap puts_of (sym shown.front);
-      start = k.base ∙ s.start;
-      opening = s.opening ∙ ap (λ n. n.table) (sym k.base);
+      shows = s.shows ∙ ap puts_of (sym (keeps s.published published).front);
+      start = k.start ∙ s.start;
+      opening = s.opening;
     }
