@@ -10,7 +10,7 @@ use Rattle.cg_events.specs.declared.reply.Reply.{Reply}
 use Rattle.cg_core.specs.Values.{NodeValue}
 use Rattle.cg_core.specs.Step.{Step, node_step}
 use Rattle.cg_records.specs.declared.item.Receipt.{Receipt}
-use Rattle.cg_history.specs.History.{HistoryValue, LAST_NUMBER, with_step, apply}
+use Rattle.cg_history.specs.History.{HistoryValue, LAST_NUMBER, count_of, with_step, apply}
 use Rattle.cg_history_laws.proofs.OneMore.{each_event_makes_one_record}
 use Rattle.cg_records.specs.declared.item.Item.{Item}
 use Rattle.cg_records.specs.Confirming.{AreConfirmed}
@@ -69,7 +69,7 @@ fault_by h caller e false (Err g) f step is =
     subst IsGateFault same (step_fault h.node e g step)
 
 apply_fault : (h : HistoryValue) (caller : ℕ) (e : Event) (f : Fault) → apply h caller e ≡ Err f → IsGateFault f
-apply_fault h caller e f is = fault_by h caller e (length h.records == LAST_NUMBER) (node_step h.node e) f refl is
+apply_fault h caller e f is = fault_by h caller e (count_of h == LAST_NUMBER) (node_step h.node e) f refl is
 
 pub entry_fault : (start : NodeValue) (seat : SeatState) (e : Event) (seen : List Item) (f : Fault) → IsEntry start seat e seen (Err f) → IsGateFault f
 entry_fault start seat e seen fault.OutOfMemory entry = tt
@@ -78,9 +78,9 @@ entry_fault start seat e seen f entry = apply_fault entry.before seat.caller e f
 -- ---- the gate after it
 
 -- an entry more, from a gate with these receipts
-module _ (start : NodeValue) (seat : SeatState) (qs : List Receipt) (e : Event) (seen : List Item) (q : Receipt) (told : Option (List Put)) (counted : seat.amount ≡ length qs) (confirmed : AreConfirmed seat.seen qs) (entry : IsEntry start seat e seen (Ok (q, told))) where
+module _ (start : NodeValue) (seat : SeatState) (qs : List Receipt) (e : Event) (seen : List Item) (q : Receipt) (told : Option (List Put)) (counted : seat.amount ≡ length qs) (confirmed : AreConfirmed 0 seat.seen qs) (entry : IsEntry start seat e seen (Ok (q, told))) where
   pub still_counted : (now : SeatState) (room items : List Receipt) → AreOf seat.caller qs → now.amount ≡ seat.amount + 1 → now.caller ≡ seat.caller → now.seen ≡ seen → room ≡ qs → items ≡ room ++ q ∷ []
-      → (now.amount ≡ length items) × AreOf now.caller items × AreConfirmed now.seen items
+      → (now.amount ≡ length items) × AreOf now.caller items × AreConfirmed 0 now.seen items
   still_counted now room items are more same_caller sees same all =
       let whole : items ≡ qs ++ q ∷ [] = all ∙ ap (λ rs. rs ++ q ∷ []) same in
       let long : length items ≡ length (qs ++ q ∷ []) = ap length whole in
@@ -88,7 +88,7 @@ module _ (start : NodeValue) (seat : SeatState) (qs : List Receipt) (e : Event) 
       let stand = entries_are_confirmed start seat e seen q told qs confirmed entry in (
         omega (arith, more, counted, long, length-append qs (q ∷ [])),
         subst (λ rs. AreOf now.caller rs) (sym whole) (subst (λ n. AreOf n (qs ++ q ∷ [])) (sym same_caller) (more_of seat.caller qs q are done.is.0)),
-        subst (λ rs. AreConfirmed now.seen rs) (sym whole) (subst (λ (l : List Item). AreConfirmed l (qs ++ q ∷ [])) (sym sees) stand),
+        subst (λ rs. AreConfirmed 0 now.seen rs) (sym whole) (subst (λ (l : List Item). AreConfirmed 0 l (qs ++ q ∷ [])) (sym sees) stand),
       )
 
   pub entered : (own parts : ℕ) (was : Option (List Put)) (g : SeatValue) (others parts_left : ℕ) (room items : List Receipt) → (let inside : SeatValue = record { caller = seat.caller; parts = parts; receipts = qs; told = was } in inside) ≡ g
@@ -102,7 +102,7 @@ module _ (start : NodeValue) (seat : SeatState) (qs : List Receipt) (e : Event) 
       let its : IsSeatOf g seat = record {
         caller = callers;
         counted = counted ∙ ap length receipts;
-        confirmed = subst (λ rs. AreConfirmed seat.seen rs) receipts confirmed;
+        confirmed = subst (λ rs. AreConfirmed 0 seat.seen rs) receipts confirmed;
       } in
       let enters : Enters start own g e q.reply (record { caller = others; parts = parts_left; receipts = items; told = told }) = record {
         receipt = q;
@@ -115,23 +115,23 @@ module _ (start : NodeValue) (seat : SeatState) (qs : List Receipt) (e : Event) 
       (q.reply, ap last_reply whole ∙ last_of_more qs q, enters, done.kind)
 
 -- a gate whose event was refused, by the entry from its seat
-pub refused : (start : NodeValue) (seat : SeatState) (qs : List Receipt) (e : Event) (seen : List Item) (f : Fault) → seat.amount ≡ length qs → AreConfirmed seat.seen qs → IsEntry start seat e seen (Err f)
+pub refused : (start : NodeValue) (seat : SeatState) (qs : List Receipt) (e : Event) (seen : List Item) (f : Fault) → seat.amount ≡ length qs → AreConfirmed 0 seat.seen qs → IsEntry start seat e seen (Err f)
     → (parts : ℕ) (was : Option (List Put)) (g : SeatValue) → (let inside : SeatValue = record { caller = seat.caller; parts = parts; receipts = qs; told = was } in inside) ≡ g → HasEntered start g e (Err f)
 refused start seat qs e seen f counted confirmed entry parts was g is =
     let receipts : qs ≡ g.receipts = ap (λ (v : SeatValue). v.receipts) is in
     let its : IsSeatOf g seat = record {
       caller = ap (λ (v : SeatValue). v.caller) is;
       counted = counted ∙ ap length receipts;
-      confirmed = subst (λ rs. AreConfirmed seat.seen rs) receipts confirmed;
+      confirmed = subst (λ rs. AreConfirmed 0 seat.seen rs) receipts confirmed;
     } in
     record { seat = seat; is = its; seen = seen; entry = entry }
 
 -- after a refused entry the seat has counted the same receipts, which all records that it has then seen confirm
-pub still_left : (start : NodeValue) (seat now : SeatState) (qs room : List Receipt) (e : Event) (f : Fault) → seat.amount ≡ length qs → AreOf seat.caller qs → AreConfirmed seat.seen qs → IsEntry start seat e now.seen (Err f)
-    → now.amount ≡ seat.amount → now.caller ≡ seat.caller → room ≡ qs → (now.amount ≡ length room) × AreOf now.caller room × AreConfirmed now.seen room
+pub still_left : (start : NodeValue) (seat now : SeatState) (qs room : List Receipt) (e : Event) (f : Fault) → seat.amount ≡ length qs → AreOf seat.caller qs → AreConfirmed 0 seat.seen qs → IsEntry start seat e now.seen (Err f)
+    → now.amount ≡ seat.amount → now.caller ≡ seat.caller → room ≡ qs → (now.amount ≡ length room) × AreOf now.caller room × AreConfirmed 0 now.seen room
 still_left start seat now qs room e f counted are confirmed entry amount caller same =
     let begins : IsPrefix seat.seen now.seen = subst (λ (l : List Item). IsPrefix seat.seen l) (sym entry.seen_are) entry.begins in (
       amount ∙ counted ∙ ap length (sym same),
       subst (λ rs. AreOf now.caller rs) (sym same) (subst (λ n. AreOf n qs) (sym caller) are),
-      subst (λ rs. AreConfirmed now.seen rs) (sym same) (confirmed_stay seat.seen now.seen qs begins confirmed),
+      subst (λ rs. AreConfirmed 0 now.seen rs) (sym same) (confirmed_stay 0 seat.seen now.seen qs begins confirmed),
     )

@@ -54,7 +54,7 @@ IsReceiptOf caller e answer q = (q.caller ≡ caller) × (q.event ≡ e) × (q.r
 pub record IsSeatOf (g : SeatValue) (seat : SeatState) : Type 0 where
   pub caller : seat.caller ≡ g.caller
   pub counted : seat.amount ≡ length g.receipts
-  pub confirmed : AreConfirmed seat.seen g.receipts
+  pub confirmed : AreConfirmed 0 seat.seen g.receipts
 
 -- An event was entered from the gate's seat into the history of the node with this start.
 pub record HasEntered (start : NodeValue) (g : SeatValue) (e : Event) (result : Result Answer Fault) : Type 0 where

@@ -43,7 +43,7 @@ impl<'a, N: Name, R: Wait> Model for SeatGate<'a, N, R> {
     } };
 
     ghost invariant = { λ g. (g.seat.amount ≡ length g.receipts.items) × AreOf g.seat.caller g.receipts.items
-        × AreConfirmed g.seat.seen g.receipts.items };
+        × AreConfirmed 0 g.seat.seen g.receipts.items };
 }
 
 impl<'a, N: Name, R: Wait> SeatGate<'a, N, R> {
@@ -84,7 +84,7 @@ impl<'a, N: Name, R: Wait> SeatGate<'a, N, R> {
             × (result.0.amount ≡ length self.entry.receipts) }
         ensures receipts { result.1.items ≡ self.entry.receipts }
         ensures own { AreOf self.entry.caller self.entry.receipts }
-        ensures confirmed { AreConfirmed result.0.seen self.entry.receipts }
+        ensures confirmed { AreConfirmed 0 result.0.seen self.entry.receipts }
     {
         let SeatGate { seat, receipts, .. } = self;
         (seat, receipts)
