@@ -1,4 +1,5 @@
 pub mod PlaceLemmas
+pub mod StartLemmas
 pub mod CursorLemmas
 pub mod TrackLemmas
 pub mod StateLemmas

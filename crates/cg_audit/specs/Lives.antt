@@ -18,6 +18,14 @@ abbrev pub differ : List LivesValue → Bool
 differ [] = true
 differ (l ∷ ls) = not (list_any (λ (k : LivesValue). k.endpoint == l.endpoint) ls) && differ ls
 
+-- `true` if no record of these histories is folded
+abbrev pub none_folded : List HistoryValue → Bool
+none_folded histories = list_all (λ (h : HistoryValue). h.folded == 0) histories
+
+-- `true` if no record of any life is folded
+abbrev pub are_whole : List LivesValue → Bool
+are_whole lives = list_all (λ (l : LivesValue). none_folded l.histories) lives
+
 -- `true` if the generations of each endpoint rise
 abbrev pub all_rise : List LivesValue → Bool
 all_rise lives = list_all (λ (l : LivesValue). rise_past None (map generation_of l.histories)) lives

@@ -5,7 +5,7 @@ ghost use Rattle.cg_audit.specs.Lives.{differ};
 ghost use Rattle.cg_audit.specs.Audit.{IsAudited};
 
 use crate::item::{AuditFault, Order};
-use crate::lives::{Lives, all_rise, show_lives};
+use crate::lives::{Lives, all_rise, are_whole, show_lives};
 use crate::turns::by_turns;
 use cg_one_run::{heads_can_not_go, orders_are_runs, stuck_lives_are_no_run};
 use cg_types::Fault;
@@ -15,7 +15,8 @@ use std::alloc::Global;
 /// none.
 ///
 /// At each turn the least endpoint goes whose next item can go. The heads come with `Stuck`. `NotRising` comes before
-/// that, if the generations of an endpoint do not rise; `OutOfMemory` only in place of an order or of heads.
+/// all else, if the generations of an endpoint do not rise; then `Folded`, if a record of a life is folded;
+/// `OutOfMemory` only in place of an order or of heads.
 ///
 /// No two of the lives may be of one endpoint (`endpoints_differ`). There may be more endpoints than a table holds, and
 /// lives may have settings of their own. For each item the audit takes one step for each endpoint. A step may look up,
@@ -26,6 +27,9 @@ pub fn audit(alloc: Global, lives: &[Lives]) -> Result<Order, AuditFault>
 {
     if !all_rise(lives) {
         return Err(AuditFault::Other(Fault::NotRising));
+    }
+    if !are_whole(lives) {
+        return Err(AuditFault::Other(Fault::Folded));
     }
     show_lives(lives);
     orders_are_runs();

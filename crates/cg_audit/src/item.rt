@@ -25,7 +25,8 @@ pub struct Order {
 /// The fault of an audit that returns no order.
 #[derive(Debug, Drop, Error)]
 pub enum AuditFault {
-    /// The generations of an endpoint do not rise, or the memory that an answer needs was refused.
+    /// The generations of an endpoint do not rise, a record of a life is folded, or the memory that an answer needs was
+    /// refused.
     #[error("{0}")]
     Other(Fault),
     /// The lives are not of one run. These are the heads, in the order of the lives handed over: the next item of each

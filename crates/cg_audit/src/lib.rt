@@ -3,7 +3,8 @@
 //! A life is the history of one start of an endpoint: its items are the start and the records. `audit` returns an order
 //! of all items of all lives. Those of each endpoint keep their order, and each message was sent by an item before the
 //! one that handles it. At each turn the least endpoint goes whose next item can go. If there is no such order, `audit`
-//! returns the next items that are left: each handles a message that none of those gone had sent.
+//! returns the next items that are left: each handles a message that none of those gone had sent. A life of which
+//! records are folded has lost items, so it is refused.
 #![tactic(auto)]
 
 mod auditing;

@@ -7,6 +7,7 @@ ghost use Rattle.std.specs.List.{list_any, AllByRecursion};
 ghost use Rattle.cg_one_run.specs.Items.{LivesValue, IsLife, AreLives, generation_of};
 ghost use Rattle.cg_audit.specs.LivesCode.{are_of as are_of_lem};
 ghost use Rattle.cg_audit.specs.Lives.{differ, all_rise as all_rise_lem, lone_life, then_life};
+ghost use Rattle.cg_audit.specs.Lives.{none_folded as none_folded_lem, are_whole as are_whole_lem};
 
 use cg_history::History;
 use cg_types::{Endpoint, Generation};
@@ -95,6 +96,20 @@ pub(crate) fn all_rise(lives: &[Lives]) -> bool
     ensures { result ≡ all_rise_lem lives.now }
 {
     lives.iter().all(|one| rise(one.histories()))
+}
+
+// Returns `true` if no record of these histories is folded.
+fn none_folded(histories: &[History]) -> bool
+    ensures { result ≡ none_folded_lem histories.now }
+{
+    histories.iter().all(|history| history.folded() == 0)
+}
+
+/// Returns `true` if no record of any life is folded.
+pub(crate) fn are_whole(lives: &[Lives]) -> bool
+    ensures { result ≡ are_whole_lem lives.now }
+{
+    lives.iter().all(|one| none_folded(one.histories()))
 }
 
 // Returns `true` if some lives are of an endpoint.
