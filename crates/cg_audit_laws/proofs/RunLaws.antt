@@ -29,11 +29,11 @@ use Rattle.cg_world.specs.Terms.{AreEqual, Mark, mark_of, HasGreatest}
 use Rattle.cg_world.proofs.MarkLemmas.{mark_at, mark_here}
 use Rattle.cg_world.proofs.HeadlineLaws.{Each, each_all, HasEntries, marks_by_targets, targets_have, greatest_held, same_held}
 use Rattle.cg_history.specs.History.{HistoryValue}
-use Rattle.cg_one_run.specs.Items.{RunItem, LivesValue, IsLife, AreLives, generation_of, items_of_lives, items_at}
+use Rattle.cg_one_run.specs.Items.{RunItem, LivesValue, IsLife, AreLives, AreWhole, generation_of, items_of_lives, items_at}
 use Rattle.cg_one_run.specs.OneRun.{GenerationsRise, IsOneRun, messages_of}
 use Rattle.cg_audit_laws.specs.RunHeadline.{histories_at, EndsWith, took_from, marks_of, Was, IsMarked, SameMarks, RunsHaveTheHeadline}
 use Rattle.cg_audit_laws.specs.RunWorld.{RunsHaveAWorld}
-use Rattle.cg_audit_laws.proofs.Stages.{Stage, Idle}
+use Rattle.cg_audit_laws.proofs.Stages.{IsWholeLife, Stage, Idle}
 use Rattle.cg_audit_laws.proofs.Walks.{IsAt, EndsAt, Ends, walk, life_generation}
 
 -- ---- before the first item
@@ -46,12 +46,16 @@ items_by_histories (l ∷ ls) e = by (l.endpoint == e) (items_by_histories ls e)
     by true more = refl
     by false more = more
 
-lives_at : (ls : List LivesValue) → AreLives ls → (e : ℕ) → AllByRecursion (IsLife e) (histories_at ls e)
-lives_at [] are e = tt
-lives_at (l ∷ ls) are e = by (l.endpoint == e) refl (lives_at ls are.1 e)
+whole_lives : (e : ℕ) (hs : List HistoryValue) → AllByRecursion (IsLife e) hs → AllByRecursion (λ (h : HistoryValue). h.folded ≡ 0) hs → AllByRecursion (IsWholeLife e) hs
+whole_lives e [] lives whole = tt
+whole_lives e (h ∷ hs) lives whole = (record { is = lives.0; whole = whole.0 }, whole_lives e hs lives.1 whole.1)
+
+lives_at : (ls : List LivesValue) → AreLives ls → AreWhole ls → (e : ℕ) → AllByRecursion (IsWholeLife e) (histories_at ls e)
+lives_at [] are whole e = tt
+lives_at (l ∷ ls) are whole e = by (l.endpoint == e) refl (lives_at ls are.1 whole.1 e)
   where
-    by : (b : Bool) → (l.endpoint == e) ≡ b → AllByRecursion (IsLife e) (histories_at ls e) → AllByRecursion (IsLife e) (cond b l.histories (histories_at ls e))
-    by true same more = subst (λ (k : ℕ). AllByRecursion (IsLife k) l.histories) (same_number l.endpoint e same) are.0
+    by : (b : Bool) → (l.endpoint == e) ≡ b → AllByRecursion (IsWholeLife e) (histories_at ls e) → AllByRecursion (IsWholeLife e) (cond b l.histories (histories_at ls e))
+    by true same more = whole_lives e l.histories (subst (λ (k : ℕ). AllByRecursion (IsLife k) l.histories) (same_number l.endpoint e same) are.0) whole.0
     by false apart more = more
 
 rise_at : (ls : List LivesValue) → GenerationsRise ls → (e : ℕ) → Rises (map generation_of (histories_at ls e))
@@ -63,10 +67,10 @@ rise_at (l ∷ ls) rise e = by (l.endpoint == e) (rise_at ls rise.1 e)
     by false more = more
 
 -- generations of lives are not 0
-rise_past_none : (e : ℕ) (hs : List HistoryValue) → AllByRecursion (IsLife e) hs → Rises (map generation_of hs) → rise_past (Some 0) (map generation_of hs) ≡ true
+rise_past_none : (e : ℕ) (hs : List HistoryValue) → AllByRecursion (IsWholeLife e) hs → Rises (map generation_of hs) → rise_past (Some 0) (map generation_of hs) ≡ true
 rise_past_none e [] lives rise = refl
 rise_past_none e (h ∷ hs) lives rise =
-    let begun = lives.0.replayed.begun in
+    let begun = lives.0.is.replayed.begun in
     let some : 0 < begun.generation = begun.in_range.0 in
     let same : generation_of h ≡ begun.generation = life_generation e h lives.0 in
     let past : nat_lt 0 (generation_of h) ≡ true = grind (arith, nat_tests, some, same) in
@@ -75,7 +79,7 @@ rise_past_none e (h ∷ hs) lives rise =
 nothing_sent : (m : Message) → Contains (messages_of []) m → ⊥
 nothing_sent m c = let none = c.1 in absurd (omega (arith, none))
 
-module _ (lives : List LivesValue) (order : List RunItem) (are : AreLives lives) (run : IsOneRun lives order) where
+module _ (lives : List LivesValue) (order : List RunItem) (are : AreLives lives) (are_whole : AreWhole lives) (run : IsOneRun lives order) where
   abbrev stages : ℕ → Stage
   stages e = Idle (histories_at lives e)
 
@@ -87,8 +91,8 @@ module _ (lives : List LivesValue) (order : List RunItem) (are : AreLives lives)
     said = λ m c. absurd (nothing_sent m c);
     stages = λ e. record {
       idle = refl;
-      rise = rise_past_none e (histories_at lives e) (lives_at lives are e) (rise_at lives run.rise e);
-      lives = lives_at lives are e;
+      rise = rise_past_none e (histories_at lives e) (lives_at lives are are_whole e) (rise_at lives run.rise e);
+      lives = lives_at lives are are_whole e;
     };
   }
 
@@ -187,25 +191,25 @@ module _ (lives : List LivesValue) (order : List RunItem) (are : AreLives lives)
       record { entries = is; rings = ap ring is }
 
 pub runs_have_the_headline : RunsHaveTheHeadline
-runs_have_the_headline lives order are run = record {
-  joined = held_greatest lives order are run;
-  gaps = λ e. (ends lives order are run).gaps e;
-  whole = whole lives order are run;
-  marked = all_marked lives order are run;
-  named = named lives order are run;
-  equal_sets = equal_sets lives order are run;
-  equal_digests = equal_digests lives order are run;
+runs_have_the_headline lives order are are_whole run = record {
+  joined = held_greatest lives order are are_whole run;
+  gaps = λ e. (ends lives order are are_whole run).gaps e;
+  whole = whole lives order are are_whole run;
+  marked = all_marked lives order are are_whole run;
+  named = named lives order are are_whole run;
+  equal_sets = equal_sets lives order are are_whole run;
+  equal_digests = equal_digests lives order are are_whole run;
 }
 
 pub runs_have_a_world : RunsHaveAWorld
-runs_have_a_world lives order are run =
-    let e = ends lives order are run in (
+runs_have_a_world lives order are are_whole run =
+    let e = ends lives order are are_whole run in (
       e.final,
       record {
         actions = e.actions;
         are = e.are;
         after = e.after;
-        world = is_world lives order are run;
+        world = is_world lives order are are_whole run;
         placed = λ endpoint h last. (e.lasts endpoint h last).placed;
       },
     )

@@ -25,6 +25,11 @@ use Rattle.cg_one_run.specs.Items.{RunItem, IsLife, generation_of, items_from, i
 use Rattle.cg_audit_laws.specs.RunHeadline.{last_or, took_from, GapsLiePast, AllGapsLiePast, WasOwnFrom, WasOwnIn}
 use Rattle.cg_audit_laws.specs.RunWorld.{IsNumbered, IsRecordOf}
 
+-- The history is a life of the endpoint, and no record of it is folded.
+pub record IsWholeLife (e : ℕ) (h : HistoryValue) : Type 0 where
+  pub is : IsLife e h
+  pub whole : h.folded ≡ 0
+
 -- a life that goes on: its node, the number of its next item, and the marks that it took of each owner so far
 pub record Now : Type 0 where
   pub life : HistoryValue
@@ -66,7 +71,7 @@ RecordIn (Going k back ahead) generation number r =
 pub record IsIdle (w : PlaceWorld) (e : ℕ) (ahead : List HistoryValue) : Type 0 where
   pub idle : runs w e ≡ false
   pub rise : rise_past (Some 0) (map generation_of ahead) ≡ true
-  pub lives : AllByRecursion (IsLife e) ahead
+  pub lives : AllByRecursion (IsWholeLife e) ahead
 
 -- and the invariant of a life that goes on
 pub record IsGoing (w : PlaceWorld) (e : ℕ) (k : Now) (back : List Item) (ahead : List HistoryValue) : Type 0 where
@@ -75,7 +80,7 @@ pub record IsGoing (w : PlaceWorld) (e : ℕ) (k : Now) (back : List Item) (ahea
   pub took : (owner : ℕ) → took_from owner (k.marks owner) back ≡ took_from owner [] k.life.records
   pub marked : (owner : ℕ) → Marked w e owner (k.marks owner)
   pub rise : rise_past (Some (own_entry k.node.table).generation) (map generation_of ahead) ≡ true
-  pub lives : AllByRecursion (IsLife e) ahead
+  pub lives : AllByRecursion (IsWholeLife e) ahead
 
 abbrev pub IsStage : PlaceWorld → ℕ → Stage → Type 0
 IsStage w e (Idle ahead) = IsIdle w e ahead

@@ -46,11 +46,11 @@ use Rattle.cg_world.proofs.HeadlineLaws.{Marked}
 use Rattle.cg_records.specs.declared.item.Item.{Item}
 use Rattle.cg_history.specs.History.{record_of, HistoryValue, Replays}
 use Rattle.cg_history.proofs.Replaying.{base_is_start}
-use Rattle.cg_one_run.specs.Items.{RunItem, IsLife, generation_of, start_item, item_of, items_of_lives}
+use Rattle.cg_one_run.specs.Items.{RunItem, generation_of, start_item, item_of, items_of_lives}
 use Rattle.cg_one_run.specs.OneRun.{WasSent, EachWasSent, items_by}
 use Rattle.cg_audit_laws.specs.RunHeadline.{WasOwnFrom, WasOwnIn, delta_handed, took_from, GapsLiePast}
 use Rattle.cg_audit_laws.specs.RunWorld.{IsActionOf, AreActionsOf}
-use Rattle.cg_audit_laws.proofs.Stages.{RecordIn, Now, Stage, Idle, Going, items_left, last_of, OwnIn, IsGoing, IsStage, Goes, own_later, own_after, own_at_end, own_here, stage_stays, GapsIn, no_gaps, same_step}
+use Rattle.cg_audit_laws.proofs.Stages.{IsWholeLife, RecordIn, Now, Stage, Idle, Going, items_left, last_of, OwnIn, IsGoing, IsStage, Goes, own_later, own_after, own_at_end, own_here, stage_stays, GapsIn, no_gaps, same_step}
 use Rattle.cg_audit_laws.proofs.Taking.{others_take_nothing, step_marked, step_told}
 use Rattle.cg_audit_laws.proofs.Items.{AllSaid, sent_before, said_more}
 
@@ -85,17 +85,17 @@ generation_kept n e x step = go e step (tables_go_by_their_rules n e x.0 x.1 ste
     go (event.Ack2 now ack2) step is = held_so ((only_own_events_change_the_own_entry n (event.Ack2 now ack2) x.0 x.1 step).1 refl)
 
 -- the base of a life is a start of its endpoint
-life_base : (e : ℕ) (h : HistoryValue) (life : IsLife e h) → h.base ≡ starting_node e life.replayed.begun.generation life.replayed.begun.settings
+life_base : (e : ℕ) (h : HistoryValue) (life : IsWholeLife e h) → h.base ≡ starting_node e life.is.replayed.begun.generation life.is.replayed.begun.settings
 life_base e h life =
-    let begun = life.replayed.begun in
-    let own : begun.own ≡ e = sym (ap (λ (n : NodeValue). n.table.own) begun.is) ∙ life.own in
-    base_is_start h life.replayed ∙ begun.is ∙ ap (λ (o : ℕ). starting_node o begun.generation begun.settings) own
+    let begun = life.is.replayed.begun in
+    let own : begun.own ≡ e = sym (ap (λ (n : NodeValue). n.table.own) begun.is) ∙ life.is.own in
+    base_is_start h life.is.replayed life.whole ∙ begun.is ∙ ap (λ (o : ℕ). starting_node o begun.generation begun.settings) own
 
 -- the generation of a life
-pub life_generation : (e : ℕ) (h : HistoryValue) (life : IsLife e h) → generation_of h ≡ life.replayed.begun.generation
+pub life_generation : (e : ℕ) (h : HistoryValue) (life : IsWholeLife e h) → generation_of h ≡ life.is.replayed.begun.generation
 life_generation e h life =
     ap (λ (n : NodeValue). (own_entry n.table).generation) (life_base e h life)
-    ∙ ap (λ (y : EntryValue). y.generation) (own_with (record { own = e; entries = table.empty }) (starting_entry life.replayed.begun.generation))
+    ∙ ap (λ (y : EntryValue). y.generation) (own_with (record { own = e; entries = table.empty }) (starting_entry life.is.replayed.begun.generation))
 
 idle_generation : (w : PlaceWorld) (e : ℕ) → runs w e ≡ false → generation_at (w.histories e) (length (w.histories e)) ≡ 0
 idle_generation w e idle = let none : length (w.histories e) ≡ 0 = grind (arith, nat_tests, idle) in ap (generation_at (w.histories e)) none
@@ -249,10 +249,10 @@ module _ (w : PlaceWorld) (gone : List RunItem) (sound : IsSound w) (knows : Kno
     }
 
   -- a start
-  module _ (now : Stage) (h : HistoryValue) (hs : List HistoryValue) (life : IsLife e h) (lives : AllByRecursion (IsLife e) hs) (last : ℕ) (held : generation_at (w.histories e) (length (w.histories e)) ≡ last)
+  module _ (now : Stage) (h : HistoryValue) (hs : List HistoryValue) (life : IsWholeLife e h) (lives : AllByRecursion (IsWholeLife e) hs) (last : ℕ) (held : generation_at (w.histories e) (length (w.histories e)) ≡ last)
       (rise : rise_past (Some last) (map generation_of (h ∷ hs)) ≡ true) (i : RunItem) (rest : List RunItem) (is : i ∷ rest ≡ items_of_lives e (h ∷ hs)) where
     abbrev g : ℕ
-    g = life.replayed.begun.generation
+    g = life.is.replayed.begun.generation
 
     abbrev u : PlaceWorld
     u = with_start w e g
@@ -282,7 +282,7 @@ module _ (w : PlaceWorld) (gone : List RunItem) (sound : IsSound w) (knows : Kno
         own = ap (λ (n : NodeValue). n.table.own) (life_base e h life);
         spells = subst (λ (n : NodeValue). SpellsNode u e n.table.entries) (sym (life_base e h life)) changed.here;
       };
-      replays = life.replayed.replays;
+      replays = life.is.replayed.replays;
       took = λ owner. refl;
       marked = nothing_marked;
       rise = second_of (nat_lt last (generation_of h)) (rise_past (Some (generation_of h)) (map generation_of hs)) rise;

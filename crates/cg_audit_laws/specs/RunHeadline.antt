@@ -17,7 +17,7 @@ use Rattle.cg_steps.specs.Step.{message_in}
 use Rattle.cg_world.specs.Terms.{AreEqual, deltas_in, is_gap, Mark, mark_of, HasGreatest, LiesPast, with_delta}
 use Rattle.cg_records.specs.declared.item.Item.{Item}
 use Rattle.cg_history.specs.History.{HistoryValue, Replays}
-use Rattle.cg_one_run.specs.Items.{RunItem, LivesValue, AreLives}
+use Rattle.cg_one_run.specs.Items.{RunItem, LivesValue, AreLives, AreWhole}
 use Rattle.cg_one_run.specs.OneRun.{IsOneRun}
 
 -- ---- lives
@@ -119,8 +119,9 @@ module _ (lives : List LivesValue) where
         → digests_of one.node.table.entries ≡ digests_of other.node.table.entries
         → AreEqual one.node.table.entries other.node.table.entries
 
--- The headline is true of the ends of lives that are one run, whatever the settings of each and however many endpoints
--- there are.
+-- The headline is true of the ends of lives that are one run, none of whose records is folded, whatever the settings of
+-- each and however many endpoints there are.
 abbrev pub RunsHaveTheHeadline : Type 0
 RunsHaveTheHeadline =
-    (lives : List LivesValue) (order : List RunItem) → AreLives lives → IsOneRun lives order → RunHeadline lives
+    (lives : List LivesValue) (order : List RunItem) → AreLives lives → AreWhole lives → IsOneRun lives order
+    → RunHeadline lives

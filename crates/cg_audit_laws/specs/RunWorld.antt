@@ -5,7 +5,7 @@ use Rattle.cg_places.specs.Laws.{IsWorld}
 use Rattle.cg_steps.specs.Step.{message_in, action_at, IsPlaced, IsSentBefore}
 use Rattle.cg_records.specs.declared.item.Item.{Item}
 use Rattle.cg_history.specs.History.{HistoryValue}
-use Rattle.cg_one_run.specs.Items.{RunItem, LivesValue, AreLives, generation_of}
+use Rattle.cg_one_run.specs.Items.{RunItem, LivesValue, AreLives, AreWhole, generation_of}
 use Rattle.cg_one_run.specs.OneRun.{IsOneRun}
 use Rattle.cg_audit_laws.specs.RunHeadline.{histories_at, EndsWith}
 
@@ -54,8 +54,9 @@ pub record IsWorldOf (lives : List LivesValue) (order : List RunItem) (w : Place
   pub world : IsWorld w
   pub placed : (endpoint : ℕ) (h : HistoryValue) → EndsWith lives endpoint h → IsPlaced w endpoint h.node
 
--- Lives that are one run have such a world, whatever the settings of each and however many endpoints there are.
+-- Lives that are one run, none of whose records is folded, have such a world, whatever the settings of each and however
+-- many endpoints there are.
 abbrev pub RunsHaveAWorld : Type 0
 RunsHaveAWorld =
-    (lives : List LivesValue) (order : List RunItem) → AreLives lives → IsOneRun lives order
+    (lives : List LivesValue) (order : List RunItem) → AreLives lives → AreWhole lives → IsOneRun lives order
     → (w : PlaceWorld) × IsWorldOf lives order w

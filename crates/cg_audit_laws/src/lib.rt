@@ -1,6 +1,7 @@
 //! Laws of lives that are one run: the headline, of the tables at the end of the last lives.
 //!
-//! An audit that returns an order says that the lives began with starts and are one run. The laws of a world do not
+//! An audit that returns an order says that the lives began with starts, that no record of theirs is folded, and that
+//! they are one run. The laws of a world do not
 //! cover them: lives have settings of their own, and there may be more endpoints than a table holds. The laws of this
 //! crate rest on the law of one step by places. Each function is a law: its contract says it, and its body is empty.
 #![tactic(auto)]
