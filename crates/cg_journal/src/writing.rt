@@ -1,6 +1,7 @@
 //! Writing a journal, line by line.
 
-ghost use Rattle.std.specs.Prelude.{◌∷◌, [], OnOk};
+ghost use Rattle.std.specs.Prelude.{◌≡◌, ◌<◌, [], ◌∷◌, Err, OnOk};
+ghost use Rattle.cg_types.specs.declared.fault.Fault.TheVariants as faults;
 ghost use Rattle.cg_links.specs.Counted.{link_of, IsFlushed};
 ghost use Rattle.cg_journal.specs.Text.{life_line, event_line, event_lines, journal_lines};
 ghost use Rattle.cg_journal.specs.Written.{Writes};
@@ -74,12 +75,8 @@ fn write_lines<W: Write>(
     write_events(alloc, history.records(), writer)
 }
 
-/// Writes the text of a history, and flushes the writer.
-///
-/// It makes and writes one line at a time, so the memory is that of the longest line. `OutOfMemory` if there is no
-/// memory for a line: then those before it were written, each whole. `WriteFault` if the writer fails or takes no byte:
-/// then a prefix of the text was written.
-pub fn write_journal<W: Write>(
+// Writes the lines of a history, and flushes the writer.
+fn write_whole<W: Write>(
     alloc: Global,
     history: &History,
     writer: &mut Counted<W>,
@@ -96,4 +93,28 @@ pub fn write_journal<W: Write>(
         Ok(()) => Ok(()),
         Err(_) => Err(Fault::WriteFault),
     }
+}
+
+/// Writes the text of a history, and flushes the writer.
+///
+/// `Folded`, and nothing is written, if a record of the history is folded: the text has all records since the start. It
+/// makes and writes one line at a time, so the memory is that of the longest line. `OutOfMemory` if there is no memory
+/// for a line: then those before it were written, each whole. `WriteFault` if the writer fails or takes no byte: then a
+/// prefix of the text was written.
+pub fn write_journal<W: Write>(
+    alloc: Global,
+    history: &History,
+    writer: &mut Counted<W>,
+) -> Result<(), Fault>
+    ensures written { history.now.folded ≡ 0
+        → Writes (W.contents (link_of writer.old)) (W.contents (link_of writer.new))
+        writer.old writer.new (journal_lines history.now) result }
+    ensures flushed { OnOk result (IsFlushed writer.new) }
+    ensures folded { 0 < history.now.folded
+        → (result ≡ Err faults.Folded) × (writer.new ≡ writer.old) }
+{
+    if history.folded() != 0 {
+        return Err(Fault::Folded);
+    }
+    write_whole(alloc, history, writer)
 }

@@ -1,6 +1,6 @@
 use Rattle.std.proofs.Common.{refl}
 use Rattle.cg_journal.proofs.WrittenLemmas.{flushed_all, flush_failed}
-use Rattle.cg_journal.proofs.writing.write_journal.Goals as goal
+use Rattle.cg_journal.proofs.writing.write_whole.Goals as goal
 
 pub returns-in-Ok-flush-clause-written : goal.returns-in-Ok-flush-clause-written
 returns-in-Ok-flush-clause-written g c =
