@@ -43,5 +43,5 @@ fronts_are_read front rest h e =
     let (g, read, of) = cut_first (ended_lines [] front) (open_line [] front) (lines_of rest) h (ap (after_lines 1 None) (sym (lines_cut front rest)) ∙ e) in (
       g,
       ap (after_lines 1 None) (lines_cut front [] ∙ append-nil all) ∙ read,
-      record { start = of.start; base = of.base; more = of.items; records = of.records },
+      record { start = of.start; base = of.base; folded = of.folded; more = of.items; records = of.records },
     )

@@ -9,7 +9,7 @@ use Rattle.cg_settings.specs.Values.{SettingsValue}
 use Rattle.cg_core.specs.Values.{NodeValue}
 use Rattle.cg_core.specs.Step.{Step, node_step, starting_node}
 use Rattle.cg_records.specs.declared.item.Item.{Item}
-use Rattle.cg_history.specs.History.{record_of, HistoryValue, Replays, LAST_NUMBER, new_history, with_record, with_step}
+use Rattle.cg_history.specs.History.{record_of, HistoryValue, Replays, LAST_NUMBER, count_of, new_history, with_record, with_step}
 use Rattle.cg_history.proofs.Replaying.{base_is_start}
 use Rattle.cg_lines.specs.Lines.{lines_of}
 use Rattle.cg_script.specs.Gives.{readable}
@@ -40,34 +40,34 @@ events_read (r ∷ records) all =
 
 -- ---- events, for caller 0
 
-applied : (h : HistoryValue) (e : Event) (x : NodeValue × Reply) → node_step h.node e ≡ Ok x → length h.records < LAST_NUMBER
+applied : (h : HistoryValue) (e : Event) (x : NodeValue × Reply) → node_step h.node e ≡ Ok x → count_of h < LAST_NUMBER
     → history_after h (Some e) ≡ Some (with_record h x.0 (record_of 0 e h.node x))
 applied h e x step few =
-    ap (λ (b : Bool). option_map (λ p. p.0) (readable (cond b (Err VersionsSpent) (with_step h 0 e (node_step h.node e))))) (ne_eqb (length h.records) LAST_NUMBER (omega (arith, few)))
+    ap (λ (b : Bool). option_map (λ p. p.0) (readable (cond b (Err VersionsSpent) (with_step h 0 e (node_step h.node e))))) (ne_eqb (count_of h) LAST_NUMBER (omega (arith, few)))
     ∙ ap (λ (s : Step). option_map (λ p. p.0) (readable (with_step h 0 e s))) step
 
 -- the history after more records, each for caller 0
 abbrev after : HistoryValue → List Item → NodeValue → HistoryValue
-after h records node = record { start = h.start; base = h.base; records = h.records ++ records; node = node }
+after h records node = record { start = h.start; base = h.base; folded = h.folded; records = h.records ++ records; node = node }
 
 records_read : (k : ℕ) (h : HistoryValue) (records : List Item) (node : NodeValue) → Replays h.node records node → EventsOf records
-    → length h.records + length records ≤ LAST_NUMBER
+    → count_of h + length records ≤ LAST_NUMBER
     → after_lines k (Some h) (words_of records) ≡ Ok (after h (map for_caller_0 records) node)
 records_read k h [] node is all few =
-    ap (λ (n : NodeValue). Ok (record { start = h.start; base = h.base; records = h.records; node = n })) is
-    ∙ ap (λ (rs : List Item). Ok (record { start = h.start; base = h.base; records = rs; node = node })) (sym (append-nil h.records))
+    ap (λ (n : NodeValue). Ok (record { start = h.start; base = h.base; folded = h.folded; records = h.records; node = n })) is
+    ∙ ap (λ (rs : List Item). Ok (record { start = h.start; base = h.base; folded = h.folded; records = rs; node = node })) (sym (append-nil h.records))
 records_read k h (r ∷ records) node is all few =
     let x = is.0 in
     let item = record_of 0 r.event h.node x in
     let g = with_record h x.0 item in
     let same : item ≡ for_caller_0 r = sym (ap for_caller_0 is.2) in
     let go = λ (h : HistoryValue). after_lines (suc k) (Some h) (words_of records) in
-    let less : length h.records < LAST_NUMBER = omega (arith, few) in
-    let more : length g.records + length records ≤ LAST_NUMBER = omega (arith, few, length-append h.records (item ∷ [])) in
+    let less : count_of h < LAST_NUMBER = omega (arith, few) in
+    let more : count_of g + length records ≤ LAST_NUMBER = omega (arith, few, length-append h.records (item ∷ [])) in
     ap (λ (o : Option Event). on_line k (history_after h o) go) (event_again r.event all.0)
     ∙ ap (λ (o : Option HistoryValue). on_line k o go) (applied h r.event x is.1 less)
     ∙ records_read (suc k) g records node is.3 all.1 more
-    ∙ ap (λ (rs : List Item). Ok (record { start = h.start; base = h.base; records = rs; node = node }))
+    ∙ ap (λ (rs : List Item). Ok (record { start = h.start; base = h.base; folded = h.folded; records = rs; node = node }))
     (append_assoc h.records (item ∷ []) (map for_caller_0 records) ∙ ap (λ (i : Item). h.records ++ i ∷ map for_caller_0 records) same)
 
 -- ---- all of it
@@ -91,9 +91,9 @@ history_read own generation s records node first is all few replays =
 
 read_from : (base : NodeValue) (records : List Item) (node : NodeValue) (own generation : ℕ) (s : SettingsValue) → starting_node own generation s ≡ base
     → IsGeneration generation → MayStart own s → EventsOf records → length records ≤ LAST_NUMBER → Replays base records node
-    → journal_in (joined (life_line base ∷ event_lines records)) ≡ Ok (record { start = base; base = base; records = map for_caller_0 records; node = node })
+    → journal_in (joined (life_line base ∷ event_lines records)) ≡ Ok (record { start = base; base = base; folded = 0; records = map for_caller_0 records; node = node })
 read_from base records node own generation s from first is all few replays =
-    let P : NodeValue → Type 0 = λ b. Replays b records node → journal_in (joined (life_line b ∷ event_lines records)) ≡ Ok (record { start = b; base = b; records = map for_caller_0 records; node = node }) in
+    let P : NodeValue → Type 0 = λ b. Replays b records node → journal_in (joined (life_line b ∷ event_lines records)) ≡ Ok (record { start = b; base = b; folded = 0; records = map for_caller_0 records; node = node }) in
     subst P from (history_read own generation s records node first is all few) replays
 
 same_lines : (records : List Item) → event_lines (map for_caller_0 records) ≡ event_lines records
@@ -104,9 +104,11 @@ pub histories_read : WrittenHistoriesAreRead
 histories_read h is =
     let begun = is.replayed.begun in
     let may : MayStart begun.own begun.settings = subst (λ (n : NodeValue). MayStart n.table.own n.settings) begun.is is.start in
-    let began = base_is_start h is.replayed in
+    let began = base_is_start h is.replayed is.whole in
+    let few : length h.records ≤ LAST_NUMBER = omega (arith, is.replayed.few, is.whole) in
     record {
-      read = read_from h.base h.records h.node begun.own begun.generation begun.settings (sym (began ∙ begun.is)) begun.in_range may is.events is.replayed.few is.replayed.replays
-          ∙ ap (λ (n : NodeValue). Ok (record { start = n; base = h.base; records = map for_caller_0 h.records; node = h.node })) began;
+      read = read_from h.base h.records h.node begun.own begun.generation begun.settings (sym (began ∙ begun.is)) begun.in_range may is.events few is.replayed.replays
+          ∙ ap (λ (n : NodeValue). Ok (record { start = n; base = h.base; folded = 0; records = map for_caller_0 h.records; node = h.node })) began
+          ∙ ap (λ (n : ℕ). Ok (record { start = h.start; base = h.base; folded = n; records = map for_caller_0 h.records; node = h.node })) (sym is.whole);
       again = ap (λ (lines : List (List ℕ)). joined (life_line h.base ∷ lines)) (same_lines h.records);
     }

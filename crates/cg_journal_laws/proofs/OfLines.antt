@@ -10,7 +10,7 @@ use Rattle.cg_settings.specs.Values.{SettingsValue}
 use Rattle.cg_core.specs.Step.{Step, node_step}
 use Rattle.cg_records.specs.declared.item.Item.{Item}
 use Rattle.cg_records.specs.Items.{events_of}
-use Rattle.cg_history.specs.History.{record_of, HistoryValue, LAST_NUMBER, with_record, with_step, new_history}
+use Rattle.cg_history.specs.History.{record_of, HistoryValue, LAST_NUMBER, count_of, with_record, with_step, new_history}
 use Rattle.cg_script.specs.Gives.{readable}
 use Rattle.cg_script.specs.Words.{endpoint_before}
 use Rattle.cg_lines.specs.Lines.{lines_of}
@@ -24,6 +24,7 @@ pub record IsNext (h k : HistoryValue) (o : Option Event) : Type 0 where
   pub caller : item.caller ≡ 0
   pub start : k.start ≡ h.start
   pub base : k.base ≡ h.base
+  pub folded : k.folded ≡ h.folded
   pub records : k.records ≡ h.records ++ item ∷ []
 
 stepped : (h k : HistoryValue) (e : Event) (spent : Bool) (s : Step)
@@ -37,12 +38,13 @@ stepped h k e false (Ok x) is =
       caller = refl;
       start = ap (λ (g : HistoryValue). g.start) (sym same);
       base = ap (λ (g : HistoryValue). g.base) (sym same);
+      folded = ap (λ (g : HistoryValue). g.folded) (sym same);
       records = ap (λ (g : HistoryValue). g.records) (sym same);
     }
 
 next : (h k : HistoryValue) (o : Option Event) → history_after h o ≡ Some k → IsNext h k o
 next h k None is = absurd cc
-next h k (Some e) is = stepped h k e (length h.records == LAST_NUMBER) (node_step h.node e) is
+next h k (Some e) is = stepped h k e (count_of h == LAST_NUMBER) (node_step h.node e) is
 
 -- records of the events of some lines, after those of a history
 pub record AreOf (h k : HistoryValue) (lines : List (List ℕ)) : Type 0 where
@@ -51,6 +53,7 @@ pub record AreOf (h k : HistoryValue) (lines : List (List ℕ)) : Type 0 where
   pub callers : AllByRecursion (λ r. r.caller ≡ 0) items
   pub start : k.start ≡ h.start
   pub base : k.base ≡ h.base
+  pub folded : k.folded ≡ h.folded
   pub records : k.records ≡ h.records ++ items
 
 one_more : (h g k : HistoryValue) (line : List ℕ) (lines : List (List ℕ)) → IsNext h g (event_in line) → AreOf g k lines → AreOf h k (line ∷ lines)
@@ -60,6 +63,7 @@ one_more h g k line lines one more = record {
   callers = (one.caller, more.callers);
   start = more.start ∙ one.start;
   base = more.base ∙ one.base;
+  folded = more.folded ∙ one.folded;
   records = more.records ∙ ap (λ (rs : List Item). rs ++ more.items) one.records ∙ append_assoc h.records (one.item ∷ []) more.items;
 }
 
@@ -78,38 +82,42 @@ of_lines n h k [] e =
       callers = tt;
       start = ap (λ (g : HistoryValue). g.start) (sym same);
       base = ap (λ (g : HistoryValue). g.base) (sym same);
+      folded = ap (λ (g : HistoryValue). g.folded) (sym same);
       records = ap (λ (g : HistoryValue). g.records) (sym same) ∙ sym (append-nil h.records);
     }
 of_lines n h k (line ∷ lines) e = behind n h k line lines (after_line (Some h) line) refl (λ g. of_lines (suc n) g k lines) e
 
--- ---- a history that begins has no records
+-- ---- a history that begins has no records, and none is folded
+
+abbrev IsNew : HistoryValue → Type 0
+IsNew h = (h.records ≡ []) × (h.folded ≡ 0)
 
 made_of : {A B : Type 0} (o : Option A) (f : A → Option B) (b : B) → (o >>= f) ≡ Some b → (a : A) × (f a ≡ Some b)
 made_of None f b e = absurd cc
 made_of (Some a) f b e = (a, e)
 
-begun : (own generation : ℕ) (o : Option SettingsValue) (h : HistoryValue) → (o >>= (λ settings. Some (new_history own generation settings))) ≡ Some h → h.records ≡ []
+begun : (own generation : ℕ) (o : Option SettingsValue) (h : HistoryValue) → (o >>= (λ settings. Some (new_history own generation settings))) ≡ Some h → IsNew h
 begun own generation None h e = absurd cc
 begun own generation (Some settings) h e =
     let same : new_history own generation settings ≡ h = cc in
-    ap (λ (g : HistoryValue). g.records) (sym same)
+    (ap (λ (g : HistoryValue). g.records) (sym same), ap (λ (g : HistoryValue). g.folded) (sym same))
 
-none_behind : (words : List ℕ) (h : HistoryValue) → life_behind words ≡ Some h → h.records ≡ []
+none_behind : (words : List ℕ) (h : HistoryValue) → life_behind words ≡ Some h → IsNew h
 unfolding life_behind
 none_behind words h e =
     let (own, after_own) = made_of (endpoint_before words) (λ own. generation_before own.1 >>= (λ generation. settings_in generation.1 >>= (λ settings. Some (new_history own.0 generation.0 settings)))) h e in
     let (generation, rest) = made_of (generation_before own.1) (λ generation. settings_in generation.1 >>= (λ settings. Some (new_history own.0 generation.0 settings))) h after_own in
     begun own.0 generation.0 (settings_in generation.1) h rest
 
-none_of : (parts : Option (List ℕ × List ℕ)) (h : HistoryValue) → life_of_parts parts ≡ Some h → h.records ≡ []
+none_of : (parts : Option (List ℕ × List ℕ)) (h : HistoryValue) → life_of_parts parts ≡ Some h → IsNew h
 none_of None h e = absurd cc
 none_of (Some p) h e =
-    (elim (bytes_eq p.0 (codes "life")) as (λ (b : Bool). cond b (life_behind p.1) None ≡ Some h → h.records ≡ []) [
+    (elim (bytes_eq p.0 (codes "life")) as (λ (b : Bool). cond b (life_behind p.1) None ≡ Some h → IsNew h) [
       | true ↦ λ is. none_behind p.1 h is
       | false ↦ λ is. absurd cc
     ]) e
 
-none_yet : (line : List ℕ) (h : HistoryValue) → life_in line ≡ Some h → h.records ≡ []
+none_yet : (line : List ℕ) (h : HistoryValue) → life_in line ≡ Some h → IsNew h
 unfolding life_in
 none_yet line h e = none_of (cut_at 32 line) h e
 
@@ -118,7 +126,8 @@ first_line : (h : HistoryValue) (line : List ℕ) (lines : List (List ℕ)) (o :
 first_line h line lines None is e = absurd cc
 first_line h line lines (Some g) is e =
     let of = of_lines 2 g h lines e in
-    let all : h.records ≡ of.items = of.records ∙ ap (λ (rs : List Item). rs ++ of.items) (none_yet line g is) in
+    let new = none_yet line g is in
+    let all : h.records ≡ of.items = of.records ∙ ap (λ (rs : List Item). rs ++ of.items) new.0 in
     record {
       first = line;
       others = lines;
@@ -127,6 +136,7 @@ first_line h line lines (Some g) is e =
       begins = is;
       begun = of.start;
       base = of.base;
+      whole = of.folded ∙ new.1;
       events = of.events ∙ ap (λ (rs : List Item). map Some (events_of rs)) (sym all);
       callers = subst (λ (rs : List Item). AllByRecursion (λ r. r.caller ≡ 0) rs) (sym all) of.callers;
     }

@@ -54,5 +54,5 @@ same_records (r ∷ records) all =
 pub read_again : ReadHistoriesAreReadAgain
 read_again text h e =
     let life = life_of text h e in
-    let same : uncalled h ≡ h = ap (λ (rs : List Item). record { start = h.start; base = h.base; records = rs; node = h.node }) (same_records h.records (of_its_lines text h e).callers) in
+    let same : uncalled h ≡ h = ap (λ (rs : List Item). record { start = h.start; base = h.base; folded = h.folded; records = rs; node = h.node }) (same_records h.records (of_its_lines text h e).callers) in
     record { writable = life; again = (histories_read h life).read ∙ ap (λ (g : HistoryValue). Ok g) same }

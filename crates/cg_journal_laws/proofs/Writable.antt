@@ -8,7 +8,7 @@ use Rattle.cg_events.specs.declared.event.Event.{Event}
 use Rattle.cg_core.specs.Step.{Step, node_step}
 use Rattle.cg_records.specs.declared.item.Item.{Item}
 use Rattle.cg_records.specs.declared.item.Receipt.{Receipt}
-use Rattle.cg_history.specs.History.{record_of, HistoryValue, IsReplayed, LAST_NUMBER, new_history, with_record, with_step, receipt_of}
+use Rattle.cg_history.specs.History.{record_of, HistoryValue, IsReplayed, LAST_NUMBER, count_of, new_history, with_record, with_step, receipt_of}
 use Rattle.cg_history.proofs.Replaying.{replayed_new, replayed_after}
 use Rattle.cg_journal_laws.specs.Contents.{IsCount, IsEvent, MayStart, IsWritable}
 use Rattle.cg_journal_laws.specs.Laws.{WritableHistoriesGoOn}
@@ -30,6 +30,7 @@ gone_on h caller e after q false (Ok x) is event replayed done =
     let same = same_ok {A = HistoryValue × Receipt} (with_record h x.0 item, receipt_of h caller e x.1) (after, q) done in
     record {
       replayed = replayed;
+      whole = subst (λ (y : HistoryValue × Receipt). y.0.folded ≡ 0) same is.whole;
       start = subst (λ (y : HistoryValue × Receipt). MayStart y.0.start.table.own y.0.start.settings) same is.start;
       events = subst (λ (y : HistoryValue × Receipt). AllByRecursion (λ i. IsEvent i.event) y.0.records) same (one_event_more h.records item is.events event);
     }
@@ -38,11 +39,12 @@ pub writable_histories_go_on : WritableHistoriesGoOn
 writable_histories_go_on = record {
   begins = λ own generation s first is. record {
     replayed = replayed_new own generation s first (new_history own generation s) refl;
+    whole = refl;
     start = is;
     events = tt;
   };
   goes_on = λ h caller e after q is event done.
-      gone_on h caller e after q (length h.records == LAST_NUMBER) (node_step h.node e) is event (replayed_after h caller e after q is.replayed done) done;
+      gone_on h caller e after q (count_of h == LAST_NUMBER) (node_step h.node e) is event (replayed_after h caller e after q is.replayed done) done;
 }
 
 -- ---- the words of an event in hand

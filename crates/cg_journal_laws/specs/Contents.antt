@@ -37,8 +37,9 @@ pub record MayStart (own : ℕ) (s : SettingsValue) : Type 0 where
   pub seeds : AllByRecursion IsEndpoint s.seeds
   pub silence : IsSilence s.silence
 
--- A history with a text: its node may start, and its records are of events.
+-- A history with a text: no record of it is folded, its node may start, and its records are of events.
 pub record IsWritable (h : HistoryValue) : Type 0 where
   pub replayed : IsReplayed h
+  pub whole : h.folded ≡ 0
   pub start : MayStart h.start.table.own h.start.settings
   pub events : AllByRecursion (λ r. IsEvent r.event) h.records

@@ -14,7 +14,7 @@ use Rattle.cg_journal.specs.Reading.{life_in, event_in, journal_in}
 use Rattle.cg_journal_laws.specs.Contents.{IsEvent, MayStart, IsWritable}
 
 -- The history began as the first of the lines says. It has a record for each other line, with the line's event, for
--- caller 0.
+-- caller 0, and none is folded.
 pub record IsOfItsLines (lines : List (List ℕ)) (h : HistoryValue) : Type 0 where
   pub first : List ℕ
   pub others : List (List ℕ)
@@ -23,6 +23,7 @@ pub record IsOfItsLines (lines : List (List ℕ)) (h : HistoryValue) : Type 0 wh
   pub begins : life_in first ≡ Some start
   pub begun : h.start ≡ start.start
   pub base : h.base ≡ start.base
+  pub whole : h.folded ≡ 0
   pub events : map event_in others ≡ map Some (events_of h.records)
   pub callers : AllByRecursion (λ r. r.caller ≡ 0) h.records
 
@@ -34,6 +35,7 @@ ReadHistoriesAreOfTheirLines =
 pub record Continues (g h : HistoryValue) : Type 0 where
   pub start : h.start ≡ g.start
   pub base : h.base ≡ g.base
+  pub folded : h.folded ≡ g.folded
   pub more : List Item
   pub records : h.records ≡ g.records ++ more
 
@@ -60,7 +62,13 @@ for_caller_0 i = record { caller = 0; event = i.event; reply = i.reply; puts = i
 
 -- the history, with each record for caller 0
 abbrev pub uncalled : HistoryValue → HistoryValue
-uncalled h = record { start = h.start; base = h.base; records = map for_caller_0 h.records; node = h.node }
+uncalled h = record {
+  start = h.start;
+  base = h.base;
+  folded = h.folded;
+  records = map for_caller_0 h.records;
+  node = h.node;
+}
 
 -- The text of the history is read as that history, for caller 0, and that one is written as the same text.
 pub record IsReadAsWritten (h : HistoryValue) : Type 0 where

@@ -1,5 +1,6 @@
 //! The law of all histories in hand.
 
+ghost use Rattle.std.specs.Prelude.{◌≡◌};
 ghost use Rattle.std.specs.List.{AllByRecursion};
 ghost use Rattle.cg_types.specs.Numbers.{IsEndpoint};
 ghost use Rattle.cg_journal_laws.specs.Contents.{IsEvent, MayStart, IsWritable};
@@ -42,10 +43,10 @@ fn show_events(records: &[Item])
     }
 }
 
-/// Each history in hand is writable, so the laws of written histories hold of it: its text is read as it. The call takes
-/// no memory, and walks its records.
+/// Each history in hand of which no record is folded is writable, so the laws of written histories hold of it: its text
+/// is read as it. The call takes no memory, and walks its records.
 pub fn every_history_fits(history: &History)
-    ensures { IsWritable history.now }
+    ensures { history.now.folded ≡ 0 → IsWritable history.now }
 {
     show_start(history.base());
     show_events(history.records());
