@@ -1,7 +1,8 @@
 -- The settings and the generation that a life takes from files, its journal, and the faults that prevent it.
-use Rattle.std.specs.Prelude.{◌≡◌, ◌⊎◌, ℕ, true, false, List, ◌++◌, codes, Option, Some, None, Result, Ok, Err, IfSome}
+use Rattle.std.specs.Prelude.{◌≡◌, ◌<◌, ◌⊎◌, ℕ, true, false, List, ◌++◌, codes, Option, Some, None, Result, Ok, Err, IfSome}
 use Rattle.cg_types.specs.declared.fault.Fault.{Fault}
 use Rattle.cg_types.specs.declared.fault.Fault.TheVariants as fault
+use Rattle.cg_history.specs.History.{HistoryValue}
 use Rattle.cg_files.specs.Disk.{Call, Opened, Placed, Made, Compared, OpenedToLock, Locked, HasBytes, Unfound, Replaces, Unreplaced}
 use Rattle.cg_files.specs.Generation.{text_of}
 use Rattle.cg_files.specs.Replacing.{aside_of}
@@ -90,6 +91,11 @@ module _ {F : Type 0} (did : Call F → Type 0) (remaining contents : F → Opti
   IsUnkept f = (f ≡ fault.OutOfMemory) ⊎ (IsHeld f ⊎ (Unstored did remaining path f ⊎ Advances (Err f)))
 
 -- ---- a journal
+
+-- A record of the history is folded, or the file could not be replaced.
+abbrev pub Unwritten : {F : Type 0} → (Call F → Type 0) → List ℕ → HistoryValue → Fault → Type 0
+Unwritten did path h f =
+    ((h.folded ≡ 0) × Unreplaced did path f) ⊎ ((0 < h.folded) × (f ≡ fault.Folded))
 
 -- A new file was made beside the one that the path leads to.
 pub record IsTried {F : Type 0} (did : Call F → Type 0) (path : List ℕ) : Type 0 where

@@ -1,9 +1,9 @@
 //! The journal that a file holds at the end of a life.
 
-ghost use Rattle.std.specs.Prelude.{IfErr, OnOk};
+ghost use Rattle.std.specs.Prelude.{◌≡◌, IfErr, OnOk};
 ghost use Rattle.cg_files.specs.Disk.{Replaces, Unreplaced};
 ghost use Rattle.cg_journal.specs.Text.{joined, journal_lines};
-ghost use Rattle.cg_node_files.specs.Kept.{IsTried};
+ghost use Rattle.cg_node_files.specs.Kept.{IsTried, Unwritten};
 
 use cg_files::{Disk, Replacement};
 use cg_history::History;
@@ -28,16 +28,14 @@ pub fn try_journal<D: Disk>(disk: &D, alloc: Global, file: &str) -> Result<(), F
     }
 }
 
-/// Writes the journal of a history to a file, in place of its old text.
-///
-/// After a crash the file holds the old text or the new one; no clause speaks of crashes. `WriteFault` if writing
-/// fails, `OutOfMemory` if memory is refused.
-pub fn write_journal_to<D: Disk>(
+// Writes the journal of a history, of which no record is folded, to a file.
+fn write_whole_to<D: Disk>(
     disk: &D,
     alloc: Global,
     file: &str,
     history: &History,
 ) -> Result<(), Fault>
+    requires { history.now.folded ≡ 0 }
     ensures written { OnOk result (Replaces D.did D.File.contents file.now (joined (journal_lines history.now))) }
     ensures err { IfErr result (Unreplaced D.did file.now) }
 {
@@ -53,4 +51,25 @@ pub fn write_journal_to<D: Disk>(
         Ok(()) => new.put(disk, place.as_str()),
         Err(fault) => Err(fault),
     }
+}
+
+/// Writes the journal of a history to a file, in place of its old text.
+///
+/// `Folded`, before the disk is called, if a record of the history is folded: the file stays as it was. After a crash
+/// the file holds the old text or the new one; no clause speaks of crashes. `WriteFault` if writing fails,
+/// `OutOfMemory` if memory is refused.
+pub fn write_journal_to<D: Disk>(
+    disk: &D,
+    alloc: Global,
+    file: &str,
+    history: &History,
+) -> Result<(), Fault>
+    ensures written { OnOk result ((history.now.folded ≡ 0)
+        × Replaces D.did D.File.contents file.now (joined (journal_lines history.now))) }
+    ensures err { IfErr result (Unwritten D.did file.now history.now) }
+{
+    if history.folded() != 0 {
+        return Err(Fault::Folded);
+    }
+    write_whole_to(disk, alloc, file, history)
 }
