@@ -13,6 +13,7 @@ IsOpeningFault f = (f ≡ fault.OutOfMemory) ⊎ (f ≡ fault.ReadFault)
 
 -- a call, and its answer
 pub data Call (F : Type 0) : Type 0 where
+  Looked : List ℕ → Bool → Call F
   Opened : List ℕ → Result (Option F) Fault → Call F
   Placed : List ℕ → Result (List ℕ) Fault → Call F
   Made : List ℕ → List ℕ → Result F Fault → Call F

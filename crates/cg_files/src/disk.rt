@@ -1,7 +1,7 @@
 //! The files of a system, call by call.
 
 ghost use Rattle.std.specs.Prelude.{◌≡◌, Ok, Err, IfErr, IsTrue, MatchResult, string_bytes};
-ghost use Rattle.cg_files.specs.Disk.{IsWritingFault, IsOpeningFault, Call, Opened, Placed, Made, Synced, Renamed, FolderSynced, Compared, OpenedToLock, Locked};
+ghost use Rattle.cg_files.specs.Disk.{IsWritingFault, IsOpeningFault, Call, Looked, Opened, Placed, Made, Synced, Renamed, FolderSynced, Compared, OpenedToLock, Locked};
 
 use cg_types::Fault;
 use std::alloc::Global;
@@ -17,6 +17,10 @@ pub trait Disk {
 
     // the calls that were made
     ghost did: { Call Self.File → Type 0 } = { λ c. Unit {0} };
+
+    /// Tests whether a path leads to a FIFO, whose opening waits for another program.
+    fn is_fifo(&self, path: &str) -> bool
+        ensures did { did (Looked path.now result) };
 
     /// Opens a file to read it; `None` if there is none.
     fn open_to_read(&self, path: &str) -> Result<Option<Self::File>, Fault>
@@ -57,7 +61,7 @@ pub trait Disk {
         ensures did { did (Compared one.now other.now result) }
         ensures equal { one.now ≡ other.now → IsTrue result };
 
-    /// Opens a file to lock it, and makes it if there is none; `None` if it can't be opened.
+    /// Opens a file to lock it, and makes it if there is none; `None` if it can't be opened or is a FIFO.
     fn open_to_lock(&self, path: &str) -> Option<Self::File>
         ensures did { did (OpenedToLock path.now result) };
 

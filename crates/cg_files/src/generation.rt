@@ -3,7 +3,7 @@
 ghost use Rattle.std.specs.Prelude.{◌≡◌, ◌⊎◌, IfOk, IfErr, OnOk, MatchResult, string_bytes};
 ghost use Rattle.cg_types.specs.declared.fault.Fault.TheVariants as faults;
 ghost use Rattle.cg_files.specs.Disk.{Replaces, Unreplaced};
-ghost use Rattle.cg_files.specs.Storing.{Stored, Unstored};
+ghost use Rattle.cg_files.specs.Storing.{Holds, HoldsNone, Stored, Unstored};
 ghost use Rattle.cg_files.specs.Generation.{generation_in as generation_of, text_of};
 
 use crate::disk::Disk;
@@ -42,10 +42,29 @@ pub fn generation_text(alloc: Global, generation: Generation) -> Result<String, 
     Ok(text)
 }
 
+// Reads the generation in a file; `None` if there is no file.
+fn held_generation<D: Disk>(
+    disk: &D,
+    alloc: Global,
+    path: &str,
+) -> Result<Option<Generation>, Fault>
+    ensures { MatchResult result
+        (Holds D.did D.File.remaining path.now) (HoldsNone D.did D.File.remaining path.now) }
+{
+    match read_file(disk, alloc, path, MOST) {
+        Ok(Some(bytes)) => match generation_in(&bytes) {
+            Some(generation) => Ok(Some(generation)),
+            None => Err(Fault::BadText),
+        },
+        Ok(None) => Ok(None),
+        Err(fault) => Err(fault),
+    }
+}
+
 /// Reads the generation that a file keeps; `None` if there is no file.
 ///
-/// `BadText` if it holds anything else than one number and perhaps a line feed; `ReadFault` if it can't be read,
-/// `OutOfMemory` if memory is refused.
+/// `BadText` if it holds anything else than one number and perhaps a line feed; `ReadFault` if it can't be read or is a
+/// FIFO, which is not opened; `OutOfMemory` if memory is refused.
 pub fn stored_generation<D: Disk>(
     disk: &D,
     alloc: Global,
@@ -54,12 +73,11 @@ pub fn stored_generation<D: Disk>(
     ensures { MatchResult result
         (Stored D.did D.File.remaining path.now) (Unstored D.did D.File.remaining path.now) }
 {
-    match read_file(disk, alloc, path, MOST) {
-        Ok(Some(bytes)) => match generation_in(&bytes) {
-            Some(generation) => Ok(Some(generation)),
-            None => Err(Fault::BadText),
-        },
-        Ok(None) => Ok(None),
+    if disk.is_fifo(path) {
+        return Err(Fault::ReadFault);
+    }
+    match held_generation(disk, alloc, path) {
+        Ok(stored) => Ok(stored),
         Err(fault) => Err(fault),
     }
 }

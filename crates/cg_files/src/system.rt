@@ -11,7 +11,7 @@ use cg_types::Fault;
 use std::alloc::Global;
 use std::fs::{File, Metadata, OpenFile, OpenOptions, TryLockError};
 use std::io::{Error, ErrorKind};
-use std::os::unix::fs::{MetadataExt, OpenOptionsExt};
+use std::os::unix::fs::{FileTypeExt, MetadataExt, OpenOptionsExt};
 use std::rt::Files;
 use std::{fs, io};
 
@@ -112,8 +112,20 @@ fn lead_to_one<R: Files>(rt: &R, one: &str, other: &str) -> bool {
     }
 }
 
+// Tests whether a path leads to a FIFO.
+fn leads_to_fifo<R: Files>(rt: &R, path: &str) -> bool {
+    match fs::metadata(rt, path) {
+        Ok(found) => found.file_type().is_fifo(),
+        Err(_) => false,
+    }
+}
+
 impl<R: Files<File = File>> Disk for R {
     type File = File;
+
+    fn is_fifo(&self, path: &str) -> bool {
+        leads_to_fifo(self, path)
+    }
 
     fn open_to_read(&self, path: &str) -> Result<Option<File>, Fault> {
         match fs::open(self, path) {
@@ -162,6 +174,9 @@ impl<R: Files<File = File>> Disk for R {
     }
 
     fn open_to_lock(&self, path: &str) -> Option<File> {
+        if leads_to_fifo(self, path) {
+            return None;
+        }
         OpenOptions::new()
             .write(true)
             .create(true)
