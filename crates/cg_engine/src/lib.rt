@@ -1,7 +1,8 @@
 //! Exchanges of messages over links.
 //!
 //! A gate does the events of the messages that come, as one node does, or many threads that share one. An exchange is a
-//! few turns: a message is read, its event is done, and the message of the reply is written.
+//! few turns: a message is read, its event is done, and the message of the reply is written. It goes over links whose
+//! calls are counted; others fail, are slow or take nothing, for trials.
 #![tactic(auto)]
 
 mod exchange;
@@ -9,7 +10,7 @@ mod gate;
 mod node_gate;
 mod turn;
 
-pub use cg_links::Counted;
+pub use cg_links::{Counted, CountingLink, FailingLink, FullLink, SlowLink};
 pub use exchange::{Broken, Ended, initiate, respond};
 pub use gate::Gate;
 pub use node_gate::NodeGate;

@@ -1,26 +1,11 @@
 //! Calls, failures, idle writes and unflushed bytes as `Counted` counts them, beside links that count their own calls.
 
 use cg_expect::{expect, expect_eq};
-use cg_links::{Counted, CountingLink, FailingLink, write_bytes};
+use cg_links::{Counted, CountingLink, FailingLink, FullLink, write_bytes};
 use cg_types::Fault;
 use std::alloc::Global;
-use std::io;
 use std::io::{Read, Write};
 use std::test::Fail;
-
-// A writer that takes no byte.
-#[derive(Drop)]
-struct FullLink;
-
-impl Write for FullLink {
-    fn write(&mut self, _buf: &[u8]) -> io::Result<usize> {
-        Ok(0)
-    }
-
-    fn flush(&mut self) -> io::Result<()> {
-        Ok(())
-    }
-}
 
 // Makes three reads, of which the one of this number fails; returns their answers, the link's count, and the counts.
 fn three_reads(turn: u64) -> ([bool; 3], u64, u64, u64) {

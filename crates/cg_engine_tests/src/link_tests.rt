@@ -1,9 +1,8 @@
-//! The worked exchange over links of which each call fails in turn, and which move a byte a call.
+//! The worked exchange over links of which each call fails in turn, which move a byte a call, or which take none.
 
 use crate::samples::{ACK, ACK2, SYN, a, b, joined, syn};
-use cg_engine::{Broken, Ended, initiate, respond};
-use cg_expect::expect;
-use cg_links::{Counted, FailingLink, SlowLink};
+use cg_engine::{Broken, Counted, Ended, FailingLink, FullLink, SlowLink, initiate, respond};
+use cg_expect::{expect, expect_eq};
 use cg_types::Fault;
 use std::alloc::Global;
 use std::test::Fail;
@@ -133,4 +132,37 @@ fn each_write_of_a_fails_in_turn(rt: HostRuntime) -> Result<(), Fail> {
     }
     let came = initiated(rt.alloc(), 0, 56)?;
     expect!(is(&came, Ok(Ended::Whole), (0, 0), all.as_slice(), 53))
+}
+
+// The result of an exchange whose writer takes nothing: its end, the number of owners that the node then holds, and the
+// writer's calls, failures and idle writes.
+type Unwritten = (Result<Ended, Broken>, usize, [u64; 3]);
+
+fn counts(writer: &Counted<FullLink>) -> [u64; 3] {
+    [writer.calls(), writer.failed(), writer.idle()]
+}
+
+fn responded_to_nobody(alloc: Global) -> Result<Unwritten, Fail> {
+    let mut gate = b(alloc)?;
+    let mut reader = Counted::new(SYN);
+    let mut writer = Counted::new(FullLink);
+    let ended = respond(alloc, &mut gate, 1000, &mut reader, &mut writer);
+    Ok((ended, gate.node().table().owners().len(), counts(&writer)))
+}
+
+fn initiated_to_nobody(alloc: Global) -> Result<Unwritten, Fail> {
+    let mut gate = a(alloc)?;
+    let opening = syn(alloc)?;
+    let mut reader = Counted::new(ACK);
+    let mut writer = Counted::new(FullLink);
+    let ended = initiate(alloc, &mut gate, 1000, &opening, &mut reader, &mut writer);
+    Ok((ended, gate.node().table().owners().len(), counts(&writer)))
+}
+
+#[test]
+fn a_write_that_takes_nothing_breaks_off(rt: HostRuntime) -> Result<(), Fail> {
+    let answered = responded_to_nobody(rt.alloc())?;
+    expect_eq!(answered, (broken(1, Fault::WriteFault), 1, [1, 0, 1]))?;
+    let begun = initiated_to_nobody(rt.alloc())?;
+    expect_eq!(begun, (broken(0, Fault::WriteFault), 1, [1, 0, 1]))
 }
