@@ -49,6 +49,7 @@ next_may_follow h k all ps i is next =
 -- the start, the prefix of all records that was appended, and where all lead; there is one record more
 pub record IsKept (begun : NodeValue) (all more : List Item) (h after : HistoryValue) (appended : ℕ) : Type 0 where
   pub start : after.start ≡ h.start
+  pub folded : after.folded ≡ h.folded
   pub count : count_of after ≡ count_of h + 1
   pub long : length after.records ≡ length h.records + 1
   pub front : take (after.folded + appended) more ≡ take (h.folded + appended) all
@@ -67,6 +68,7 @@ module _ (start : NodeValue) (all more : List Item) (h : HistoryValue) (caller :
       ap length one.records ∙ length-append h.records (record { caller = caller; event = e; reply = one.answer; puts = puts h.node.table one.node.table } ∷ []) in
       let on : Replays start (all ++ r ∷ []) all_one.node = replays_more start all h.node caller e (all_one.node, all_one.answer) led all_one.step in record {
         start = one.start;
+        folded = folded;
         count = omega (arith, folded, long);
         long = long;
         front = ap (λ (n : ℕ). take (n + appended) more) folded ∙ ap (take (h.folded + appended)) all_one.records ∙ take-append-le (h.folded + appended) all (r ∷ []) (omega (arith, count, few));

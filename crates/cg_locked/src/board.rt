@@ -1,7 +1,8 @@
 //! The board: the data under the lock.
 
-ghost use Rattle.std.specs.Prelude.{◌≡◌, ◌+◌, ◌++◌, ◌<◌, ◌≤◌, [], length, take, IfOk, IfSome, MatchOption, OnOk, OnErr};
-ghost use Rattle.std.specs.Coded.{Coded-set, ×_prop, le_prop};
+ghost use Rattle.std.specs.Prelude.{◌≡◌, ◌+◌, ◌++◌, ◌<◌, ◌≤◌, true, false, [], length, take, IfOk, IfSome};
+ghost use Rattle.std.specs.Prelude.{MatchOption, OnOk, OnErr};
+ghost use Rattle.std.specs.Coded.{Coded-set, coded_ℕ, ×_prop, →_prop, le_prop};
 ghost use mathlib.Core.List.{IsPrefix};
 ghost use Rattle.cg_table.specs.Values.{table_code};
 ghost use Rattle.cg_table.specs.Puts.{puts_code};
@@ -46,6 +47,7 @@ pub struct Board<N: Name> {
     ghost shown: { are_all publisher ≡ puts_of (take (history.folded + appended) log) } by { Coded-set puts_code _ _ },
     ghost shows: { publisher.published ≡ puts_of (take (history.folded + published) log) } by { Coded-set puts_code _ _ },
     ghost start: { history.start ≡ N.start } by { Coded-set node_code _ _ },
+    ghost whole: { N.folds ≡ false → history.folded ≡ 0 } by { →_prop (Coded-set coded_ℕ _ _) },
     ghost opening: { publisher.opening ≡ N.start.table } by { Coded-set table_code _ _ },
 }
 
@@ -183,8 +185,9 @@ impl<N: Name> Board<N> {
 
     /// Folds the longest front of the records that leaves at least `keep` of them, and holds none that `unpublished`
     /// counts: they lead to the history's base, and are gone. What is shown and counted stays. It takes as many steps as
-    /// records are folded. If memory is refused, nothing changes.
+    /// records are folded. If memory is refused, nothing changes. Only the board of a name that says so may fold.
     pub fn fold(&mut self, alloc: Global, keep: usize) -> Result<(), AllocError>
+        requires { N.folds ≡ true }
         ensures ok { OnOk result (self.new.history
             ≡ with_folded (fold_length keep self.old.published (length self.old.history.records)) self.old.history) }
         ensures same { (self.new.publisher ≡ self.old.publisher) × (self.new.book ≡ self.old.book)
@@ -247,7 +250,8 @@ impl<N: Name> Board<N> {
 
     /// Takes the board apart: the history, the publisher, the book and the log.
     pub(crate) fn apart(self) -> (History, Publisher<N>, Book<N>, Log<N>)
-        ensures { (result.0.start ≡ N.start) × (result.2.total ≡ count_of result.0) × IsFoldOf result.3 result.0 }
+        ensures { (result.0.start ≡ N.start) × (result.2.total ≡ count_of result.0) × IsFoldOf result.3 result.0
+            × (N.folds ≡ false → result.0.folded ≡ 0) }
     {
         let Board {
             history,

@@ -1,6 +1,6 @@
 //! The board behind its lock.
 
-ghost use Rattle.std.specs.Prelude.{◌≡◌, ◌+◌, ◌<◌, ◌≤◌, List, [], map, vec_len, vec_capacity, IfOk, IfSome};
+ghost use Rattle.std.specs.Prelude.{◌≡◌, ◌+◌, ◌<◌, ◌≤◌, false, List, [], map, vec_len, vec_capacity, IfOk, IfSome};
 ghost use Rattle.std.specs.Prelude.{OnOk, OnErr, MatchResult};
 ghost use Rattle.std.specs.List.{All, sum_by};
 ghost use mathlib.Core.List.{IsPrefix};
@@ -166,6 +166,7 @@ impl<N: Name> Shared<N> {
     ) -> Result<History, Unconfirmed>
         requires seats { (sum_by (λ s. s.parts) seats.items ≡ N.parts) × (0 < vec_len seats) }
         ensures start { (history_of result).start ≡ N.start }
+        ensures whole { N.folds ≡ false → (history_of result).folded ≡ 0 }
         ensures count { count_of (history_of result) ≡ sum_by (λ s. s.amount) seats.items }
         ensures seen { (all : List Item) × IsFoldOf all (history_of result)
             × All (λ s. IsPrefix s.seen all) seats.items }

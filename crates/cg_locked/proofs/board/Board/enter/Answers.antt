@@ -23,5 +23,6 @@ invariant_of-self-2 g c =
       shown = s.shown ∙ ap puts_of (sym k.front);
       shows = s.shows ∙ ap puts_of (sym (keeps s.published published).front);
       start = k.start ∙ s.start;
+      whole = λ not. k.folded ∙ s.whole not;
       opening = s.opening;
     }

@@ -1,4 +1,4 @@
-use Rattle.std.proofs.Common.{rules, ◌≡◌, ◌≤◌, ◌+◌, ◌-◌, length, take, arith, subst, sym, ap, ◌∙◌}
+use Rattle.std.proofs.Common.{rules, true, false, ◌≡◌, ◌≤◌, ◌+◌, ◌-◌, length, take, arith, subst, sym, ap, ◌∙◌}
 use Rattle.cg_records.specs.Items.{puts_of}
 use Rattle.cg_history.specs.History.{HistoryValue, IsFoldOf, Replays, count_of, with_folded}
 use Rattle.cg_history.proofs.Folding.{count_stays, fold_folded}
@@ -25,5 +25,6 @@ invariant_of-self-2 g c =
       shown = s.shown ∙ ap (λ k. puts_of (take k s.log)) shown ∙ ap (λ (x : HistoryValue). puts_of (take (x.folded + (s.appended - n)) s.log)) (sym is);
       shows = s.shows ∙ ap (λ k. puts_of (take k s.log)) shows ∙ ap (λ (x : HistoryValue). puts_of (take (x.folded + (s.published - n)) s.log)) (sym is);
       start = ap (λ (x : HistoryValue). x.start) is ∙ s.start;
+      whole = λ not. let both : true ≡ false = sym c.requires ∙ not in absurd cc;
       opening = s.opening;
     }

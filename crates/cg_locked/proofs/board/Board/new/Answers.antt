@@ -26,5 +26,6 @@ invariant_of-result g c =
       shown = ap are_all c.requires.publisher ∙ ap (λ (n : ℕ). puts_of (take n log)) zero;
       shows = ap (λ (p : PublisherValue). p.published) c.requires.publisher ∙ ap (λ (n : ℕ). puts_of (take n log)) zero;
       start = sym begins ∙ its.2;
+      whole = λ _. none;
       opening = ap (λ (p : PublisherValue). p.opening) c.requires.publisher ∙ ap (λ (n : NodeValue). n.table) its.2;
     }
