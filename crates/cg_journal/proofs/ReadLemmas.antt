@@ -1,5 +1,5 @@
 -- Taken lines are read, one after the other.
-use Rattle.std.proofs.Common.{◌≡◌, ℕ, ◌+◌, ◌≤◌, ◌⊎◌, inl, inr, suc, List, [], ◌∷◌, ◌++◌, length, Option, Some, None, Result, Ok, Err, refl, sym, ap, ◌∙◌, append_assoc, append-nil, arith}
+use Rattle.std.proofs.Common.{◌≡◌, ℕ, ◌+◌, ◌≤◌, ◌⊎◌, inl, inr, suc, List, [], ◌∷◌, ◌++◌, length, Option, Some, None, Result, Ok, Err, refl, sym, ap, ◌∙◌, subst, length-append, append_assoc, append-nil, arith}
 use Rattle.std.specs.Prelude.{◌-◌, ◌^◌, min, MatchResult}
 use Rattle.std.specs.Io.KnownBytes.{Consumes}
 use Rattle.cg_types.specs.declared.fault.Fault.{Fault}
@@ -8,9 +8,11 @@ use Rattle.cg_links.specs.declared.counted.Counted.{Counted}
 use Rattle.cg_links.specs.Counts.{one_more}
 use Rattle.cg_links.specs.Counted.{KeepsCounts}
 use Rattle.cg_history.specs.History.{HistoryValue}
+use Rattle.cg_lines.specs.declared.lines.TheConstants.{PIECE_LIMIT}
 use Rattle.cg_lines.specs.Lines.{ended_lines, open_line, last_line, lines_of}
 use Rattle.cg_lines.specs.Taken.{Takes, TakesAll, Stops, StopsLast, IsUnread, Fails}
 use Rattle.cg_lines.proofs.LineLemmas.{ended_lines-append}
+use Rattle.cg_lines.proofs.TakenLemmas.{takes_on}
 use Rattle.cg_journal.specs.declared.reading.Progress.{Progress}
 use Rattle.cg_journal.specs.declared.unread.Unread.{Unread}
 use Rattle.cg_journal.specs.Reading.{event_in, history_after, begun_or, after_line, on_line, after_lines, journal_in, told_number}
@@ -104,6 +106,12 @@ later_lines text more front rest are =
     ap (λ (ls : List (List ℕ)). ls ++ last) (ended_lines-append [] text more ∙ ap (λ (ls : List (List ℕ)). ls ++ ended) are)
     ∙ append_assoc (front ++ rest) ended last ∙ append_assoc front rest (ended ++ last)
 
+further : {xs : List (List ℕ)} (first front rest : List (List ℕ)) → xs ≡ front ++ rest → first ++ xs ≡ (first ++ front) ++ rest
+further first front rest are = ap (λ (ls : List (List ℕ)). first ++ ls) are ∙ sym (append_assoc first front rest)
+
+longer : (xs ys : List (List ℕ)) → length xs ≤ length (xs ++ ys)
+longer xs ys = let lengths = length-append xs ys in omega (arith, lengths)
+
 -- ---- ends of reading
 
 module _ {R : Type 0} (before after : Option (List ℕ)) (old new : Counted R) (q : Progress) where
@@ -139,52 +147,76 @@ module _ {R : Type 0} (before after : Option (List ℕ)) (old new : Counted R) (
   })
 
   module _ (u : Unread) (f : Fault) (line : u.line ≡ one_more q.lines) (fault : u.fault ≡ f) where
-    lacks : (text : List ℕ) (front rest : List (List ℕ)) (m : Progress) → Consumes before after text → KeepsCounts old new → lines_of text ≡ front ++ rest
+    lacks : (earlier piece : List ℕ) (front rest : List (List ℕ)) (m : Progress) → Consumes before after (earlier ++ piece) → length piece ≤ PIECE_LIMIT
+        → KeepsCounts old new → lines_of (earlier ++ piece) ≡ front ++ rest → length (ended_lines [] earlier) ≤ length front
         → Taken nothing front m → q.lines ≡ m.lines → f ≡ OutOfMemory → LacksMemory before after old new u
-    lacks text front rest m read kept are taken same short = record {
+    lacks earlier piece front rest m read small kept are behind taken same short = record {
       fault = fault ∙ short;
-      text = text;
+      earlier = earlier;
+      piece = piece;
       read = read;
+      small = small;
       kept = kept;
       front = front;
       rest = rest;
       are = are;
+      behind = behind;
       told = line_told m front u.line taken (line ∙ ap one_more same);
-      unhidden = none_before text front rest m are taken;
+      unhidden = none_before (earlier ++ piece) front rest m are taken;
     }
 
     pub stopped : Stops TakesLine RefusesLine before after old new nothing q f → FailsToRead before after old new u
     unfolding journal_in
-    stopped s = elim s.stops [
-      | inl r ↦ elim r.refused.0 [
-        | inl short ↦ inr (inl (lacks s.text r.front _ r.middle s.read s.kept (more_lines s.text r.front (r.line ∷ r.rest) r.are) r.taken r.refused.1 short))
-        | inr bad ↦ inl (record {
-          fault = fault ∙ bad.0;
-          text = s.text;
-          read = s.read;
-          kept = s.kept;
-          number = 1 + length r.front;
-          told = line_told r.middle r.front u.line r.taken (line ∙ ap one_more r.refused.1);
-          first = inl (λ more. unreadable_at _ r.front _ r.line r.middle (later_lines s.text more r.front (r.line ∷ r.rest) r.are) r.taken bad.1);
-        })
-      ]
-      | inr l ↦ inr (inl (lacks s.text l.front _ q s.read s.kept (more_lines s.text l.front l.rest l.are) l.taken refl l.fault))
-    ]
+    stopped s =
+        let text = s.earlier ++ s.piece in
+        let first = ended_lines [] s.earlier in
+        let all = ended_lines-append [] s.earlier s.piece in
+        elim s.stops [
+          | inl r ↦
+              let front = first ++ r.front in
+              let are = all ∙ further first r.front (r.line ∷ r.rest) r.are in
+              let taken = takes_on TakesLine RefusesLine nothing s.middle r.middle first r.front s.taken r.taken in
+              elim r.refused.0 [
+                | inl short ↦ inr (inl (lacks s.earlier s.piece front _ r.middle s.read s.small s.kept (more_lines text front (r.line ∷ r.rest) are)
+                    (longer first r.front) taken r.refused.1 short))
+                | inr bad ↦ inl (record {
+                  fault = fault ∙ bad.0;
+                  text = text;
+                  read = s.read;
+                  kept = s.kept;
+                  number = 1 + length front;
+                  told = line_told r.middle front u.line taken (line ∙ ap one_more r.refused.1);
+                  first = inl (λ more. unreadable_at _ front _ r.line r.middle (later_lines text more front (r.line ∷ r.rest) are) taken bad.1);
+                })
+              ]
+          | inr l ↦
+              let front = first ++ l.front in
+              let are = all ∙ further first l.front l.rest l.are in
+              inr (inl (lacks s.earlier s.piece front _ q s.read s.small s.kept (more_lines text front l.rest are)
+              (longer first l.front) (takes_on TakesLine RefusesLine nothing s.middle q first l.front s.taken l.taken) refl l.fault))
+        ]
 
     pub stopped_last : StopsLast TakesLine RefusesLine before after old new nothing q f → FailsToRead before after old new u
     unfolding journal_in
     stopped_last s =
+        let first = ended_lines [] s.text in
         let r = s.stops in
+        let front = first ++ r.front in
+        let are = further first r.front (r.line ∷ r.rest) r.are in
+        let taken = takes_on TakesLine RefusesLine nothing s.middle r.middle first r.front s.taken r.taken in
+        let whole : s.text ++ [] ≡ s.text = append-nil s.text in
         elim r.refused.0 [
-          | inl short ↦ inr (inl (lacks s.text r.front (r.line ∷ r.rest) r.middle s.read s.kept r.are r.taken r.refused.1 short))
+          | inl short ↦ inr (inl (lacks s.text [] front (r.line ∷ r.rest) r.middle
+              (subst (λ (b : List ℕ). Consumes before after b) (sym whole) s.read) (omega arith) s.kept
+              (ap lines_of whole ∙ are) (longer first r.front) taken r.refused.1 short))
           | inr bad ↦ inl (record {
             fault = fault ∙ bad.0;
             text = s.text;
             read = s.read;
             kept = s.kept;
-            number = 1 + length r.front;
-            told = line_told r.middle r.front u.line r.taken (line ∙ ap one_more r.refused.1);
-            first = inr (s.end, unreadable_at (lines_of s.text) r.front r.rest r.line r.middle r.are r.taken bad.1);
+            number = 1 + length front;
+            told = line_told r.middle front u.line taken (line ∙ ap one_more r.refused.1);
+            first = inr (s.end, unreadable_at (lines_of s.text) front r.rest r.line r.middle are taken bad.1);
           })
         ]
 

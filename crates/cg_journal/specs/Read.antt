@@ -8,6 +8,7 @@ use Rattle.cg_links.specs.Counts.{one_more}
 use Rattle.cg_links.specs.Counted.{KeepsCounts, CountsCalls, CountsFailed}
 use Rattle.cg_links.specs.declared.transfer.TheConstants.{MOST_READS}
 use Rattle.cg_history.specs.History.{HistoryValue}
+use Rattle.cg_lines.specs.declared.lines.TheConstants.{PIECE_LIMIT}
 use Rattle.cg_lines.specs.Lines.{ended_lines, lines_of}
 use Rattle.cg_journal.specs.declared.reading.Progress.{Progress}
 use Rattle.cg_journal.specs.declared.unread.Unread.{Unread}
@@ -51,17 +52,21 @@ module _ {R : Type 0} (before after : Option (List ℕ)) (old new : Counted R) w
     pub first : ((rest : List ℕ) → journal_in (text ++ rest) ≡ Err number)
         ⊎ (IsAtEnd after × (journal_in text ≡ Err number))
 
-  -- memory ran out in the line after these of the text, and none of them is unreadable
+  -- Memory ran out in the line after these of the text, and none of them is unreadable. They are all that end before
+  -- the piece that was read last, and maybe some that end in it.
   pub record LacksMemory (u : Unread) : Type 0 where
     pub fault : u.fault ≡ OutOfMemory
-    pub text : List ℕ
-    pub read : Consumes before after text
+    pub earlier : List ℕ
+    pub piece : List ℕ
+    pub read : Consumes before after (earlier ++ piece)
+    pub small : length piece ≤ PIECE_LIMIT
     pub kept : KeepsCounts old new
     pub front : List (List ℕ)
     pub rest : List (List ℕ)
-    pub are : lines_of text ≡ front ++ rest
+    pub are : lines_of (earlier ++ piece) ≡ front ++ rest
+    pub behind : length (ended_lines [] earlier) ≤ length front
     pub told : u.line ≡ told_number (1 + length front)
-    pub unhidden : NoneBefore text (1 + length front)
+    pub unhidden : NoneBefore (earlier ++ piece) (1 + length front)
 
   -- A read failed, or all reads that are allowed were made, in the line after those that end in the text, and none of
   -- them is unreadable.

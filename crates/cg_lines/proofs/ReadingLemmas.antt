@@ -1,5 +1,5 @@
 -- A text, read chunk by chunk.
-use Rattle.std.proofs.Common.{◌≡◌, ℕ, ◌+◌, ◌⊎◌, inl, inr, List, [], ◌++◌, Option, Result, Ok, Err, refl, sym, ap, ◌∙◌, subst, append-nil, arith}
+use Rattle.std.proofs.Common.{◌≡◌, ℕ, ◌+◌, ◌≤◌, length, ◌⊎◌, inl, inr, List, [], ◌++◌, Option, Result, Ok, Err, refl, sym, ap, ◌∙◌, subst, append-nil, arith}
 use Rattle.std.specs.Prelude.{MatchResult}
 use Rattle.std.specs.Io.KnownBytes.{Consumes, IsAtEnd, Keeps}
 use Rattle.std.proofs.KnownBytes.{Consumes-nil, Consumes-trans, Consumes-kept}
@@ -9,8 +9,9 @@ use Rattle.cg_links.specs.declared.counted.Counted.{Counted}
 use Rattle.cg_links.specs.Counts.{one_more}
 use Rattle.cg_links.specs.Counted.{calls_of, KeepsCounts, CountsCalls, CountsFailed}
 use Rattle.cg_links.proofs.Counts.{KeepsCounts-trans}
-use Rattle.cg_lines.specs.Lines.{ended_lines, open_line, last_line}
-use Rattle.cg_lines.specs.Taken.{Takes, Refuses, Lacks, Stops, IsUnread, TakesLines}
+use Rattle.cg_lines.specs.declared.lines.TheConstants.{PIECE_LIMIT}
+use Rattle.cg_lines.specs.Lines.{ended_lines, open_line, last_line, lines_of}
+use Rattle.cg_lines.specs.Taken.{Takes, Refuses, Lacks, StopsAmong, Stops, StopsLast, IsUnread, TakesLines}
 use Rattle.cg_lines.proofs.LineLemmas.{ended_lines-append, open_line-append}
 use Rattle.cg_lines.proofs.TakenLemmas.{takes_on, refuses_on, lacks_on}
 
@@ -64,23 +65,20 @@ module _ {S : Type 0} (takes : S → List ℕ → S → Type 0) (refuses : S →
         }
 
     pub reading_stops : (s t u : S) (front piece given : List ℕ) (before after later : Option (List ℕ)) (r0 r1 r2 : Counted R) (k : ℕ) (f : Fault)
-        → Reading s t front before after r0 r1 k → Consumes after later piece → KeepsCounts r1 r2
-        → Refuses takes refuses t (ended_lines front given) u f ⊎ Lacks takes refuses t (ended_lines front given) u f → given ≡ piece
+        → Reading s t front before after r0 r1 k → Consumes after later piece → length piece ≤ PIECE_LIMIT → KeepsCounts r1 r2
+        → StopsAmong takes refuses t (ended_lines front given) u f → given ≡ piece
         → Stops takes refuses before later r0 r2 s u f
-    reading_stops s t u front piece given before after later r0 r1 r2 k f h read kept given_stops same =
-        let stops = subst (λ (l : List ℕ). Refuses takes refuses t (ended_lines front l) u f ⊎ Lacks takes refuses t (ended_lines front l) u f) same given_stops in
-        let all = all_lines h.text piece front h.unended in
-        record {
-          text = h.text ++ piece;
-          read = Consumes-trans before after later h.text piece h.read read;
-          kept = KeepsCounts-trans r0 r1 r2 h.kept kept;
-          stops = elim stops [
-            | inl refused ↦ inl (subst (λ (ls : List (List ℕ)). Refuses takes refuses s ls u f) all
-                (refuses_on takes refuses s t u (ended_lines [] h.text) (ended_lines front piece) f h.taken refused))
-            | inr short ↦ inr (subst (λ (ls : List (List ℕ)). Lacks takes refuses s ls u f) all
-                (lacks_on takes refuses s t u (ended_lines [] h.text) (ended_lines front piece) f h.taken short))
-          ];
-        }
+    reading_stops s t u front piece given before after later r0 r1 r2 k f h read small kept given_stops same = record {
+      earlier = h.text;
+      piece = piece;
+      read = Consumes-trans before after later h.text piece h.read read;
+      small = small;
+      kept = KeepsCounts-trans r0 r1 r2 h.kept kept;
+      middle = t;
+      taken = h.taken;
+      stops = subst (λ (l : List ℕ). StopsAmong takes refuses t (ended_lines l piece) u f) h.unended
+          (subst (λ (l : List ℕ). StopsAmong takes refuses t (ended_lines front l) u f) same given_stops);
+    }
 
     -- the end was met, and the last line taken or refused
     pub reading_ends : {T : Type 0} (s t u : S) (front : List ℕ) (before after later : Option (List ℕ)) (r0 r1 r2 : Counted R) (k : ℕ) (r : Result T Fault)
@@ -100,8 +98,9 @@ module _ {S : Type 0} (takes : S → List ℕ → S → Type 0) (refuses : S →
       read = subst (λ (b : List ℕ). Consumes before later b) (append-nil h.text) (Consumes-trans before after later h.text [] h.read read);
       end = end;
       kept = KeepsCounts-trans r0 r1 r2 h.kept kept;
-      stops = subst (λ (l : List ℕ). Refuses takes refuses s (ended_lines [] h.text ++ last_line l) u f) h.unended
-          (refuses_on takes refuses s t u (ended_lines [] h.text) (last_line front) f h.taken refused);
+      middle = t;
+      taken = h.taken;
+      stops = subst (λ (l : List ℕ). Refuses takes refuses t (last_line l) u f) h.unended refused;
     }))
 
     pub reading_fails : (s t : S) (front : List ℕ) (before after later : Option (List ℕ)) (r0 r1 r2 : Counted R) (k : ℕ) (f : Fault)
@@ -114,3 +113,23 @@ module _ {S : Type 0} (takes : S → List ℕ → S → Type 0) (refuses : S →
       caused = inl (record { failed = failed.failed ∙ ap one_more h.kept.failed; idle = failed.idle ∙ h.kept.idle });
       taken = h.taken;
     }
+
+    -- ---- the ends of reading, by all lines of the text
+
+    -- a line that ends in the text was refused, or memory ran out
+    pub stops_in_text : (before after : Option (List ℕ)) (old new : Counted R) (s t : S) (f : Fault) (h : Stops takes refuses before after old new s t f)
+        → StopsAmong takes refuses s (ended_lines [] (h.earlier ++ h.piece)) t f
+    stops_in_text before after old new s t f h =
+        let all = sym (ended_lines-append [] h.earlier h.piece) in
+        elim h.stops [
+          | inl refused ↦ inl (subst (λ (ls : List (List ℕ)). Refuses takes refuses s ls t f) all
+              (refuses_on takes refuses s h.middle t (ended_lines [] h.earlier) (ended_lines (open_line [] h.earlier) h.piece) f h.taken refused))
+          | inr short ↦ inr (subst (λ (ls : List (List ℕ)). Lacks takes refuses s ls t f) all
+              (lacks_on takes refuses s h.middle t (ended_lines [] h.earlier) (ended_lines (open_line [] h.earlier) h.piece) f h.taken short))
+        ]
+
+    -- the last line of the text was refused
+    pub stops_in_lines : (before after : Option (List ℕ)) (old new : Counted R) (s t : S) (f : Fault) (h : StopsLast takes refuses before after old new s t f)
+        → Refuses takes refuses s (lines_of h.text) t f
+    stops_in_lines before after old new s t f h =
+        refuses_on takes refuses s h.middle t (ended_lines [] h.text) (last_line (open_line [] h.text)) f h.taken h.stops

@@ -1,12 +1,13 @@
 -- Lines that are handed over one after the other, and their outcomes.
-use Rattle.std.specs.Prelude.{◌≡◌, ℕ, ◌⊎◌, List, [], ◌∷◌, ◌++◌, Option, Result, MatchResult}
+use Rattle.std.specs.Prelude.{◌≡◌, ℕ, ◌≤◌, ◌⊎◌, List, [], ◌∷◌, ◌++◌, length, Option, Result, MatchResult}
 use Rattle.std.specs.Io.KnownBytes.{Consumes, IsAtEnd}
 use Rattle.cg_types.specs.declared.fault.Fault.{Fault}
 use Rattle.cg_types.specs.declared.fault.Fault.TheVariants.{OutOfMemory, ReadFault}
 use Rattle.cg_links.specs.declared.counted.Counted.{Counted}
 use Rattle.cg_links.specs.Counted.{KeepsCounts, CountsCalls, CountsFailed}
 use Rattle.cg_links.specs.declared.transfer.TheConstants.{MOST_READS}
-use Rattle.cg_lines.specs.Lines.{ended_lines, lines_of}
+use Rattle.cg_lines.specs.declared.lines.TheConstants.{PIECE_LIMIT}
+use Rattle.cg_lines.specs.Lines.{ended_lines, open_line, last_line, lines_of}
 
 -- A taker of lines, by its ghost members: a state, a line and the state that it leads to; a state, a line that is
 -- refused, the state that is left, and the fault.
@@ -34,6 +35,10 @@ module _ {S : Type 0} (takes : S → List ℕ → S → Type 0) (refuses : S →
     pub are : lines ≡ front ++ rest
     pub taken : Takes s front t
 
+  -- one of these lines was refused, or memory ran out for it
+  abbrev pub StopsAmong : S → List (List ℕ) → S → Fault → Type 0
+  StopsAmong s lines t f = Refuses s lines t f ⊎ Lacks s lines t f
+
   -- ---- the ends of reading a text, by what is left of the reader before and after, and its counts
 
   module _ {R : Type 0} (before after : Option (List ℕ)) (old new : Counted R) (s t : S) where
@@ -45,12 +50,17 @@ module _ {S : Type 0} (takes : S → List ℕ → S → Type 0) (refuses : S →
       pub kept : KeepsCounts old new
       pub taken : Takes s (lines_of text) t
 
-    -- it stopped in a line that a line feed ends, or for want of memory
+    -- It stopped in the piece that was read last: the lines that end before the piece were taken, and it stopped in a
+    -- line that ends in the piece, or for want of memory.
     pub record Stops (f : Fault) : Type 0 where
-      pub text : List ℕ
-      pub read : Consumes before after text
+      pub earlier : List ℕ
+      pub piece : List ℕ
+      pub read : Consumes before after (earlier ++ piece)
+      pub small : length piece ≤ PIECE_LIMIT
       pub kept : KeepsCounts old new
-      pub stops : Refuses s (ended_lines [] text) t f ⊎ Lacks s (ended_lines [] text) t f
+      pub middle : S
+      pub taken : Takes s (ended_lines [] earlier) middle
+      pub stops : StopsAmong middle (ended_lines (open_line [] earlier) piece) t f
 
     -- all of the text was read, and its last line, which no line feed ends, was refused
     pub record StopsLast (f : Fault) : Type 0 where
@@ -58,7 +68,9 @@ module _ {S : Type 0} (takes : S → List ℕ → S → Type 0) (refuses : S →
       pub read : Consumes before after text
       pub end : IsAtEnd after
       pub kept : KeepsCounts old new
-      pub stops : Refuses s (lines_of text) t f
+      pub middle : S
+      pub taken : Takes s (ended_lines [] text) middle
+      pub stops : Refuses middle (last_line (open_line [] text)) t f
 
     -- A read failed, or the most reads allowed were made: the lines that were read whole were taken.
     pub record IsUnread (f : Fault) : Type 0 where

@@ -4,6 +4,7 @@
 //! longest line, and not of the text.
 #![tactic(auto)]
 
+pub mod laws;
 mod lines;
 
-pub use lines::{TakeLine, take_lines};
+pub use lines::{PIECE_LIMIT, TakeLine, take_lines};

@@ -5,12 +5,15 @@ ghost use Rattle.cg_types.specs.declared.fault.Fault.{Fault as FaultValue};
 ghost use Rattle.cg_types.specs.declared.fault.Fault.TheVariants as fault;
 ghost use Rattle.cg_links.specs.Counted.{link_of, calls_of};
 ghost use Rattle.cg_lines.specs.Lines.{ended_lines, open_line, last_line};
-ghost use Rattle.cg_lines.specs.Taken.{Takes, Refuses, Lacks, TakesLines};
+ghost use Rattle.cg_lines.specs.Taken.{Takes, Refuses, StopsAmong, TakesLines};
 
 use cg_links::{Counted, MOST_READS};
 use cg_types::{Fault, cut};
 use std::alloc::Global;
 use std::io::Read;
+
+/// The most bytes of a text that one read asks for.
+pub const PIECE_LIMIT: usize = 4096;
 
 /// A taker of the lines of a text, one after the other.
 pub trait TakeLine {
@@ -79,8 +82,7 @@ fn take_piece<T: TakeLine>(
 ) -> Result<(), Fault>
     ensures taken { MatchResult result
         (λ _. Takes T.takes T.refuses taker.old (ended_lines front.old.items piece.now) taker.new)
-        (λ f. Refuses T.takes T.refuses taker.old (ended_lines front.old.items piece.now) taker.new f
-        ⊎ Lacks T.takes T.refuses taker.old (ended_lines front.old.items piece.now) taker.new f) }
+        (λ f. StopsAmong T.takes T.refuses taker.old (ended_lines front.old.items piece.now) taker.new f) }
     ensures unended { OnOk result (front.new.items ≡ open_line front.old.items piece.now) }
 {
     let mut rest = piece;
@@ -122,7 +124,7 @@ fn take_pieces<T: TakeLine, R: Read>(
         taker.old taker.new result }
     ensures turns { calls_of reader.new ≤ calls_of reader.old + MOST_READS }
 {
-    let mut piece = [0u8; 4096];
+    let mut piece = [0u8; PIECE_LIMIT];
     for _ in 0..MOST_READS {
         match reader.read(&mut piece) {
             Ok(0) => return take_last(alloc, taker, front),
@@ -139,8 +141,9 @@ fn take_pieces<T: TakeLine, R: Read>(
 /// Hands over the lines that the reader has left, without their line feeds, up to the first that is refused. It stops
 /// there, with the fault of that line. The last line feed may be missing.
 ///
-/// `ReadFault` if a read fails or 4,294,967,295 reads were made, `OutOfMemory` if a line finds no room: then the lines
-/// that were whole before were taken.
+/// `ReadFault` if a read fails or 4,294,967,295 reads were made: then the lines that were read whole were taken.
+/// `OutOfMemory` if a line finds no room: then the lines that were whole before the last read were taken, and some of
+/// those that this read ended.
 pub fn take_lines<T: TakeLine, R: Read>(
     alloc: Global,
     taker: &mut T,

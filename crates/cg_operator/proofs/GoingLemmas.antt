@@ -7,6 +7,7 @@ use Rattle.cg_core.specs.Values.{NodeValue}
 use Rattle.cg_records.specs.declared.item.Receipt.{Receipt}
 use Rattle.cg_views.specs.Lists.{StartsWith}
 use Rattle.cg_seats.specs.Seats.{SeatValue, GoesOn, IsOperatorFault}
+use Rattle.cg_lines.proofs.ReadingLemmas.{stops_in_text, stops_in_lines}
 use Rattle.cg_lines.specs.Taken.{Takes, Refuses, Lacks, Stops, IsUnread, Fails}
 use Rattle.cg_lines.specs.Lines.{ended_lines, lines_of}
 use Rattle.cg_links.specs.declared.counted.Counted.{Counted}
@@ -144,9 +145,10 @@ module _ (start : NodeValue) where
     module _ {R : Type 0} (before after : Option (List ℕ)) (old new : Counted R) (s t : At W) where
       stopped_goes : (f : Fault) → Stops does ends before after old new s t f → OnTo s t f
       stopped_goes f h =
-          elim h.stops as (λ _. OnTo s t f) [
-            | inl r ↦ refused_goes s t (ended_lines [] h.text) f r
-            | inr l ↦ lacked_goes s t (ended_lines [] h.text) f l
+          let text = h.earlier ++ h.piece in
+          elim (stops_in_text does ends before after old new s t f h) as (λ _. OnTo s t f) [
+            | inl r ↦ refused_goes s t (ended_lines [] text) f r
+            | inr l ↦ lacked_goes s t (ended_lines [] text) f l
           ]
 
       cut_goes : (f : Fault) → IsUnread does ends before after old new s t f → OnTo s t f
@@ -157,7 +159,7 @@ module _ (start : NodeValue) where
           elim h as (λ _. OnTo s t f) [
             | inl k ↦ stopped_goes f k
             | inr k ↦ elim k as (λ _. OnTo s t f) [
-              | inl l ↦ refused_goes s t (lines_of l.text) f l.stops
+              | inl l ↦ refused_goes s t (lines_of l.text) f (stops_in_lines does ends before after old new s t f l)
               | inr u ↦ cut_goes f u
             ]
           ]

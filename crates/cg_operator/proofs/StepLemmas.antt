@@ -6,8 +6,9 @@ use Rattle.cg_table.specs.Values.{TableValue}
 use Rattle.cg_core.specs.Values.{NodeValue}
 use Rattle.cg_links.specs.declared.counted.Counted.{Counted}
 use Rattle.cg_links.specs.Counted.{KeepsCounts}
-use Rattle.cg_lines.specs.Lines.{ended_lines, lines_of}
-use Rattle.cg_lines.specs.Taken.{Takes, Refuses, Lacks, Stops, StopsLast, IsUnread, Fails, TakesAll, TakesLines}
+use Rattle.cg_lines.specs.Lines.{ended_lines, open_line, last_line, lines_of}
+use Rattle.cg_lines.proofs.ReadingLemmas.{stops_in_text, stops_in_lines}
+use Rattle.cg_lines.specs.Taken.{Takes, Refuses, Lacks, StopsAmong, Stops, StopsLast, IsUnread, Fails, TakesAll, TakesLines}
 use Rattle.cg_orders.specs.declared.command.OperatorCommand.TheVariants.{Quit}
 use Rattle.cg_operator.specs.declared.operating.Operating.{Operating}
 use Rattle.cg_orders.specs.Commands.{command_in}
@@ -119,8 +120,8 @@ module _ {N R W : Type 0} (holds : W → Option (List ℕ)) (start : NodeValue) 
 
     stopped_same : (f : Fault) → Stops steps stops before after old new s t f → HoldsSame s t
     stopped_same f h =
-        elim h.stops as (λ _. HoldsSame s t) [
-          | inl r ↦ refused_same s t (ended_lines [] h.text) f r
+        elim (stops_in_text steps stops before after old new s t f h) as (λ _. HoldsSame s t) [
+          | inl r ↦ refused_same s t (ended_lines [] (h.earlier ++ h.piece)) f r
           | inr l ↦ (chained s t l.front l.taken).same
         ]
 
@@ -129,7 +130,7 @@ module _ {N R W : Type 0} (holds : W → Option (List ℕ)) (start : NodeValue) 
         elim h as (λ _. HoldsSame s t) [
           | inl k ↦ stopped_same f k
           | inr k ↦ elim k as (λ _. HoldsSame s t) [
-            | inl l ↦ refused_same s t (lines_of l.text) f l.stops
+            | inl l ↦ refused_same s t (lines_of l.text) f (stops_in_lines steps stops before after old new s t f l)
             | inr u ↦ (chained s t (ended_lines [] u.text) u.taken).same
           ]
         ]
@@ -162,11 +163,12 @@ module _ {N R W : Type 0} (holds : W → Option (List ℕ)) (start : NodeValue) 
     stopped_quits : (f : Fault) → s.has_quit ≡ false → t.has_quit ≡ true → Stops steps stops before after old new s t f
         → Quits holds start opening before after old new (at_of s) (at_of t)
     stopped_quits f was is h =
-        elim h.stops as (λ _. Quits holds start opening before after old new (at_of s) (at_of t)) [
+        let text = h.earlier ++ h.piece in
+        elim (stops_in_text steps stops before after old new s t f h) as (λ _. Quits holds start opening before after old new (at_of s) (at_of t)) [
           | inl r ↦
-              let quits = refused_quits s t (ended_lines [] h.text) f was is r in
-              quits_in h.text h.read h.kept (ended_lines [] h.text) quits (inl quits.are)
-          | inr l ↦ absurd (lacked_quit (ended_lines [] h.text) f was is l)
+              let quits = refused_quits s t (ended_lines [] text) f was is r in
+              quits_in text h.read h.kept (ended_lines [] text) quits (inl quits.are)
+          | inr l ↦ absurd (lacked_quit (ended_lines [] text) f was is l)
         ]
 
     unread_quit : (f : Fault) → s.has_quit ≡ false → t.has_quit ≡ true → IsUnread steps stops before after old new s t f → ⊥
@@ -179,7 +181,7 @@ module _ {N R W : Type 0} (holds : W → Option (List ℕ)) (start : NodeValue) 
           | inl k ↦ stopped_quits f was is k
           | inr k ↦ elim k as (λ _. Quits holds start opening before after old new (at_of s) (at_of t)) [
             | inl l ↦
-                let quits = refused_quits s t (lines_of l.text) f was is l.stops in
+                let quits = refused_quits s t (lines_of l.text) f was is (stops_in_lines steps stops before after old new s t f l) in
                 quits_in l.text l.read l.kept (lines_of l.text) quits (inr (l.end, quits.are))
             | inr u ↦ absurd (unread_quit f was is u)
           ]
@@ -189,25 +191,38 @@ module _ {N R W : Type 0} (holds : W → Option (List ℕ)) (start : NodeValue) 
 
     stopped_ends : (f : Fault) → s.has_quit ≡ false → t.has_quit ≡ false → Stops steps stops before after old new s t f
         → Stops (DoesLine holds start opening) (EndsAt holds start opening) before after old new (at_of s) (at_of t) f
-    stopped_ends f was is h = record {
-      text = h.text;
-      read = h.read;
-      kept = h.kept;
-      stops = elim h.stops as (λ _. Refuses (DoesLine holds start opening) (EndsAt holds start opening) (at_of s) (ended_lines [] h.text) (at_of t) f ⊎ Lacks (DoesLine holds start opening) (EndsAt holds start opening) (at_of s) (ended_lines [] h.text) (at_of t) f) [
-        | inl r ↦ inl (refused_ends s t (ended_lines [] h.text) f was is r)
-        | inr l ↦ inr (lacked_ends s t (ended_lines [] h.text) f l)
-      ];
-    }
+    stopped_ends f was is h =
+        let first = chained s h.middle (ended_lines [] h.earlier) h.taken in
+        let last = ended_lines (open_line [] h.earlier) h.piece in
+        let still : h.middle.has_quit ≡ false = cc (first.quit, was) in
+        record {
+          earlier = h.earlier;
+          piece = h.piece;
+          read = h.read;
+          small = h.small;
+          kept = h.kept;
+          middle = at_of h.middle;
+          taken = first.done;
+          stops = elim h.stops as (λ _. StopsAmong (DoesLine holds start opening) (EndsAt holds start opening) (at_of h.middle) last (at_of t) f) [
+            | inl r ↦ inl (refused_ends h.middle t last f still is r)
+            | inr l ↦ inr (lacked_ends h.middle t last f l)
+          ];
+        }
 
     last_ends : (f : Fault) → s.has_quit ≡ false → t.has_quit ≡ false → StopsLast steps stops before after old new s t f
         → StopsLast (DoesLine holds start opening) (EndsAt holds start opening) before after old new (at_of s) (at_of t) f
-    last_ends f was is h = record {
-      text = h.text;
-      read = h.read;
-      end = h.end;
-      kept = h.kept;
-      stops = refused_ends s t (lines_of h.text) f was is h.stops;
-    }
+    last_ends f was is h =
+        let first = chained s h.middle (ended_lines [] h.text) h.taken in
+        let still : h.middle.has_quit ≡ false = cc (first.quit, was) in
+        record {
+          text = h.text;
+          read = h.read;
+          end = h.end;
+          kept = h.kept;
+          middle = at_of h.middle;
+          taken = first.done;
+          stops = refused_ends h.middle t (last_line (open_line [] h.text)) f still is h.stops;
+        }
 
     unread_ends : (f : Fault) → IsUnread steps stops before after old new s t f → IsUnread (DoesLine holds start opening) (EndsAt holds start opening) before after old new (at_of s) (at_of t) f
     unread_ends f h = record {

@@ -1,5 +1,5 @@
 -- A script that is played to a writer, by the bytes that the writer then holds.
-use Rattle.std.proofs.Common.{◌≡◌, ℕ, ◌≤◌, ◌⊎◌, inl, inr, List, [], ◌∷◌, length, take, Option, Result, Ok, Err, refl, sym, ap, ◌∙◌, subst, arith}
+use Rattle.std.proofs.Common.{◌≡◌, ℕ, ◌≤◌, ◌⊎◌, inl, inr, List, [], ◌∷◌, ◌++◌, length, take, Option, Result, Ok, Err, refl, sym, ap, ◌∙◌, subst, arith}
 use Rattle.std.specs.Prelude.{MatchResult}
 use Rattle.std.specs.Io.KnownBytes.{Appends}
 use Rattle.std.proofs.KnownBytes.{Consumes-nil, Appends-nil}
@@ -8,6 +8,7 @@ use Rattle.cg_types.specs.declared.fault.Fault.{Fault}
 use Rattle.cg_types.specs.declared.fault.Fault.TheVariants.{OutOfMemory}
 use Rattle.cg_links.specs.declared.counted.Counted.{Counted}
 use Rattle.cg_lines.specs.Lines.{ended_lines, open_line, last_line, lines_of}
+use Rattle.cg_lines.proofs.ReadingLemmas.{stops_in_text, stops_in_lines}
 use Rattle.cg_lines.specs.Taken.{Takes, Refuses, Lacks, Stops, StopsLast, IsUnread, Fails, TakesAll, TakesLines}
 use Rattle.cg_sim.specs.declared.play.Play.{Play}
 use Rattle.cg_sim.specs.declared.telling.Telling.{Telling}
@@ -92,20 +93,21 @@ module _ {W : Type 0} (holds : W → Option (List ℕ)) where
 
   module _ {R : Type 0} (before after : Option (List ℕ)) (old new : Counted R) (s t : Telling W) where
     stopped : (f : Fault) (h : Stops steps stops before after old new s t f)
-        → RunsOut s.play.now (ended_lines [] h.text) (held holds s) (held holds t) s.writer.now t.writer.now f
-        ⊎ BreaksOff s.play.now (ended_lines [] h.text) (held holds s) (held holds t) s.writer.now t.writer.now f
+        → RunsOut s.play.now (ended_lines [] (h.earlier ++ h.piece)) (held holds s) (held holds t) s.writer.now t.writer.now f
+        ⊎ BreaksOff s.play.now (ended_lines [] (h.earlier ++ h.piece)) (held holds s) (held holds t) s.writer.now t.writer.now f
     stopped f h =
-        elim h.stops [
-          | inl r ↦ refused s t (ended_lines [] h.text) (ended_lines [] h.text) (length r.front) f r
+        let lines = ended_lines [] (h.earlier ++ h.piece) in
+        elim (stops_in_text steps stops before after old new s t f h) [
+          | inl r ↦ refused s t lines lines (length r.front) f r
               (sym (take-append_seam r.front (r.line ∷ r.rest)) ∙ ap (take (length r.front)) (sym r.are))
-          | inr l ↦ inl (lacked s t (ended_lines [] h.text) f l)
+          | inr l ↦ inl (lacked s t lines f l)
         ]
 
     stopped_last : (f : Fault) (h : StopsLast steps stops before after old new s t f)
         → RunsOut s.play.now (ended_lines [] h.text) (held holds s) (held holds t) s.writer.now t.writer.now f
         ⊎ BreaksOff s.play.now (lines_of h.text) (held holds s) (held holds t) s.writer.now t.writer.now f
     stopped_last f h =
-        let r = h.stops in
+        let r = stops_in_lines steps stops before after old new s t f h in
         let last = open_line [] h.text in
         refused s t (lines_of h.text) (ended_lines [] h.text) (length r.front) f r
         (front_of_first (ended_lines [] h.text) (last_line last) r.front r.rest r.line (one_last last) r.are)
@@ -130,12 +132,12 @@ module _ {W : Type 0} (holds : W → Option (List ℕ)) where
       stops_told : (f : Fault) → Stops steps stops before after old new s t f
           → due.Stops before after (held holds s) (held holds t) old new s.writer.now t.writer.now f
       stops_told f h = record {
-        script = h.text;
+        script = h.earlier ++ h.piece;
         read = h.read;
         kept = h.kept;
         stops = subst
-            (λ (p : Play). RunsOut p (ended_lines [] h.text) (held holds s) (held holds t) s.writer.now t.writer.now f
-            ⊎ BreaksOff p (ended_lines [] h.text) (held holds s) (held holds t) s.writer.now t.writer.now f) begins
+            (λ (p : Play). RunsOut p (ended_lines [] (h.earlier ++ h.piece)) (held holds s) (held holds t) s.writer.now t.writer.now f
+            ⊎ BreaksOff p (ended_lines [] (h.earlier ++ h.piece)) (held holds s) (held holds t) s.writer.now t.writer.now f) begins
             (stopped f h);
       }
 
@@ -200,12 +202,12 @@ module _ {W : Type 0} (holds : W → Option (List ℕ)) where
     failed_writer : (f : Fault) → Fails steps stops before after old new s t f → t.writer.ghost_name ≡ s.writer.ghost_name
     failed_writer f h =
         elim h as (λ _. t.writer.ghost_name ≡ s.writer.ghost_name) [
-          | inl k ↦ elim k.stops as (λ _. t.writer.ghost_name ≡ s.writer.ghost_name) [
-            | inl r ↦ refused_writer (ended_lines [] k.text) f r
+          | inl k ↦ elim (stops_in_text steps stops before after old new s t f k) as (λ _. t.writer.ghost_name ≡ s.writer.ghost_name) [
+            | inl r ↦ refused_writer (ended_lines [] (k.earlier ++ k.piece)) f r
             | inr l ↦ (chained s t l.front l.taken).writer
           ]
           | inr k ↦ elim k as (λ _. t.writer.ghost_name ≡ s.writer.ghost_name) [
-            | inl l ↦ refused_writer (lines_of l.text) f l.stops
+            | inl l ↦ refused_writer (lines_of l.text) f (stops_in_lines steps stops before after old new s t f l)
             | inr u ↦ (chained s t (ended_lines [] u.text) u.taken).writer
           ]
         ]

@@ -1,4 +1,4 @@
-use Rattle.std.proofs.Common.{take, refl, inl, inr, arith}
+use Rattle.std.proofs.Common.{take, length-take, refl, inl, inr, arith}
 use Rattle.cg_lines.proofs.ReadingLemmas.{reading_none, reading_more, reading_stops, reading_ends, reading_fails}
 use Rattle.cg_lines.proofs.lines.take_pieces.Goals as goal
 
@@ -13,7 +13,8 @@ returns-in-Ok-eq0-clause-lines g c =
 
 pub returns-in-Err-take_piece-clause-lines : goal.returns-in-Err-take_piece-clause-lines
 returns-in-Err-take_piece-clause-lines g c =
-    inl (reading_stops _ _ _ _ _ _ (take c.in-Ok.n c.read.new.buf) _ _ _ _ _ _ _ _ _ c.loop.invariant c.in-Ok.ensures.bytes.0 c.in-Ok.ensures.counts
+    let cut = length-take c.in-Ok.n c.read.new.buf in
+    inl (reading_stops _ _ _ _ _ _ (take c.in-Ok.n c.read.new.buf) _ _ _ _ _ _ _ _ _ c.loop.invariant c.in-Ok.ensures.bytes.0 (omega (arith, cut)) c.in-Ok.ensures.counts
     c.in-Err-take_piece.ensures.taken refl)
 
 pub returns-in-Err-clause-lines : goal.returns-in-Err-clause-lines
