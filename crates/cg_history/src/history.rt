@@ -1,6 +1,6 @@
 //! A node with the records of all that it did.
 
-ghost use Rattle.std.specs.Prelude.{◌≡◌, ◌<◌, ◌≤◌, IfOk, MatchResult, OnOk, OnErr, length, take};
+ghost use Rattle.std.specs.Prelude.{◌≡◌, ◌<◌, ◌≤◌, IfOk, IsOk, MatchResult, OnOk, OnErr, length, take};
 ghost use Rattle.cg_types.specs.Answer.{Answers};
 ghost use Rattle.cg_core.specs.Step.{after_event};
 ghost use Rattle.cg_records.specs.Confirming.{AreConfirmed, IsFirstStray};
@@ -217,6 +217,7 @@ impl History {
     pub fn fold_front(&mut self, alloc: Global, n: usize) -> Result<(), AllocError>
         requires { n ≤ length self.old.records }
         ensures ok { OnOk result (self.new ≡ with_folded n self.old) }
+        ensures none { n ≡ 0 → IsOk result }
         ensures err { OnErr result (self.new ≡ self.old) }
     {
         if n == 0 {

@@ -69,7 +69,7 @@ pub fn confirmed_past_a_fold()
     ensures { ConfirmedPastAFold }
 {}
 
-/// What is confirmed after a fold was confirmed before.
+/// A receipt that is confirmed after a fold was confirmed before it.
 pub fn confirmed_before_a_fold()
     ensures { ConfirmedBeforeAFold }
 {}
