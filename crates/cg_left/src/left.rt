@@ -31,7 +31,7 @@ impl<N: Name> Model for SeatLeft<N> {
     ghost view = { λ l. record { began = l.began; parts = l.seat.parts; receipts = l.receipts.items } };
 
     ghost invariant = { λ l. (l.seat.amount ≡ length l.receipts.items)
-        × AreConfirmed l.seat.seen l.receipts.items };
+        × AreConfirmed 0 l.seat.seen l.receipts.items };
 }
 
 impl<N: Name> SeatLeft<N> {
@@ -39,7 +39,7 @@ impl<N: Name> SeatLeft<N> {
     /// that it has seen confirm.
     pub fn of(seat: Seat<N>, receipts: Vec<Receipt>) -> SeatLeft<N>
         requires counted { seat.amount ≡ length receipts.items }
-        requires confirmed { AreConfirmed seat.seen receipts.items }
+        requires confirmed { AreConfirmed 0 seat.seen receipts.items }
         ensures { result ≡ record { began = true; parts = seat.parts; receipts = receipts.items } }
     {
         SeatLeft {
@@ -72,7 +72,7 @@ impl<N: Name> SeatLeft<N> {
     pub fn into_parts(self) -> (Seat<N>, Vec<Receipt>)
         ensures seat { (result.0.parts ≡ self.parts) × (result.0.amount ≡ length self.receipts) }
         ensures receipts { result.1.items ≡ self.receipts }
-        ensures confirmed { AreConfirmed result.0.seen self.receipts }
+        ensures confirmed { AreConfirmed 0 result.0.seen self.receipts }
     {
         let SeatLeft { seat, receipts, .. } = self;
         (seat, receipts)
