@@ -12,8 +12,8 @@ use Rattle.cg_ran.specs.declared.ran.Ran.{Ran}
 use Rattle.cg_ran.specs.declared.ran.NotRun.{NotRun}
 use Rattle.cg_ran.specs.declared.ran.NotRun.TheVariants as not_run
 use Rattle.cg_ran.specs.Ran.{AnyWork, IsRun, IsNotRun}
-use Rattle.cg_files.specs.Disk.{Call, Replaces, Unreplaced}
-use Rattle.cg_node_files.specs.Kept.{Settles, Unsettled, Advances, IsUnkept}
+use Rattle.cg_files.specs.Disk.{Call, Replaces}
+use Rattle.cg_node_files.specs.Kept.{Settles, Unsettled, Advances, IsUnkept, Unwritten}
 use Rattle.cg_serve.specs.declared.node.Birth.{Birth}
 use Rattle.cg_serve.specs.declared.node.LifeLeft.{LifeLeft}
 use Rattle.cg_serve.specs.declared.serving.Lived.{Lived}
@@ -87,10 +87,10 @@ Says stray unwritten text status =
     ⊎ ((text ≡ fault_text fault.OutOfMemory) × (status ≡ 1))
 
 module _ {F : Type 0} (did : Call F → Type 0) (contents : F → Option (List ℕ)) where
-  -- The journal of the history was written to the file, or could not be.
+  -- The journal of the history was written to the file, and no record of it is folded; or it could not be.
   abbrev pub WritesJournal : List ℕ → HistoryValue → Option Fault → Type 0
-  WritesJournal path h None = Replaces did contents path (joined (journal_lines h))
-  WritesJournal path h (Some f) = Unreplaced did path f
+  WritesJournal path h None = (h.folded ≡ 0) × Replaces did contents path (joined (journal_lines h))
+  WritesJournal path h (Some f) = Unwritten did path h f
 
   -- A life that was lived ends by its unconfirmed receipt and its journal, another by its fault.
   abbrev pub Ends : Result Lived Fault → List ℕ → ℕ → Type 0
