@@ -1,11 +1,11 @@
 //! Settings at both ends of their ranges, past them and of another type, and keys that are missing or unknown.
 
-use crate::samples::{NEEDED, fault_with};
-use cg_expect::expect_eq;
+use crate::samples::{NEEDED, fault_with, text_with};
+use cg_expect::{expect, expect_eq};
 use cg_settings_file::laws::{limits_have_their_values, seeds_rise_and_are_those_listed};
-use cg_settings_file::{DEFAULT_INTERVAL, DEFAULT_RANDOM, INTERVAL_LIMIT, TURN_LIMIT};
+use cg_settings_file::{DEFAULT_INTERVAL, DEFAULT_RANDOM, INTERVAL_LIMIT, TURN_LIMIT, refused_key};
 use cg_types::Fault;
-use std::alloc::Global;
+use std::alloc::{AllocError, Global};
 use std::test::Fail;
 
 // 16 seeds.
@@ -148,4 +148,45 @@ fn values_in_their_ranges_alone_are_read(rt: HostRuntime) -> Result<(), Fail> {
         expect_eq!(fault_with(rt.alloc(), key, "")?, refused, "{key}")?;
     }
     Ok(())
+}
+
+// A number that TOML does not have, so a text with it is no table.
+const NO_NUMBER: &str = "9223372036854775808";
+
+// Tests whether the key that is named of these settings is this one, or none if it is empty.
+fn names(alloc: Global, key: &str, value: &str, due: &str) -> Result<bool, AllocError> {
+    let text = text_with(alloc, key, value)?;
+    Ok(match refused_key(alloc, text.as_bytes()) {
+        Some(named) => named.as_str() == due,
+        None => due.is_empty(),
+    })
+}
+
+// Fails unless the key of each row is named, by its own name; in a text that is no table, none is.
+fn expect_named(alloc: Global, rows: &[(&str, &str)]) -> Result<(), Fail> {
+    for (key, value) in rows {
+        let due = if *value == NO_NUMBER {
+            ""
+        } else {
+            key.trim_matches('"')
+        };
+        expect!(names(alloc, key, value, due)?, "{key} = {value}")?;
+    }
+    Ok(())
+}
+
+#[test]
+fn the_key_that_is_refused_is_named(rt: HostRuntime) -> Result<(), Fail> {
+    let alloc = rt.alloc();
+    expect_named(alloc, &REFUSED)?;
+    expect_named(alloc, &OF_ANOTHER_TYPE)?;
+    expect_named(alloc, &UNKNOWN)?;
+    for (key, _) in NEEDED {
+        expect!(names(alloc, key, "", key)?, "{key}")?;
+    }
+    for (key, value) in TAKEN {
+        expect!(names(alloc, key, value, "")?, "{key} = {value}")?;
+    }
+    expect!(refused_key(alloc, b"cluster").is_none())?;
+    expect!(refused_key(alloc, b"\xff").is_none())
 }

@@ -35,7 +35,7 @@ fn is_silence_key(key: &str) -> bool
 }
 
 #[tactic(auto, unfolding(crate::specs::Keys::is_known))]
-fn is_known(key: &str) -> bool
+pub(crate) fn is_known(key: &str) -> bool
     ensures { result ≡ is_known_key key.now }
 {
     is_text_key(key) || is_turn_key(key) || is_silence_key(key)

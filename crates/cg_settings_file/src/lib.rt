@@ -7,10 +7,12 @@
 mod keys;
 pub mod laws;
 mod limits;
+mod naming;
 mod node;
 mod seeds;
 mod settings;
 mod values;
 
 pub use limits::{DEFAULT_INTERVAL, DEFAULT_RANDOM, INTERVAL_LIMIT, TURN_LIMIT};
+pub use naming::refused_key;
 pub use settings::{ServeSettings, Turns, settings_of, settings_of_bytes};

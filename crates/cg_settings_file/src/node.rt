@@ -18,7 +18,7 @@ use std::alloc::Global;
 use toml::{Table, Value};
 
 #[tactic(auto, unfolding(crate::specs::Settings::cluster_from))]
-fn cluster_in(alloc: Global, table: &Table) -> Result<Cluster, Fault>
+pub(crate) fn cluster_in(alloc: Global, table: &Table) -> Result<Cluster, Fault>
     ensures { Finds (λ c. c) result (told_cluster (table_view table.now)) }
 {
     let Some(name) = text_at(table, "cluster") else {
@@ -32,7 +32,7 @@ fn cluster_in(alloc: Global, table: &Table) -> Result<Cluster, Fault>
 }
 
 #[tactic(auto, unfolding(crate::specs::Settings::seeds_in))]
-fn seeds_in(alloc: Global, value: Option<&Value>) -> Result<Vec<Endpoint>, Fault>
+pub(crate) fn seeds_in(alloc: Global, value: Option<&Value>) -> Result<Vec<Endpoint>, Fault>
     ensures { Finds (λ v. v.items) result (told_seeds (option_map (λ v. view v.now) value.entry)) }
 {
     let Some(value) = value else {

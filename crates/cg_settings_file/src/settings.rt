@@ -58,7 +58,7 @@ fn turns_in(table: &Table) -> Option<Turns>
 }
 
 #[tactic(auto, unfolding(crate::specs::Settings::random_from))]
-fn random_in(table: &Table) -> Option<u64>
+pub(crate) fn random_in(table: &Table) -> Option<u64>
     ensures { result ≡ told_random (table_view table.now) }
 {
     match value_at(table, "random") {
@@ -129,7 +129,7 @@ pub fn settings_of(alloc: Global, text: &str) -> Result<ServeSettings, Fault>
 
 // Returns the text that bytes are, if they are UTF-8.
 #[tactic(auto, unfolding(crate::specs::Settings::text_in))]
-fn text_in(bytes: &[u8]) -> Option<&str>
+pub(crate) fn text_in(bytes: &[u8]) -> Option<&str>
     ensures { option_map (λ t. t.now) result ≡ text_of_bytes bytes.now }
 {
     match std::str::from_utf8(bytes) {

@@ -1,7 +1,7 @@
-use Rattle.std.proofs.Common.{inr, ap, sym, ◌∙◌}
+use Rattle.std.proofs.Common.{inr, ap, refl, sym, ◌∙◌}
 use Rattle.cg_settings_file.specs.Seen.{settings_view}
 use Rattle.cg_settings_file.specs.Settings.{settings_in_bytes}
-use Rattle.cg_node_files.proofs.settings.settings_in.Goals as goal
+use Rattle.cg_node_files.proofs.settings.settings_telling.Goals as goal
 
 pub returns : goal.returns
 returns g c =
@@ -10,6 +10,6 @@ returns g c =
       are = rw c.in-Ok-Some.field-0-is at c.in-Ok-Some.ensures;
       settings = settings_view c.in-Ok.settings;
       hold = ap settings_in_bytes (sym c.deref.ensures.value) ∙ c.in-Ok.ensures;
-      shared = c.in-Err-apart.ensures.1;
-      is = c.in-Err-apart.ensures.0;
+      shared = c.in-Err-apart.ensures;
+      is = refl;
     })))
