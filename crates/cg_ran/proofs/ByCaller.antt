@@ -1,5 +1,5 @@
 -- The receipts of a caller have the numbers of its records.
-use Rattle.std.proofs.Common.{◌≡◌, ℕ, zero, suc, ◌+◌, ◌<◌, Bool, true, List, length, take, Some, refl, sym, ap, ◌∙◌, arith, eqb-true}
+use Rattle.std.proofs.Common.{◌≡◌, ℕ, zero, suc, ◌+◌, ◌-◌, ◌<◌, Bool, true, List, length, take, Some, refl, sym, ap, ◌∙◌, arith, eqb-true}
 use Rattle.std.specs.Prelude.{◌&&◌, ◌==◌, slice_get}
 use Rattle.std.proofs.lemmas.Option.{same_Some, slice_get_within}
 use Rattle.cg_types.specs.ListPlace.{at_place}
@@ -22,16 +22,16 @@ module _ (caller : ℕ) (kind : Event → Bool) where
   own : (q : Receipt) → is_receipt_of caller kind q ≡ true → q.caller ≡ caller
   own q one = eqb-true q.caller caller (first_of (q.caller == caller) (kind q.event) one)
 
-  module _ (records : List Item) (receipts : List Receipt) (all : AreConfirmed records receipts) where
+  module _ (records : List Item) (receipts : List Receipt) (all : AreConfirmed 0 records receipts) where
     receipts_rise : (i j : ℕ) (q r : Receipt) → slice_get receipts i ≡ Some q → slice_get receipts j ≡ Some r → i < j → is_receipt_of caller kind q ≡ true → is_receipt_of caller kind r ≡ true → q.number < r.number
     receipts_rise i j q r at_i at_j less one two =
         within_follows (take j receipts) i q r (all j r at_j).follows (at_take receipts i j q less at_i) (own q one ∙ sym (own r two))
 
     -- the record of a receipt
-    stands_at : (q : Receipt) → Stands records q → (k : ℕ) × (i : Item) × (slice_get records k ≡ Some i) × IsOf i q × (q.number ≡ 1 + k)
-    stands_at q stands = by q.number refl stands.1
+    stands_at : (q : Receipt) → Stands 0 records q → (k : ℕ) × (i : Item) × (slice_get records k ≡ Some i) × IsOf i q × (q.number ≡ 1 + k)
+    stands_at q stands = by (q.number - 0) refl stands.1
       where
-        by : (n : ℕ) → q.number ≡ n → at_place records n ≡ Some stands.0 → (k : ℕ) × (i : Item) × (slice_get records k ≡ Some i) × IsOf i q × (q.number ≡ 1 + k)
+        by : (n : ℕ) → q.number - 0 ≡ n → at_place records n ≡ Some stands.0 → (k : ℕ) × (i : Item) × (slice_get records k ≡ Some i) × IsOf i q × (q.number ≡ 1 + k)
         by zero is at = absurd cc
         by (suc k) is at = (k, stands.0, at, stands.2, (omega (arith, is)))
 
@@ -48,9 +48,10 @@ module _ (caller : ℕ) (kind : Event → Bool) where
       of_receipt : (n : ℕ) → In n (numbers_in caller kind records) → In n (numbers_on caller kind receipts)
       of_receipt n is =
           let i = place_passes (is_record_of caller kind) 1 n records is in
-          let r = each_record_has_its_receipt records receipts i.0 all many (within i.0 i.1 i.2) in
+          let r = each_record_has_its_receipt 0 records receipts i.0 all many (within i.0 i.1 i.2) in
           let stands = (all r.0 r.1 r.2).stands in
-          let there : at_place records r.1.number ≡ Some i.1 = ap (at_place records) r.3 ∙ i.2 in
+          let place : r.1.number - 0 ≡ suc i.0 = (let e = r.3 in omega (arith, e)) in
+          let there : at_place records (r.1.number - 0) ≡ Some i.1 = ap (at_place records) place ∙ i.2 in
           let one : stands.0 ≡ i.1 = same_Some stands.0 i.1 (sym stands.1 ∙ there) in
           let passes = sym (same_test stands.0 r.1 stands.2) ∙ ap (is_record_of caller kind) one ∙ i.3 in
           with_passing (is_receipt_of caller kind) (λ (r : Receipt). r.number) n receipts r.0 r.1 r.2 passes (let a = i.4 in let b = r.3 in omega (arith, a, b))

@@ -17,25 +17,25 @@ as_many receiver sender ticker operator n is =
     omega (arith, length-append receiver sender, length-append (receiver ++ sender) ticker, length-append (receiver ++ sender ++ ticker) operator)
 
 -- the same history confirms the same
-at : (h k : HistoryValue) (qs : List Receipt) → h ≡ k → AreConfirmed k.records qs → AreConfirmed h.records qs
-at h k qs same is = subst (λ (x : HistoryValue). AreConfirmed x.records qs) (sym same) is
+at : (h k : HistoryValue) (qs : List Receipt) → h ≡ k → AreConfirmed k.folded k.records qs → AreConfirmed h.folded h.records qs
+at h k qs same is = subst (λ (x : HistoryValue). AreConfirmed x.folded x.records qs) (sym same) is
 
-module _ (receiver sender ticker operator : List Receipt) (are : AreOfWorkers receiver sender ticker operator) (first : HistoryValue) (confirmed : AreConfirmed first.records receiver) where
-  pub after_receiver : (u : Unconfirmed) → u.history ≡ first → IsStrayBehind (length receiver) u.history.records sender (stray_of u)
-      → IsFirstStray u.history.records (receiver ++ sender ++ ticker ++ operator) (stray_of u)
-  after_receiver u same behind = stray_of_sender receiver sender ticker operator are u.history.records (at u.history first receiver same confirmed) (stray_of u) behind
+module _ (receiver sender ticker operator : List Receipt) (are : AreOfWorkers receiver sender ticker operator) (first : HistoryValue) (confirmed : AreConfirmed first.folded first.records receiver) where
+  pub after_receiver : (u : Unconfirmed) → u.history ≡ first → IsStrayBehind (length receiver) u.history.folded u.history.records sender (stray_of u)
+      → IsFirstStray u.history.folded u.history.records (receiver ++ sender ++ ticker ++ operator) (stray_of u)
+  after_receiver u same behind = stray_of_sender receiver sender ticker operator are u.history.folded u.history.records (at u.history first receiver same confirmed) (stray_of u) behind
 
-  module _ (second : HistoryValue) (next : second ≡ first) (also : AreConfirmed second.records sender) where
-    pub after_sender : (u : Unconfirmed) → u.history ≡ second → IsStrayBehind (length receiver + length sender) u.history.records ticker (stray_of u)
-        → IsFirstStray u.history.records (receiver ++ sender ++ ticker ++ operator) (stray_of u)
+  module _ (second : HistoryValue) (next : second ≡ first) (also : AreConfirmed second.folded second.records sender) where
+    pub after_sender : (u : Unconfirmed) → u.history ≡ second → IsStrayBehind (length receiver + length sender) u.history.folded u.history.records ticker (stray_of u)
+        → IsFirstStray u.history.folded u.history.records (receiver ++ sender ++ ticker ++ operator) (stray_of u)
     after_sender u same behind =
-        stray_of_ticker receiver sender ticker operator are u.history.records (at u.history first receiver (same ∙ next) confirmed) (at u.history second sender same also) (stray_of u) behind
+        stray_of_ticker receiver sender ticker operator are u.history.folded u.history.records (at u.history first receiver (same ∙ next) confirmed) (at u.history second sender same also) (stray_of u) behind
 
-    pub after_ticker : (third : HistoryValue) → third ≡ second → AreConfirmed third.records ticker → (result : Result HistoryValue Unconfirmed) → history_of result ≡ third
-        → MatchResult result (λ h. AreConfirmed h.records operator) (λ u. IsStrayBehind (length receiver + length sender + length ticker) u.history.records operator (stray_of u))
-        → MatchResult result (λ h. AreConfirmed h.records (receiver ++ sender ++ ticker ++ operator)) (λ u. IsFirstStray u.history.records (receiver ++ sender ++ ticker ++ operator) (stray_of u))
+    pub after_ticker : (third : HistoryValue) → third ≡ second → AreConfirmed third.folded third.records ticker → (result : Result HistoryValue Unconfirmed) → history_of result ≡ third
+        → MatchResult result (λ h. AreConfirmed h.folded h.records operator) (λ u. IsStrayBehind (length receiver + length sender + length ticker) u.history.folded u.history.records operator (stray_of u))
+        → MatchResult result (λ h. AreConfirmed h.folded h.records (receiver ++ sender ++ ticker ++ operator)) (λ u. IsFirstStray u.history.folded u.history.records (receiver ++ sender ++ ticker ++ operator) (stray_of u))
     after_ticker third then all (Ok h) same is =
-        all_confirmed receiver sender ticker operator are h.records (at h first receiver (same ∙ then ∙ next) confirmed) (at h second sender (same ∙ then) also) (at h third ticker same all) is
+        all_confirmed receiver sender ticker operator are h.folded h.records (at h first receiver (same ∙ then ∙ next) confirmed) (at h second sender (same ∙ then) also) (at h third ticker same all) is
     after_ticker third then all (Err u) same is =
-        stray_of_operator receiver sender ticker operator are u.history.records (at u.history first receiver (same ∙ then ∙ next) confirmed) (at u.history second sender (same ∙ then) also)
+        stray_of_operator receiver sender ticker operator are u.history.folded u.history.records (at u.history first receiver (same ∙ then ∙ next) confirmed) (at u.history second sender (same ∙ then) also)
         (at u.history third ticker same all) (stray_of u) is

@@ -66,46 +66,46 @@ follows_part : (xs ys : List Receipt) (r : Receipt) → Follows (xs ++ ys) r →
 follows_part [] ys r follows = follows
 follows_part (x ∷ xs) ys r follows = follows_part xs ys r (All-tail (λ q. ComesAfter q r) x (xs ++ ys) follows)
 
-module _ (records : List Item) (c : ℕ) (xs : List Receipt) (all : AreConfirmed records xs) (below : Below c xs) where
-  pub confirmed_joined : (ys : List Receipt) → Own c ys → AreConfirmed records ys → AreConfirmed records (xs ++ ys)
+module _ (folded : ℕ) (records : List Item) (c : ℕ) (xs : List Receipt) (all : AreConfirmed folded records xs) (below : Below c xs) where
+  pub confirmed_joined : (ys : List Receipt) → Own c ys → AreConfirmed folded records ys → AreConfirmed folded records (xs ++ ys)
   confirmed_joined ys own more k r at = by (at_either xs ys k r at)
     where
-      by : AtEither xs ys k r → IsConfirmed records (take k (xs ++ ys)) r
-      by (inl a) = subst (λ (b : List Receipt). IsConfirmed records b r) (sym (take_first xs ys k (let l = a.0 in omega (arith, l)))) (all k r a.1)
+      by : AtEither xs ys k r → IsConfirmed folded records (take k (xs ++ ys)) r
+      by (inl a) = subst (λ (b : List Receipt). IsConfirmed folded records b r) (sym (take_first xs ys k (let l = a.0 in omega (arith, l)))) (all k r a.1)
       by (inr a) =
           let one = more a.0 r a.2 in
           let there : take k (xs ++ ys) ≡ xs ++ take a.0 ys = ap (λ (n : ℕ). take n (xs ++ ys)) a.1 ∙ take_second xs ys a.0 in
-          subst (λ (b : List Receipt). IsConfirmed records b r) (sym there)
+          subst (λ (b : List Receipt). IsConfirmed folded records b r) (sym there)
           (record { stands = one.stands; follows = All-append (λ q. ComesAfter q r) xs (take a.0 ys) (follows_below c xs r below (own_at c ys a.0 r own a.2)) one.follows })
 
   own_take : (ys : List Receipt) (k : ℕ) → Own c ys → Own c (take k ys)
   own_take ys k own = All-take (λ (q : Receipt). q.caller ≡ c) k ys own
 
-  pub stray_behind : (ys : List Receipt) (before : ℕ) (s : Stray) → Own c ys → before ≡ length xs → IsStrayBehind before records ys s → IsFirstStray records (xs ++ ys) s
+  pub stray_behind : (ys : List Receipt) (before : ℕ) (s : Stray) → Own c ys → before ≡ length xs → IsStrayBehind before folded records ys s → IsFirstStray folded records (xs ++ ys) s
   stray_behind ys before s own long behind =
       let place = behind.0 in
       let there : s.place ≡ length xs + place = behind.1 ∙ ap (λ (n : ℕ). n + place) long in
       let front : take s.place (xs ++ ys) ≡ xs ++ take place ys = ap (λ (n : ℕ). take n (xs ++ ys)) there ∙ take_second xs ys place in
-      let r = behind.2.stray.0 in
+      let r = behind.2.receipt in
       record {
-        before = subst (AreConfirmed records) (sym front) (confirmed_joined (take place ys) (own_take ys place own) behind.2.before);
-        stray = (
-          r,
-          subst (λ (n : ℕ). slice_get (xs ++ ys) n ≡ Some r) (sym there) (in_second xs ys place r behind.2.stray.1),
-          (λ is. let one = subst (λ (b : List Receipt). IsConfirmed records b r) front is in
-              behind.2.stray.2 (record { stands = one.stands; follows = follows_part xs (take place ys) r one.follows })),
-        );
+        before = subst (AreConfirmed folded records) (sym front) (confirmed_joined (take place ys) (own_take ys place own) behind.2.before);
+        receipt = r;
+        at = subst (λ (n : ℕ). slice_get (xs ++ ys) n ≡ Some r) (sym there) (in_second xs ys place r behind.2.at);
+        stray = λ is. let one = subst (λ (b : List Receipt). IsConfirmed folded records b r) front is in
+            behind.2.stray (record { stands = one.stands; follows = follows_part xs (take place ys) r one.follows });
         why = behind.2.why;
       }
 
 -- the first unconfirmed receipt of a list is that of the list with more after it
-pub stray_before : (records : List Item) (xs ys : List Receipt) (s : Stray) → IsFirstStray records xs s → IsFirstStray records (xs ++ ys) s
-stray_before records xs ys s first =
-    let r = first.stray.0 in
-    let within = slice_get_within xs s.place r first.stray.1 in
+pub stray_before : (folded : ℕ) (records : List Item) (xs ys : List Receipt) (s : Stray) → IsFirstStray folded records xs s → IsFirstStray folded records (xs ++ ys) s
+stray_before folded records xs ys s first =
+    let r = first.receipt in
+    let within = slice_get_within xs s.place r first.at in
     let front : take s.place (xs ++ ys) ≡ take s.place xs = take_first xs ys s.place (omega (arith, within)) in
     record {
-      before = subst (AreConfirmed records) (sym front) first.before;
-      stray = (r, in_first xs ys s.place r first.stray.1, (λ is. first.stray.2 (subst (λ (b : List Receipt). IsConfirmed records b r) front is)));
+      before = subst (AreConfirmed folded records) (sym front) first.before;
+      receipt = r;
+      at = in_first xs ys s.place r first.at;
+      stray = λ is. first.stray (subst (λ (b : List Receipt). IsConfirmed folded records b r) front is);
       why = first.why;
     }

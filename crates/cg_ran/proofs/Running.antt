@@ -1,12 +1,12 @@
 -- A node whose workers have ended is one that ran, or is not confirmed.
-use Rattle.std.proofs.Common.{◌≡◌, ℕ, Bool, true, List, ◌++◌, Result, Ok, Err, length, refl, sym, ap, ◌∙◌, subst, append_assoc}
+use Rattle.std.proofs.Common.{◌≡◌, ℕ, Bool, true, List, ◌++◌, Result, Ok, Err, length, refl, sym, ap, ◌∙◌, subst, append_assoc, arith}
 use Rattle.std.specs.Prelude.{IfOk, IfErr}
 use Rattle.std.proofs.lemmas.List.{map-append}
 use mathlib.Core.List.{IsPrefix}
 use Rattle.cg_core.specs.Values.{NodeValue}
-use Rattle.cg_records.specs.declared.item.Receipt.{Receipt}
 use Rattle.cg_records.specs.Confirming.{AreConfirmed, IsFirstStray}
-use Rattle.cg_history.specs.History.{HistoryValue, IsReplayed}
+use Rattle.cg_history.specs.History.{HistoryValue, IsReplayed, count_of}
+use Rattle.cg_history.proofs.Replaying.{base_is_start}
 use Rattle.cg_locked.specs.declared.shared.Unconfirmed.{Unconfirmed}
 use Rattle.cg_locked.specs.Shared.{stray_of}
 use Rattle.cg_rounds.specs.declared.round.Round.{Round}
@@ -14,14 +14,14 @@ use Rattle.cg_rounds.specs.declared.ends.Putting.{Putting}
 use Rattle.cg_rounds.specs.declared.ends.Taken.{Taken}
 use Rattle.cg_rounds.specs.Ends.{put_by, taken_in}
 use Rattle.cg_workers.specs.Workers.{numbers_of}
-use Rattle.cg_left.specs.declared.callers.TheConstants.{RECEIVER, SENDER, TICKER, OPERATOR}
+use Rattle.cg_left.specs.declared.callers.TheConstants.{TICKER}
 use Rattle.cg_ticker.specs.Laws.{rounds_in}
-use Rattle.cg_left.specs.Left.{Work, receipts_of, AreOf, AreOfWorkers, AreTaken, numbers_of_all, is_received, is_ack, is_tick, is_any}
+use Rattle.cg_left.specs.Left.{Work, receipts_of, AreOfWorkers, AreTaken, is_tick}
 use Rattle.cg_ran.specs.declared.ran.Ran.{Ran}
 use Rattle.cg_ran.specs.declared.ran.NotRun.{NotRun}
 use Rattle.cg_ran.specs.declared.ran.NotRun.TheVariants as not_run
 use Rattle.cg_ran.specs.Numbers.{numbers_in}
-use Rattle.cg_ran.specs.Ran.{IsOfWork, IsRun, IsUnconfirmed, IsNotRun, TellsStart}
+use Rattle.cg_ran.specs.Ran.{IsOfWork, IsRun, IsUnconfirmed, IsNotRun, StraysIn, TellsStart}
 use Rattle.cg_ran.proofs.Workers.{records_are_work, numbers_are_the_tickers}
 
 numbers_prefix : (xs ys : List Round) → IsPrefix xs ys → IsPrefix (numbers_of xs) (numbers_of ys)
@@ -31,13 +31,20 @@ prefix_trans : {A : Type 0} (xs ys zs : List A) → IsPrefix xs ys → IsPrefix 
 prefix_trans {A} xs ys zs a b = (a.0 ++ b.0, sym (append_assoc xs a.0 b.0) ∙ ap (λ (ns : List A). ns ++ b.0) a.1 ∙ b.1)
 
 module _ (start : NodeValue) (w : Work) (are : AreOfWorkers w.receiver w.sender w.ticker w.operator) where
-  of_this_work : (h : HistoryValue) → h.base ≡ start → length h.records ≡ length (receipts_of w) → IsOfWork start (λ v. v ≡ w) h w
-  of_this_work h base many = record { base = base; done = refl; theirs = are; counted = sym many }
+  -- as many records as receipts, if none is folded
+  as_many : (h : HistoryValue) → h.folded ≡ 0 → count_of h ≡ length (receipts_of w) → length h.records ≡ length (receipts_of w)
+  as_many h whole count = omega (arith, whole, count)
+
+  of_this_work : (h : HistoryValue) → h.folded ≡ 0 → h.start ≡ start → IsReplayed h → count_of h ≡ length (receipts_of w) → IsOfWork start (λ v. v ≡ w) h w
+  of_this_work h whole started replayed count =
+      record { whole = whole; base = base_is_start h replayed whole ∙ started; done = refl; theirs = are; counted = sym (as_many h whole count) }
 
   pub is_run : (h : HistoryValue) (rounds : List ℕ) (putting : Putting) (taken : Taken) → taken_in taken ≡ w.taken → AreTaken putting taken rounds w.ticker
-      → IsPrefix (taken_in taken) (put_by putting) → h.base ≡ start → IsReplayed h → length h.records ≡ length (receipts_of w) → AreConfirmed h.records (receipts_of w)
+      → IsPrefix (taken_in taken) (put_by putting) → h.folded ≡ 0 → h.start ≡ start → IsReplayed h → count_of h ≡ length (receipts_of w) → AreConfirmed h.folded h.records (receipts_of w)
       → IsRun start (λ v. v ≡ w) h rounds
-  is_run h rounds putting taken this of_rounds compared base replayed many all =
+  is_run h rounds putting taken this of_rounds compared whole started replayed count confirmed =
+      let many = as_many h whole count in
+      let all : AreConfirmed 0 h.records (receipts_of w) = subst (λ (n : ℕ). AreConfirmed n h.records (receipts_of w)) whole confirmed in
       let first : IsPrefix (taken_in taken) (rounds_in w.ticker) = prefix_trans (taken_in taken) (put_by putting) (rounds_in w.ticker) compared of_rounds.rounds.are_first in
       let front : IsPrefix (numbers_of (taken_in taken)) (numbers_of (rounds_in w.ticker)) = numbers_prefix (taken_in taken) (rounds_in w.ticker) first in
       let own : numbers_of (rounds_in w.ticker) ≡ numbers_in TICKER is_tick h.records =
@@ -45,8 +52,8 @@ module _ (start : NodeValue) (w : Work) (are : AreOfWorkers w.receiver w.sender 
       let mine : IsPrefix rounds (numbers_of (rounds_in w.ticker)) = subst (λ (ns : List ℕ). IsPrefix ns (numbers_of (rounds_in w.ticker))) (sym of_rounds.are_of) front in
       record {
         work = w;
-        of_work = of_this_work h base many;
-        confirmed = all;
+        of_work = of_this_work h whole started replayed count;
+        confirmed = confirmed;
         rounds = record {
           are_of = of_rounds.are_of ∙ ap numbers_of this;
           are_first = subst (λ (rs : List Round). IsPrefix rs (rounds_in w.ticker)) this first;
@@ -56,15 +63,19 @@ module _ (start : NodeValue) (w : Work) (are : AreOfWorkers w.receiver w.sender 
         kinds = records_are_work w.receiver w.sender w.ticker w.operator are h.records all (sym many);
       }
 
-  pub is_unconfirmed : (u : Unconfirmed) → u.history.base ≡ start → length u.history.records ≡ length (receipts_of w)
-      → IsFirstStray u.history.records (receipts_of w) (stray_of u) → IsUnconfirmed start (λ v. v ≡ w) u
-  is_unconfirmed u base many first = record { work = w; of_work = of_this_work u.history base many; stray = first }
+  pub is_unconfirmed : (u : Unconfirmed) → u.history.folded ≡ 0 → u.history.start ≡ start → IsReplayed u.history → count_of u.history ≡ length (receipts_of w)
+      → IsFirstStray u.history.folded u.history.records (receipts_of w) (stray_of u) → IsUnconfirmed start (λ v. v ≡ w) u
+  is_unconfirmed u whole started replayed count first = record { work = w; of_work = of_this_work u.history whole started replayed count; stray = first }
+
+  -- the same, by what is to be told of it
+  pub strays_in : (u : Unconfirmed) → u.history.folded ≡ 0 → count_of u.history ≡ length (receipts_of w) → IsFirstStray u.history.folded u.history.records (receipts_of w) (stray_of u) → StraysIn (receipts_of w) (not_run.Unconfirmed u)
+  strays_in u whole count first = (first, sym (as_many u.history whole count))
 
 -- ---- the same of a weaker claim about the work
 
 module _ (start : NodeValue) (P Q : Work → Type 0) (weaker : (w : Work) → P w → Q w) where
   of_work_weaker : (h : HistoryValue) (w : Work) → IsOfWork start P h w → IsOfWork start Q h w
-  of_work_weaker h w x = record { base = x.base; done = weaker w x.done; theirs = x.theirs; counted = x.counted }
+  of_work_weaker h w x = record { whole = x.whole; base = x.base; done = weaker w x.done; theirs = x.theirs; counted = x.counted }
 
   pub run_weaker : (h : HistoryValue) (rounds : List ℕ) → IsRun start P h rounds → IsRun start Q h rounds
   run_weaker h rounds x = record {

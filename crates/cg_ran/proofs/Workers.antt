@@ -1,5 +1,5 @@
 -- The receipts of all workers.
-use Rattle.std.proofs.Common.{◌≡◌, ℕ, ◌+◌, ◌<◌, inl, inr, Bool, true, false, cond, List, [], ◌∷◌, ◌++◌, length, map, Some, refl, sym, ap, ◌∙◌, subst, arith, length-append, get_or}
+use Rattle.std.proofs.Common.{◌≡◌, ℕ, suc, ◌+◌, ◌-◌, ◌<◌, inl, inr, Bool, true, false, cond, List, [], ◌∷◌, ◌++◌, length, map, Some, refl, sym, ap, ◌∙◌, subst, arith, length-append, get_or}
 use Rattle.std.specs.Prelude.{slice_get, ◌==◌, ◌&&◌}
 use Rattle.std.specs.List.{All, filter}
 use Rattle.std.proofs.lemmas.Option.{same_Some, slice_get_within, get_or_from_slice_get, slice_get-get_or}
@@ -42,38 +42,38 @@ module _ (receiver sender ticker operator : List Receipt) (are : AreOfWorkers re
 
   -- ---- confirmation
 
-  module _ (records : List Item) (first : AreConfirmed records receiver) where
-    pub stray_of_sender : (s : Stray) → IsStrayBehind (length receiver) records sender s → IsFirstStray records (receiver ++ sender ++ ticker ++ operator) s
+  module _ (folded : ℕ) (records : List Item) (first : AreConfirmed folded records receiver) where
+    pub stray_of_sender : (s : Stray) → IsStrayBehind (length receiver) folded records sender s → IsFirstStray folded records (receiver ++ sender ++ ticker ++ operator) s
     stray_of_sender s behind =
-        stray_before records (receiver ++ sender ++ ticker) operator s (stray_before records (receiver ++ sender) ticker s
-        (stray_behind records SENDER receiver first below_sender sender (length receiver) s (own_of is_ack SENDER sender are.of_sender) refl behind))
+        stray_before folded records (receiver ++ sender ++ ticker) operator s (stray_before folded records (receiver ++ sender) ticker s
+        (stray_behind folded records SENDER receiver first below_sender sender (length receiver) s (own_of is_ack SENDER sender are.of_sender) refl behind))
 
-    module _ (second : AreConfirmed records sender) where
-      both : AreConfirmed records (receiver ++ sender)
-      both = confirmed_joined records SENDER receiver first below_sender sender (own_of is_ack SENDER sender are.of_sender) second
+    module _ (second : AreConfirmed folded records sender) where
+      both : AreConfirmed folded records (receiver ++ sender)
+      both = confirmed_joined folded records SENDER receiver first below_sender sender (own_of is_ack SENDER sender are.of_sender) second
 
-      pub stray_of_ticker : (s : Stray) → IsStrayBehind (length receiver + length sender) records ticker s → IsFirstStray records (receiver ++ sender ++ ticker ++ operator) s
+      pub stray_of_ticker : (s : Stray) → IsStrayBehind (length receiver + length sender) folded records ticker s → IsFirstStray folded records (receiver ++ sender ++ ticker ++ operator) s
       stray_of_ticker s behind =
-          stray_before records (receiver ++ sender ++ ticker) operator s
-          (stray_behind records TICKER (receiver ++ sender) both below_ticker ticker (length receiver + length sender) s (own_of is_tick TICKER ticker are.of_ticker) (sym (length-append receiver sender)) behind)
+          stray_before folded records (receiver ++ sender ++ ticker) operator s
+          (stray_behind folded records TICKER (receiver ++ sender) both below_ticker ticker (length receiver + length sender) s (own_of is_tick TICKER ticker are.of_ticker) (sym (length-append receiver sender)) behind)
 
-      module _ (third : AreConfirmed records ticker) where
-        three : AreConfirmed records (receiver ++ sender ++ ticker)
-        three = confirmed_joined records TICKER (receiver ++ sender) both below_ticker ticker (own_of is_tick TICKER ticker are.of_ticker) third
+      module _ (third : AreConfirmed folded records ticker) where
+        three : AreConfirmed folded records (receiver ++ sender ++ ticker)
+        three = confirmed_joined folded records TICKER (receiver ++ sender) both below_ticker ticker (own_of is_tick TICKER ticker are.of_ticker) third
 
         length_three : length receiver + length sender + length ticker ≡ length (receiver ++ sender ++ ticker)
         length_three = sym (length-append (receiver ++ sender) ticker ∙ ap (λ n. n + length ticker) (length-append receiver sender))
 
-        pub stray_of_operator : (s : Stray) → IsStrayBehind (length receiver + length sender + length ticker) records operator s → IsFirstStray records (receiver ++ sender ++ ticker ++ operator) s
+        pub stray_of_operator : (s : Stray) → IsStrayBehind (length receiver + length sender + length ticker) folded records operator s → IsFirstStray folded records (receiver ++ sender ++ ticker ++ operator) s
         stray_of_operator s behind =
-            stray_behind records OPERATOR (receiver ++ sender ++ ticker) three below_operator operator (length receiver + length sender + length ticker) s (own_of is_any OPERATOR operator are.of_operator) length_three behind
+            stray_behind folded records OPERATOR (receiver ++ sender ++ ticker) three below_operator operator (length receiver + length sender + length ticker) s (own_of is_any OPERATOR operator are.of_operator) length_three behind
 
-        pub all_confirmed : AreConfirmed records operator → AreConfirmed records (receiver ++ sender ++ ticker ++ operator)
-        all_confirmed fourth = confirmed_joined records OPERATOR (receiver ++ sender ++ ticker) three below_operator operator (own_of is_any OPERATOR operator are.of_operator) fourth
+        pub all_confirmed : AreConfirmed folded records operator → AreConfirmed folded records (receiver ++ sender ++ ticker ++ operator)
+        all_confirmed fourth = confirmed_joined folded records OPERATOR (receiver ++ sender ++ ticker) three below_operator operator (own_of is_any OPERATOR operator are.of_operator) fourth
 
-  pub stray_of_receiver : (records : List Item) (s : Stray) → IsFirstStray records receiver s → IsFirstStray records (receiver ++ sender ++ ticker ++ operator) s
-  stray_of_receiver records s first =
-      stray_before records (receiver ++ sender ++ ticker) operator s (stray_before records (receiver ++ sender) ticker s (stray_before records receiver sender s first))
+  pub stray_of_receiver : (folded : ℕ) (records : List Item) (s : Stray) → IsFirstStray folded records receiver s → IsFirstStray folded records (receiver ++ sender ++ ticker ++ operator) s
+  stray_of_receiver folded records s first =
+      stray_before folded records (receiver ++ sender ++ ticker) operator s (stray_before folded records (receiver ++ sender) ticker s (stray_before folded records receiver sender s first))
 
   pub length_all : length (receiver ++ sender ++ ticker ++ operator) ≡ length receiver + length sender + length ticker + length operator
   length_all =
@@ -122,12 +122,13 @@ module _ (receiver sender ticker operator : List Receipt) (are : AreOfWorkers re
 
   -- ---- as many receipts as records
 
-  module _ (records : List Item) (all : AreConfirmed records (receiver ++ sender ++ ticker ++ operator)) (many : length (receiver ++ sender ++ ticker ++ operator) ≡ length records) where
+  module _ (records : List Item) (all : AreConfirmed 0 records (receiver ++ sender ++ ticker ++ operator)) (many : length (receiver ++ sender ++ ticker ++ operator) ≡ length records) where
     pub records_are_work : All (λ (r : Item). IsWork r.caller r.event) records
     records_are_work k d less =
-        let r = each_record_has_its_receipt records (receiver ++ sender ++ ticker ++ operator) k all many less in
+        let r = each_record_has_its_receipt 0 records (receiver ++ sender ++ ticker ++ operator) k all many less in
         let stands = (all r.0 r.1 r.2).stands in
-        let there : slice_get records k ≡ Some stands.0 = sym (ap (at_place records) r.3) ∙ stands.1 in
+        let place : r.1.number - 0 ≡ suc k = (let e = r.3 in omega (arith, e)) in
+        let there : slice_get records k ≡ Some stands.0 = sym (ap (at_place records) place) ∙ stands.1 in
         let one : stands.0 ≡ get_or records k d = same_Some stands.0 (get_or records k d) (sym there ∙ slice_get-get_or records k d less) in
         let work = all_work r.0 r.1 (slice_get_within (receiver ++ sender ++ ticker ++ operator) r.0 r.1 r.2) in
         let q = get_or_from_slice_get (receiver ++ sender ++ ticker ++ operator) r.0 r.1 r.1 r.2 in

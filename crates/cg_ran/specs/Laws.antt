@@ -7,8 +7,8 @@ use Rattle.cg_records.specs.Confirming.{AreConfirmed}
 use Rattle.cg_ran.specs.Numbers.{numbers_in, numbers_on}
 
 -- The receipts of a caller's events of a kind have the numbers of the records of these, in their order. This holds if
--- confirmed receipts are as many as the records.
+-- none is folded, and confirmed receipts are as many as the records.
 abbrev pub ReceiptsHaveTheNumbers : Type 0
 ReceiptsHaveTheNumbers =
-    (records : List Item) (receipts : List Receipt) (caller : ℕ) (kind : Event → Bool) → AreConfirmed records receipts
+    (records : List Item) (receipts : List Receipt) (caller : ℕ) (kind : Event → Bool) → AreConfirmed 0 records receipts
     → length receipts ≡ length records → numbers_on caller kind receipts ≡ numbers_in caller kind records

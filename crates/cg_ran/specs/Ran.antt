@@ -21,10 +21,10 @@ use Rattle.cg_left.specs.Left.{Work, receipts_of, AreOfWorkers, is_received, is_
 use Rattle.cg_ran.specs.Numbers.{numbers_in}
 
 -- The first unconfirmed receipt of these is counted after `before` others.
-abbrev pub IsStrayBehind : ℕ → List Item → List Receipt → Stray → Type 0
-IsStrayBehind before records receipts stray =
+abbrev pub IsStrayBehind : ℕ → ℕ → List Item → List Receipt → Stray → Type 0
+IsStrayBehind before folded records receipts stray =
     (place : ℕ) × (stray.place ≡ before + place)
-    × IsFirstStray records receipts (record { place = place; fault = stray.fault })
+    × IsFirstStray folded records receipts (record { place = place; fault = stray.fault })
 
 -- The event is of a kind that the worker of the caller does.
 abbrev pub IsWork : ℕ → Event → Type 0
@@ -36,9 +36,10 @@ IsWork caller e =
 abbrev pub AnyWork : Work → Type 0
 AnyWork w = Unit {0}
 
--- The history began at the start. There are as many receipts of the workers as it has records, and this is how they
--- worked.
+-- The history began at the start, and none of its records is folded. There are as many receipts of the workers as it
+-- has records, and this is how they worked.
 pub record IsOfWork (start : NodeValue) (worked : Work → Type 0) (h : HistoryValue) (w : Work) : Type 0 where
+  pub whole : h.folded ≡ 0
   pub base : h.base ≡ start
   pub done : worked w
   pub theirs : AreOfWorkers w.receiver w.sender w.ticker w.operator
@@ -50,12 +51,13 @@ pub record AreNumbered (h : HistoryValue) (w : Work) (numbers : List ℕ) : Type
   pub are_first : IsPrefix w.taken (rounds_in w.ticker)
   pub recorded : IsPrefix numbers (numbers_in TICKER is_tick h.records)
 
--- The history replays from its start, and each record is of a worker's event. It confirms all receipts of the workers,
--- of which there are as many as records. The rounds taken are the first of the ticker's, in their order.
+-- The history replays from its start, no record is folded, and each record is of a worker's event. It confirms all
+-- receipts of the workers, of which there are as many as records. The rounds taken are the first of the ticker's, in
+-- their order.
 pub record IsRun (start : NodeValue) (worked : Work → Type 0) (h : HistoryValue) (numbers : List ℕ) : Type 0 where
   pub work : Work
   pub of_work : IsOfWork start worked h work
-  pub confirmed : AreConfirmed h.records (receipts_of work)
+  pub confirmed : AreConfirmed h.folded h.records (receipts_of work)
   pub rounds : AreNumbered h work numbers
   pub replayed : IsReplayed h
   pub kinds : All (λ (r : Item). IsWork r.caller r.event) h.records
@@ -65,13 +67,14 @@ pub record IsRun (start : NodeValue) (worked : Work → Type 0) (h : HistoryValu
 pub record IsUnconfirmed (start : NodeValue) (worked : Work → Type 0) (u : Unconfirmed) : Type 0 where
   pub work : Work
   pub of_work : IsOfWork start worked u.history work
-  pub stray : IsFirstStray u.history.records (receipts_of work) (stray_of u)
+  pub stray : IsFirstStray u.history.folded u.history.records (receipts_of work) (stray_of u)
 
 -- The first of these receipts that the history does not confirm is the one named, and they are as many as its records.
 abbrev pub StraysIn : List Receipt → NotRun → Type 0
 StraysIn receipts (not_run.Unstarted f) = Unit {0}
 StraysIn receipts (not_run.Unconfirmed u) =
-    IsFirstStray u.history.records receipts (stray_of u) × (length receipts ≡ length u.history.records)
+    IsFirstStray u.history.folded u.history.records receipts (stray_of u)
+    × (length receipts ≡ length u.history.records)
 
 -- If a node did not run, not all workers began; if its history is not confirmed, they did.
 abbrev pub TellsStart : Bool → NotRun → Type 0

@@ -1,8 +1,9 @@
 //! Putting together the results of the workers.
 
-ghost use Rattle.std.specs.Prelude.{◌≡◌, ◌+◌, ◌≤◌, ◌<◌, ◌++◌, [], true, length, vec_len, vec_capacity, IfOk, IfErr, MatchResult};
+ghost use Rattle.std.specs.Prelude.{◌≡◌, ◌+◌, ◌≤◌, ◌<◌, ◌++◌, [], true, false, length, vec_len, vec_capacity, IfOk, IfErr, MatchResult};
 ghost use Rattle.std.specs.List.{sum_by};
 ghost use Rattle.cg_records.specs.Confirming.{AreConfirmed, IsFirstStray};
+ghost use Rattle.cg_history.specs.History.{count_of};
 ghost use Rattle.cg_locked.specs.Shared.{history_of, stray_of};
 ghost use Rattle.cg_left.specs.Left.{receipts_of, AreOfWorkers, AreTaken};
 ghost use Rattle.cg_left.specs.Workers.{all_began, work_of};
@@ -22,10 +23,10 @@ fn confirm_behind(
     before: usize,
     receipts: &[Receipt],
 ) -> Result<History, Unconfirmed>
-    requires { before + length receipts.now ≤ length history.records }
+    requires { before + length receipts.now ≤ count_of history }
     ensures history { history_of result ≡ history }
-    ensures confirmed { MatchResult result (λ h. AreConfirmed h.records receipts.now)
-        (λ u. IsStrayBehind before u.history.records receipts.now (stray_of u)) }
+    ensures confirmed { MatchResult result (λ h. AreConfirmed h.folded h.records receipts.now)
+        (λ u. IsStrayBehind before u.history.folded u.history.records receipts.now (stray_of u)) }
 {
     let _records = history.records();
     match history.confirms(receipts) {
@@ -53,12 +54,15 @@ fn confirm_all<N: Name, R: Wait>(
     requires count { sum_by (λ s. s.amount) seats.items
         ≡ length receiver.now + length sender.now + length ticker.now + length operator.now }
     requires receipts { AreOfWorkers receiver.now sender.now ticker.now operator.now }
-    ensures start { (history_of result).base ≡ N.start }
-    ensures count { length (history_of result).records
+    requires whole { N.folds ≡ false }
+    ensures start { (history_of result).start ≡ N.start }
+    ensures whole { (history_of result).folded ≡ 0 }
+    ensures count { count_of (history_of result)
         ≡ length (receiver.now ++ sender.now ++ ticker.now ++ operator.now) }
     ensures confirmed { MatchResult result
-        (λ h. AreConfirmed h.records (receiver.now ++ sender.now ++ ticker.now ++ operator.now))
-        (λ u. IsFirstStray u.history.records (receiver.now ++ sender.now ++ ticker.now ++ operator.now) (stray_of u)) }
+        (λ h. AreConfirmed h.folded h.records (receiver.now ++ sender.now ++ ticker.now ++ operator.now))
+        (λ u. IsFirstStray u.history.folded u.history.records
+        (receiver.now ++ sender.now ++ ticker.now ++ operator.now) (stray_of u)) }
 {
     let history = shared.finish(rt, seats, receiver)?;
     let history = confirm_behind(history, receiver.len(), sender)?;
@@ -73,8 +77,8 @@ fn confirm_all<N: Name, R: Wait>(
 ///
 /// `Unstarted`, with OutOfMemory, if not all workers began, whatever the history confirms. `Unconfirmed` has the
 /// history, and the fault and the place of the first receipt that it does not confirm. Places count from 0 through all
-/// receipts in that order. `work` has the results of this board's workers: all its parts, and both ends of one channel.
-/// `seats` is an empty list with room for four. It may wait for the lock.
+/// receipts in that order. No record of either history is folded. `work` has the results of this board's workers: all
+/// its parts, and both ends of one channel. `seats` is an empty list with room for four. It may wait for the lock.
 pub fn finish<N: Name, R: Wait>(
     rt: &R,
     shared: Shared<N>,
@@ -86,10 +90,11 @@ pub fn finish<N: Name, R: Wait>(
         ≡ N.parts }
     requires receipts { AreOfWorkers work.receiver.receipts work.sender.left.receipts
         work.ticker.left.receipts work.operator.receipts }
+    requires whole { N.folds ≡ false }
     requires taken { AreTaken work.ticker.putting work.sender.taken work.sender.numbers.items
         work.ticker.left.receipts }
     ensures ran { IfOk result (λ r. IsRun N.start (λ w. w ≡ work_of work) r.history r.rounds.items) }
-    ensures confirmed { IfOk result (λ r. AreConfirmed r.history.records (receipts_of (work_of work))) }
+    ensures confirmed { IfOk result (λ r. AreConfirmed r.history.folded r.history.records (receipts_of (work_of work))) }
     ensures rounds { IfOk result (λ r. r.rounds.items ≡ work.sender.numbers.items) }
     ensures began { IfOk result (λ _. all_began work ≡ true) }
     ensures not { IfErr result (IsNotRun N.start (λ w. w ≡ work_of work)) }
@@ -134,6 +139,9 @@ pub fn finish<N: Name, R: Wait>(
                 rounds: numbers,
             })
         }
-        Err(left) => Err(NotRun::Unconfirmed(left)),
+        Err(left) => {
+            let _led = left.history.node();
+            Err(NotRun::Unconfirmed(left))
+        }
     }
 }
