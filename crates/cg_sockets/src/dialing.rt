@@ -1,27 +1,35 @@
 //! Connections that are made.
 
+use crate::lines::Lines;
 use crate::side::{Side, end_in, left_until};
 use cg_types::{Endpoint, Fault};
 use cg_workers::Dial;
 use std::alloc::Global;
 use std::io;
-use std::io::ErrorKind;
+use std::io::{Eprint, Error, ErrorKind};
 use std::net::{Net, SocketAddr, TcpStream};
 use std::rt::Clock;
 use std::time::Instant;
 
-/// A dialer of peers over TCP. Dialing a peer and the exchange with it have one end time.
+/// A dialer of peers over TCP. Dialing a peer and the exchange with it have one end time. If a peer can't be dialed, it
+/// says so on standard error, in a line a second at most.
 #[derive(Drop)]
 pub struct Dialer<'a, R: Net<Stream = TcpStream> + Clock> {
     rt: &'a R,
     alloc: Global,
     limit: u32,
+    lines: Lines,
 }
 
 impl<'a, R: Net<Stream = TcpStream> + Clock> Dialer<'a, R> {
     /// Makes a dialer that gives dialing and an exchange `limit` milliseconds.
     pub fn new(rt: &'a R, alloc: Global, limit: u32) -> Dialer<'a, R> {
-        Dialer { rt, alloc, limit }
+        Dialer {
+            rt,
+            alloc,
+            limit,
+            lines: Lines::new(),
+        }
     }
 
     // Connects to a peer, before an end time.
@@ -32,7 +40,16 @@ impl<'a, R: Net<Stream = TcpStream> + Clock> Dialer<'a, R> {
     }
 }
 
-impl<'a, R: Net<Stream = TcpStream> + Clock> Dial for Dialer<'a, R> {
+impl<'a, R: Net<Stream = TcpStream> + Clock + Eprint> Dialer<'a, R> {
+    // Prints a line about a peer that can't be dialed, unless one was printed shortly before.
+    fn tell(&mut self, peer: Endpoint, error: &Error) {
+        if self.lines.may_print(self.rt) {
+            let _ = eprintln!(self.rt; "cg: can't dial {peer}: {error}");
+        }
+    }
+}
+
+impl<'a, R: Net<Stream = TcpStream> + Clock + Eprint> Dial for Dialer<'a, R> {
     ghost use Rattle.std.specs.Prelude.{◌≡◌, ◌⊎◌, IfErr};
     ghost use Rattle.cg_types.specs.declared.fault.Fault.TheVariants.{OutOfMemory, ReadFault};
 
@@ -48,10 +65,13 @@ impl<'a, R: Net<Stream = TcpStream> + Clock> Dial for Dialer<'a, R> {
         };
         match self.connect(peer, end) {
             Ok(stream) => Side::pair(self.rt, self.alloc, stream, end, end),
-            Err(error) => match error.kind() {
-                ErrorKind::OutOfMemory => Err(Fault::OutOfMemory),
-                _ => Err(Fault::ReadFault),
-            },
+            Err(error) => {
+                self.tell(peer, &error);
+                match error.kind() {
+                    ErrorKind::OutOfMemory => Err(Fault::OutOfMemory),
+                    _ => Err(Fault::ReadFault),
+                }
+            }
         }
     }
 }

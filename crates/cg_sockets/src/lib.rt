@@ -8,6 +8,7 @@
 mod dialing;
 pub mod laws;
 mod limits;
+mod lines;
 mod listening;
 mod passing;
 mod side;

@@ -3,7 +3,8 @@
 ghost use Rattle.std.specs.Prelude.{◌≡◌, ◌⊎◌, IfErr};
 ghost use Rattle.cg_types.specs.declared.fault.Fault.TheVariants as faults;
 
-use crate::limits::{ACCEPT_PAUSE, LINE_PAUSE, first_byte_limit};
+use crate::limits::{ACCEPT_PAUSE, first_byte_limit};
+use crate::lines::Lines;
 use crate::passing::is_passing_error;
 use crate::side::{Side, end_in};
 use cg_types::{Endpoint, Fault};
@@ -13,7 +14,7 @@ use std::io::{Eprint, Error, ErrorKind};
 use std::net::{Net, OpenListener, SocketAddr, TcpListener, TcpStream};
 use std::rt::Clock;
 use std::sync::Wait;
-use std::time::{Duration, Instant};
+use std::time::Duration;
 use std::{io, thread};
 
 /// A listener over TCP. Each exchange ends a number of milliseconds after its connection was taken, and after
@@ -24,19 +25,20 @@ pub struct Listener<'a, R: Net<Stream = TcpStream> + Clock> {
     alloc: Global,
     listener: R::Listener,
     limit: u32,
-    // when the last line on standard error was printed
-    told: Option<Instant>,
+    lines: Lines,
 }
 
 impl<'a, R: Net<Stream = TcpStream> + Clock> Listener<'a, R> {
     /// Listens at an endpoint, and gives each exchange `limit` milliseconds. `ReadFault` if that can't be, for example
-    /// because another program listens there; `OutOfMemory` if memory is refused.
+    /// because another program listens there, which a line on standard error says; `OutOfMemory` if memory is refused.
     pub fn bind(
         rt: &'a R,
         alloc: Global,
         at: Endpoint,
         limit: u32,
     ) -> Result<Listener<'a, R>, Fault>
+    where
+        R: Eprint,
         ensures { IfErr result (λ f. (f ≡ faults.OutOfMemory) ⊎ (f ≡ faults.ReadFault)) }
     {
         let address = SocketAddr::from((at.address(), at.port()));
@@ -46,12 +48,15 @@ impl<'a, R: Net<Stream = TcpStream> + Clock> Listener<'a, R> {
                 alloc,
                 listener,
                 limit,
-                told: None,
+                lines: Lines::new(),
             }),
-            Err(error) => match error.kind() {
-                ErrorKind::OutOfMemory => Err(Fault::OutOfMemory),
-                _ => Err(Fault::ReadFault),
-            },
+            Err(error) => {
+                let _ = eprintln!(rt; "cg: can't listen at {at}: {error}");
+                match error.kind() {
+                    ErrorKind::OutOfMemory => Err(Fault::OutOfMemory),
+                    _ => Err(Fault::ReadFault),
+                }
+            }
         }
     }
 
@@ -72,25 +77,9 @@ impl<'a, R: Net<Stream = TcpStream> + Clock> Listener<'a, R> {
 }
 
 impl<'a, R: Net<Stream = TcpStream> + Clock + Eprint> Listener<'a, R> {
-    // Tests whether the last line on standard error is as old as it has to be before the next one.
-    fn may_tell(&self, now: Instant) -> bool {
-        match self.told {
-            Some(told) => {
-                let pause = Duration::from_millis(u64::from(LINE_PAUSE));
-                now.saturating_duration_since(told) >= pause
-            }
-            None => true,
-        }
-    }
-
-    // Prints a line about a connection that could not be taken, unless one was printed shortly before, or the clock
-    // can't be read.
+    // Prints a line about a connection that could not be taken, unless one was printed shortly before.
     fn tell(&mut self, error: &Error) {
-        let Ok(now) = Instant::now(self.rt) else {
-            return;
-        };
-        if self.may_tell(now) {
-            self.told = Some(now);
+        if self.lines.may_print(self.rt) {
             let _ = eprintln!(self.rt; "cg: a connection can't be taken: {error}");
         }
     }

@@ -112,7 +112,7 @@ impl<'a, R> Eprint for Faulty<'a, R> {
 impl<'a, R: Wait> Wait for Faulty<'a, R> {}
 
 // Accepts a connection after these errors: its fault, if it ends so, the milliseconds slept, and the lines printed.
-fn accepted<R: Net<Listener = TcpListener, Stream = TcpStream> + Clock + Wait>(
+fn accepted<R: Net<Listener = TcpListener, Stream = TcpStream> + Clock + Eprint + Wait>(
     rt: &R,
     alloc: Global,
     codes: &'static [i32],
@@ -153,4 +153,16 @@ fn any_other_error_ends_it(rt: HostRuntime) -> Result<(), Fail> {
 #[test]
 fn its_end_is_told_after_each_other_line(rt: HostRuntime) -> Result<(), Fail> {
     expect!(accepted(&rt, rt.alloc(), &[24, 24, 22])? == (Some(Fault::ReadFault), 200, 2))
+}
+
+#[test]
+fn peers_that_can_not_be_dialed_are_told_once_a_second(rt: HostRuntime) -> Result<(), Fail> {
+    let to = free_endpoint(&rt)?;
+    let faulty = Faulty::new(&rt, &[]);
+    let mut dialer = Dialer::new(&faulty, rt.alloc(), 200);
+    for _ in 0..12 {
+        expect!(dialer.dial(to).err() == Some(Fault::ReadFault))?;
+        faulty.sleep(Duration::from_millis(100));
+    }
+    expect_eq!(faulty.lines.load(Ordering::SeqCst), 2)
 }

@@ -6,7 +6,7 @@ use cg_sockets::{Dialer, Listener};
 use cg_types::{Endpoint, Fault};
 use cg_workers::{Dial, Listen};
 use std::alloc::Global;
-use std::io::{ErrorKind, Read, Write};
+use std::io::{Eprint, ErrorKind, Read, Write};
 use std::net::{Net, TcpStream};
 use std::rt::Clock;
 use std::test::Fail;
@@ -56,7 +56,7 @@ fn nobody_answers(rt: HostRuntime) -> Result<(), Fail> {
 }
 
 // Reads three bytes that a peer does not send: the milliseconds that it took, and `true` if the read failed.
-fn waited<R: Net<Stream = TcpStream> + Clock>(
+fn waited<R: Net<Stream = TcpStream> + Clock + Eprint>(
     rt: &R,
     alloc: Global,
     to: Endpoint,
@@ -90,7 +90,7 @@ fn a_silent_peer_is_left_at_the_end(rt: HostRuntime) -> Result<(), Fail> {
 }
 
 // Reads a byte at a time until a read fails: the milliseconds that it took, and the number of bytes.
-fn dripped<R: Net<Stream = TcpStream> + Clock>(
+fn dripped<R: Net<Stream = TcpStream> + Clock + Eprint>(
     rt: &R,
     alloc: Global,
     to: Endpoint,
@@ -145,7 +145,12 @@ fn heard<R: Clock, L: Listen>(rt: &R, listener: &mut L) -> io::Result<(u128, u64
 }
 
 // Dials a listener, sends `bytes` bytes, one every 300 ms, the first at once, and hangs up after three seconds.
-fn say<R: Net<Stream = TcpStream> + Clock>(rt: &R, alloc: Global, to: Endpoint, bytes: u32) {
+fn say<R: Net<Stream = TcpStream> + Clock + Eprint>(
+    rt: &R,
+    alloc: Global,
+    to: Endpoint,
+    bytes: u32,
+) {
     let Ok((_reader, mut writer)) = Dialer::new(rt, alloc, 10000).dial(to) else {
         return;
     };
