@@ -10,6 +10,7 @@ pub use cg_answering::answer;
 pub use cg_auditing::{Source, audit_files};
 pub use cg_command::{Job, Subcommand, job_of};
 pub use cg_journal::{Unread, read_journal, read_journal_telling, write_journal};
+pub use cg_operator::operate;
 pub use cg_settings_file::{ServeSettings, settings_of};
 pub use cg_sim::sim;
 pub use running::{Ending, run};
