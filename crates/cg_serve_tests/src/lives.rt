@@ -11,6 +11,7 @@ use std::alloc::Global;
 use std::fs;
 use std::fs::File;
 use std::net::TcpListener;
+use std::os::unix::fs::symlink;
 use std::rt::Files;
 use std::test::Fail;
 
@@ -132,6 +133,33 @@ fn faults_of_a_generation_in_their_order(rt: HostRuntime) -> Result<(), Fail> {
         free_port(&rt)?,
     )?;
     ends!(&rt, alloc, file, 1, "fault 15 WriteFault\n")
+}
+
+// Has the generation's path lead to this.
+fn lead<R: Files<File = File>>(rt: &R, alloc: Global, to: &str) -> Result<(), Fail> {
+    remove_file(rt, alloc, "cg_serve_led", "generation")?;
+    symlink(rt, to, "cg_serve_led.generation")?;
+    Ok(())
+}
+
+// What the path of a generation names is a symlink, and so no regular file, or leads to none.
+#[test]
+fn faults_of_a_generation_that_is_no_regular_file(rt: HostRuntime) -> Result<(), Fail> {
+    let (alloc, name, file) = (rt.alloc(), "cg_serve_led", "cg_serve_led.toml");
+    let (generation, lost) = ("cg_serve_led.generation", "cg_serve_no_folder/file");
+    settle(&rt, alloc, name, generation, lost, free_port(&rt)?)?;
+    lead(&rt, alloc, ".")?;
+    ends!(&rt, alloc, file, 1, "fault 14 ReadFault\n")?;
+    lead(&rt, alloc, "/dev/null")?;
+    ends!(&rt, alloc, file, 1, "fault 2 BadText\n")?;
+    write_file(&rt, alloc, name, "number", b"2147483647\n")?;
+    lead(&rt, alloc, "cg_serve_led.number")?;
+    ends!(&rt, alloc, file, 1, "fault 4 VersionsSpent\n")?;
+    // it leads to nothing: there is no number to read, and nothing to replace
+    remove_file(&rt, alloc, name, "number")?;
+    ends!(&rt, alloc, file, 1, "fault 15 WriteFault\n")?;
+    expect!(fs::symlink_metadata(&rt, generation)?.is_symlink())?;
+    remove_file(&rt, alloc, name, "generation")
 }
 
 #[test]
