@@ -9,7 +9,7 @@ use crate::node::{Birth, LifeLeft, run};
 use cg_files::Disk;
 use cg_history::History;
 use cg_links::Counted;
-use cg_node_files::{next_life, settings_in, try_journal, write_journal_to};
+use cg_node_files::{Unset, next_life, settings_telling, try_journal, write_journal_to};
 use cg_printed::written;
 use cg_settings_file::ServeSettings;
 use cg_types::Fault;
@@ -27,13 +27,27 @@ struct Lived {
     journal: String,
 }
 
+// Prints on standard error a file and its fault.
+fn tell<R: Eprint>(rt: &R, path: &str, fault: Fault) {
+    let _ = eprintln!(rt; "cg serve: {path}: {fault}");
+}
+
+// Prints on standard error a settings file, the key at which its fault came, and the fault.
+fn tell_unset<R: Eprint>(rt: &R, path: &str, unset: &Unset) {
+    let fault = unset.fault;
+    match &unset.key {
+        Some(key) => {
+            let _ = eprintln!(rt; "cg serve: {path}: {key}: {fault}");
+        }
+        None => tell(rt, path, fault),
+    }
+}
+
 // Prints a line on standard error if it is seen before a life that its journal can't be written.
 fn foresee<R: Disk + Eprint>(rt: &R, alloc: Global, journal: &str) {
     match try_journal(rt, alloc, journal) {
         Ok(()) => {}
-        Err(fault) => {
-            let _ = eprintln!(rt; "cg serve: {journal}: {fault}");
-        }
+        Err(fault) => tell(rt, journal, fault),
     }
 }
 
@@ -52,13 +66,19 @@ where
     R::Reader: Send,
     ensures { Lives R.did R.File.remaining R.File.contents file.now result }
 {
-    let settings = match settings_in(rt, alloc, file) {
+    let settings = match settings_telling(rt, alloc, file) {
         Ok(settings) => settings,
-        Err(fault) => return Err(fault),
+        Err(unset) => {
+            tell_unset(rt, file, &unset);
+            return Err(unset.fault);
+        }
     };
     let generation = match next_life(rt, alloc, settings.generation_file.as_str()) {
         Ok(generation) => generation,
-        Err(fault) => return Err(fault),
+        Err(fault) => {
+            tell(rt, settings.generation_file.as_str(), fault);
+            return Err(fault);
+        }
     };
     foresee(rt, alloc, settings.journal.as_str());
     let ServeSettings {
@@ -133,18 +153,26 @@ fn told<W: Write>(
     }
 }
 
-// Writes a journal, and returns the fault if that fails.
-fn unwritten<D: Disk>(disk: &D, alloc: Global, file: &str, history: &History) -> Option<Fault>
+// Writes a journal. If that fails, it prints so on standard error, and returns the fault.
+fn unwritten<D: Disk + Eprint>(
+    disk: &D,
+    alloc: Global,
+    file: &str,
+    history: &History,
+) -> Option<Fault>
     ensures { WritesJournal D.did D.File.contents file.now history.now result }
 {
     match write_journal_to(disk, alloc, file, history) {
         Ok(()) => None,
-        Err(fault) => Some(fault),
+        Err(fault) => {
+            tell(disk, file, fault);
+            Some(fault)
+        }
     }
 }
 
 // Writes the journal of a life, if one was lived, and the lines of its faults, and returns the status.
-fn ended<D: Disk, W: Write>(
+fn ended<D: Disk + Eprint, W: Write>(
     disk: &D,
     alloc: Global,
     life: &Result<Lived, Fault>,
@@ -177,9 +205,11 @@ fn ended<D: Disk, W: Write>(
 /// of a worker ends that worker, and does not change the status. The lines are flushed. If the writer fails or takes no
 /// byte, a prefix of the lines is written, and the status is 1.
 ///
-/// Before it begins, it tries whether a file can stand beside the journal's, and prints a line on standard error if not.
-/// While it lives, it prints a line there, one a second at most, if a connection can't be taken, and one if no further
-/// connection is taken; no other fault of a worker is printed.
+/// For each fault of a file it prints a line on standard error, with the file, the key if it is one of the settings, and
+/// the fault; and one with the endpoint at which it can't listen. Before it begins, it tries whether a file can stand
+/// beside the journal's, and prints a line there if not. While it lives, it prints there, each in a line a second at
+/// most, that a connection can't be taken and that a peer can't be dialed, and one line if no further connection is
+/// taken; no other fault of a worker is printed.
 pub fn serve<R, W>(rt: &R, alloc: Global, file: &str, writer: &mut Counted<W>) -> u8
 where
     R: Threads
