@@ -58,7 +58,8 @@ pub fn begin<N: Name, R: Wait>(
     fresh: Fresh,
 ) -> Result<Begun<N>, AllocError>
     requires views { (opened ≡ N.book) × (table ≡ N.opening) }
-    requires history { (history.records ≡ []) × (history.base ≡ N.start) × (history.base.table ≡ table) }
+    requires history { (history.records ≡ []) × (history.folded ≡ 0) × (history.base ≡ N.start)
+        × (history.base.table ≡ table) }
     requires fresh { (fresh.name ≡ N.name) × (fresh.parts ≡ N.parts) × (fresh.log ≡ N.log) × (N.parts ≡ 4) }
     ensures callers { IfOk result (λ b. AreWorkers b.seats) }
     ensures amounts { IfOk result (λ b. AreUnused b.seats) }
