@@ -1,6 +1,7 @@
 //! The files of a node: its settings, its generation and its journal, in the folder where the tests run.
 
 use crate::settings_tests::FEW;
+use cg_events::Event;
 use cg_expect::{expect, expect_eq};
 use cg_history::History;
 use cg_life_samples::{generation_of, journal_of, remove_file, write_file};
@@ -95,6 +96,29 @@ fn a_journal_in_a_file(rt: HostRuntime) -> Result<(), Fail> {
     expect_eq!(
         write_journal_to(&rt, alloc, "cg_jobs_no_folder/journal", &history),
         Err(Fault::WriteFault)
+    )
+}
+
+#[test]
+fn a_journal_of_a_folded_history(rt: HostRuntime) -> Result<(), Fail> {
+    let (alloc, name) = (rt.alloc(), "cg_jobs_folded");
+    let mut history = History::begin(alloc, endpoint(A), generation(9), settings(alloc)?)?;
+    write_journal_to(&rt, alloc, "cg_jobs_folded.journal", &history)?;
+    history.apply(alloc, 0, Event::Beat)?;
+    if history.records().len() == 1 {
+        history.fold_front(alloc, 1)?;
+    }
+    // the old text stays, and no file is begun
+    for file in ["cg_jobs_folded.journal", "cg_jobs_no_folder/journal"] {
+        expect_eq!(
+            write_journal_to(&rt, alloc, file, &history),
+            Err(Fault::Folded)
+        )?;
+    }
+    expect!(journal_of(&rt, alloc, name)? == Some((endpoint(A), generation(9), 0)))?;
+    expect_eq!(
+        port_in(&rt, alloc, "cg_jobs_folded.journal.new"),
+        Err(Fault::ReadFault)
     )
 }
 
