@@ -123,6 +123,17 @@ pub(crate) fn kinds(history: &History) -> (u32, u32, u32) {
     (syns, acks, rounds)
 }
 
+// The number of records of a history that are of an ACK.
+pub(crate) fn acks(history: &History) -> u32 {
+    let mut count = 0u32;
+    for item in history.records() {
+        if let Event::Ack { .. } = &item.event {
+            count = count.saturating_add(1);
+        }
+    }
+    count
+}
+
 // Tests whether the lives of two endpoints were one run of the gossip.
 pub(crate) fn were_one_run(
     alloc: Global,
