@@ -1,6 +1,6 @@
 //! The run of a node.
 
-ghost use Rattle.std.specs.Prelude.{◌≡◌, [], IfOk, IfErr};
+ghost use Rattle.std.specs.Prelude.{◌≡◌, [], false, IfOk, IfErr};
 ghost use Rattle.cg_work.specs.Worked.{HaveWorked};
 ghost use Rattle.cg_ran.specs.Ran.{IsRun, IsNotRun};
 
@@ -50,7 +50,9 @@ where
     D::Reader: Send,
     D::Writer: Send,
     requires views { (opened ≡ N.book) × (table ≡ N.opening) }
-    requires history { (history.records ≡ []) × (history.base ≡ N.start) × (history.base.table ≡ table) }
+    requires history { (history.records ≡ []) × (history.folded ≡ 0) × (history.base ≡ N.start)
+        × (history.base.table ≡ table) }
+    requires whole { N.folds ≡ false }
     requires fresh { (fresh.name ≡ N.name) × (fresh.parts ≡ N.parts) × (fresh.log ≡ N.log) × (N.parts ≡ 4) }
     ensures ran { IfOk result (λ r. IsRun history.base (HaveWorked history.base L.Reader.remaining L.Writer.contents L.accepts
         D.Reader.remaining D.Writer.contents D.dials O.works (C.shows parts.clock) parts.listener parts.dialer
@@ -104,9 +106,9 @@ where
 /// that worker alone. If the sender or the ticker stops for want of memory, the other ends too, with fewer rounds. No
 /// worker begins before all are started. The call waits until all have ended.
 ///
-/// `history` has no records yet. `Unstarted`, with OutOfMemory, if the copy of its table, the views, the board, the
-/// channel or a thread was refused. Then nothing was done, and the history is gone. `Unconfirmed` if the history does
-/// not confirm all receipts.
+/// `history` has no records yet, and none was folded; nor is one folded in the history that comes back. `Unstarted`,
+/// with OutOfMemory, if the copy of its table, the views, the board, the channel or a thread was refused. Then nothing
+/// was done, and the history is gone. `Unconfirmed` if the history does not confirm all receipts.
 ///
 /// The clauses say by which of the parts each worker did its work, and in how many turns, and that the history has one
 /// record for each of their receipts. They do not say that the ticker pauses.
@@ -127,7 +129,7 @@ pub fn run_node<
 where
     D::Reader: Send,
     D::Writer: Send,
-    requires { history.records ≡ [] }
+    requires { (history.records ≡ []) × (history.folded ≡ 0) }
     ensures ran { IfOk result (λ r. IsRun history.base (HaveWorked history.base L.Reader.remaining L.Writer.contents L.accepts
         D.Reader.remaining D.Writer.contents D.dials O.works (C.shows parts.clock) parts.listener parts.dialer
         (G.stream parts.generator) parts.operator turns) r.history r.rounds.items) }

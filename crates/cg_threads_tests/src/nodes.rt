@@ -59,7 +59,7 @@ impl Side {
 
 // The history of a node that has just started.
 fn begun(alloc: Global, side: &Side) -> Option<History>
-    ensures { IfSome result (λ h. h.records ≡ []) }
+    ensures { IfSome result (λ h. (h.records ≡ []) × (h.folded ≡ 0)) }
 {
     let mut seeds = Vec::new(alloc);
     seeds.push(side.seed).ok()?;
