@@ -1,4 +1,4 @@
-//! Worlds and audits: exchanges, views of a world, runs, and lives that were not read from journals.
+//! Worlds, histories and audits: exchanges, views of a world, runs, folds, and lives that were not read from journals.
 //!
 //! Each call is tried once, with ample memory.
 #![tactic(auto)]
@@ -9,6 +9,8 @@ mod audits;
 mod copies;
 #[cfg(test)]
 mod exchanges;
+#[cfg(test)]
+mod folds;
 #[cfg(test)]
 mod runs;
 #[cfg(test)]
