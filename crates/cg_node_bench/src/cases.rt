@@ -27,6 +27,8 @@ pub(crate) enum Task {
     Steps(u32),
     /// The same as records of a history.
     Records(u32),
+    /// The same, of which a hundred records are folded whenever two hundred are kept.
+    Folded(u32),
     /// A hundred thousand receipts of `callers` callers, who beat in turn, are confirmed: from one to the next, the
     /// number rises by `rise`.
     Confirms { callers: u32, rise: u32 },
@@ -72,7 +74,7 @@ const CALLER_BY_CALLER: Task = Task::Confirms {
 
 /// All cases: steps of nodes at tables of each shape, at claims of tokens and at full windows, exchanges over links,
 /// histories, and scripts of 8 nodes with a hundred thousand lines and of 256 nodes.
-pub(crate) const ALL: [Case; 24] = [
+pub(crate) const ALL: [Case; 25] = [
     ("node", "heartbeat", "1x200", Task::Heartbeat, SMALLEST),
     ("node", "beat", "1x200", Task::Beat, SMALLEST),
     ("node", "set", "1x200", Task::Set, SMALLEST),
@@ -106,6 +108,13 @@ pub(crate) const ALL: [Case; 24] = [
         "1000_heartbeats",
         "16x1024",
         Task::Records(1000),
+        LARGEST,
+    ),
+    (
+        "records",
+        "folded_1000_heartbeats",
+        "16x1024",
+        Task::Folded(1000),
         LARGEST,
     ),
     ("confirms", "by_number", "1", ONE_CALLER, SMALLEST),

@@ -52,12 +52,38 @@ pub(crate) fn recorded(alloc: Global, events: &[Event]) -> Result<History, Failu
     Ok(history)
 }
 
-/// The history of `count` heartbeats at a whole table, whose events are handed to it and not copied.
-pub(crate) fn kept(alloc: Global, shape: Shape, count: u32) -> Result<History, Failure> {
+/// The same history, of which a hundred records are folded whenever two hundred are kept.
+pub(crate) fn folded(alloc: Global, events: &[Event]) -> Result<History, Failure> {
+    let mut history = begun(alloc)?;
+    for event in events {
+        apply(alloc, &mut history, 1, event.copy(alloc)?)?;
+        fold_from(alloc, &mut history, 200)?;
+    }
+    Ok(history)
+}
+
+// Folds all records but the last hundred if `full` are kept.
+fn fold_from(alloc: Global, history: &mut History, full: usize) -> Result<(), AllocError> {
+    let count = history.records().len();
+    if count < full {
+        return Ok(());
+    }
+    history.fold_front(alloc, count.saturating_sub(100))
+}
+
+/// The history of `count` heartbeats at a whole table, whose events are handed to it and not copied. All records but
+/// the last hundred are folded whenever `full` are kept.
+pub(crate) fn kept(
+    alloc: Global,
+    shape: Shape,
+    count: u32,
+    full: usize,
+) -> Result<History, Failure> {
     let mut history = begun(alloc)?;
     apply(alloc, &mut history, 1, others(alloc, shape)?)?;
     for number in 0..count {
         apply(alloc, &mut history, 1, next(alloc, number)?)?;
+        fold_from(alloc, &mut history, full)?;
     }
     Ok(history)
 }

@@ -2,8 +2,9 @@
 //!
 //! With no words it runs each case once and prints a digest of its results, which no clock and no machine changes. With
 //! the word `time` it measures each. With the word `keep` and a number it makes that number of records of heartbeats at
-//! a whole table. It keeps them to its end, so that their memory can be measured from outside. With the word `runs` it
-//! has `World::run` do three starts, and prints how many nodes run then, or that there is no world.
+//! a whole table. It keeps them to its end, so that their memory can be measured from outside. With the word `fold` it
+//! does the same, and folds all but the last hundred whenever a thousand and one hundred are kept. With the word `runs`
+//! it has `World::run` do three starts, and prints how many nodes run then, or that there is no world.
 #![tactic(auto)]
 
 mod cases;
@@ -36,16 +37,20 @@ fn second_number(rt: &impl Env) -> u32 {
     }
 }
 
-// Makes `count` records, and prints the number that it keeps.
-fn keep(rt: &impl Print, alloc: Global, count: u32) -> Result<(), Failure> {
-    let history = kept(alloc, LARGEST, count)?;
-    println!(rt; "{} records", history.records().len())?;
+// Makes `count` records, folds them whenever `full` are kept, and prints how many are folded and how many are kept.
+fn keep(rt: &impl Print, alloc: Global, count: u32, full: usize) -> Result<(), Failure> {
+    let history = kept(alloc, LARGEST, count, full)?;
+    let (gone, left) = (history.folded(), history.records().len());
+    println!(rt; "{gone} records folded, {left} kept")?;
     Ok(())
 }
 
 fn main(rt: HostRuntime) -> Result<(), Failure> {
     if is_first_word(&rt, *b"keep") {
-        return keep(&rt, rt.alloc(), second_number(&rt));
+        return keep(&rt, rt.alloc(), second_number(&rt), usize::MAX);
+    }
+    if is_first_word(&rt, *b"fold") {
+        return keep(&rt, rt.alloc(), second_number(&rt), 1100);
     }
     if is_first_word(&rt, *b"runs") {
         return print_run(&rt, rt.alloc());

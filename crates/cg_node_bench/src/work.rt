@@ -2,7 +2,7 @@
 
 use crate::cases::{Case, Task};
 use crate::claims::{claimed, joins, leaves, left};
-use crate::histories::{beats, events, receipts, recorded, stepped, stray};
+use crate::histories::{beats, events, folded, receipts, recorded, stepped, stray};
 use crate::links::{Side, answerer_part, equal_sides, opener_part, received};
 use crate::nodes::{
     after, after_all, heard, heartbeat, joined, load, rounds_of_beats, started, whole,
@@ -37,6 +37,8 @@ pub(crate) enum Work {
     Steps(Vec<Event>),
     /// The same as records of a history.
     Records(Vec<Event>),
+    /// The same as records that are folded again and again.
+    Folded(Vec<Event>),
     Confirms(History, Vec<Receipt>),
     Play(String),
     Act(Vec<Action>),
@@ -104,6 +106,7 @@ impl cg_measure::Work for Work {
             Work::Receive(frame) => Ok(Made::Message(received(alloc, frame)?)),
             Work::Steps(events) => Ok(Made::Node(stepped(alloc, events)?)),
             Work::Records(events) => Ok(Made::History(recorded(alloc, events)?)),
+            Work::Folded(events) => Ok(Made::History(folded(alloc, events)?)),
             Work::Confirms(history, receipts) => Ok(Made::Stray(stray(history, receipts))),
             Work::Play(script) => Ok(Made::Text(played(alloc, script)?)),
             Work::Act(actions) => Ok(Made::World(acted(alloc, actions)?)),
@@ -168,6 +171,7 @@ fn work_of(alloc: Global, task: Task, shape: Shape) -> Result<Work, Failure> {
         Task::Receive => receive(alloc, shape),
         Task::Steps(count) => Ok(Work::Steps(events(alloc, shape, count)?)),
         Task::Records(count) => Ok(Work::Records(events(alloc, shape, count)?)),
+        Task::Folded(count) => Ok(Work::Folded(events(alloc, shape, count)?)),
         Task::Confirms { callers, rise } => confirms(alloc, callers, rise),
         Task::Play(nodes, rounds) => Ok(Work::Play(script_of(alloc, nodes, rounds)?)),
         Task::Act(nodes, rounds) => {
