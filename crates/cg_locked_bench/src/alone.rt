@@ -29,5 +29,11 @@ pub(crate) fn measure_alone(
     let start = Instant::now(rt)?;
     apply_all(alloc, &mut history, work, counts)?;
     let label = format!(in alloc; "apply_{name}")?;
-    print_line(rt, label.as_str(), counts, history.records().len(), start)
+    print_line(
+        rt,
+        label.as_str(),
+        counts,
+        history.records().len() as u64,
+        start,
+    )
 }

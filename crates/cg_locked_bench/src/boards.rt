@@ -1,6 +1,6 @@
 //! Events done on seats of a board, by one thread or several.
 
-ghost use Rattle.std.specs.Prelude.{◌≡◌, []};
+ghost use Rattle.std.specs.Prelude.{◌≡◌, true, []};
 
 use crate::counts::{Counts, print_line};
 use crate::inputs::{Work, event, filling, new_history};
@@ -12,9 +12,35 @@ use cg_views::{Opened, views};
 use std::alloc::Global;
 use std::marker::Brand;
 use std::rt::Clock;
-use std::sync::Wait;
+use std::sync::{MutexGuard, Wait};
 use std::thread::{Threads, join};
 use std::time::Instant;
+
+// Folds the records of the board, so that 100 are kept. Returns `true` if it was done.
+fn fold<N: Name, R: Wait>(rt: &R, alloc: Global, shared: &Shared<N>) -> bool
+    requires folds { N.folds ≡ true }
+{
+    let mut board = shared.lend(rt);
+    let done = board.fold(alloc, 100).is_ok();
+    MutexGuard::unlock(board);
+    done
+}
+
+// Folds after each 100th record, if the work is to fold. Returns `true` if it was done, or was not to be done.
+fn fold_after<N: Name, R: Wait>(
+    rt: &R,
+    alloc: Global,
+    shared: &Shared<N>,
+    work: Work,
+    number: u64,
+) -> bool
+    requires folds { N.folds ≡ true }
+{
+    match work {
+        Work::BeatAndFold if number % 100 == 0 => fold(rt, alloc, shared),
+        _ => true,
+    }
+}
 
 // Applies an event. Returns `true` if it was done.
 fn submit_one<N: Name, R: Wait>(
@@ -25,10 +51,14 @@ fn submit_one<N: Name, R: Wait>(
     work: Work,
     counts: Counts,
 ) -> bool
+    requires folds { N.folds ≡ true }
     ensures { seat.new.parts ≡ seat.old.parts }
 {
     match event(alloc, work, counts) {
-        Ok(event) => shared.submit(rt, alloc, seat, event).is_ok(),
+        Ok(event) => match shared.submit(rt, alloc, seat, event) {
+            Ok((receipt, _told)) => fold_after(rt, alloc, shared, work, receipt.number),
+            Err(_) => false,
+        },
         Err(_) => false,
     }
 }
@@ -42,6 +72,7 @@ fn submit_all<N: Name, R: Wait>(
     work: Work,
     counts: Counts,
 ) -> Seat<N>
+    requires folds { N.folds ≡ true }
     ensures { result.parts ≡ seat.parts }
 {
     let mut seat = seat;
@@ -63,14 +94,17 @@ fn submit_by_two<N: Name + Send + Sync, R: Threads + Wait + Sync>(
     work: Work,
     counts: Counts,
 ) -> (Seat<N>, Seat<N>)
+    requires folds { N.folds ≡ true }
     ensures { (result.0.parts ≡ first.parts) × (result.1.parts ≡ second.parts) }
 {
     join(
         rt,
         move || -> Seat<N>
+            requires { N.folds ≡ true }
             ensures { result.parts ≡ first.parts }
         { submit_all(rt, alloc, shared, first, work, counts) },
         move || -> Seat<N>
+            requires { N.folds ≡ true }
             ensures { result.parts ≡ second.parts }
         { submit_all(rt, alloc, shared, second, work, counts) },
     )
@@ -86,18 +120,21 @@ fn submit_by_four<N: Name + Send + Sync, R: Threads + Wait + Sync>(
     work: Work,
     counts: Counts,
 ) -> ((Seat<N>, Seat<N>), (Seat<N>, Seat<N>))
+    requires folds { N.folds ≡ true }
     ensures one { (result.0.0.parts ≡ one.0.parts) × (result.0.1.parts ≡ one.1.parts) }
     ensures other { (result.1.0.parts ≡ other.0.parts) × (result.1.1.parts ≡ other.1.parts) }
 {
     join(
         rt,
         move || -> (Seat<N>, Seat<N>)
+            requires { N.folds ≡ true }
             ensures { (result.0.parts ≡ one.0.parts) × (result.1.parts ≡ one.1.parts) }
         {
             let (first, second) = one;
             submit_by_two(rt, alloc, shared, first, second, work, counts)
         },
         move || -> (Seat<N>, Seat<N>)
+            requires { N.folds ≡ true }
             ensures { (result.0.parts ≡ other.0.parts) × (result.1.parts ≡ other.1.parts) }
         {
             let (first, second) = other;
@@ -135,6 +172,7 @@ fn submit_by<N: Name + Send + Sync, R: Threads + Wait + Sync>(
     work: Work,
     counts: Counts,
 ) -> ((Seat<N>, Seat<N>), (Seat<N>, Seat<N>))
+    requires folds { N.folds ≡ true }
     ensures one { (result.0.0.parts ≡ one.0.parts) × (result.0.1.parts ≡ one.1.parts) }
     ensures other { (result.1.0.parts ≡ other.0.parts) × (result.1.1.parts ≡ other.1.parts) }
 {
@@ -169,6 +207,13 @@ fn fill<N: Name, R: Wait>(
     }
 }
 
+// The number of all records.
+fn counted(history: &History) -> u64 {
+    history
+        .folded()
+        .saturating_add(history.records().len() as u64)
+}
+
 // Fills a board, does the work on it, and returns the number of records and the time at which the work began.
 fn records_by<N: Name + Send + Sync, R: Threads + Wait + Sync + Clock>(
     rt: &R,
@@ -180,9 +225,11 @@ fn records_by<N: Name + Send + Sync, R: Threads + Wait + Sync + Clock>(
     workers: Workers,
     work: Work,
     counts: Counts,
-) -> Result<(usize, Instant)>
+) -> Result<(u64, Instant)>
+    requires folds { N.folds ≡ true }
     requires views { (opened ≡ N.book) × (table ≡ N.opening) }
-    requires history { (history.records ≡ []) × (history.base ≡ N.start) × (history.base.table ≡ table) }
+    requires history { (history.records ≡ []) × (history.folded ≡ 0) × (history.base ≡ N.start)
+        × (history.base.table ≡ table) }
     requires fresh { (fresh.name ≡ N.name) × (fresh.parts ≡ N.parts) × (fresh.log ≡ N.log) × (N.parts ≡ 4) }
 {
     let (publisher, _passes) = views::<N>(alloc, opened, table, 1)?;
@@ -201,8 +248,8 @@ fn records_by<N: Name + Send + Sync, R: Threads + Wait + Sync + Clock>(
     seats.push_reserved(other.0);
     seats.push_reserved(other.1);
     let records = match shared.finish(rt, seats, &[]) {
-        Ok(history) => history.records().len(),
-        Err(left) => left.history.records().len(),
+        Ok(history) => counted(&history),
+        Err(left) => counted(&left.history),
     };
     Ok((records, start?))
 }

@@ -55,14 +55,14 @@ pub(crate) fn print_line(
     rt: &(impl Clock + Print),
     name: &str,
     counts: Counts,
-    records: usize,
+    records: u64,
     start: Instant,
 ) -> Result<()> {
     if counts.is_timed {
         let each = start
             .elapsed(rt)?
             .as_nanos()
-            .checked_div(records as u128)
+            .checked_div(u128::from(records))
             .unwrap_or(0);
         println!(rt; "bench {name} ns_per_op {each}")?;
     } else {

@@ -12,10 +12,11 @@ use cg_samples::{endpoint, generation, key, long_text, settings, version};
 use cg_types::StateText;
 use std::alloc::Global;
 
-/// The event that a thread does again and again.
+/// The event that a thread does again and again; `BeatAndFold` also folds the board's records now and then.
 #[derive(Clone, Copy)]
 pub(crate) enum Work {
     Beat,
+    BeatAndFold,
     Set,
 }
 
@@ -27,7 +28,7 @@ fn text(alloc: Global, counts: Counts) -> Result<StateText> {
 /// Returns the event of the work; the text of a Set is as long as each text of the table.
 pub(crate) fn event(alloc: Global, work: Work, counts: Counts) -> Result<Event> {
     Ok(match work {
-        Work::Beat => Event::Beat,
+        Work::Beat | Work::BeatAndFold => Event::Beat,
         Work::Set => Event::Set {
             key: key(3),
             text: text(alloc, counts)?,
@@ -69,7 +70,7 @@ pub(crate) fn filling(alloc: Global, counts: Counts) -> Result<Event> {
 
 /// Returns the history of a node at its start.
 pub(crate) fn new_history(alloc: Global) -> Result<History>
-    ensures { IfOk result (λ h. h.records ≡ []) }
+    ensures { IfOk result (λ h. (h.records ≡ []) × (h.folded ≡ 0)) }
 {
     Ok(History::begin(alloc, endpoint(1), generation(9), settings(alloc)?)?)
 }

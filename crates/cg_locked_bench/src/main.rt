@@ -1,5 +1,5 @@
 //! Measures a board: events that threads have done on a node whose table is full, beside the same events on a history
-//! alone.
+//! alone; and beats of two threads that fold the board's records.
 //!
 //! With no words it does each event a hundred times and prints the number of records. With the word `time` it measures
 //! each, and with the word `few` it does each twice, with a table of three.
@@ -39,5 +39,13 @@ fn main(rt: HostRuntime) -> Result<()> {
     let counts = counts_by_word(&rt);
     let alloc = rt.alloc();
     measure_all(&rt, alloc, Work::Beat, counts, "beat")?;
-    measure_all(&rt, alloc, Work::Set, counts, "set")
+    measure_all(&rt, alloc, Work::Set, counts, "set")?;
+    measure(
+        &rt,
+        alloc,
+        Workers::Two,
+        Work::BeatAndFold,
+        counts,
+        "beat_and_fold",
+    )
 }

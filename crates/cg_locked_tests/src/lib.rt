@@ -4,6 +4,8 @@
 #![tactic(auto)]
 
 #[cfg(test)]
+mod folding;
+#[cfg(test)]
 mod history;
 #[cfg(test)]
 mod reading;

@@ -1,9 +1,10 @@
-//! Seats of a board, used in turn: Sets read back and confirmed, a forged receipt refused, publications caught up.
+//! Seats of a board, used in turn: Sets read back and confirmed, a forged receipt refused, publications caught up, and
+//! records folded.
 
-ghost use Rattle.std.specs.Prelude.{◌≡◌, ◌<◌, ◌≤◌, [], vec_len, vec_capacity};
+ghost use Rattle.std.specs.Prelude.{◌≡◌, ◌<◌, ◌≤◌, true, [], vec_len, vec_capacity};
 ghost use Rattle.std.specs.List.{sum_by};
 
-use crate::history::new_history;
+use crate::history::{counted, new_history};
 use crate::reading::{Read, set_and_read};
 use cg_events::Event;
 use cg_expect::expect_eq;
@@ -30,8 +31,10 @@ enum Work {
     ReadLent,
     // Enters two Sets, reads, catches up and reads again.
     EnterTwo,
-    // Sets twice, each at the second try if memory is refused, and catches up.
+    // Sets twice, each at the second try if memory is refused, folds what is published, and catches up.
     SetAnyway,
+    // Enters three Sets, folds between them, and catches up twice.
+    Fold,
     // Beats.
     Beat,
 }
@@ -160,7 +163,8 @@ fn note_entered<N: Name>(
     note_read(pass, notes);
 }
 
-// Catches up, at the second try if memory is refused; notes the unpublished records, the version read, and all records.
+// Catches up, at the second try if memory is refused; notes the unpublished records, the version read, and the number of
+// all records.
 fn note_caught_up<N: Name, R: Wait>(
     rt: &R,
     alloc: Global,
@@ -178,7 +182,42 @@ fn note_caught_up<N: Name, R: Wait>(
     }
     notes.note(board.unpublished());
     note_read(pass, notes);
+    notes.note(counted(board.history()));
+}
+
+// Folds, at the second try if memory is refused.
+fn fold<N: Name>(alloc: Global, board: &mut Board<N>, keep: usize, notes: &mut Notes)
+    requires folds { N.folds ≡ true }
+{
+    let done = match board.fold(alloc, keep) {
+        Ok(()) => Ok(()),
+        Err(_) => board.fold(alloc, keep),
+    };
+    if done.is_err() {
+        notes.refused(Fault::OutOfMemory);
+    }
+}
+
+// Folds; notes the records folded, those kept, and those unpublished.
+fn note_fold<N: Name>(alloc: Global, board: &mut Board<N>, keep: usize, notes: &mut Notes)
+    requires folds { N.folds ≡ true }
+{
+    fold(alloc, board, keep, notes);
+    notes.note(board.history().folded());
     notes.note(board.history().records().len() as u64);
+    notes.note(board.unpublished());
+}
+
+// Notes 1 if all receipts are confirmed; folds all that it can, and notes by how many those kept are more than those
+// unpublished.
+fn note_confirmed_and_folded<N: Name>(alloc: Global, board: &mut Board<N>, notes: &mut Notes)
+    requires folds { N.folds ≡ true }
+{
+    let confirmed = board.history().confirms(&notes.receipts).is_ok();
+    notes.note(u64::from(confirmed));
+    fold(alloc, board, 0, notes);
+    let kept = board.history().records().len() as u64;
+    notes.note(kept.saturating_sub(board.unpublished()));
 }
 
 fn submit<N: Name, R: Wait>(
@@ -245,6 +284,7 @@ fn work_on<N: Name, R: Wait>(
     notes: &mut Notes,
     work: Work,
 )
+    requires folds { N.folds ≡ true }
     ensures { seat.new.parts ≡ seat.old.parts }
 {
     match work {
@@ -266,7 +306,21 @@ fn work_on<N: Name, R: Wait>(
             note_set_anyway(rt, alloc, shared, seat, notes);
             note_set_anyway(rt, alloc, shared, seat, notes);
             let mut board = shared.lend(rt);
+            note_confirmed_and_folded(alloc, &mut board, notes);
             note_caught_up(rt, alloc, &mut board, pass, notes);
+            MutexGuard::unlock(board);
+        }
+        Work::Fold => {
+            let mut board = shared.lend(rt);
+            note_entered(alloc, &mut board, seat, pass, notes);
+            note_entered(alloc, &mut board, seat, pass, notes);
+            note_fold(alloc, &mut board, 0, notes);
+            note_caught_up(rt, alloc, &mut board, pass, notes);
+            note_fold(alloc, &mut board, 9, notes);
+            note_entered(alloc, &mut board, seat, pass, notes);
+            note_fold(alloc, &mut board, 0, notes);
+            note_caught_up(rt, alloc, &mut board, pass, notes);
+            note_fold(alloc, &mut board, 1, notes);
             MutexGuard::unlock(board);
         }
         Work::Beat => beat(rt, alloc, shared, seat, notes),
@@ -284,6 +338,7 @@ fn done_on<N: Name, R: Wait>(
     notes: &mut Notes,
     work: Work,
 ) -> Seat<N>
+    requires folds { N.folds ≡ true }
     ensures { result.parts ≡ seat.parts }
 {
     let mut seat = seat;
@@ -302,7 +357,8 @@ fn done_on_all<N: Name, R: Wait>(
     notes: &mut Notes,
     work: Work,
 ) -> Vec<Seat<N>>
-    requires { (back.items ≡ []) × (vec_len back ≡ 0) × (vec_len seats ≤ vec_capacity back) }
+    requires folds { N.folds ≡ true }
+    requires back { (back.items ≡ []) × (vec_len back ≡ 0) × (vec_len seats ≤ vec_capacity back) }
     ensures parts { sum_by (λ s. s.parts) result.items ≡ sum_by (λ s. s.parts) seats.items }
     ensures len { vec_len result ≡ vec_len seats }
 {
@@ -315,15 +371,15 @@ fn done_on_all<N: Name, R: Wait>(
 
 // ---- the end
 
-// The notes, the number of records left, and the first unconfirmed receipt: its place, and the number of its fault.
-type Left = (Vec<u64>, usize, Option<(usize, u8)>);
+// The notes, the number of all records, and the first unconfirmed receipt: its place, and the number of its fault.
+type Left = (Vec<u64>, u64, Option<(usize, u8)>);
 
-// Returns the number of records left, and the first unconfirmed receipt.
-fn ended(finished: Result<History, Unconfirmed>) -> (usize, Option<(usize, u8)>) {
+// Returns the number of all records, and the first unconfirmed receipt.
+fn ended(finished: Result<History, Unconfirmed>) -> (u64, Option<(usize, u8)>) {
     match finished {
-        Ok(history) => (history.records().len(), None),
+        Ok(history) => (counted(&history), None),
         Err(left) => (
-            left.history.records().len(),
+            counted(&left.history),
             Some((left.place, left.fault.number())),
         ),
     }
@@ -339,8 +395,10 @@ fn left_by<N: Name, R: Wait>(
     seats: usize,
     work: Work,
 ) -> Result<Left, Fail>
+    requires folds { N.folds ≡ true }
     requires views { (opened ≡ N.book) × (table ≡ N.opening) }
-    requires history { (history.records ≡ []) × (history.base ≡ N.start) × (history.base.table ≡ table) }
+    requires history { (history.records ≡ []) × (history.folded ≡ 0) × (history.base ≡ N.start)
+        × (history.base.table ≡ table) }
     requires fresh { (fresh.name ≡ N.name) × (fresh.parts ≡ N.parts) × (fresh.log ≡ N.log) × (N.parts ≡ seats) }
     requires seats { (0 < seats) × (seats ≤ 16) }
 {
@@ -407,12 +465,25 @@ fn records_that_were_not_published_are_caught_up(rt: HostRuntime) -> Result<(), 
 }
 
 // Run with each request for memory refused in turn (`rt try --test --fail-alloc N`), it ends in the same way, or finds
-// no memory to begin: a record whose publication was refused is kept, and the next publication has both.
+// no memory to begin: a record whose publication was refused is not folded, and the next publication has both.
 #[test]
 fn refused_publications_are_caught_up(rt: HostRuntime) -> Result<(), Fail> {
     let (numbers, records, stray) = left(&rt, rt.alloc(), 1, Work::SetAnyway)?;
-    expect_eq!(numbers.as_slice(), [1, 1, 0, 3, 2].as_slice())?;
-    expect_eq!((records, stray), (2, None))
+    expect_eq!(numbers.as_slice(), [1, 1, 1, 0, 0, 3, 2].as_slice())?;
+    expect_eq!((records, stray), (2, Some((0, 18))))
+}
+
+// A fold takes no record that is unpublished, and none if more are to be kept than there are.
+#[test]
+fn published_records_are_folded(rt: HostRuntime) -> Result<(), Fail> {
+    let (numbers, records, stray) = left(&rt, rt.alloc(), 1, Work::Fold)?;
+    let entered = [1, 0, 2, 0, 0, 2, 2];
+    let caught_up = [0, 3, 2, 0, 2, 0];
+    let folded = [1, 3, 2, 1, 1, 0, 4, 3, 2, 1, 0];
+    expect_eq!(&numbers[..7], entered.as_slice())?;
+    expect_eq!(&numbers[7..13], caught_up.as_slice())?;
+    expect_eq!(&numbers[13..], folded.as_slice())?;
+    expect_eq!((records, stray), (3, Some((0, 18))))
 }
 
 #[test]

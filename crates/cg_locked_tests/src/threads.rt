@@ -126,7 +126,8 @@ fn left_by_two<N: Name + Send + Sync, R: Threads + Wait + Sync>(
     count: u32,
 ) -> Result<Left, Fail>
     requires views { (opened ≡ N.book) × (table ≡ N.opening) }
-    requires history { (history.records ≡ []) × (history.base ≡ N.start) × (history.base.table ≡ table) }
+    requires history { (history.records ≡ []) × (history.folded ≡ 0) × (history.base ≡ N.start)
+        × (history.base.table ≡ table) }
     requires fresh { (fresh.name ≡ N.name) × (fresh.parts ≡ N.parts) × (fresh.log ≡ N.log) × (N.parts ≡ 2) }
 {
     let (publisher, mut passes) = views::<N>(alloc, opened, table, 2)?;

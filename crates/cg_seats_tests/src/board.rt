@@ -61,7 +61,8 @@ fn left_by<N: Name, R: Wait, O: Operate>(
     operate: &mut O,
 ) -> Result<Left, Fail>
     requires views { (opened ≡ N.book) × (table ≡ N.opening) }
-    requires history { (history.records ≡ []) × (history.base ≡ N.start) × (history.base.table ≡ table) }
+    requires history { (history.records ≡ []) × (history.folded ≡ 0) × (history.base ≡ N.start)
+        × (history.base.table ≡ table) }
     requires fresh { (fresh.name ≡ N.name) × (fresh.parts ≡ N.parts) × (fresh.log ≡ N.log) × (N.parts ≡ 1) }
 {
     let (publisher, mut passes) = views::<N>(alloc, opened, table, 1)?;

@@ -9,7 +9,7 @@ use std::test::Fail;
 
 /// A's history at its start.
 pub(crate) fn new_history(alloc: Global) -> Result<History, Fail>
-    ensures { IfOk result (λ h. h.records ≡ []) }
+    ensures { IfOk result (λ h. (h.records ≡ []) × (h.folded ≡ 0)) }
 {
     Ok(History::begin(alloc, endpoint(A), generation(9), settings(alloc)?)?)
 }

@@ -111,7 +111,8 @@ fn left_by<N: Name, R: Wait + Clock>(
     count: u32,
 ) -> Result<Seen, Fail>
     requires views { (opened ≡ N.book) × (table ≡ N.opening) }
-    requires history { (history.records ≡ []) × (history.base ≡ N.start) × (history.base.table ≡ table) }
+    requires history { (history.records ≡ []) × (history.folded ≡ 0) × (history.base ≡ N.start)
+        × (history.base.table ≡ table) }
     requires fresh { (fresh.name ≡ N.name) × (fresh.parts ≡ N.parts) × (fresh.log ≡ N.log) × (N.parts ≡ 1) }
     ensures channel { PutsWhere to.new to.old }
 {

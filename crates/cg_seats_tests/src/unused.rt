@@ -38,7 +38,8 @@ fn left_by<N: Name, R: Wait>(
     began: bool,
 ) -> Result<Told, Fail>
     requires views { (opened ≡ N.book) × (table ≡ N.opening) }
-    requires history { (history.records ≡ []) × (history.base ≡ N.start) × (history.base.table ≡ table) }
+    requires history { (history.records ≡ []) × (history.folded ≡ 0) × (history.base ≡ N.start)
+        × (history.base.table ≡ table) }
     requires fresh { (fresh.name ≡ N.name) × (fresh.parts ≡ N.parts) × (fresh.log ≡ N.log) × (N.parts ≡ 4) }
 {
     let begun = begin::<N, R>(rt, alloc, opened, table, history, fresh)?;

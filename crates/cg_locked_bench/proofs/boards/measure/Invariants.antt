@@ -1,3 +1,4 @@
+use Rattle.std.proofs.Common.{true}
 use Rattle.cg_locked_bench.proofs.boards.measure.Given as goal
 
 abbrev pub ghosts-records_by-N-Ledger : goal.ghosts-records_by-N-Ledger
@@ -7,4 +8,4 @@ abbrev pub ghosts-records_by-N-Naming : goal.ghosts-records_by-N-Naming
 ghosts-records_by-N-Naming g a = record { book = a.opened; opening = a.table }
 
 abbrev pub ghosts-records_by-N-Name : goal.ghosts-records_by-N-Name
-ghosts-records_by-N-Name g a = record { log = a.fresh.log; start = a.history.base }
+ghosts-records_by-N-Name g a = record { log = a.fresh.log; start = a.history.base; folds = true }

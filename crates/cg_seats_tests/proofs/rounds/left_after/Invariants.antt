@@ -1,3 +1,4 @@
+use Rattle.std.proofs.Common.{false}
 use Rattle.cg_seats_tests.proofs.rounds.left_after.Given as goal
 
 abbrev pub ghosts-left_by-N-Ledger : goal.ghosts-left_by-N-Ledger
@@ -7,4 +8,4 @@ abbrev pub ghosts-left_by-N-Naming : goal.ghosts-left_by-N-Naming
 ghosts-left_by-N-Naming g a = record { book = a.opened; opening = a.table }
 
 abbrev pub ghosts-left_by-N-Name : goal.ghosts-left_by-N-Name
-ghosts-left_by-N-Name g a = record { log = a.fresh.log; start = a.history.base }
+ghosts-left_by-N-Name g a = record { log = a.fresh.log; start = a.history.base; folds = false }
