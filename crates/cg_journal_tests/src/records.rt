@@ -179,7 +179,7 @@ fn stray(confirmed: Result<(), Stray>) -> Option<(usize, u8)> {
 fn stray_of(alloc: Global, rows: &[Row]) -> Result<Option<(usize, u8)>, Fail> {
     let receipts = receipts(alloc, rows)?;
     let history = history_of(alloc, TWO)?;
-    Ok(stray(confirms(history.records(), &receipts)))
+    Ok(stray(confirms(history.folded(), history.records(), &receipts)))
 }
 
 // The receipts of its records.
