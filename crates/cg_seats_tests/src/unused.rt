@@ -1,6 +1,6 @@
 //! A node put together of workers that did nothing, or of which one did not begin.
 
-ghost use Rattle.std.specs.Prelude.{◌≡◌, []};
+ghost use Rattle.std.specs.Prelude.{◌≡◌, false, []};
 
 use crate::history::new_history;
 use cg_begun::{Begun, begin};
@@ -41,6 +41,7 @@ fn left_by<N: Name, R: Wait>(
     requires history { (history.records ≡ []) × (history.folded ≡ 0) × (history.base ≡ N.start)
         × (history.base.table ≡ table) }
     requires fresh { (fresh.name ≡ N.name) × (fresh.parts ≡ N.parts) × (fresh.log ≡ N.log) × (N.parts ≡ 4) }
+    requires folds { N.folds ≡ false }
 {
     let begun = begin::<N, R>(rt, alloc, opened, table, history, fresh)?;
     let Begun {
