@@ -104,6 +104,13 @@ searched_rows items k ps rise key r same within found =
     searched k (pairs (picked items ps)) (pairs_rise (picked items ps) rise) r (subst (λ n. IsSearchInRange r n) (sym (length-rows items ps)) within)
     (to_rows items k ps r within (subst (λ n. IsBinarySearchResult (λ p. nat_cmp (state_at items p).key n) ps r) same found))
 
+-- a place with the key is its row
+pub row_here : (items : List State) (k : ℕ) (ps : List ℕ) (at : ℕ) → at < length ps → (state_at items (get_or ps at 0)).key ≡ k → IsRowAt (pairs (picked items ps)) k at
+row_here items k ps at lt same = record {
+    in_range = omega (arith, lt, length-rows items ps);
+    has_key = λ d. ap (λ (e : ℕ × Versioned). e.0) (row_at items ps at 0 d lt) ∙ same;
+  }
+
 module _ (items : List State) (k : ℕ) (ps : List ℕ) (at : ℕ) (rise : KeysRise (picked items ps)) (here : IsRowAt (pairs (picked items ps)) k at) where
   pub row_within : at < length ps
   row_within = omega (arith, here.in_range, length-rows items ps)

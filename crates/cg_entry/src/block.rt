@@ -1,6 +1,6 @@
 //! Blocks of states: a vector that rises by version, then key, and the places by key.
 
-ghost use Rattle.std.specs.Prelude.{◌≡◌, ◌<◌, ◌≤◌, ◌^◌, IfOk, IfErr, IfSome, IsOk, OnOk, OnErr, length, nat_lt, option_copied, remove, true, false, slice_get, Some, Ok, ◌++◌, ◌∷◌, []};
+ghost use Rattle.std.specs.Prelude.{IsTrue, ◌≡◌, ◌<◌, ◌≤◌, ◌^◌, IfOk, IfErr, IfSome, IsOk, OnOk, OnErr, length, nat_lt, option_copied, remove, true, false, slice_get, Some, Ok, ◌++◌, ◌∷◌, []};
 ghost use Rattle.std.specs.FinMap as map;
 ghost use Rattle.std.specs.FinMap.Entries.{find as find_entry};
 ghost use Rattle.std.specs.Option.{option_map};
@@ -92,13 +92,34 @@ fn key_at(items: &[State], place: u8) -> u8
     }
 }
 
+// Tests whether a key has this number among the places.
+fn has_number(items: &[State], places: &[u8], key: StateKey, number: usize) -> bool
+    ensures { IsTrue result → IsRowAt (pairs (picked items.now places.now)) key number }
+{
+    number < places.len() && key_at(items, places[number]) == key.get()
+}
+
 // The number of a key among the places, by halving over them; else the number where its place belongs.
-fn number_of(items: &[State], places: &[u8], key: StateKey) -> Result<usize, usize>
+fn halve(items: &[State], places: &[u8], key: StateKey) -> Result<usize, usize>
     requires { KeysRise (picked items.now places.now) }
     ensures found { IfOk result (λ n. IsRowAt (pairs (picked items.now places.now)) key n) }
     ensures absent { IfErr result (λ n. IsGapAt (pairs (picked items.now places.now)) key n) }
 {
     places.binary_search_by_key(&key.get(), |place| key_at(items, *place))
+}
+
+// The number of a key among the places; else the number where its place belongs. It looks at the number that the key has
+// if no lesser key is missing before it halves.
+fn number_of(items: &[State], places: &[u8], key: StateKey) -> Result<usize, usize>
+    requires { KeysRise (picked items.now places.now) }
+    ensures found { IfOk result (λ n. IsRowAt (pairs (picked items.now places.now)) key n) }
+    ensures absent { IfErr result (λ n. IsGapAt (pairs (picked items.now places.now)) key n) }
+{
+    let number = usize::from(key.get()) - 1;
+    if has_number(items, places, key, number) {
+        return Ok(number);
+    }
+    halve(items, places, key)
 }
 
 // The state of a key.

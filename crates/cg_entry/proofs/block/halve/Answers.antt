@@ -2,7 +2,7 @@ use Rattle.std.proofs.Common.{rules}
 use Rattle.std.proofs.lemmas.Fn.{always_returns_same}
 use Rattle.cg_entry.specs.Block.{state_at}
 use Rattle.cg_entry.proofs.BlockLemmas.{searched_rows}
-use Rattle.cg_entry.proofs.block.number_of.Goals as goal
+use Rattle.cg_entry.proofs.block.halve.Goals as goal
 
 pub returns-clause-found : goal.returns-clause-found
 returns-clause-found c =
