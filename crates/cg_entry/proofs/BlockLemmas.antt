@@ -107,9 +107,9 @@ searched_rows items k ps rise key r same within found =
 -- a place with the key is its row
 pub row_here : (items : List State) (k : ℕ) (ps : List ℕ) (at : ℕ) → at < length ps → (state_at items (get_or ps at 0)).key ≡ k → IsRowAt (pairs (picked items ps)) k at
 row_here items k ps at lt same = record {
-    in_range = omega (arith, lt, length-rows items ps);
-    has_key = λ d. ap (λ (e : ℕ × Versioned). e.0) (row_at items ps at 0 d lt) ∙ same;
-  }
+  in_range = omega (arith, lt, length-rows items ps);
+  has_key = λ d. ap (λ (e : ℕ × Versioned). e.0) (row_at items ps at 0 d lt) ∙ same;
+}
 
 module _ (items : List State) (k : ℕ) (ps : List ℕ) (at : ℕ) (rise : KeysRise (picked items ps)) (here : IsRowAt (pairs (picked items ps)) k at) where
   pub row_within : at < length ps
@@ -122,13 +122,10 @@ module _ (items : List State) (k : ℕ) (ps : List ℕ) (at : ℕ) (rise : KeysR
   pub found_key : (state_at items (get_or ps at 0)).key ≡ k
   found_key = ap (λ (e : ℕ × Versioned). e.0) (sym (row_at items ps at 0 (row items 0) row_within)) ∙ here.has_key (row items 0)
 
--- the entry at a place in the order of the keys
-pub entry_at : (items : List State) (ps : List ℕ) (states : States) (i : ℕ) → KeysRise (picked items ps) → finmap.from_sorted {R = nat_cmp} (pairs (picked items ps)) ≡ states → i < length ps
-    → slice_get (finmap.entries states) i ≡ Some (pair (state_at items (get_or ps i 0)))
-entry_at items ps states i rise seen lt =
-    let es : finmap.entries states ≡ pairs (picked items ps) = ap finmap.entries (sym seen) ∙ entries-pairs (picked items ps) rise in
-    ap (λ (xs : List (ℕ × Versioned)). slice_get xs i) es ∙ slice_get-get_or (pairs (picked items ps)) i (row items 0) (omega (arith, lt, length-rows items ps))
-    ∙ ap (λ (e : ℕ × Versioned). Some e) (row_at items ps i 0 (row items 0) lt)
+-- the row at a place in the order of the keys
+pub picked_at : (items : List State) (ps : List ℕ) (i : ℕ) → i < length ps → slice_get (pairs (picked items ps)) i ≡ Some (pair (state_at items (get_or ps i 0)))
+picked_at items ps i lt =
+    slice_get-get_or (pairs (picked items ps)) i (row items 0) (omega (arith, lt, length-rows items ps)) ∙ ap (λ (e : ℕ × Versioned). Some e) (row_at items ps i 0 (row items 0) lt)
 
 -- the state that an index at a place reads
 pub read_at : (items : List State) (p q : ℕ) (s : State) → s ≡ get_or items q s → q ≡ p → p < length items → state_at items p ≡ s

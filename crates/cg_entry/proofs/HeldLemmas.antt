@@ -1,8 +1,8 @@
 -- States as a map: the entry at a place, at a key, and one map laid over another.
-use Rattle.std.proofs.Common.{◌≡◌, ℕ, ◌+◌, ◌<◌, ◌≤◌, true, false, cond, List, [], ◌∷◌, ◌++◌, length, take, get_or, Option, Some, None, refl, sym, ap, subst, ◌∙◌, arith, nat_lt, inl, inr}
+use Rattle.std.proofs.Common.{◌≡◌, ℕ, ◌+◌, ◌<◌, ◌≤◌, true, false, cond, List, [], ◌∷◌, ◌++◌, take, Option, Some, None, refl, sym, ap, subst, ◌∙◌, arith, nat_lt, inl, inr}
 use Rattle.std.specs.Prelude.{is_some, slice_get}
 use Rattle.std.specs.List.{AllByRecursion}
-use Rattle.std.specs.Option.{option_or, option_map}
+use Rattle.std.specs.Option.{option_or}
 use Rattle.std.specs.Ordering.{nat_cmp, eq_by_cmp}
 use Rattle.std.specs.Cmp.{nat_cmp_total}
 use Rattle.std.specs.FinMap.Entries.{find}
@@ -11,15 +11,14 @@ use Rattle.std.specs.FinMap.{get, entries, empty, insert, same_map, same_entries
 use Rattle.std.proofs.lemmas.Bool.{lt-ltb, le-ltb, cases_order, cases_lt}
 use Rattle.std.proofs.lemmas.Bool.Decides.{nat_tests}
 use Rattle.std.proofs.lemmas.List.{take_more, take_all}
-use Rattle.std.proofs.lemmas.Option.{slice_get_within, get_or_from_slice_get, slice_get-map, slice_get-get_or}
+use Rattle.std.proofs.lemmas.Option.{slice_get_within, get_or_from_slice_get}
 use Rattle.cg_types.specs.Numbers.{IsKey}
 use Rattle.cg_types.proofs.RisingLemmas.{same_tied, from_sorted-none}
 use Rattle.cg_entry.specs.declared.state.State.{State}
 use Rattle.cg_entry.specs.Contents.{IsState, AreStates}
 use Rattle.cg_entry.specs.Entry.{overlay}
-use Rattle.cg_entry.specs.State.{pair, pairs, KeysRise}
+use Rattle.cg_entry.specs.State.{pair}
 use Rattle.cg_entry.specs.Versioned.{Versioned, States}
-use Rattle.cg_entry.proofs.StateLemmas.{entries-pairs}
 use Rattle.cg_entry.proofs.PutLemmas.{get-overlay}
 use Rattle.cg_entry.proofs.CoverLemmas.{overlay_covered}
 use Rattle.cg_entry.proofs.PushLemmas.{put_last, all_push}
@@ -147,9 +146,3 @@ pub covered_all : (old new : States) (i : ℕ) → AllByRecursion (λ (e : ℕ �
 covered_all old new i all le =
     let whole = subst (λ es. AllByRecursion (λ (e : ℕ × Versioned). is_some (get new e.0) ≡ true) es) (take_all i (entries old) (omega (arith, le, len-entries old))) all in
     overlay_covered old new (λ q none. get-entries old q ∙ absent new q (entries old) whole none)
-
--- the entry at a place of a list
-pub listed_at : (given items : List State) (m : States) (i : ℕ) (s : State) → given ≡ items → KeysRise items → finmap.from_sorted {R = nat_cmp} (pairs items) ≡ m → i < length given → s ≡ get_or given i s → slice_get (entries m) i ≡ Some (pair s)
-listed_at given items m i s same rise seen lt is =
-    let es : entries m ≡ pairs given = ap entries (sym seen) ∙ entries-pairs items rise ∙ ap (λ (xs : List State). pairs xs) (sym same) in
-    ap (λ xs. slice_get xs i) es ∙ slice_get-map pair given i ∙ ap (option_map pair) (slice_get-get_or given i s lt ∙ ap (λ (t : State). Some t) (sym is))

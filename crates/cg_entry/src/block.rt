@@ -17,6 +17,7 @@ ghost use Rattle.cg_entry.specs.Newer.{newer_states};
 ghost use Rattle.cg_entry.specs.declared.block.Newer.TheVariants.{Nothing};
 ghost use Rattle.cg_map.specs.Rows.{IsGapAt, IsRowAt};
 
+use crate::by_key::ByKey;
 use crate::places::Places;
 use crate::state::State;
 use crate::states::versions_rise;
@@ -407,14 +408,11 @@ impl Block {
         find(&self.items, self.places.as_slice(), key)
     }
 
-    // The state with this number in the order of the keys, from 0.
-    pub(crate) fn at(&self, place: usize) -> &State
-        requires { place < map.len self.now }
-        ensures { slice_get (map.entries self.now) place ≡ Some (pair result.now) }
+    // The states in the order of the keys.
+    pub(crate) fn by_key(&self) -> ByKey<'_>
+        ensures { result ≡ map.entries self.now }
     {
-        let places = self.places.as_slice();
-        let items = self.items.as_slice();
-        &items[places[place] as usize]
+        ByKey::picked(&self.items, self.places.as_slice())
     }
 
     // The states with a version greater than `above`: the vector's end, in the order of the keys by the places that

@@ -7,6 +7,7 @@ ghost use Rattle.cg_entry.specs.State.{pair, all_newer as all_newer_of, delta_of
 ghost use Rattle.cg_entry.specs.Contents.{IsDeltaOfEntry};
 ghost use Rattle.cg_entry.specs.Entry.{greatest, text_bytes, IsDelta};
 
+use crate::by_key::ByKey;
 use crate::held::Held;
 use crate::state::State;
 use crate::states::{States, keys_rise};
@@ -183,12 +184,11 @@ impl Delta {
         self.states.len()
     }
 
-    /// The state with this number in the order of the keys, from 0.
-    pub fn state_at(&self, place: usize) -> &State
-        requires { place < length (map.entries self.now.states) }
-        ensures { slice_get (map.entries self.now.states) place ≡ Some (pair result.now) }
+    /// The states, in the order of their keys.
+    pub fn by_key(&self) -> ByKey<'_>
+        ensures { result ≡ map.entries self.now.states }
     {
-        self.states.at(place)
+        self.states.by_key()
     }
 
     /// Tests whether both are the same delta: in generation, the version that it is above, heartbeat version and

@@ -10,6 +10,7 @@ ghost use Rattle.cg_entry.specs.Entry.{newest, newer_than, delta_above, starting
 ghost use Rattle.cg_entry.specs.State.{pair};
 ghost use Rattle.cg_entry.specs.Taking.{whole_entry, taken_or_gap, advanced_entry, absorption, is_taken, meeting as met_of, IsTakenEntry, IfTaken};
 
+use crate::by_key::ByKey;
 use crate::delta::Delta;
 use crate::held::Held;
 use crate::state::State;
@@ -180,12 +181,11 @@ impl Entry {
         self.states.len()
     }
 
-    /// The state with this number in the order of the keys, from 0.
-    pub fn state_at(&self, place: usize) -> &State
-        requires { place < length (map.entries self.now.states) }
-        ensures { slice_get (map.entries self.now.states) place ≡ Some (pair result.now) }
+    /// The states, in the order of their keys.
+    pub fn by_key(&self) -> ByKey<'_>
+        ensures { result ≡ map.entries self.now.states }
     {
-        self.states.at(place)
+        self.states.by_key()
     }
 
     // The entry with a delta of its generation.

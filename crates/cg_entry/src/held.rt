@@ -11,6 +11,7 @@ ghost use Rattle.std.specs.Option.{option_map};
 ghost use Rattle.std.specs.Arc.{arc_value};
 
 use crate::block::{Block, Newer};
+use crate::by_key::ByKey;
 use crate::state::State;
 use crate::states::States;
 use cg_types::{STATE_LIMIT, StateKey, Version};
@@ -90,14 +91,13 @@ impl Held {
         }
     }
 
-    // The state with this number in the order of the keys, from 0.
-    pub(crate) fn at(&self, place: usize) -> &State
-        requires { place < map.len self.now }
-        ensures { slice_get (map.entries self.now) place ≡ Some (pair result.now) }
+    // The states in the order of the keys.
+    pub(crate) fn by_key(&self) -> ByKey<'_>
+        ensures { result ≡ map.entries self.now }
     {
         match &self.kept {
-            Kept::Own(states) => states.at(place),
-            Kept::Shared(block) => block.deref().at(place),
+            Kept::Own(states) => states.by_key(),
+            Kept::Shared(block) => block.deref().by_key(),
         }
     }
 
@@ -156,8 +156,9 @@ impl Held {
         if self.len() != other.len() {
             return false;
         }
-        for place in 0..self.len() {
-            if !is_same_state(self.at(place), other.at(place)) {
+        let (ours, theirs) = (self.by_key(), other.by_key());
+        for place in 0..ours.len() {
+            if !is_same_state(ours.at(place), theirs.at(place)) {
                 return false;
             }
         }
@@ -316,8 +317,9 @@ impl Held {
         if newer.len() < self.len() {
             return false;
         }
-        for place in 0..self.len() {
-            if newer.get(self.at(place).key).is_none() {
+        let states = self.by_key();
+        for place in 0..states.len() {
+            if newer.get(states.at(place).key).is_none() {
                 return false;
             }
         }

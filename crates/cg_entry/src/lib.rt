@@ -7,6 +7,7 @@
 #![tactic(auto)]
 
 mod block;
+mod by_key;
 mod delta;
 mod digest;
 mod entry;
@@ -18,6 +19,7 @@ mod state;
 mod states;
 mod took;
 
+pub use by_key::ByKey;
 pub use delta::Delta;
 pub use digest::Digest;
 pub use entry::{Absorbed, Entry, meet};

@@ -12,6 +12,7 @@ ghost use Rattle.cg_entry.specs.Versioned.{States as Map};
 ghost use Rattle.cg_entry.specs.Block.{put_all};
 
 use crate::block::Block;
+use crate::by_key::ByKey;
 use crate::state::State;
 use cg_types::{StateKey, Version};
 use std::alloc::{AllocError, Global};
@@ -215,13 +216,11 @@ impl States {
         self.items.allocator().clone()
     }
 
-    // The state with this number, from 0.
-    pub(crate) fn at(&self, place: usize) -> &State
-        requires { place < map.len self.now }
-        ensures { slice_get (map.entries self.now) place ≡ Some (pair result.now) }
+    // The states in the order of the keys, as a block lends them.
+    pub(crate) fn by_key(&self) -> ByKey<'_>
+        ensures { result ≡ map.entries self.now }
     {
-        let items = self.items.as_slice();
-        &items[place]
+        ByKey::listed(&self.items)
     }
 
     // The states, in the order of the keys.

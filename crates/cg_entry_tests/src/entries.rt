@@ -223,10 +223,11 @@ fn a_set_and_a_beat(rt: HostRuntime) -> Result<(), Fail> {
 
 // The key, version and text of the only state.
 fn only_state(entry: &Entry) -> Option<(u8, u32, &str)> {
-    if entry.count() != 1 {
+    let states = entry.by_key();
+    if states.len() != 1 {
         return None;
     }
-    Some(parts_of_state(entry.state_at(0)))
+    Some(parts_of_state(states.at(0)))
 }
 
 #[test]
@@ -291,8 +292,9 @@ fn falling_entry(alloc: Global) -> Result<Entry, Fail> {
 
 // The key of the state with this number, from 0; 0 if there is none.
 fn key_in(delta: &Delta, number: usize) -> u8 {
-    if number < delta.count() {
-        return delta.state_at(number).key.get();
+    let states = delta.by_key();
+    if number < states.len() {
+        return states.at(number).key.get();
     }
     0
 }

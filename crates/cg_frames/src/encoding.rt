@@ -124,8 +124,9 @@ fn put_states(out: &mut Vec<u8>, delta: &Delta) -> Result<(), AllocError>
     ensures { OnOk result
         (out.new.items ≡ out.old.items ++ flat_map spelling.state (map.entries delta.now.states)) }
 {
-    for place in 0..delta.count() {
-        put_state(out, delta.state_at(place))?;
+    let states = delta.by_key();
+    for place in 0..states.len() {
+        put_state(out, states.at(place))?;
     }
     Ok(())
 }

@@ -55,8 +55,9 @@ fn add_states(text: &mut String, entry: &Entry) -> Result<(), AllocError>
     ensures { OnOk result (string_bytes text.new
         ≡ string_bytes text.old ++ flat_map state_line (map.entries entry.now.states)) }
 {
-    for place in 0..entry.count() {
-        add_state(text, entry.state_at(place))?;
+    let states = entry.by_key();
+    for place in 0..states.len() {
+        add_state(text, states.at(place))?;
     }
     Ok(())
 }

@@ -44,8 +44,9 @@ fn add_delta_head(text: &mut String, owned: &OwnerDelta) -> Result<(), AllocErro
 
 fn add_delta(alloc: Global, text: &mut String, owned: &OwnerDelta) -> Result<(), AllocError> {
     add_delta_head(text, owned)?;
-    for place in 0..owned.delta.count() {
-        add_state(alloc, text, owned.delta.state_at(place))?;
+    let states = owned.delta.by_key();
+    for place in 0..states.len() {
+        add_state(alloc, text, states.at(place))?;
     }
     Ok(())
 }

@@ -26,8 +26,9 @@ fn keeps_key(entry: &Entry, state: &State) -> bool
 fn keeps_keys(before: &Entry, after: &Entry) -> bool
     ensures { result ≡ keeps_keys_of before.now.states after.now.states }
 {
-    for place in 0..before.count() {
-        if !keeps_key(after, before.state_at(place)) {
+    let states = before.by_key();
+    for place in 0..states.len() {
+        if !keeps_key(after, states.at(place)) {
             return false;
         }
     }

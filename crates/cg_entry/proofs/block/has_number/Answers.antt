@@ -1,6 +1,5 @@
-use Rattle.std.proofs.Common.{rules, IsTrue, ◌≡◌, nat_eq, sym, ◌∙◌, arith}
+use Rattle.std.proofs.Common.{◌≡◌, sym, ◌∙◌, arith}
 use Rattle.std.proofs.lemmas.Bool.Decides.{nat_tests}
-use Rattle.cg_entry.specs.Block.{state_at}
 use Rattle.cg_entry.proofs.BlockLemmas.{row_here}
 use Rattle.cg_entry.proofs.block.has_number.Goals as goal
 
