@@ -55,11 +55,11 @@ bytes-pairs (s ∷ ss) = sum_by-cons text_size s ss ∙ ap (λ (n : ℕ). length
 pub bytes_listed : (items : List State) (states : States) → KeysRise items → from_sorted {R = nat_cmp} (pairs items) ≡ states → listed_bytes items ≡ text_bytes states
 bytes_listed items states rise seen = bytes-pairs items ∙ ap (sum_by pair_size) (sym (entries-pairs items rise) ∙ ap entries seen)
 
-bytes_within : (items : List State) → AllByRecursion IsState (pairs items) → listed_bytes items ≤ length items * 1024
+bytes_within : (items : List State) → AllByRecursion IsState (pairs items) → listed_bytes items ≤ length items * TEXT_LIMIT
 bytes_within [] all = omega arith
 bytes_within (s ∷ ss) all =
     let one : length s.text ≤ TEXT_LIMIT = all.0.text.fits in
-    subst (λ n. n ≤ suc (length ss) * 1024) (sym (sum_by-cons text_size s ss)) (omega (arith, one, bytes_within ss all.1))
+    subst (λ n. n ≤ suc (length ss) * TEXT_LIMIT) (sym (sum_by-cons text_size s ss)) (omega (arith, one, bytes_within ss all.1))
 
 pub bytes_few : (given items : List State) → given ≡ items → KeysRise items → AllByRecursion IsState (pairs items) → listed_bytes given < 2 ^ 32
 bytes_few given items same rise valid =
