@@ -9,7 +9,7 @@ ghost use Rattle.cg_frames.specs.Feeding.{wants_of};
 ghost use Rattle.cg_links.specs.Counted.{calls_of, link_of};
 ghost use Rattle.cg_wire.specs.Received.{IsSpelledBy, Receives, held_of};
 
-use cg_frames::{Feed, LAYOUT_1};
+use cg_frames::{Feed, WRITTEN};
 use cg_links::Counted;
 use cg_messages::Message;
 use cg_types::Fault;
@@ -21,7 +21,7 @@ pub const PIECE_LIMIT: usize = 4096;
 
 /// The most reads of one message. Each but the last gives a byte or more, so the longest frame is whole before that
 /// many reads are made.
-pub const MOST_TURNS: usize = LAYOUT_1.length + 10;
+pub const MOST_TURNS: usize = WRITTEN.length + 10;
 
 // Takes a chunk that passes neither the present length nor the present frame. Returns the message that is whole with
 // it, or nothing.
