@@ -4,7 +4,7 @@ ghost use Rattle.std.specs.Prelude.{◌<◌};
 
 use crate::keys::bytes_in;
 use crate::messages::add_message;
-use cg_frames::{Feed, Message, decode, encode};
+use cg_frames::{Feed, Message, WRITTEN, decode, encode};
 use cg_types::Fault;
 use std::alloc::Global;
 
@@ -60,16 +60,36 @@ fn read_by(alloc: Global, bytes: &[u8], size: usize) -> Result<String, Fault>
     Ok(text)
 }
 
-// Reads the messages in bytes, and writes their frames again.
-fn written_again(alloc: Global, bytes: &[u8]) -> Result<Vec<u8>, Fault> {
+// Tests whether the bytes begin with this frame. The layout's byte is left out: in the frame it has to be that of the
+// layout that is written.
+fn is_read(frame: &[u8], bytes: &[u8]) -> bool {
+    let Some((length, inside)) = frame.split_first_chunk::<4>() else {
+        return false;
+    };
+    let Some((length_read, inside_read)) = bytes.split_first_chunk::<4>() else {
+        return false;
+    };
+    match (inside.split_first(), inside_read.split_first()) {
+        (Some((byte, fields)), Some((_, fields_read))) => {
+            *length == *length_read && *byte == WRITTEN.byte && fields_read.starts_with(fields)
+        }
+        _ => false,
+    }
+}
+
+// Reads the messages in bytes, writes each again, and tests whether their frames are those in the bytes.
+fn is_written_again(alloc: Global, bytes: &[u8]) -> Result<bool, Fault> {
     let mut feed = Feed::new(alloc);
     let fed = feed.push(bytes)?;
-    let mut frames = Vec::new(alloc);
+    let mut rest = bytes;
     for message in &fed.messages {
         let frame = encode(alloc, message)?;
-        frames.extend_from_slice(frame.as_slice())?;
+        if !is_read(frame.as_slice(), rest) {
+            return Ok(false);
+        }
+        rest = rest.get(frame.len()..).unwrap_or(&[]);
     }
-    Ok(frames)
+    Ok(true)
 }
 
 // Tests whether the bytes are one frame: a length, and as many bytes as it says.
@@ -171,8 +191,8 @@ fn add_notes(alloc: Global, text: &mut String, frame: &[u8]) -> Result<(), Fault
 /// last frame lacks.
 ///
 /// A note follows if the same bytes, a byte at a time, give something else, or if the messages are written otherwise
-/// than they were read. A note follows too if a single frame gives something else by itself, in two chunks or with
-/// zeros after it.
+/// than they were read, apart from the layout's byte. A note follows too if a single frame gives something else by
+/// itself, in two chunks or with zeros after it.
 pub fn read_of(alloc: Global, digits: &str) -> Result<String, Fault> {
     let bytes = bytes_in(alloc, digits)?;
     let mut text = read_by(alloc, &bytes, bytes.len().max(1))?;
@@ -180,8 +200,7 @@ pub fn read_of(alloc: Global, digits: &str) -> Result<String, Fault> {
     if in_bytes.as_bytes() != text.as_bytes() {
         text.push_str(", otherwise in pieces")?;
     }
-    let again = written_again(alloc, &bytes)?;
-    if !bytes.as_slice().starts_with(again.as_slice()) {
+    if !is_written_again(alloc, &bytes)? {
         text.push_str(", otherwise written")?;
     }
     if is_one_frame(&bytes) {
