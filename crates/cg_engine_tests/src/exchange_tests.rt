@@ -1,6 +1,8 @@
 //! The worked exchange, and its end if the other side sends too little, another message, or a fault.
 
-use crate::samples::{ACK, ACK2, SYN, a, b, front, joined, syn};
+use crate::samples::{
+    ACK_IN, ACK_OUT, ACK2_IN, ACK2_OUT, SYN_IN, SYN_OUT, a, b, front, joined, syn,
+};
 use cg_engine::{Broken, Ended, initiate, respond};
 use cg_expect::{expect, expect_eq};
 use cg_links::{Counted, CountingLink, FailingLink};
@@ -75,13 +77,13 @@ const UNEXPECTED: Fault = Fault::BadFrame {
 #[test]
 fn b_responds(rt: HostRuntime) -> Result<(), Fail> {
     let alloc = rt.alloc();
-    expect!(responds(alloc, &[SYN, ACK2], (Ok(Ended::Whole), 2, 0), ACK)?)?;
+    expect!(responds(alloc, &[SYN_IN, ACK2_IN], (Ok(Ended::Whole), 2, 0), ACK_OUT)?)?;
     // bytes after the last message stay unread
     expect!(responds(
         alloc,
-        &[SYN, ACK2, SYN, b"\xff"],
+        &[SYN_IN, ACK2_IN, SYN_IN, b"\xff"],
         (Ok(Ended::Whole), 2, 27),
-        ACK
+        ACK_OUT
     )?)
 }
 
@@ -89,31 +91,36 @@ fn b_responds(rt: HostRuntime) -> Result<(), Fail> {
 fn b_finds_the_end(rt: HostRuntime) -> Result<(), Fail> {
     let alloc = rt.alloc();
     expect!(responds(alloc, &[], (Ok(Ended::Closed(0)), 1, 0), b"")?)?;
-    expect!(responds(alloc, &[SYN], (Ok(Ended::Closed(1)), 1, 0), ACK)?)?;
+    expect!(responds(alloc, &[SYN_IN], (Ok(Ended::Closed(1)), 1, 0), ACK_OUT)?)?;
     expect!(responds(
         alloc,
-        &[front(SYN, 10)],
+        &[front(SYN_IN, 10)],
         (broken(0, Fault::Truncated), 1, 0),
         b""
     )?)?;
     expect!(responds(
         alloc,
-        &[SYN, front(ACK2, 26)],
+        &[SYN_IN, front(ACK2_IN, 26)],
         (broken(1, Fault::Truncated), 1, 0),
-        ACK
+        ACK_OUT
     )?)
 }
 
 #[test]
 fn b_reads_another_message(rt: HostRuntime) -> Result<(), Fail> {
     let alloc = rt.alloc();
-    expect!(responds(alloc, &[ACK, ACK2], (broken(0, UNEXPECTED), 1, 27), b"")?)?;
-    expect!(responds(alloc, &[ACK2], (broken(0, UNEXPECTED), 1, 0), b"")?)?;
     expect!(responds(
         alloc,
-        &[SYN, SYN, ACK2],
+        &[ACK_IN, ACK2_IN],
+        (broken(0, UNEXPECTED), 1, 27),
+        b""
+    )?)?;
+    expect!(responds(alloc, &[ACK2_IN], (broken(0, UNEXPECTED), 1, 0), b"")?)?;
+    expect!(responds(
+        alloc,
+        &[SYN_IN, SYN_IN, ACK2_IN],
         (broken(1, UNEXPECTED), 1, 27),
-        ACK
+        ACK_OUT
     )?)
 }
 
@@ -125,16 +132,16 @@ fn b_reads_a_fault(rt: HostRuntime) -> Result<(), Fail> {
         cause: Cause::Count,
     };
     let bad = b"\x00\x00\x00\x08\x01\x01\x02c1\x01\x01\x01".as_slice();
-    expect!(responds(alloc, &[bad, SYN], (broken(0, count), 1, 26), b"")?)?;
+    expect!(responds(alloc, &[bad, SYN_IN], (broken(0, count), 1, 26), b"")?)?;
     let long = Fault::BadFrame {
         place: 0,
         cause: Cause::Length,
     };
     expect!(responds(
         alloc,
-        &[SYN, b"\x7f\xff\xff\xff", ACK2],
+        &[SYN_IN, b"\x7f\xff\xff\xff", ACK2_IN],
         (broken(1, long), 1, 27),
-        ACK
+        ACK_OUT
     )?)
 }
 
@@ -147,13 +154,28 @@ fn wrong(place: usize, cause: Cause) -> Result<Ended, Broken> {
 fn b_reads_faults_of_each_kind(rt: HostRuntime) -> Result<(), Fail> {
     let alloc = rt.alloc();
     let short = b"\x00\x00\x00\x08\x01\x01\x02c1\x01\x00\x01".as_slice();
-    expect!(responds(alloc, &[short, SYN], (wrong(12, Cause::Short), 1, 26), b"")?)?;
+    expect!(responds(
+        alloc,
+        &[short, SYN_IN],
+        (wrong(12, Cause::Short), 1, 26),
+        b""
+    )?)?;
     let port =
         b"\x00\x00\x00\x17\x01\x03\x00\x01\x0a\x00\x00\x01\x00\x00\x00\x00\x00\x09\x00\x00\x00\x00\x00\x00\x00\x01\x00".as_slice();
-    expect!(responds(alloc, &[port, SYN], (wrong(8, Cause::Endpoint), 1, 26), b"")?)?;
+    expect!(responds(
+        alloc,
+        &[port, SYN_IN],
+        (wrong(8, Cause::Endpoint), 1, 26),
+        b""
+    )?)?;
     let empty =
         b"\x00\x00\x00\x17\x01\x03\x00\x01\x0a\x00\x00\x01\x1b\x58\x00\x00\x00\x09\x00\x00\x00\x01\x00\x00\x00\x01\x00".as_slice();
-    expect!(responds(alloc, &[empty, SYN], (wrong(8, Cause::Empty), 1, 26), b"")?)
+    expect!(responds(
+        alloc,
+        &[empty, SYN_IN],
+        (wrong(8, Cause::Empty), 1, 26),
+        b""
+    )?)
 }
 
 #[test]
@@ -161,7 +183,7 @@ fn b_is_of_another_cluster(rt: HostRuntime) -> Result<(), Fail> {
     let other = b"\x00\x00\x00\x08\x01\x01\x02c2\x01\x00\x00".as_slice();
     expect!(responds(
         rt.alloc(),
-        &[other, ACK2],
+        &[other, ACK2_IN],
         (broken(0, Fault::OtherCluster), 1, 27),
         b""
     )?)
@@ -170,28 +192,38 @@ fn b_is_of_another_cluster(rt: HostRuntime) -> Result<(), Fail> {
 #[test]
 fn a_initiates(rt: HostRuntime) -> Result<(), Fail> {
     let alloc = rt.alloc();
-    expect!(initiates(alloc, &[ACK], (Ok(Ended::Whole), 2, 0), &[SYN, ACK2])?)?;
-    expect!(initiates(alloc, &[ACK, SYN], (Ok(Ended::Whole), 2, 26), &[SYN, ACK2])?)
+    expect!(initiates(
+        alloc,
+        &[ACK_IN],
+        (Ok(Ended::Whole), 2, 0),
+        &[SYN_OUT, ACK2_OUT]
+    )?)?;
+    expect!(initiates(
+        alloc,
+        &[ACK_IN, SYN_IN],
+        (Ok(Ended::Whole), 2, 26),
+        &[SYN_OUT, ACK2_OUT]
+    )?)
 }
 
 #[test]
 fn a_finds_no_answer(rt: HostRuntime) -> Result<(), Fail> {
     let alloc = rt.alloc();
-    expect!(initiates(alloc, &[], (Ok(Ended::Closed(0)), 1, 0), &[SYN])?)?;
+    expect!(initiates(alloc, &[], (Ok(Ended::Closed(0)), 1, 0), &[SYN_OUT])?)?;
     expect!(initiates(
         alloc,
-        &[front(ACK, 42)],
+        &[front(ACK_IN, 42)],
         (broken(0, Fault::Truncated), 1, 0),
-        &[SYN]
+        &[SYN_OUT]
     )?)?;
-    expect!(initiates(alloc, &[SYN], (broken(0, UNEXPECTED), 1, 0), &[SYN])?)
+    expect!(initiates(alloc, &[SYN_IN], (broken(0, UNEXPECTED), 1, 0), &[SYN_OUT])?)
 }
 
 // Returns `true` if B's writer is flushed after its part of the worked exchange, in which the call of this number
 // fails.
 fn is_flushed(alloc: Global, turn: u64) -> Result<bool, Fail> {
     let mut gate = b(alloc)?;
-    let mut reader = Counted::new(SYN);
+    let mut reader = Counted::new(SYN_IN);
     let mut writer = Counted::new(FailingLink::new(Vec::new(alloc), turn));
     let _ended = respond(alloc, &mut gate, 1000, &mut reader, &mut writer);
     Ok(writer.is_flushed())
@@ -208,7 +240,7 @@ fn what_was_written_is_flushed(rt: HostRuntime) -> Result<(), Fail> {
 
 // Returns the reads, writes and flushes of B's part of the worked exchange, and the most bytes that one read requested.
 fn calls(alloc: Global) -> Result<(u64, usize, u64, u64), Fail> {
-    let input = joined(alloc, &[SYN, ACK2])?;
+    let input = joined(alloc, &[SYN_IN, ACK2_IN])?;
     let mut gate = b(alloc)?;
     let mut reader = Counted::new(CountingLink::new(input.as_slice()));
     let mut writer = Counted::new(CountingLink::new(Vec::new(alloc)));

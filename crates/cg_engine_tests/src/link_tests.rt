@@ -1,6 +1,6 @@
 //! The worked exchange over links of which each call fails in turn, which move a byte a call, or which take none.
 
-use crate::samples::{ACK, ACK2, SYN, a, b, joined, syn};
+use crate::samples::{ACK_IN, ACK_OUT, ACK2_IN, ACK2_OUT, SYN_IN, SYN_OUT, a, b, joined, syn};
 use cg_engine::{Broken, Counted, Ended, FailingLink, FullLink, SlowLink, initiate, respond};
 use cg_expect::{expect, expect_eq};
 use cg_types::Fault;
@@ -12,7 +12,7 @@ type Came = (Result<Ended, Broken>, u64, u64, Vec<u8>);
 
 // Runs B's part, a byte a call; the read of one number fails, or the write or flush of another.
 fn responded(alloc: Global, read: u64, write: u64) -> Result<Came, Fail> {
-    let input = joined(alloc, &[SYN, ACK2])?;
+    let input = joined(alloc, &[SYN_IN, ACK2_IN])?;
     let mut gate = b(alloc)?;
     let mut reader = Counted::new(FailingLink::new(SlowLink::new(input.as_slice()), read));
     let mut writer = Counted::new(FailingLink::new(SlowLink::new(Vec::new(alloc)), write));
@@ -30,7 +30,7 @@ fn responded(alloc: Global, read: u64, write: u64) -> Result<Came, Fail> {
 fn initiated(alloc: Global, read: u64, write: u64) -> Result<Came, Fail> {
     let mut gate = a(alloc)?;
     let opening = syn(alloc)?;
-    let mut reader = Counted::new(FailingLink::new(SlowLink::new(ACK), read));
+    let mut reader = Counted::new(FailingLink::new(SlowLink::new(ACK_IN), read));
     let mut writer = Counted::new(FailingLink::new(SlowLink::new(Vec::new(alloc)), write));
     let ended = initiate(alloc, &mut gate, 1000, &opening, &mut reader, &mut writer);
     let failed = writer.failed();
@@ -66,12 +66,18 @@ fn each_read_of_b_fails_in_turn(rt: HostRuntime) -> Result<(), Fail> {
         let came = responded(rt.alloc(), turn, 0)?;
         let (done, count) = if turn <= 26 { (0, 0) } else { (1, 43) };
         expect!(
-            is(&came, broken(done, Fault::ReadFault), (1, 0), ACK, count),
+            is(
+                &came,
+                broken(done, Fault::ReadFault),
+                (1, 0),
+                ACK_OUT,
+                count
+            ),
             "read {turn}"
         )?;
     }
     let came = responded(rt.alloc(), 54, 0)?;
-    expect!(is(&came, Ok(Ended::Whole), (0, 0), ACK, 43))
+    expect!(is(&came, Ok(Ended::Whole), (0, 0), ACK_OUT, 43))
 }
 
 // The 43 bytes of the ACK, and the flush.
@@ -84,14 +90,14 @@ fn each_write_of_b_fails_in_turn(rt: HostRuntime) -> Result<(), Fail> {
                 &came,
                 broken(1, Fault::WriteFault),
                 (0, 1),
-                ACK,
+                ACK_OUT,
                 (turn as usize) - 1
             ),
             "write {turn}"
         )?;
     }
     let came = responded(rt.alloc(), 0, 45)?;
-    expect!(is(&came, Ok(Ended::Whole), (0, 0), ACK, 43))
+    expect!(is(&came, Ok(Ended::Whole), (0, 0), ACK_OUT, 43))
 }
 
 #[test]
@@ -99,19 +105,19 @@ fn each_read_of_a_fails_in_turn(rt: HostRuntime) -> Result<(), Fail> {
     for turn in 1..44 {
         let came = initiated(rt.alloc(), turn, 0)?;
         expect!(
-            is(&came, broken(0, Fault::ReadFault), (1, 0), SYN, 26),
+            is(&came, broken(0, Fault::ReadFault), (1, 0), SYN_OUT, 26),
             "read {turn}"
         )?;
     }
     let came = initiated(rt.alloc(), 44, 0)?;
-    let all = joined(rt.alloc(), &[SYN, ACK2])?;
+    let all = joined(rt.alloc(), &[SYN_OUT, ACK2_OUT])?;
     expect!(is(&came, Ok(Ended::Whole), (0, 0), all.as_slice(), 53))
 }
 
 // The 26 bytes of the SYN and a flush, and the 27 of the ACK2 and a flush.
 #[test]
 fn each_write_of_a_fails_in_turn(rt: HostRuntime) -> Result<(), Fail> {
-    let all = joined(rt.alloc(), &[SYN, ACK2])?;
+    let all = joined(rt.alloc(), &[SYN_OUT, ACK2_OUT])?;
     for turn in 1..56 {
         let came = initiated(rt.alloc(), 0, turn)?;
         let (done, count) = if turn <= 27 {
@@ -144,7 +150,7 @@ fn counts(writer: &Counted<FullLink>) -> [u64; 3] {
 
 fn responded_to_nobody(alloc: Global) -> Result<Unwritten, Fail> {
     let mut gate = b(alloc)?;
-    let mut reader = Counted::new(SYN);
+    let mut reader = Counted::new(SYN_IN);
     let mut writer = Counted::new(FullLink);
     let ended = respond(alloc, &mut gate, 1000, &mut reader, &mut writer);
     Ok((ended, gate.node().table().owners().len(), counts(&writer)))
@@ -153,7 +159,7 @@ fn responded_to_nobody(alloc: Global) -> Result<Unwritten, Fail> {
 fn initiated_to_nobody(alloc: Global) -> Result<Unwritten, Fail> {
     let mut gate = a(alloc)?;
     let opening = syn(alloc)?;
-    let mut reader = Counted::new(ACK);
+    let mut reader = Counted::new(ACK_IN);
     let mut writer = Counted::new(FullLink);
     let ended = initiate(alloc, &mut gate, 1000, &opening, &mut reader, &mut writer);
     Ok((ended, gate.node().table().owners().len(), counts(&writer)))

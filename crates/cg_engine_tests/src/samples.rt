@@ -10,15 +10,22 @@ use cg_wire::syn_due;
 use std::alloc::Global;
 use std::test::Fail;
 
-// A's SYN, B's ACK, and A's ACK2.
-pub(crate) const SYN: &[u8] =
+// A's SYN, B's ACK, and A's ACK2, as they are read.
+pub(crate) const SYN_IN: &[u8] =
     b"\x00\x00\x00\x16\x01\x01\x02c1\x01\x00\x01\x0a\x00\x00\x01\x1b\x58\x00\x00\x00\x09\x00\x00\x00\x01";
 
-pub(crate) const ACK: &[u8] =
+pub(crate) const ACK_IN: &[u8] =
     b"\x00\x00\x00\x27\x01\x02\x00\x01\x0a\x00\x00\x01\x1b\x58\x00\x00\x00\x09\x00\x00\x00\x00\x00\x01\x0a\x00\x00\x02\x1b\x58\x00\x00\x00\x05\x00\x00\x00\x00\x00\x00\x00\x01\x00";
 
-pub(crate) const ACK2: &[u8] =
+pub(crate) const ACK2_IN: &[u8] =
     b"\x00\x00\x00\x17\x01\x03\x00\x01\x0a\x00\x00\x01\x1b\x58\x00\x00\x00\x09\x00\x00\x00\x00\x00\x00\x00\x01\x00";
+
+// The same messages as they are written.
+pub(crate) const SYN_OUT: &[u8] = SYN_IN;
+
+pub(crate) const ACK_OUT: &[u8] = ACK_IN;
+
+pub(crate) const ACK2_OUT: &[u8] = ACK2_IN;
 
 // Makes the node of an endpoint that has just started at a generation.
 pub(crate) fn started(alloc: Global, own: u16, start: u32) -> Result<Node, Fail> {
@@ -39,7 +46,7 @@ pub(crate) fn b(alloc: Global) -> Result<NodeGate, Fail> {
 
 // The SYN that A sends.
 pub(crate) fn syn(alloc: Global) -> Result<Syn, Fail> {
-    let (message, _size) = decode(alloc, SYN)?.ok_or("a whole frame")?;
+    let (message, _size) = decode(alloc, SYN_IN)?.ok_or("a whole frame")?;
     Ok(syn_due(message)?)
 }
 
