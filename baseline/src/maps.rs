@@ -275,7 +275,7 @@ fn put_deltas(out: &mut Vec<u8>, deltas: &[(Endpoint, Delta)]) {
 }
 
 pub fn encode(message: &Message) -> Vec<u8> {
-    let mut out = vec![0, 0, 0, 0, 1];
+    let mut out = vec![0, 0, 0, 0, WRITTEN];
     match message {
         Message::Syn(m) => {
             out.push(1);
@@ -306,6 +306,7 @@ pub fn is_plain(bytes: &[u8]) -> bool {
 struct Reader<'a> {
     frame: &'a [u8],
     place: usize,
+    layout: Layout,
 }
 
 impl<'a> Reader<'a> {
@@ -351,7 +352,7 @@ impl<'a> Reader<'a> {
     fn count(&mut self) -> Result<usize, BadFrame> {
         let place = self.place;
         let count = self.u16()? as usize;
-        if count > ENDPOINTS {
+        if count > self.layout.members {
             return bad(place, Cause::Count);
         }
         Ok(count)
@@ -419,7 +420,7 @@ impl<'a> Reader<'a> {
         let version = self.number(above + 1, Cause::Version)?;
         let place = self.place;
         let length = self.u16()? as usize;
-        if length > TEXT {
+        if length > self.layout.text {
             return bad(place, Cause::Text);
         }
         let place = self.place;
@@ -440,13 +441,16 @@ impl<'a> Reader<'a> {
 pub fn decode(bytes: &[u8]) -> Result<Option<(Message, usize)>, BadFrame> {
     let Some(head) = bytes.get(..4) else { return Ok(None) };
     let length = u32::from_be_bytes(head.try_into().unwrap());
-    if length > FRAME {
+    let named = bytes.get(4).and_then(|byte| layout_of(*byte));
+    let layout = named.unwrap_or(WIDEST);
+    if length > layout.length {
         return bad(0, Cause::Length);
     }
     let end = 4 + length as usize;
     let Some(frame) = bytes.get(..end) else { return Ok(None) };
-    let mut r = Reader { frame, place: 4 };
-    if r.u8()? != 1 {
+    let mut r = Reader { frame, place: 4, layout };
+    r.u8()?;
+    if named.is_none() {
         return bad(4, Cause::Layout);
     }
     let message = match r.u8()? {

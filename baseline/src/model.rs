@@ -1,10 +1,37 @@
 //! Words and limits.
 
 pub const MOST: u32 = 2_147_483_647;
-pub const ENDPOINTS: usize = 256;
+pub const ENDPOINTS: usize = 512;
 pub const STATES: usize = 16;
-pub const TEXT: usize = 1024;
-pub const FRAME: u32 = 5_000_000;
+
+/// The most members of a list, the most bytes of a text, and the most after a length, as a layout of frames has them.
+#[derive(Clone, Copy)]
+pub struct Layout {
+    pub members: usize,
+    pub text: usize,
+    pub length: u32,
+}
+
+/// The byte of the layout that is written, and the layout: its frames are the longest.
+pub const WRITTEN: u8 = 2;
+pub const WIDEST: Layout = Layout {
+    members: 512,
+    text: 4096,
+    length: 40_000_000,
+};
+
+/// The layout that a byte names.
+pub fn layout_of(byte: u8) -> Option<Layout> {
+    match byte {
+        1 => Some(Layout {
+            members: 256,
+            text: 1024,
+            length: 5_000_000,
+        }),
+        WRITTEN => Some(WIDEST),
+        _ => None,
+    }
+}
 
 #[derive(Clone, Copy, PartialEq, Eq, PartialOrd, Ord, Hash, Debug)]
 pub struct Endpoint {

@@ -189,6 +189,7 @@ fn is_plain(bytes: &[u8]) -> bool {
 struct Walk<'a> {
     frame: &'a [u8],
     place: usize,
+    layout: Layout,
 }
 
 impl<'a> Walk<'a> {
@@ -228,7 +229,7 @@ impl<'a> Walk<'a> {
 
     fn count(&mut self) -> Result<usize, BadFrame> {
         let count = u16::from_be_bytes(*self.field::<2>()?) as usize;
-        if count > ENDPOINTS {
+        if count > self.layout.members {
             return bad(self.place - 2, Cause::Count);
         }
         Ok(count)
@@ -272,7 +273,7 @@ impl<'a> Walk<'a> {
                 last = key;
                 self.number(above + 1, Cause::Version)?;
                 let length = u16::from_be_bytes(*self.field::<2>()?) as usize;
-                if length > TEXT {
+                if length > self.layout.text {
                     return bad(self.place - 2, Cause::Text);
                 }
                 let Some(text) = self.frame.get(self.place..self.place + length) else {
@@ -296,14 +297,16 @@ pub fn check(bytes: &[u8]) -> Result<Option<Checked<'_>>, BadFrame> {
         return Ok(None);
     };
     let length = u32::from_be_bytes(*head);
-    if length > FRAME {
+    let named = bytes.get(4).and_then(|byte| layout_of(*byte));
+    let layout = named.unwrap_or(WIDEST);
+    if length > layout.length {
         return bad(0, Cause::Length);
     }
     let end = 4 + length as usize;
     let Some(frame) = bytes.get(..end) else { return Ok(None) };
-    let mut w = Walk { frame, place: 4 };
-    let [layout] = *w.field::<1>()?;
-    if layout != 1 {
+    let mut w = Walk { frame, place: 4, layout };
+    w.field::<1>()?;
+    if named.is_none() {
         return bad(4, Cause::Layout);
     }
     let [kind] = *w.field::<1>()?;
@@ -346,7 +349,7 @@ pub fn check(bytes: &[u8]) -> Result<Option<Checked<'_>>, BadFrame> {
 
 fn begin(out: &mut Vec<u8>, kind: u8) {
     out.clear();
-    out.extend_from_slice(&[0, 0, 0, 0, 1, kind]);
+    out.extend_from_slice(&[0, 0, 0, 0, WRITTEN, kind]);
 }
 
 fn finish(out: &mut [u8]) {

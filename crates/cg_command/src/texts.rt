@@ -27,7 +27,7 @@ status 1.\n\
 \n\
 Example: node 10.0.0.2:7000 in generation 5 of the cluster c1 answers a SYN that names nobody:\n\
 \n  printf '10.0.0.2:7000 5 c1\\n000000080101026331010000\\n' | cg answer\n\
-\n  000000190102000000010a0000021b5800000005000000000000000100";
+\n  000000190202000000010a0000021b5800000005000000000000000100";
 
 /// `sim` in a line.
 pub const SIM_ABOUT: &str =

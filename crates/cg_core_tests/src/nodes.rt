@@ -110,10 +110,10 @@ fn another_cluster_changes_nothing(rt: HostRuntime) -> Result<(), Fail> {
     expect_eq!(fault, Some(Fault::OtherCluster))
 }
 
-// The event that hands a node whole deltas about 255 endpoints, from the third on.
+// The event that hands a node whole deltas about 511 endpoints, from the third on.
 fn crowd(alloc: Global) -> Result<Event, Fail> {
     let mut deltas = Vec::new(alloc);
-    for number in C..258 {
+    for number in C..514 {
         deltas.push(about(alloc, number, (4, 0, 1))?)?;
     }
     let m = Ack2::new(deltas).ok_or("an ACK2")?;

@@ -78,6 +78,18 @@ const UNEXPECTED: Fault = Fault::BadFrame {
 fn b_responds(rt: HostRuntime) -> Result<(), Fail> {
     let alloc = rt.alloc();
     expect!(responds(alloc, &[SYN_IN, ACK2_IN], (Ok(Ended::Whole), 2, 0), ACK_OUT)?)?;
+    expect!(responds(
+        alloc,
+        &[SYN_OUT, ACK2_OUT],
+        (Ok(Ended::Whole), 2, 0),
+        ACK_OUT
+    )?)?;
+    expect!(responds(
+        alloc,
+        &[SYN_IN, ACK2_OUT],
+        (Ok(Ended::Whole), 2, 0),
+        ACK_OUT
+    )?)?;
     // bytes after the last message stay unread
     expect!(responds(
         alloc,
@@ -192,6 +204,12 @@ fn b_is_of_another_cluster(rt: HostRuntime) -> Result<(), Fail> {
 #[test]
 fn a_initiates(rt: HostRuntime) -> Result<(), Fail> {
     let alloc = rt.alloc();
+    expect!(initiates(
+        alloc,
+        &[ACK_OUT],
+        (Ok(Ended::Whole), 2, 0),
+        &[SYN_OUT, ACK2_OUT]
+    )?)?;
     expect!(initiates(
         alloc,
         &[ACK_IN],

@@ -58,7 +58,13 @@ fn stands(alloc: Global, bytes: &[u8], count: usize, fault: Fault) -> Result<boo
 fn faults_stand(rt: HostRuntime) -> Result<(), Fail> {
     for (bytes, count, place, cause) in [
         (
-            b"\0\0\0\x08\x01\x01\x02c1\x01\0\0\0\x4c\x4b\x41".as_slice(),
+            b"\0\0\0\x08\x01\x01\x02c1\x01\0\0\0\x4c\x4b\x41\x01".as_slice(),
+            1,
+            0,
+            Cause::Length,
+        ),
+        (
+            b"\0\0\0\x08\x02\x01\x02c1\x01\0\0\x02\x62\x5a\x01",
             1,
             0,
             Cause::Length,
@@ -84,28 +90,37 @@ fn faults_stand(rt: HostRuntime) -> Result<(), Fail> {
     Ok(())
 }
 
-// Adds the delta of an endpoint that has as many states as there may be, each with the longest text.
-fn add_longest_delta(frame: &mut Vec<u8>, number: u8) -> Result<(), AllocError> {
-    frame.extend_from_slice(&[10, 0, 0, number])?;
+// The last two bytes of an endpoint's address.
+fn address(number: u16) -> [u8; 2] {
+    number.to_be_bytes()
+}
+
+// Adds the delta of an endpoint that has as many states as there may be, each with this text of 4,096 bytes.
+fn add_longest_delta(frame: &mut Vec<u8>, number: u16, text: &[u8]) -> Result<(), AllocError> {
+    frame.extend_from_slice(&[10, 0])?;
+    frame.extend_from_slice(&address(number))?;
     frame.extend_from_slice(b"\x1b\x58\0\0\0\x05\0\0\0\0\0\0\0\x01\x10")?;
     for key in 1..=16u8 {
-        frame.extend_from_slice(&[key, 0, 0, 0, 2, 4, 0])?;
-        frame.resize(frame.len().saturating_add(1_024), b'x')?;
+        frame.extend_from_slice(&[key, 0, 0, 0, 2, 16, 0])?;
+        frame.extend_from_slice(text)?;
     }
     Ok(())
 }
 
-// Returns the frame of the longest message: an ACK with requests of 256 endpoints, and of each the longest delta.
+// Returns the frame of the longest message: an ACK with requests of 512 endpoints, and of each the longest delta.
 fn longest(alloc: Global) -> Result<Vec<u8>, AllocError> {
     let mut frame = Vec::new(alloc);
-    frame.extend_from_slice(b"\0\x40\x91\x06\x01\x02\x01\0")?;
-    for number in 0..=255u8 {
-        frame.extend_from_slice(&[10, 0, 0, number])?;
+    frame.extend_from_slice(b"\x02\x01\x22\x06\x02\x02\x02\0")?;
+    for number in 0..512u16 {
+        frame.extend_from_slice(&[10, 0])?;
+        frame.extend_from_slice(&address(number))?;
         frame.extend_from_slice(b"\x1b\x58\0\0\0\x09\0\0\0\0")?;
     }
-    frame.extend_from_slice(b"\x01\0")?;
-    for number in 0..=255u8 {
-        add_longest_delta(&mut frame, number)?;
+    frame.extend_from_slice(b"\x02\0")?;
+    let mut text = Vec::new(alloc);
+    text.resize(4_096, b'x')?;
+    for number in 0..512u16 {
+        add_longest_delta(&mut frame, number, &text)?;
     }
     Ok(frame)
 }
@@ -141,5 +156,5 @@ fn given_in_pieces(
 fn longest_message_in_pieces(rt: HostRuntime) -> Result<(), Fail> {
     let frame = longest(rt.alloc())?;
     let given = given_in_pieces(rt.alloc(), &frame)?;
-    expect_eq!((frame.len(), given), (4 + 4_231_430, (1, 1, Ok(()))))
+    expect_eq!((frame.len(), given), (4 + 33_628_678, (1, 1, Ok(()))))
 }

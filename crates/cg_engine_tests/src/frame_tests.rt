@@ -20,6 +20,16 @@ const ACK: &[u8] =
 // An ACK2 of no deltas.
 const EMPTY_ACK2: &[u8] = b"\0\0\0\x04\x01\x03\0\0";
 
+// The same messages in layout 2.
+const SYN_2: &[u8] = b"\0\0\0\x16\x02\x01\x02c1\x01\0\x01\x0a\0\0\x01\x1b\x58\0\0\0\x09\0\0\0\x01";
+
+const EMPTY_SYN_2: &[u8] = b"\0\0\0\x08\x02\x01\x02c1\x01\0\0";
+
+const ACK_2: &[u8] =
+    b"\0\0\0\x34\x02\x02\0\x01\x0a\0\0\x01\x1b\x58\0\0\0\x09\0\0\0\0\0\x01\x0a\0\0\x02\x1b\x58\0\0\0\x05\0\0\0\0\0\0\0\x01\x01\x01\0\0\0\x02\0\x06NORMAL";
+
+const EMPTY_ACK2_2: &[u8] = b"\0\0\0\x04\x02\x03\0\0";
+
 // Returns `true` if a message is written as these bytes, by value and by reference.
 pub(crate) fn is_written_as(alloc: Global, message: &Message, bytes: &[u8]) -> Result<bool, Fault> {
     every_message_fits(message);
@@ -28,24 +38,23 @@ pub(crate) fn is_written_as(alloc: Global, message: &Message, bytes: &[u8]) -> R
     Ok(whole.as_slice() == bytes && lent.as_slice() == bytes)
 }
 
-// Returns the size of the frame at the start of the bytes, and `true` if its message is written as that frame.
-fn read_and_written(alloc: Global, bytes: &[u8]) -> Result<(usize, bool), Fail> {
+// Returns the size of the frame at the start of the bytes, and `true` if its message is written as this frame.
+fn read_and_written(alloc: Global, bytes: &[u8], frame: &[u8]) -> Result<(usize, bool), Fail> {
     let (message, size) = decode(alloc, bytes)?.ok_or("a whole frame")?;
-    match bytes.get(..size) {
-        Some(frame) => Ok((size, is_written_as(alloc, &message, frame)?)),
-        None => Ok((size, false)),
-    }
+    Ok((size, is_written_as(alloc, &message, frame)?))
 }
 
 #[test]
-fn messages_are_read_and_written(rt: HostRuntime) -> Result<(), Fail> {
-    for (bytes, size) in [
-        (SYN.as_slice(), 26),
-        (EMPTY_SYN, 12),
-        (ACK, 56),
-        (EMPTY_ACK2, 8),
+fn messages_are_read_in_both_layouts_and_written_in_one(rt: HostRuntime) -> Result<(), Fail> {
+    for (first, second, size) in [
+        (SYN.as_slice(), SYN_2, 26),
+        (EMPTY_SYN, EMPTY_SYN_2, 12),
+        (ACK, ACK_2, 56),
+        (EMPTY_ACK2, EMPTY_ACK2_2, 8),
     ] {
-        expect_eq!(read_and_written(rt.alloc(), bytes)?, (size, true))?;
+        let alloc = rt.alloc();
+        expect_eq!(read_and_written(alloc, first, second)?, (size, true))?;
+        expect_eq!(read_and_written(alloc, second, second)?, (size, true))?;
     }
     Ok(())
 }
@@ -70,11 +79,14 @@ fn wants_more(rt: HostRuntime) -> Result<(), Fail> {
 
 #[test]
 fn announced_members_have_to_come(rt: HostRuntime) -> Result<(), Fail> {
-    // 256 digests, 256 requests and 256 deltas, of which none comes
+    // 256 digests, 256 requests and 256 deltas, and 512 of each in layout 2, of which none comes
     for (bytes, place) in [
         (b"\0\0\0\x08\x01\x01\x02c1\x01\x01\0".as_slice(), 12),
         (b"\0\0\0\x04\x01\x02\x01\0", 8),
         (b"\0\0\0\x04\x01\x03\x01\0", 8),
+        (b"\0\0\0\x08\x02\x01\x02c1\x01\x02\0", 12),
+        (b"\0\0\0\x04\x02\x02\x02\0", 8),
+        (b"\0\0\0\x04\x02\x03\x02\0", 8),
     ] {
         let cause = Cause::Short;
         expect_eq!(

@@ -1,4 +1,4 @@
-//! Two nodes that hold 256 endpoints between them, each with 16 states of 1,024 bytes, exchange all that they hold.
+//! Two nodes that hold 512 endpoints between them, each with 16 states of 4,096 bytes, exchange all that they hold.
 
 use crate::samples::started;
 use cg_core::Node;
@@ -18,12 +18,19 @@ fn letter(number: u16, at: u8) -> char {
     char::from(b'a' + (number % 13) as u8 + at % 13)
 }
 
+// The letters of the part that a text repeats.
+const PART: usize = 64;
+
 // Makes the text of a key of an endpoint: its letter, as often as a text may have it.
 fn text(alloc: Global, number: u16, at: u8) -> Result<String, Fail> {
     let letter = letter(number, at);
+    let mut part = String::new(alloc);
+    for _ in 0..PART {
+        part.push(letter)?;
+    }
     let mut text = String::new(alloc);
-    for _ in 0..TEXT_LIMIT {
-        text.push(letter)?;
+    for _ in 0..TEXT_LIMIT / PART {
+        text.push_str(&part)?;
     }
     Ok(text)
 }
@@ -146,7 +153,7 @@ fn sides(alloc: Global, a: Node, b: Node) -> Result<(Part, Part, usize), Fail> {
 // Runs the exchange if the first side holds this number of endpoints, and the other side the rest.
 fn meeting(alloc: Global, split: u16) -> Result<Meeting, Fail> {
     let a = holding(alloc, 1, split.saturating_add(1))?;
-    let b = holding(alloc, split.saturating_add(1), 257)?;
+    let b = holding(alloc, split.saturating_add(1), 513)?;
     let (one, other, length) = sides(alloc, a, b)?;
     let same = one.node.table().same_entries(other.node.table());
     let held = other.node.table().owners().len();
@@ -161,7 +168,7 @@ fn meeting(alloc: Global, split: u16) -> Result<Meeting, Fail> {
 
 const WHOLE: [Result<Ended, Broken>; 2] = [Ok(Ended::Whole), Ok(Ended::Whole)];
 
-// A delta has 19 bytes and 16 states of 1,031; an ACK 10 beside its members, and a request 14.
+// A delta has 19 bytes and 16 states of 4,103; an ACK 10 beside its members, and a request 14.
 #[test]
 fn a_newcomer_takes_a_full_table(rt: HostRuntime) -> Result<(), Fail> {
     let shown = meeting(rt.alloc(), 1)?;
@@ -171,23 +178,23 @@ fn a_newcomer_takes_a_full_table(rt: HostRuntime) -> Result<(), Fail> {
             WHOLE,
             [2, 2],
             [4096, 4096],
-            10 + 14 + 255 * 16515,
-            (true, 256)
+            10 + 14 + 511 * 65667,
+            (true, 512)
         )
     )
 }
 
 #[test]
 fn two_halves_make_a_full_table(rt: HostRuntime) -> Result<(), Fail> {
-    let shown = meeting(rt.alloc(), 128)?;
+    let shown = meeting(rt.alloc(), 256)?;
     expect_eq!(
         shown,
         (
             WHOLE,
             [2, 2],
             [4096, 4096],
-            10 + 128 * 14 + 128 * 16515,
-            (true, 256)
+            10 + 256 * 14 + 256 * 65667,
+            (true, 512)
         )
     )
 }

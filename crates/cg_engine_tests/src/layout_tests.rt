@@ -1,10 +1,10 @@
-//! Other layouts with the same readers and writers: another byte, other limits, and two layouts named by the byte.
+//! Other layouts with the same readers and writers: another byte, other limits, and the layouts that the byte names.
 
 ghost use Rattle.cg_frames.specs.Choosing.{AreLayouts, AreRead};
-ghost use Rattle.cg_engine_tests.specs.declared.layout_tests.TheConstants.{BOTH};
+ghost use Rattle.cg_engine_tests.specs.declared.layout_tests.TheConstants.{THREE};
 
 use cg_expect::{expect, expect_eq};
-use cg_frames::{LAYOUT_1, Layout, decode_among, decode_in, encode_in};
+use cg_frames::{LAYOUT_1, LAYOUT_2, LAYOUTS, Layout, decode_among, decode_in, encode_in};
 use cg_types::{Cause, Fault, MEMBER_LIMIT, TEXT_LIMIT};
 use std::alloc::Global;
 use std::test::Fail;
@@ -14,7 +14,7 @@ const OTHER: Layout = Layout {
     byte: 7,
     members: MEMBER_LIMIT,
     text: TEXT_LIMIT,
-    length: 5_000_000,
+    length: 40_000_000,
     tombstones: false,
 };
 
@@ -47,26 +47,26 @@ fn reads_and_writes_another_layout(rt: HostRuntime) -> Result<(), Fail> {
     Ok(())
 }
 
-// Longer frames than those of the first layout.
+// A layout that is longer than those of this version.
 const LONG: Layout = Layout {
-    byte: 2,
+    byte: 9,
     members: MEMBER_LIMIT,
     text: TEXT_LIMIT,
-    length: 40_000_000,
+    length: 50_000_000,
     tombstones: false,
 };
 
-const BOTH: [Layout; 2] = [LAYOUT_1, LONG];
+const THREE: [Layout; 3] = [LAYOUT_1, LAYOUT_2, LONG];
 
-// The laws of several layouts hold of both.
-fn both_are_layouts()
-    ensures layouts { AreLayouts BOTH }
-    ensures read { AreRead BOTH }
+// The laws of several layouts hold of three.
+fn three_are_layouts()
+    ensures layouts { AreLayouts THREE }
+    ensures read { AreRead THREE }
 {}
 
 #[test]
-fn both_are_told_apart(_rt: HostRuntime) {
-    both_are_layouts();
+fn three_are_told_apart(_rt: HostRuntime) {
+    three_are_layouts();
 }
 
 // The length of the frame that is read in one of these layouts, and the first fault; neither if more bytes are needed.
@@ -116,6 +116,7 @@ fn the_byte_names_the_layout(rt: HostRuntime) -> Result<(), Fail> {
     for (bytes, due) in [
         (b"\0\x4c\x4b".as_slice(), (None, None)),
         (b"\0\x4c\x4b\x41", (None, None)),
+        (b"\x02\x62\x5a\0", (None, None)),
         (b"\x02\x62\x5a\x01", (None, Some((0, Cause::Length)))),
         (b"\0\x4c\x4b\x41\x01", (None, Some((0, Cause::Length)))),
         (b"\0\x4c\x4b\x41\x02", (None, None)),
@@ -129,11 +130,31 @@ fn the_byte_names_the_layout(rt: HostRuntime) -> Result<(), Fail> {
             b"\0\0\0\x16\x02\x01\x02c1\x01\0\x01\x0a\0\0\x01\x1b\x58\0\0\0\x09\0\0\0\x01",
             (Some(26), None),
         ),
-        (b"\0\0\0\x02\x03", (None, None)),
-        (b"\0\0\0\x02\x03\x01", (None, Some((4, Cause::Layout)))),
+        (b"\0\0\0\x02\x09", (None, None)),
+        (b"\0\0\0\x02\x09\x01", (None, Some((4, Cause::Layout)))),
+        (b"\0\0\0\x02\0\x01", (None, Some((4, Cause::Layout)))),
         (b"\0\0\0\0", (None, Some((4, Cause::Short)))),
     ] {
-        expect_eq!(read_among(rt.alloc(), &BOTH, bytes)?, due)?;
+        expect_eq!(read_among(rt.alloc(), &LAYOUTS, bytes)?, due)?;
+    }
+    Ok(())
+}
+
+#[test]
+fn a_third_layout_is_one_more(rt: HostRuntime) -> Result<(), Fail> {
+    for (bytes, due) in [
+        (b"\x02\x62\x5a\x01".as_slice(), (None, None)),
+        (b"\x02\xfa\xf0\x81", (None, Some((0, Cause::Length)))),
+        (b"\0\x4c\x4b\x41\x01", (None, Some((0, Cause::Length)))),
+        (b"\x02\x62\x5a\x01\x02", (None, Some((0, Cause::Length)))),
+        (b"\x02\x62\x5a\x01\x09", (None, None)),
+        (
+            b"\0\0\0\x16\x09\x01\x02c1\x01\0\x01\x0a\0\0\x01\x1b\x58\0\0\0\x09\0\0\0\x01",
+            (Some(26), None),
+        ),
+        (b"\0\0\0\x02\x03\x01", (None, Some((4, Cause::Layout)))),
+    ] {
+        expect_eq!(read_among(rt.alloc(), &THREE, bytes)?, due)?;
     }
     Ok(())
 }

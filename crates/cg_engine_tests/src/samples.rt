@@ -10,7 +10,7 @@ use cg_wire::syn_due;
 use std::alloc::Global;
 use std::test::Fail;
 
-// A's SYN, B's ACK, and A's ACK2, as they are read.
+// A's SYN, B's ACK, and A's ACK2 in layout 1, as they are read.
 pub(crate) const SYN_IN: &[u8] =
     b"\x00\x00\x00\x16\x01\x01\x02c1\x01\x00\x01\x0a\x00\x00\x01\x1b\x58\x00\x00\x00\x09\x00\x00\x00\x01";
 
@@ -20,12 +20,15 @@ pub(crate) const ACK_IN: &[u8] =
 pub(crate) const ACK2_IN: &[u8] =
     b"\x00\x00\x00\x17\x01\x03\x00\x01\x0a\x00\x00\x01\x1b\x58\x00\x00\x00\x09\x00\x00\x00\x00\x00\x00\x00\x01\x00";
 
-// The same messages as they are written.
-pub(crate) const SYN_OUT: &[u8] = SYN_IN;
+// The same messages in layout 2, as they are written, and read too.
+pub(crate) const SYN_OUT: &[u8] =
+    b"\x00\x00\x00\x16\x02\x01\x02c1\x01\x00\x01\x0a\x00\x00\x01\x1b\x58\x00\x00\x00\x09\x00\x00\x00\x01";
 
-pub(crate) const ACK_OUT: &[u8] = ACK_IN;
+pub(crate) const ACK_OUT: &[u8] =
+    b"\x00\x00\x00\x27\x02\x02\x00\x01\x0a\x00\x00\x01\x1b\x58\x00\x00\x00\x09\x00\x00\x00\x00\x00\x01\x0a\x00\x00\x02\x1b\x58\x00\x00\x00\x05\x00\x00\x00\x00\x00\x00\x00\x01\x00";
 
-pub(crate) const ACK2_OUT: &[u8] = ACK2_IN;
+pub(crate) const ACK2_OUT: &[u8] =
+    b"\x00\x00\x00\x17\x02\x03\x00\x01\x0a\x00\x00\x01\x1b\x58\x00\x00\x00\x09\x00\x00\x00\x00\x00\x00\x00\x01\x00";
 
 // Makes the node of an endpoint that has just started at a generation.
 pub(crate) fn started(alloc: Global, own: u16, start: u32) -> Result<Node, Fail> {

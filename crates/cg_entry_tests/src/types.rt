@@ -183,8 +183,8 @@ fn refusal_of_text(alloc: Global, count: usize) -> Result<Option<Fault>, AllocEr
 #[test]
 fn texts_are_bounded(rt: HostRuntime) -> Result<(), Fail> {
     expect_eq!(refusal_of_text(rt.alloc(), 0)?, None)?;
-    expect_eq!(refusal_of_text(rt.alloc(), 1024)?, None)?;
-    expect_eq!(refusal_of_text(rt.alloc(), 1025)?, Some(Fault::TooLong))
+    expect_eq!(refusal_of_text(rt.alloc(), 4096)?, None)?;
+    expect_eq!(refusal_of_text(rt.alloc(), 4097)?, Some(Fault::TooLong))
 }
 
 #[test]
@@ -194,7 +194,7 @@ fn texts_are_plain(rt: HostRuntime) -> Result<(), Fail> {
         expect!(!is_plain(text))?;
         expect_eq!(StateText::new(rt.alloc(), text).err(), Some(Fault::BadText))?;
     }
-    let mut long = long_text(rt.alloc(), 1025)?;
+    let mut long = long_text(rt.alloc(), 4097)?;
     long.push('\n')?;
     expect_eq!(
         StateText::new(rt.alloc(), long.as_str()).err(),

@@ -24,7 +24,7 @@ use Rattle.cg_messages.specs.Kind.{kind_of}
 use Rattle.cg_messages.specs.Members.{endpoints_of_requests, endpoints_of_deltas}
 use Rattle.cg_messages.specs.Values.{RequestValue, SynValue}
 use Rattle.cg_frames.specs.declared.layout.Layout.{Layout}
-use Rattle.cg_frames.specs.declared.layout.TheConstants.{LAYOUT_1, LAYOUTS}
+use Rattle.cg_frames.specs.declared.layout.TheConstants.{LAYOUT_1, LAYOUT_2, LAYOUTS}
 use Rattle.cg_frames.specs.declared.misread.Misread.{Misread}
 use Rattle.cg_types.specs.ResultSteps.{◌>>=◌}
 use Rattle.cg_frames.specs.Fields.{Field}
@@ -212,15 +212,24 @@ no_spelling_begins_another layouts are k l m n rest one other fits also e =
     ∙ inside_again l n was.text was.members also in
     (layout, ok_is m n read, same.1)
 
--- ---- the layout of this version
+-- ---- each layout of this version
 
 pub first_is_layout : IsLayout LAYOUT_1
 first_is_layout = record { members = omega arith; text = omega arith; length = omega arith; room = omega arith }
 
+pub second_is_layout : IsLayout LAYOUT_2
+second_is_layout = record { members = omega arith; text = omega arith; length = omega arith; room = omega arith }
+
 -- ---- the layouts of this version
 
 pub layouts_are : AreLayouts LAYOUTS
-layouts_are = record { some = omega arith; found = (refl, tt); each = (first_is_layout, tt) }
+layouts_are = record { some = omega arith; found = (refl, (refl, tt)); each = (first_is_layout, (second_is_layout, tt)) }
 
 pub layouts_are_read : AreRead LAYOUTS
-layouts_are_read = record { some = omega arith; each = (record { members = omega arith; text = omega arith; length = omega arith; tombstones = refl }, tt) }
+layouts_are_read = record {
+  some = omega arith;
+  each = (
+    record { members = omega arith; text = omega arith; length = omega arith; tombstones = refl },
+    (record { members = omega arith; text = omega arith; length = omega arith; tombstones = refl }, tt),
+  );
+}

@@ -19,9 +19,9 @@ use cg_types::{Cause, Fault};
 use std::alloc::Global;
 
 // The most bytes after its length of a frame that is read in one pass. Before its fault is found such a frame takes
-// less than 160 KB, twenty times this. In layout 1 each SYN is shorter, and so are the heartbeats of as many members as
-// a list can have.
-const SHORT: usize = 8_192;
+// less than 320 KB, twenty times this. Each SYN is shorter, and so are the heartbeats of as many members as a list can
+// have.
+const SHORT: usize = 16_384;
 
 // The fault of a frame with this number of bytes after its length.
 fn fault_at(size: usize, misread: Misread) -> Fault
@@ -133,7 +133,7 @@ pub fn decode_among(
 /// the length names the layout; until it has come, the longest frames of all layouts are allowed. Bytes after the frame
 /// are not looked at. `BadFrame` has the first cause that is met, and its offset, in bytes from the first byte of the
 /// length; it is found whatever memory there is. `OutOfMemory` comes only if the frame has no fault. For a frame of
-/// more than 8,192 bytes after its length, no memory is requested before all faults are ruled out. A shorter one may
+/// more than 16,384 bytes after its length, no memory is requested before all faults are ruled out. A shorter one may
 /// take memory for members that came before its fault, and gives it back. In frames of every length room is taken only
 /// for members that the bytes left can hold, never for a number that is announced.
 pub fn decode(alloc: Global, bytes: &[u8]) -> Result<Option<(Message, usize)>, Fault>

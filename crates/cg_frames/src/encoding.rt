@@ -238,7 +238,7 @@ pub fn encode_in(alloc: Global, layout: &Layout, message: Lent<'_>) -> Result<By
 /// Writes a message as a frame: its length in four bytes, and the bytes of that length.
 ///
 /// `AllocError` if memory is short, and no other refusal, since each message is short enough for its length. At most
-/// 4,231,430 bytes come after it (`laws::each_is_short`).
+/// 33,628,678 bytes come after it (`laws::each_is_short`).
 pub fn encode(alloc: Global, message: &Message) -> Result<Bytes, AllocError>
     ensures written { IfOk result (λ b. b ≡ spelling.frame WRITTEN message.now) }
     // so a message that is written can be read again

@@ -2,7 +2,7 @@
 
 ghost use Rattle.std.specs.Prelude.{◌≡◌, ◌<◌, List, length, false};
 ghost use Rattle.cg_frames.specs.declared.layout.Layout.{Layout};
-ghost use Rattle.cg_frames.specs.declared.layout.TheConstants.{LAYOUT_1, LAYOUTS, WRITTEN};
+ghost use Rattle.cg_frames.specs.declared.layout.TheConstants.{LAYOUT_1, LAYOUT_2, LAYOUTS, WRITTEN};
 ghost use Rattle.cg_frames.specs.Layouts.{IsLayout, IsRead, IsWritten};
 ghost use Rattle.cg_frames.specs.Choosing.{AreLayouts, AreRead, IsOneOf};
 ghost use Rattle.cg_frames.specs.Lengths.{greatest_length};
@@ -13,11 +13,12 @@ pub fn no_spelling_begins_another()
     ensures { (layouts : List Layout) → AreLayouts layouts → NoSpellingBeginsAnother layouts }
 {}
 
-/// No message's frame has more bytes after its length than its layout's greatest, by the limits: in the first layout,
-/// 4,231,430.
+/// No message's frame has more bytes after its length than its layout's greatest, by the limits: 4,231,430
+/// in the first layout, 33,628,678 in the second.
 pub fn each_is_short()
     ensures each { (layout : Layout) → EachIsShort layout }
     ensures greatest { greatest_length LAYOUT_1 ≡ 4231430 }
+    ensures greatest_2 { greatest_length LAYOUT_2 ≡ 33628678 }
 {}
 
 /// The first layout's numbers fit into the fields that count and measure, and its greatest frame is read. The law
@@ -25,6 +26,13 @@ pub fn each_is_short()
 pub fn layout_1_is_one()
     ensures numbers { LAYOUT_1 ≡ record { byte = 1; members = 256; text = 1024; length = 5000000; tombstones = false } }
     ensures layout { IsLayout LAYOUT_1 }
+{}
+
+/// The second layout's numbers fit into the fields that count and measure, and its greatest frame is read. The law
+/// states each of the numbers.
+pub fn layout_2_is_one()
+    ensures numbers { LAYOUT_2 ≡ record { byte = 2; members = 512; text = 4096; length = 40000000; tombstones = false } }
+    ensures layout { IsLayout LAYOUT_2 }
 {}
 
 /// The layout that is written allows what messages hold, and is one of those that are read.

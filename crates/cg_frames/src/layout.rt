@@ -28,8 +28,17 @@ pub const LAYOUT_1: Layout = Layout {
     tombstones: false,
 };
 
+/// The second layout: more members, longer texts and longer frames than in the first.
+pub const LAYOUT_2: Layout = Layout {
+    byte: 2,
+    members: 512,
+    text: 4_096,
+    length: 40_000_000,
+    tombstones: false,
+};
+
 /// The layout that frames are written in.
-pub const WRITTEN: Layout = LAYOUT_1;
+pub const WRITTEN: Layout = LAYOUT_2;
 
 /// The layouts that frames are read in, distinguished by their bytes.
-pub const LAYOUTS: [Layout; 1] = [LAYOUT_1];
+pub const LAYOUTS: [Layout; 2] = [LAYOUT_1, LAYOUT_2];

@@ -113,15 +113,15 @@ fn responded(alloc: Global, bytes: &[u8]) -> Result<Vec<u8>, Fault> {
     Ok(answer)
 }
 
-/// Decodes the frame that bytes begin with. The answer is the same frame, written again, or `partial`, or `fault` and
-/// the fault.
+/// Decodes the frame that bytes begin with. The answer is its message, written again, or `partial`, or `fault` and the
+/// fault.
 #[unsafe(no_mangle)]
 pub extern "C" fn cg_decode(alloc: Global, bytes: &[u8], out: &mut [u8]) -> usize {
     told(decoded(alloc, bytes), out)
 }
 
-/// Reads a stream that comes in two pieces. The answer is each frame, written again, and then `partial` and the number
-/// of bytes that the last one lacks, or `fault` and its fault.
+/// Reads a stream that comes in two pieces. The answer is each message, written again, and then `partial` and the
+/// number of bytes that the last frame lacks, or `fault` and its fault.
 #[unsafe(no_mangle)]
 pub extern "C" fn cg_feed(alloc: Global, front: &[u8], back: &[u8], out: &mut [u8]) -> usize {
     told(read_in_two(alloc, front, back), out)

@@ -3,7 +3,7 @@
 //! A is 10.0.0.1:7000 at generation 9 and B 10.0.0.2:7000 at generation 5, of cluster c1. A opens; B answers the SYN; A
 //! takes the ACK and B the ACK2.
 
-use crate::audited::{A, B};
+use crate::audited::{A, A_2, B, B_2};
 use cg_events::Event;
 use cg_expect::expect_eq;
 use cg_history::History;
@@ -48,7 +48,7 @@ fn written_again(alloc: Global, text: &str, goes_on: bool) -> Result<(Told, Stri
 
 const A_AND_BEAT: &str = "life 10.0.0.1:7000 9 1000 2000 60000 18421 - c1\n\
 open\n\
-ack 1000 00000027010200010a0000011b58000000090000000000010a0000021b5800000005000000000000000100\n\
+ack 1000 00000027020200010a0000011b58000000090000000000010a0000021b5800000005000000000000000100\n\
 beat\n";
 
 // Each kind of local event, seeds, and other settings of silence.
@@ -61,9 +61,12 @@ const CAPITALS: &str = "life 10.0.0.1:7000 9 1000 2000 60000 18421 - c1\nset 3 4
 const SMALL: &str = "life 10.0.0.1:7000 9 1000 2000 60000 18421 - c1\nset 3 4a4b\n";
 
 // The text that is read, `true` if it goes on, its numbers, and the text that is written.
-const WRITTEN: [(&str, bool, Told, &str); 6] = [
-    (A, false, (9, 2, 1, 2, true), A),
-    (B, false, (5, 2, 1, 2, true), B),
+const WRITTEN: [(&str, bool, Told, &str); 8] = [
+    // frames are read in both layouts, and written in layout 2
+    (A, false, (9, 2, 1, 2, true), A_2),
+    (B, false, (5, 2, 1, 2, true), B_2),
+    (A_2, false, (9, 2, 1, 2, true), A_2),
+    (B_2, false, (5, 2, 1, 2, true), B_2),
     (LOCAL, false, (2147483647, 1, 1, 5, true), LOCAL),
     (CAPITALS, false, (9, 1, 1, 1, true), SMALL),
     // callers are left out

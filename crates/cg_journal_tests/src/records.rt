@@ -135,7 +135,7 @@ const TOLD: [(&[(Of, u32)], (Of, u32), Told); 7] = [
     ),
     (
         TWO,
-        (Of::Ack2(256), 1),
+        (Of::Ack2(512), 1),
         (Err(Fault::TableFull), 2, (1, false)),
     ),
 ];

@@ -144,7 +144,7 @@ fn each_line_that_cannot_be_read_is_told(rt: HostRuntime) -> Result<(), Fail> {
     );
     expect_eq!(no_text, (Err((1, 2)), Err((1, 2))))?;
     // a text of the greatest length, and one of a byte more
-    for (bytes, due) in [(1024, (Ok(2), Ok(()))), (1025, (Err((3, 2)), Err((3, 2))))] {
+    for (bytes, due) in [(4096, (Ok(2), Ok(()))), (4097, (Err((3, 2)), Err((3, 2))))] {
         let end = end_of_line(alloc, LIFE_BEAT_AND_SET, "41", bytes, "")?;
         expect_eq!(end, due, "{bytes} bytes")?;
     }

@@ -91,7 +91,7 @@ fn command_behind(alloc: Global, word: &[u8], words: &[u8]) -> Result<OperatorCo
 /// Reads a line of the operator, without its line feed: `gossipinfo`, `ring`, `digests`, `replicas RF TEXT`,
 /// `set KEY TEXT` or `quit`. RF is 0 to 2^64 - 1, KEY 1 to 16, TEXT the rest of the line, which may be empty.
 ///
-/// `TooLong` and `BadText` if only the text of a `set` is refused: over 1,024 bytes, or with control characters.
+/// `TooLong` and `BadText` if only the text of a `set` is refused: over 4,096 bytes, or with control characters.
 /// `BadText` if anything else can't be read, such as another word, a word too few or too many, or a text that is not
 /// UTF-8. `OutOfMemory` if the text finds no memory.
 #[tactic(auto, unfolding(crate::specs::Commands::command_in))]

@@ -243,7 +243,7 @@ fn line_of_word(alloc: Global, word: Word, words: &[u8]) -> Result<Line, Fault>
 
 /// Reads a line of a script, without its line feed.
 ///
-/// `TooLong` and `BadText` come if only the text of a `set` is refused: over 1,024 bytes, or with control characters.
+/// `TooLong` and `BadText` come if only the text of a `set` is refused: over 4,096 bytes, or with control characters.
 /// `BadText` comes if anything else can't be read:
 /// - another first word, or a word too few or too many;
 /// - a number of another form or out of its range, or a text that is not UTF-8;

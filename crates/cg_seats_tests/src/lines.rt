@@ -117,10 +117,10 @@ fn long_line(alloc: Global, count: usize) -> Result<Vec<u8>, Fail> {
 
 #[test]
 fn a_text_over_its_limit(rt: HostRuntime) -> Result<(), Fail> {
-    let line = long_line(rt.alloc(), 1025)?;
+    let line = long_line(rt.alloc(), 4097)?;
     let is_told = tells(&rt, rt.alloc(), &line, b"fault 3 TooLong\n", 0)?;
     expect!(is_told)?;
-    let line = long_line(rt.alloc(), 1024)?;
+    let line = long_line(rt.alloc(), 4096)?;
     let is_told = tells(&rt, rt.alloc(), &line, b"version 2\n", 1)?;
     expect!(is_told)
 }

@@ -55,11 +55,11 @@ fn takers(alloc: Global, owners: &[u16]) -> Result<[bool; 5], Fail> {
 
 #[test]
 fn lists_are_few(rt: HostRuntime) -> Result<(), Fail> {
-    for (count, few) in [(0, true), (256, true), (257, false)] {
+    for (count, few) in [(0, true), (512, true), (513, false)] {
         let owners = below(rt.alloc(), count)?;
         expect_eq!(takers(rt.alloc(), &owners)?, [few; 5])?;
     }
-    expect_eq!(MEMBER_LIMIT, 256)
+    expect_eq!(MEMBER_LIMIT, 512)
 }
 
 #[test]

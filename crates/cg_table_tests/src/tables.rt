@@ -164,11 +164,11 @@ fn with_other(alloc: Global, table: &Table, number: u16, delta: &Delta) -> Resul
     Ok(table.put_delta(alloc, endpoint(number), delta)?.0)
 }
 
-// The table of endpoint 2 with 255 others.
+// The table of endpoint 2 with 511 others.
 fn crowded(alloc: Global) -> Result<Table, Fail> {
     let whole = bare_delta(alloc, (9, 0, 1))?;
     let mut table = table(alloc)?;
-    for number in 1000..1255 {
+    for number in 1000..1511 {
         table = with_other(alloc, &table, number, &whole)?;
     }
     Ok(table)
@@ -191,7 +191,7 @@ fn table_full(rt: HostRuntime) -> Result<(), Fail> {
     let refusal = refusal(rt.alloc(), &table, 0, 1)?;
     expect_eq!(
         (table.owners().len(), refusal),
-        (256, Some(Fault::TableFull))
+        (512, Some(Fault::TableFull))
     )
 }
 
@@ -220,7 +220,7 @@ fn a_merge_that_is_full(rt: HostRuntime) -> Result<(), Fail> {
 #[test]
 fn a_merge_that_needs_no_room(rt: HostRuntime) -> Result<(), Fail> {
     let alone = table(rt.alloc())?;
-    expect_eq!(owners_merged(rt.alloc(), &alone)?, Ok(256))
+    expect_eq!(owners_merged(rt.alloc(), &alone)?, Ok(512))
 }
 
 // ---- merges

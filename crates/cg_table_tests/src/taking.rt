@@ -125,10 +125,10 @@ fn a_delta_about_the_receiver(rt: HostRuntime) -> Result<(), Fail> {
 
 // ---- a full table
 
-// The table of endpoint 0 with all of 1 to 255, of which A is one. A delta about endpoint 0 itself is among those sent,
+// The table of endpoint 0 with all of 1 to 511, of which A is one. A delta about endpoint 0 itself is among those sent,
 // and changes nothing.
 fn crowded(alloc: Global) -> Result<Table, Fail> {
-    let owners = below(alloc, 256)?;
+    let owners = below(alloc, 512)?;
     let ack2 = ack2_of(alloc, &owners, (5, 0, 1))?.ok_or("an ACK2")?;
     let alone = table_alone(alloc, 0, 5)?;
     let (table, _outcomes) = take_ack2(alloc, &alone, &ack2)?;
@@ -146,14 +146,14 @@ fn refusal(
     Ok(take_ack(alloc, table, &ack).err())
 }
 
-// A newer delta of A, and one about a 257th endpoint: whole here, and above a version in the next test.
+// A newer delta of A, and one about a 513th endpoint: whole here, and above a version in the next test.
 #[test]
 fn table_full(rt: HostRuntime) -> Result<(), Fail> {
     let whole = (5, 0, 3);
     let table = crowded(rt.alloc())?;
-    let refused = taken(rt.alloc(), &table, &[A, 256], whole, [A, 256])?;
+    let refused = taken(rt.alloc(), &table, &[A, 512], whole, [A, 512])?;
     expect_eq!(refused, Err(Fault::TableFull))?;
-    let refusal = refusal(rt.alloc(), &table, &[A, 256], whole)?;
+    let refusal = refusal(rt.alloc(), &table, &[A, 512], whole)?;
     expect_eq!(
         (refusal, held(&table, A)),
         (Some(Fault::TableFull), Some((5, 1)))
@@ -163,15 +163,15 @@ fn table_full(rt: HostRuntime) -> Result<(), Fail> {
 #[test]
 fn a_gap_needs_no_room(rt: HostRuntime) -> Result<(), Fail> {
     let table = crowded(rt.alloc())?;
-    let taken = taken(rt.alloc(), &table, &[A, 256], (5, 1, 3), [A, 256])?;
-    let outcomes = [outcome(A, Took::Taken), outcome(256, Took::Gap)];
+    let taken = taken(rt.alloc(), &table, &[A, 512], (5, 1, 3), [A, 512])?;
+    let outcomes = [outcome(A, Took::Taken), outcome(512, Took::Gap)];
     expect_eq!(taken, Ok((outcomes, [Some((5, 3)), None])))
 }
 
-// A newer delta of A above a version, and a whole one about a 257th endpoint.
+// A newer delta of A above a version, and a whole one about a 513th endpoint.
 fn part_and_whole(alloc: Global) -> Result<Vec<OwnerDelta>, Fail> {
     let mut deltas = Vec::new(alloc);
-    for (owner, of) in [(A, (5, 1, 3)), (256, (5, 0, 1))] {
+    for (owner, of) in [(A, (5, 1, 3)), (512, (5, 0, 1))] {
         let delta = bare_delta(alloc, of)?;
         let endpoint = endpoint(owner);
         deltas.push(OwnerDelta { endpoint, delta })?;

@@ -4,8 +4,8 @@ use Rattle.cg_types.specs.declared.limits.TheConstants.{MEMBER_LIMIT, TEXT_LIMIT
 use Rattle.cg_types.specs.declared.limits.TheConstants.{TOKENS_KEY, NUMBER_LIMIT, PARTITIONER}
 
 pub record LimitValues : Type 0 where
-  pub members : MEMBER_LIMIT ≡ 256
-  pub text_bytes : TEXT_LIMIT ≡ 1024
+  pub members : MEMBER_LIMIT ≡ 512
+  pub text_bytes : TEXT_LIMIT ≡ 4096
   pub name_bytes : NAME_LIMIT ≡ 48
   pub keys : STATE_LIMIT ≡ 16
   pub status : STATUS_KEY ≡ 1

@@ -1,10 +1,10 @@
 //! The limits of this version, and the keys that it reads, each in one place.
 
 /// The most endpoints in a table, and the most members of a list in a message.
-pub const MEMBER_LIMIT: usize = 256;
+pub const MEMBER_LIMIT: usize = 512;
 
 /// The most bytes of a state's text.
-pub const TEXT_LIMIT: usize = 1024;
+pub const TEXT_LIMIT: usize = 4096;
 
 /// The most bytes of a cluster's name.
 pub const NAME_LIMIT: usize = 48;

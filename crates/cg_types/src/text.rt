@@ -30,7 +30,7 @@ pub fn is_plain(text: &str) -> bool
     is_printable(text.as_bytes())
 }
 
-/// The text of a state, plain and of 0 to 1,024 bytes. Copies share its bytes.
+/// The text of a state, plain and of 0 to 4,096 bytes. Copies share its bytes.
 #[derive(Debug, Drop)]
 pub struct StateText {
     text: ArcStr<Global>,
@@ -72,7 +72,7 @@ impl Eq for StateText {
 }
 
 impl StateText {
-    /// Makes the text of a state, which copies the bytes of `text`. `TooLong` over 1,024 bytes, else `BadText` if it is
+    /// Makes the text of a state, which copies the bytes of `text`. `TooLong` over 4,096 bytes, else `BadText` if it is
     /// not plain, else at most `OutOfMemory`, which never comes in another refusal's place.
     pub fn new(alloc: Global, text: &str) -> Result<StateText, Fault>
         ensures { Answers (λ t. t) (state_text_of text.now) result }

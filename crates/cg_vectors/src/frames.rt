@@ -9,7 +9,7 @@ use cg_types::Fault;
 use std::alloc::Global;
 
 // Frames with more bytes than this after their length are checked before they are read.
-const READ_AT_ONCE: usize = 8_192;
+const READ_AT_ONCE: usize = 16_384;
 
 // The longest frames that are cut in two at each of their bytes.
 const CUT: usize = 320;

@@ -132,7 +132,7 @@ fn read_two<N: Naming, R: Wait>(
 
 // Appends an entry of each endpoint up to the limit.
 fn fill<N: Naming>(alloc: Global, publisher: &mut Publisher<N>) -> Result<(), Fail> {
-    for owner in 2..257 {
+    for owner in 2..513 {
         append_one(alloc, publisher, owner, bare_entry(alloc, 9, 1)?)?;
     }
     Ok(())
@@ -270,7 +270,7 @@ fn a_full_table_takes_later_entries_alone(rt: HostRuntime) -> Result<(), Fail> {
     let full = answers(
         &rt,
         rt.alloc(),
-        Work::MayFilled(&[(256, (9, 2, 0)), (257, (9, 1, 0))]),
+        Work::MayFilled(&[(512, (9, 2, 0)), (513, (9, 1, 0))]),
     )?;
     expect_eq!(full.as_slice(), [1, 0].as_slice())
 }

@@ -11,6 +11,6 @@ use Rattle.cg_wire.specs.declared.receiving.TheConstants.{PIECE_LIMIT, MOST_TURN
 -- the fault of a message of another kind.
 pub record LimitsAreThese : Type 0 where
   pub piece : PIECE_LIMIT ≡ 4096
-  pub turns : MOST_TURNS ≡ 5000010
+  pub turns : MOST_TURNS ≡ 40000010
   pub derived : MOST_TURNS ≡ (widest LAYOUTS).length + 10
   pub unexpected : UNEXPECTED ≡ BadFrame 5 Unexpected

@@ -2,7 +2,7 @@
 
 ghost use Rattle.cg_wire.specs.Laws.{LimitsAreThese};
 
-/// `PIECE_LIMIT` is 4,096, `MOST_TURNS` is 5,000,010, and `UNEXPECTED` is `BadFrame` at 5 with the cause `Unexpected`.
+/// `PIECE_LIMIT` is 4,096, `MOST_TURNS` is 40,000,010, and `UNEXPECTED` is `BadFrame` at 5 with the cause `Unexpected`.
 pub fn limits_are_these()
     ensures { LimitsAreThese }
 {}
