@@ -163,6 +163,17 @@ fn gossip(mode: Mode, tag: &str, states: usize, text: usize) {
     exchange(mode, &format!("join_{tag}"), &alone, &other);
 }
 
+/// A round of heartbeats, and an exchange, at full tables.
+fn wide(mode: Mode) {
+    let tag = "512x16x64";
+    let (full, other) = (table(0, 512, 16, 64), table(255, 512, 16, 64));
+    let syn = naive::syn(&full, &cluster());
+    let beats = naive::answer_syn(&beaten(other.clone(), 3, |_| true), &cluster(), &syn).unwrap();
+    frames(mode, &format!("beats_{tag}"), &Message::Ack(beats.clone()));
+    take(mode, &format!("beats_{tag}"), &full, beats);
+    exchange(mode, &format!("equal_{tag}"), &full, &other);
+}
+
 /// An exchange of two tables that hold the same, over links in memory.
 fn links(mode: Mode, tag: &str, states: usize, text: usize) {
     let mut opener = table(0, 256, states, text);
@@ -205,10 +216,10 @@ fn messages(mode: Mode, tag: &str, states: usize, text: usize) {
 }
 
 /// Endpoint 0, just started, which has taken all that the others hold.
-fn joined(states: usize, text: usize) -> Table {
+fn joined(n: usize, states: usize, text: usize) -> Table {
     let mut node = alone(0, 0, 0);
     node.entries.values_mut().for_each(|x| x.heartbeat = 1);
-    let others = naive::answer_syn(&table(255, 256, states, text), &cluster(), &empty()).unwrap();
+    let others = naive::answer_syn(&table(255, n, states, text), &cluster(), &empty()).unwrap();
     let deltas = others.deltas;
     naive::take_ack2(&node, &Ack2 { deltas }).unwrap().0
 }
@@ -231,7 +242,7 @@ fn set(node: &Table, key: u8, text: &str) -> Table {
 
 /// A node's work at one heartbeat of another endpoint, one of its own, and one set.
 fn nodes(mode: Mode, tag: &str, states: usize, text: usize) {
-    let node = joined(states, text);
+    let node = joined(256, states, text);
     let newer = beaten(table(255, 256, states, text), 3, |_| true);
     let lacking = naive::answer_syn(&newer, &cluster(), &naive::syn(&node, &cluster())).unwrap();
     let ack2 = Ack2 {
@@ -386,32 +397,32 @@ fn windows(mode: Mode) {
     );
 }
 
-/// The heartbeats of 255 owners, a second apart: of this number of rounds, from the one that comes `first` seconds after all
+/// The heartbeats of all others of n owners, a second apart: of this number of rounds, from the one that comes `first` seconds after all
 /// was taken.
-fn rounds(first: u32, count: u32) -> Vec<(u64, Ack2)> {
+fn rounds(n: usize, first: u32, count: u32) -> Vec<(u64, Ack2)> {
     let beat = |round| Delta {
         generation: 5,
         above: 17 + round,
         heartbeat: 18 + round,
         states: vec![],
     };
-    let deltas = |round| (1..256).map(|i| (Endpoint::number(i), beat(round))).collect();
+    let deltas = |round| (1..n).map(|i| (Endpoint::number(i), beat(round))).collect();
     let rounds = first..first + count;
     rounds.map(|round| (1000 + 1000 * round as u64, Ack2 { deltas: deltas(round) })).collect()
 }
 
 /// A node's work at newer heartbeats of all others, whose windows are full: 64 steps.
-fn beats(mode: Mode) {
+fn beats(mode: Mode, n: usize) {
     let empty = || silence::Window::new(1000, 2000, 60000, 18421);
-    let node = joined(16, 64);
+    let node = joined(n, 16, 64);
     let mut windows = BTreeMap::new();
-    for i in 1..256 {
+    for i in 1..n {
         let window: &mut silence::Window = windows.entry(Endpoint::number(i)).or_insert_with(empty);
         (0..=1000).for_each(|round| window.arrived(1000 + 1000 * round));
     }
-    let deltas = rounds(1, 1000);
+    let deltas = rounds(n, 1, 1000);
     let last = deltas.iter().fold(node, |node, (_, ack2)| naive::take_ack2(&node, ack2).unwrap().0);
-    let coming = rounds(1001, 64);
+    let coming = rounds(n, 1001, 64);
     let naive = || {
         let (mut table, mut windows) = (last.clone(), windows.clone());
         for (now, ack2) in black_box(&coming) {
@@ -424,7 +435,7 @@ fn beats(mode: Mode) {
         }
         (table, windows)
     };
-    case(mode, "naive_64_node_beats_256_w1000", naive, |(table, _)| held(table));
+    case(mode, &format!("naive_64_node_beats_{n}_w1000"), naive, |(table, _)| held(table));
     let windows: BTreeMap<_, _> = windows.iter().map(|(e, w)| (*e, Arc::new(w.clone()))).collect();
     let last = shared::of_naive(&last);
     let coming: Vec<_> = coming
@@ -446,7 +457,7 @@ fn beats(mode: Mode) {
         }
         (table, windows)
     };
-    case(mode, "shared_64_node_beats_256_w1000", shared, |(table, _)| shared::held(table));
+    case(mode, &format!("shared_64_node_beats_{n}_w1000"), shared, |(table, _)| shared::held(table));
 }
 
 /// What is newer in one entry than its newest version, than the one below, and than none, a thousand times.
@@ -495,8 +506,10 @@ fn main() {
         gossip(mode, tag, states, text);
         nodes(mode, tag, states, text);
     }
+    wide(mode);
     claims(mode);
-    beats(mode);
+    beats(mode, 256);
+    beats(mode, 512);
     rings(mode);
     let digits = "0123456789".repeat(20);
     texts(mode, "256x200", 256, &digits);

@@ -97,6 +97,14 @@ const LONGEST_TEXTS: Texts = Texts {
 
 /// The shape of the tables of the first cases.
 pub(crate) const SMALL_SHAPE: Shape = Shape {
+    owners: 256,
+    states: 16,
+    text: 64,
+};
+
+/// The shape of tables that are full.
+pub(crate) const WIDE_SHAPE: Shape = Shape {
+    owners: 512,
     states: 16,
     text: 64,
 };
@@ -106,6 +114,7 @@ pub(crate) const SHAPES: [(&str, Shape); 3] = [
     (
         "1x200",
         Shape {
+            owners: 256,
             states: 1,
             text: 200,
         },
@@ -114,6 +123,7 @@ pub(crate) const SHAPES: [(&str, Shape); 3] = [
     (
         "16x1024",
         Shape {
+            owners: 256,
             states: 16,
             text: 1024,
         },
@@ -135,6 +145,28 @@ pub(crate) const SMALL: [(&str, &str, &str, GossipTask); 7] = [
     ("decode", "beats", "256", GossipTask::Decode(BEATS)),
     ("check", "beats", "256", GossipTask::Check(BEATS)),
     ("make", "syn", "256", GossipTask::Open),
+];
+
+/// The tasks of a round of heartbeats at full tables.
+pub(crate) const WIDE: [(&str, &str, GossipTask); 6] = [
+    ("encode", "beats", GossipTask::Encode(BEATS)),
+    ("decode", "beats", GossipTask::Decode(BEATS)),
+    ("check", "beats", GossipTask::Check(BEATS)),
+    (
+        "take_ack_bytes",
+        "beats",
+        GossipTask::TakeAck(Held::Plain, Brings::Beats),
+    ),
+    (
+        "take_ack2",
+        "beats",
+        GossipTask::TakeAck2(Held::Plain, Brings::Beats),
+    ),
+    (
+        "exchange",
+        "equal",
+        GossipTask::Exchange(Held::Plain, Held::Other),
+    ),
 ];
 
 /// The tasks of a seed node at tables of each shape.

@@ -19,7 +19,7 @@ mod work;
 
 use crate::cases::SHAPES;
 use crate::local::local_cases;
-use crate::making::{shaped, small};
+use crate::making::{shaped, small, wide};
 use cg_measure::{Failure, mode_of, run_cases};
 
 fn main(rt: HostRuntime) -> Result<(), Failure> {
@@ -28,5 +28,6 @@ fn main(rt: HostRuntime) -> Result<(), Failure> {
     for (tag, shape) in SHAPES {
         run_cases(&rt, rt.alloc(), mode, &shaped(rt.alloc(), tag, shape)?)?;
     }
+    run_cases(&rt, rt.alloc(), mode, &wide(rt.alloc())?)?;
     run_cases(&rt, rt.alloc(), mode, &local_cases(rt.alloc())?)
 }

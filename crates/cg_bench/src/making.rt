@@ -1,6 +1,6 @@
 //! Cases of gossip made ready: the inputs of each task.
 
-use crate::cases::{GossipTask, SHAPED, SMALL, SMALL_SHAPE};
+use crate::cases::{GossipTask, SHAPED, SMALL, SMALL_SHAPE, WIDE, WIDE_SHAPE};
 use crate::frames::spoilt;
 use crate::messages::{Brings, Opens, Said, ack2_of, held_in, message, tables_of};
 use crate::work::GossipWork;
@@ -104,6 +104,17 @@ pub(crate) fn shaped(
     let tables = tables_of(alloc, shape)?;
     let mut cases = Vec::new(alloc);
     for (work, on, task) in SHAPED {
+        cases.push((Name { work, on, tag }, work_of(alloc, &tables, task)?))?;
+    }
+    Ok(cases)
+}
+
+/// Makes the cases at full tables.
+pub(crate) fn wide(alloc: Global) -> Result<Vec<(Name, GossipWork)>, Failure> {
+    let tables = tables_of(alloc, WIDE_SHAPE)?;
+    let tag = "512x16x64";
+    let mut cases = Vec::new(alloc);
+    for (work, on, task) in WIDE {
         cases.push((Name { work, on, tag }, work_of(alloc, &tables, task)?))?;
     }
     Ok(cases)

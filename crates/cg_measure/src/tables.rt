@@ -1,4 +1,4 @@
-//! Tables to measure with: 256 endpoints whose entries have the same shape.
+//! Tables to measure with: endpoints whose entries have the same shape.
 
 use crate::chance::Chance;
 use crate::failure::Failure;
@@ -8,9 +8,10 @@ use cg_table::Table;
 use cg_types::{Fault, StateText};
 use std::alloc::Global;
 
-/// The number of states of an entry, and the bytes of each state's text.
+/// The number of endpoints, of the states of an entry, and of the bytes of each state's text.
 #[derive(Clone, Copy)]
 pub struct Shape {
+    pub owners: u16,
     pub states: u8,
     pub text: usize,
 }
@@ -20,7 +21,7 @@ pub struct Shape {
 pub enum Held {
     /// Endpoint 0 alone.
     Alone,
-    /// All 256 endpoints, as endpoint 0 holds them.
+    /// All endpoints, as endpoint 0 holds them.
     Plain,
     /// The same, as endpoint 255 holds them.
     Other,
@@ -55,10 +56,10 @@ impl Held {
         }
     }
 
-    fn count(self) -> u16 {
+    fn count(self, shape: Shape) -> u16 {
         match self {
             Held::Alone => 1,
-            _ => 256,
+            _ => shape.owners,
         }
     }
 
@@ -135,7 +136,7 @@ pub fn table_of(alloc: Global, own: u16, deltas: &[Delta]) -> Result<Table, Fail
 /// Makes the table with these contents, and entries of this shape.
 pub fn table(alloc: Global, held: Held, shape: Shape) -> Result<Table, Failure> {
     let mut deltas = Vec::new(alloc);
-    for number in 0..held.count() {
+    for number in 0..held.count(shape) {
         deltas.push(whole(alloc, number, held, shape)?)?;
     }
     table_of(alloc, held.own(), &deltas)

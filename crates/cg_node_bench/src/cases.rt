@@ -42,19 +42,29 @@ pub(crate) enum Task {
 pub(crate) type Case = (&'static str, &'static str, &'static str, Task, Shape);
 
 const SMALLEST: Shape = Shape {
+    owners: 256,
     states: 1,
     text: 200,
 };
 
 const MIDDLE: Shape = Shape {
+    owners: 256,
     states: 16,
     text: 64,
 };
 
 /// The greatest shape of an entry.
 pub(crate) const LARGEST: Shape = Shape {
+    owners: 256,
     states: 16,
     text: 1024,
+};
+
+// A full table of such entries.
+const WIDE: Shape = Shape {
+    owners: 512,
+    states: 16,
+    text: 64,
 };
 
 const ONE_CALLER: Task = Task::Confirms {
@@ -74,7 +84,7 @@ const CALLER_BY_CALLER: Task = Task::Confirms {
 
 /// All cases: steps of nodes at tables of each shape, at claims of tokens and at full windows, exchanges over links,
 /// histories, and scripts of 8 nodes with a hundred thousand lines and of 256 nodes.
-pub(crate) const ALL: [Case; 25] = [
+pub(crate) const ALL: [Case; 26] = [
     ("node", "heartbeat", "1x200", Task::Heartbeat, SMALLEST),
     ("node", "beat", "1x200", Task::Beat, SMALLEST),
     ("node", "set", "1x200", Task::Set, SMALLEST),
@@ -94,6 +104,7 @@ pub(crate) const ALL: [Case; 25] = [
         SMALLEST,
     ),
     ("64", "node_beats_256", "w1000", Task::Beats(64), MIDDLE),
+    ("64", "node_beats_512", "w1000", Task::Beats(64), WIDE),
     ("links", "equal", "16x64", Task::Links, MIDDLE),
     ("receive", "whole", "16x1024", Task::Receive, LARGEST),
     (

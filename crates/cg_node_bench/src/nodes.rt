@@ -76,9 +76,9 @@ pub(crate) fn heartbeat(alloc: Global, number: u16, above: u32, at: u32) -> Resu
 }
 
 // The deltas of a heartbeat of each other endpoint.
-fn beats_at(alloc: Global, above: u32, at: u32) -> Result<Vec<OwnerDelta>, Failure> {
+fn beats_at(alloc: Global, owners: u16, above: u32, at: u32) -> Result<Vec<OwnerDelta>, Failure> {
     let mut deltas = Vec::new(alloc);
-    for number in 1..256u16 {
+    for number in 1..owners {
         deltas.push(OwnerDelta {
             endpoint: endpoint(number),
             delta: beat_at(alloc, above, at)?,
@@ -88,22 +88,23 @@ fn beats_at(alloc: Global, above: u32, at: u32) -> Result<Vec<OwnerDelta>, Failu
 }
 
 // The event of a heartbeat of each other endpoint, `round` seconds after they joined.
-fn round_of_beats(alloc: Global, round: u32) -> Result<Event, Failure> {
+fn round_of_beats(alloc: Global, owners: u16, round: u32) -> Result<Event, Failure> {
     let above = round.wrapping_add(17);
     let now = 1000 + u64::from(round) * 1000;
-    arrival(now, beats_at(alloc, above, above.wrapping_add(1))?)
+    arrival(now, beats_at(alloc, owners, above, above.wrapping_add(1))?)
 }
 
-/// The events of `count` heartbeats of each other endpoint, a second apart, of which the first comes `first` seconds after
+/// The events of `count` heartbeats of each other of so many endpoints, a second apart, of which the first comes `first` seconds after
 /// they joined.
 pub(crate) fn rounds_of_beats(
     alloc: Global,
+    owners: u16,
     first: u32,
     count: u32,
 ) -> Result<Vec<Event>, Failure> {
     let mut events = Vec::new(alloc);
     for round in first..first.wrapping_add(count) {
-        events.push(round_of_beats(alloc, round)?)?;
+        events.push(round_of_beats(alloc, owners, round)?)?;
     }
     Ok(events)
 }
@@ -126,7 +127,7 @@ pub(crate) fn after_all(alloc: Global, node: &Node, events: &[Event]) -> Result<
 
 /// Endpoint 0, which has taken all that the others hold, and then a thousand heartbeats of each.
 pub(crate) fn heard(alloc: Global, shape: Shape) -> Result<Node, Failure> {
-    let beats = rounds_of_beats(alloc, 1, 1000)?;
+    let beats = rounds_of_beats(alloc, shape.owners, 1, 1000)?;
     let node = joined(alloc, shape)?;
     after_all(alloc, &node, &beats)
 }

@@ -138,7 +138,7 @@ fn step(alloc: Global, event: Event, shape: Shape) -> Result<Work, Failure> {
 }
 
 fn beats_of_all(alloc: Global, count: u32, shape: Shape) -> Result<Work, Failure> {
-    let beats = rounds_of_beats(alloc, 1001, count)?;
+    let beats = rounds_of_beats(alloc, shape.owners, 1001, count)?;
     Ok(Work::Further(heard(alloc, shape)?, beats))
 }
 
