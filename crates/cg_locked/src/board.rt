@@ -1,7 +1,7 @@
 //! The board: the data under the lock.
 
 ghost use Rattle.std.specs.Prelude.{◌≡◌, ◌+◌, ◌++◌, ◌<◌, ◌≤◌, true, false, [], length, take, IfOk, IfSome};
-ghost use Rattle.std.specs.Prelude.{MatchOption, OnOk, OnErr};
+ghost use Rattle.std.specs.Prelude.{IsOk, MatchOption, OnOk, OnErr};
 ghost use Rattle.std.specs.Coded.{Coded-set, coded_ℕ, ×_prop, →_prop, le_prop};
 ghost use mathlib.Core.List.{IsPrefix};
 ghost use Rattle.cg_table.specs.Values.{table_code};
@@ -184,12 +184,14 @@ impl<N: Name> Board<N> {
     }
 
     /// Folds the longest front of the records that leaves at least `keep` of them, and holds none that `unpublished`
-    /// counts: they lead to the history's base, and are gone. What is shown and counted stays. It takes as many steps as
-    /// records are folded. If memory is refused, nothing changes. Only the board of a name that says so may fold.
+    /// counts: they lead to the history's base, and are gone. What is shown and counted stays. It takes at most as many
+    /// steps as records are folded, and no memory if none is. If memory is refused, nothing changes. Only the board of a
+    /// name that says so may fold.
     pub fn fold(&mut self, alloc: Global, keep: usize) -> Result<(), AllocError>
         requires { N.folds ≡ true }
         ensures ok { OnOk result (self.new.history
             ≡ with_folded (fold_length keep self.old.published (length self.old.history.records)) self.old.history) }
+        ensures none { fold_length keep self.old.published (length self.old.history.records) ≡ 0 → IsOk result }
         ensures same { (self.new.publisher ≡ self.old.publisher) × (self.new.book ≡ self.old.book)
             × (self.new.log ≡ self.old.log) }
         ensures unpublished { self.new.published + length self.old.history.records
