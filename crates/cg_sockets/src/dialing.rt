@@ -11,14 +11,16 @@ use std::net::{Net, SocketAddr, TcpStream};
 use std::rt::Clock;
 use std::time::Instant;
 
-/// A dialer of peers over TCP. Dialing a peer and the exchange with it have one end time. If a peer can't be dialed, it
-/// says so on standard error, in a line a second at most.
+/// A dialer of peers over TCP. Dialing a peer and the exchange with it have one end time. It says on standard error that
+/// a peer can't be dialed, once until it can be again, and then that it can, all in a line a second at most.
 #[derive(Drop)]
 pub struct Dialer<'a, R: Net<Stream = TcpStream> + Clock> {
     rt: &'a R,
     alloc: Global,
     limit: u32,
     lines: Lines,
+    // the peers of which the last line says that they can't be dialed
+    gone: Vec<Endpoint>,
 }
 
 impl<'a, R: Net<Stream = TcpStream> + Clock> Dialer<'a, R> {
@@ -29,6 +31,7 @@ impl<'a, R: Net<Stream = TcpStream> + Clock> Dialer<'a, R> {
             alloc,
             limit,
             lines: Lines::new(),
+            gone: Vec::new(alloc),
         }
     }
 
@@ -41,10 +44,23 @@ impl<'a, R: Net<Stream = TcpStream> + Clock> Dialer<'a, R> {
 }
 
 impl<'a, R: Net<Stream = TcpStream> + Clock + Eprint> Dialer<'a, R> {
-    // Prints a line about a peer that can't be dialed, unless one was printed shortly before.
-    fn tell(&mut self, peer: Endpoint, error: &Error) {
-        if self.lines.may_print(self.rt) {
+    // Prints a line about a peer that can't be dialed, unless its last line says so, or one was printed shortly before.
+    fn tell_gone(&mut self, peer: Endpoint, error: &Error) {
+        if !self.gone.contains(&peer) && self.lines.may_print(self.rt) {
             let _ = eprintln!(self.rt; "cg: can't dial {peer}: {error}");
+            let _ = self.gone.push(peer);
+        }
+    }
+
+    // Prints a line about a peer that was dialed, if its last line says that it can't be, unless one was printed shortly
+    // before.
+    fn tell_back(&mut self, peer: Endpoint) {
+        let Some(place) = self.gone.iter().position(|it| *it == peer) else {
+            return;
+        };
+        if self.lines.may_print(self.rt) {
+            let _ = eprintln!(self.rt; "cg: {peer} can be dialed again");
+            self.gone.swap_remove(place);
         }
     }
 }
@@ -64,9 +80,12 @@ impl<'a, R: Net<Stream = TcpStream> + Clock + Eprint> Dial for Dialer<'a, R> {
             return Err(Fault::ReadFault);
         };
         match self.connect(peer, end) {
-            Ok(stream) => Side::pair(self.rt, self.alloc, stream, end, end),
+            Ok(stream) => {
+                self.tell_back(peer);
+                Side::pair(self.rt, self.alloc, stream, end, end)
+            }
             Err(error) => {
-                self.tell(peer, &error);
+                self.tell_gone(peer, &error);
                 match error.kind() {
                     ErrorKind::OutOfMemory => Err(Fault::OutOfMemory),
                     _ => Err(Fault::ReadFault),

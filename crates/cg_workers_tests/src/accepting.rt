@@ -1,9 +1,9 @@
 //! Accepting: the errors after which it goes on, those that end it, and the lines on standard error.
 
-use crate::ports::free_endpoint;
+use crate::ports::{at_port, free_endpoint};
 use cg_expect::{expect, expect_eq};
 use cg_sockets::{Dialer, Listener};
-use cg_types::Fault;
+use cg_types::{Endpoint, Fault};
 use cg_workers::{Dial, Listen};
 use std::alloc::Global;
 use std::fmt::Display;
@@ -155,14 +155,44 @@ fn its_end_is_told_after_each_other_line(rt: HostRuntime) -> Result<(), Fail> {
     expect!(accepted(&rt, rt.alloc(), &[24, 24, 22])? == (Some(Fault::ReadFault), 200, 2))
 }
 
+// Dials endpoints a number of times, 100 ms apart, and returns how often one was reached, and the lines printed by then.
+fn dialed<R: Net<Listener = TcpListener, Stream = TcpStream>>(
+    dialer: &mut Dialer<'_, Faulty<'_, R>>,
+    faulty: &Faulty<'_, R>,
+    peers: &[Endpoint],
+    times: u32,
+) -> (u32, u64) {
+    let mut reached = 0;
+    for _ in 0..times {
+        for peer in peers {
+            if dialer.dial(*peer).is_ok() {
+                reached += 1;
+            }
+        }
+        faulty.sleep(Duration::from_millis(100));
+    }
+    (reached, faulty.lines.load(Ordering::SeqCst))
+}
+
 #[test]
-fn peers_that_can_not_be_dialed_are_told_once_a_second(rt: HostRuntime) -> Result<(), Fail> {
+fn a_peer_is_told_once_when_it_is_gone_and_once_when_it_is_back(
+    rt: HostRuntime,
+) -> Result<(), Fail> {
     let to = free_endpoint(&rt)?;
     let faulty = Faulty::new(&rt, &[]);
     let mut dialer = Dialer::new(&faulty, rt.alloc(), 200);
-    for _ in 0..12 {
-        expect!(dialer.dial(to).err() == Some(Fault::ReadFault))?;
-        faulty.sleep(Duration::from_millis(100));
-    }
-    expect_eq!(faulty.lines.load(Ordering::SeqCst), 2)
+    expect!(dialed(&mut dialer, &faulty, &[to], 30) == (0, 1))?;
+    let listener = Listener::bind(&rt, rt.alloc(), to, 2000)?;
+    expect!(dialed(&mut dialer, &faulty, &[to], 3) == (3, 2))?;
+    drop(listener);
+    expect!(dialed(&mut dialer, &faulty, &[to], 30) == (0, 3))
+}
+
+#[test]
+fn peers_that_are_gone_are_told_a_second_apart(rt: HostRuntime) -> Result<(), Fail> {
+    let peers = [at_port(1)?, at_port(2)?];
+    let faulty = Faulty::new(&rt, &[]);
+    let mut dialer = Dialer::new(&faulty, rt.alloc(), 200);
+    expect!(dialed(&mut dialer, &faulty, &peers, 10) == (0, 1))?;
+    expect!(dialed(&mut dialer, &faulty, &peers, 30) == (0, 2))
 }

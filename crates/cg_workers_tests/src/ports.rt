@@ -9,5 +9,10 @@ pub(crate) fn free_endpoint<R: Net<Listener = TcpListener, Stream = TcpStream>>(
     rt: &R,
 ) -> Result<Endpoint, Fail> {
     let at = TcpListener::bind(rt, "127.0.0.1:0")?.local_addr()?;
-    Ok(Endpoint::new([127, 0, 0, 1], at.port()).ok_or("endpoint")?)
+    at_port(at.port())
+}
+
+/// The endpoint of a port at the loopback.
+pub(crate) fn at_port(port: u16) -> Result<Endpoint, Fail> {
+    Ok(Endpoint::new([127, 0, 0, 1], port).ok_or("endpoint")?)
 }
