@@ -5,7 +5,7 @@ use cg_events::Event;
 use cg_expect::{expect, expect_eq};
 use cg_history::History;
 use cg_life_samples::{generation_of, journal_of, remove_file, write_file};
-use cg_node_files::{SETTINGS_MOST, next_life, settings_in, try_journal, write_journal_to};
+use cg_node_files::{SETTINGS_MOST, next_life, settings_telling, try_journal, write_journal_to};
 use cg_samples::{A, endpoint, generation, settings};
 use cg_types::Fault;
 use std::alloc::Global;
@@ -15,8 +15,10 @@ use std::test::Fail;
 
 // The port at which the settings of a file have the node listen, or their fault.
 fn port_in<R: Files<File = File>>(rt: &R, alloc: Global, file: &str) -> Result<u16, Fault> {
-    let settings = settings_in(rt, alloc, file)?;
-    Ok(settings.listen.port())
+    match settings_telling(rt, alloc, file) {
+        Ok(settings) => Ok(settings.listen.port()),
+        Err(unset) => Err(unset.fault),
+    }
 }
 
 #[test]

@@ -3,7 +3,9 @@
 use crate::samples::{NEEDED, fault_with, text_with};
 use cg_expect::{expect, expect_eq};
 use cg_settings_file::laws::{limits_have_their_values, seeds_rise_and_are_those_listed};
-use cg_settings_file::{DEFAULT_INTERVAL, DEFAULT_RANDOM, INTERVAL_LIMIT, TURN_LIMIT, refused_key};
+use cg_settings_file::{
+    DEFAULT_INTERVAL, DEFAULT_RANDOM, INTERVAL_LIMIT, TURN_LIMIT, settings_or_key,
+};
 use cg_types::Fault;
 use std::alloc::{AllocError, Global};
 use std::test::Fail;
@@ -153,13 +155,21 @@ fn values_in_their_ranges_alone_are_read(rt: HostRuntime) -> Result<(), Fail> {
 // A number that TOML does not have, so a text with it is no table.
 const NO_NUMBER: &str = "9223372036854775808";
 
+// Tests whether the key that is named of these bytes is this one, or none if it is empty.
+fn is_named(alloc: Global, bytes: &[u8], due: &str) -> bool {
+    match settings_or_key(alloc, bytes) {
+        Ok(_) => due.is_empty(),
+        Err(unset) => match &unset.key {
+            Some(key) => key.as_str() == due,
+            None => due.is_empty(),
+        },
+    }
+}
+
 // Tests whether the key that is named of these settings is this one, or none if it is empty.
 fn names(alloc: Global, key: &str, value: &str, due: &str) -> Result<bool, AllocError> {
     let text = text_with(alloc, key, value)?;
-    Ok(match refused_key(alloc, text.as_bytes()) {
-        Some(named) => named.as_str() == due,
-        None => due.is_empty(),
-    })
+    Ok(is_named(alloc, text.as_bytes(), due))
 }
 
 // Fails unless the key of each row is named, by its own name; in a text that is no table, none is.
@@ -187,6 +197,6 @@ fn the_key_that_is_refused_is_named(rt: HostRuntime) -> Result<(), Fail> {
     for (key, value) in TAKEN {
         expect!(names(alloc, key, value, "")?, "{key} = {value}")?;
     }
-    expect!(refused_key(alloc, b"cluster").is_none())?;
-    expect!(refused_key(alloc, b"\xff").is_none())
+    expect!(is_named(alloc, b"cluster", ""))?;
+    expect!(is_named(alloc, b"\xff", ""))
 }

@@ -7,7 +7,8 @@ use Rattle.cg_files.specs.Disk.{Call, Opened, Placed, Made, Compared, OpenedToLo
 use Rattle.cg_files.specs.Generation.{text_of}
 use Rattle.cg_files.specs.Replacing.{aside_of}
 use Rattle.cg_files.specs.Storing.{Stored, Unstored}
-use Rattle.cg_settings_file.specs.Settings.{ServeValue, settings_in_bytes}
+use Rattle.cg_settings_file.specs.Settings.{ServeValue, settings_in_bytes, settings_or_key_in_bytes}
+use Rattle.cg_settings_file.specs.Seen.{Refuses}
 use Rattle.cg_version.specs.Version.{generation_at_start}
 use Rattle.cg_node_files.specs.declared.settings.TheConstants.{SETTINGS_MOST}
 
@@ -21,11 +22,11 @@ module _ {F : Type 0} (did : Call F → Type 0) (remaining contents : F → Opti
     pub journal : did (Compared path s.journal false)
     pub both : did (Compared s.generation_file s.journal false)
 
-  -- Two of them are one.
-  abbrev pub AreShared : ServeValue → Type 0
-  AreShared s =
-      did (Compared path s.generation_file true)
-      ⊎ (did (Compared path s.journal true) ⊎ did (Compared s.generation_file s.journal true))
+  -- Two of them are one, of which one is at this key.
+  abbrev pub AreShared : ServeValue → List ℕ → Type 0
+  AreShared s key =
+      ((key ≡ codes "generation_file") × did (Compared path s.generation_file true))
+      ⊎ ((key ≡ codes "journal") × (did (Compared path s.journal true) ⊎ did (Compared s.generation_file s.journal true)))
 
   -- The bytes of the file, within the limit, hold these settings, by which no two files are one.
   pub record Settles (s : ServeValue) : Type 0 where
@@ -34,26 +35,27 @@ module _ {F : Type 0} (did : Call F → Type 0) (remaining contents : F → Opti
     pub hold : settings_in_bytes bytes ≡ Some s
     pub apart : AreApart s
 
-  -- They hold settings by which two files are one.
-  pub record IsShared (f : Fault) : Type 0 where
+  -- They hold settings by which two files are one; the key is told, or memory ran out.
+  pub record IsShared (f : Fault) (key : Option (List ℕ)) : Type 0 where
     pub bytes : List ℕ
     pub are : HasBytes did remaining path SETTINGS_MOST bytes
     pub settings : ServeValue
     pub hold : settings_in_bytes bytes ≡ Some settings
-    pub shared : AreShared settings
-    pub is : f ≡ fault.BadText
+    pub at : List ℕ
+    pub shared : AreShared settings at
+    pub is : ((f ≡ fault.OutOfMemory) × (key ≡ None)) ⊎ ((f ≡ fault.BadText) × (key ≡ Some at))
 
-  -- The bytes of the file hold no settings, or memory ran out.
-  pub record HoldsNone (f : Fault) : Type 0 where
+  -- The bytes of the file hold no settings, and the key is told that they are refused by; or memory ran out.
+  pub record HoldsNone (f : Fault) (key : Option (List ℕ)) : Type 0 where
     pub bytes : List ℕ
     pub are : HasBytes did remaining path SETTINGS_MOST bytes
-    pub caused : (f ≡ fault.OutOfMemory) ⊎ ((f ≡ fault.BadText) × (settings_in_bytes bytes ≡ None))
+    pub caused : Refuses (settings_or_key_in_bytes bytes) f key
 
-  -- the file can't be read, is missing, or holds no settings by which the files are three
-  abbrev pub Unsettled : Fault → Type 0
-  Unsettled f =
-      Unfound did remaining path SETTINGS_MOST f
-      ⊎ (((f ≡ fault.ReadFault) × did (Opened path (Ok None))) ⊎ (HoldsNone f ⊎ IsShared f))
+  -- The file can't be read or is missing, and no key is told; or it holds no settings by which the files are three.
+  abbrev pub Unsettled : Fault → Option (List ℕ) → Type 0
+  Unsettled f key =
+      ((key ≡ None) × (Unfound did remaining path SETTINGS_MOST f ⊎ ((f ≡ fault.ReadFault) × did (Opened path (Ok None)))))
+      ⊎ (HoldsNone f key ⊎ IsShared f key)
 
   -- ---- a generation, by the one that was stored and the seconds since 1970
 

@@ -7,4 +7,4 @@ mod settings;
 
 pub use generation::next_life;
 pub use journal::{try_journal, write_journal_to};
-pub use settings::{SETTINGS_MOST, Unset, settings_in, settings_telling};
+pub use settings::{SETTINGS_MOST, settings_telling};

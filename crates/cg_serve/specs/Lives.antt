@@ -64,7 +64,7 @@ module _ {F : Type 0} (did : Call F → Type 0) (remaining contents : F → Opti
         ⊎ ((generation : ℕ) × Advances did remaining contents told.generation_file (Ok generation) × IsUnstarted f)
 
   abbrev pub Lives : Result Lived Fault → Type 0
-  Lives life = MatchResult life IsLived (λ f. Unsettled did remaining contents file f ⊎ IsUnborn f)
+  Lives life = MatchResult life IsLived (λ f. ((key : Option (List ℕ)) × Unsettled did remaining contents file f key) ⊎ IsUnborn f)
 
 -- ---- its end, by the fault of its receipts and that of its journal
 

@@ -1,5 +1,5 @@
 -- The keys that a table may have.
-use Rattle.std.specs.Prelude.{ℕ, ◌&&◌, ◌||◌, Bool, true, List, codes, bytes_eq}
+use Rattle.std.specs.Prelude.{ℕ, ◌||◌, Bool, List, codes, bytes_eq, Option, Some, None, if◌then◌else◌}
 use Rattle.toml.specs.Data.{Members, no_members, member}
 
 -- keys of the cluster, the endpoint and the files of a node, and of its seeds
@@ -24,7 +24,7 @@ is_silence_key key =
 unfoldable pub is_known : List ℕ → Bool
 is_known key = is_text_key key || (is_turn_key key || is_silence_key key)
 
--- each key has a meaning
-unfoldable pub are_known : Members → Bool
-are_known no_members = true
-are_known (member key value table) = is_known key && are_known table
+-- the first key that has no meaning
+unfoldable pub unknown_in : Members → Option (List ℕ)
+unknown_in no_members = None
+unknown_in (member key value table) = if is_known key then unknown_in table else Some key

@@ -1,8 +1,8 @@
 -- The seeds that an array lists: endpoints, sorted and made distinct.
-use Rattle.std.specs.Prelude.{ℕ, List, [], ◌∷◌, Option, Some}
+use Rattle.std.specs.Prelude.{ℕ, List, [], ◌∷◌, Option, Some, None}
 use Rattle.std.specs.Ordering.{nat_cmp}
 use Rattle.std.specs.BTreeSet.{insert_key}
-use Rattle.toml.specs.Data.{Items, no_items, item}
+use Rattle.toml.specs.Data.{Data, Items, no_items, item, as_array}
 use Rattle.cg_types.specs.OptionSteps.{◌>>=◌}
 use Rattle.cg_settings_file.specs.Values.{endpoint_in_value}
 
@@ -22,3 +22,11 @@ put_in_order seeds (endpoint ∷ endpoints) = put_in_order (insert_key nat_cmp s
 -- the same endpoints, rising, each once
 unfoldable pub distinct : List ℕ → List ℕ
 distinct = put_in_order []
+
+-- the endpoints that a value lists, sorted and made distinct; an empty list if there is no value
+unfoldable pub seeds_in : Option Data → Option (List ℕ)
+seeds_in None = Some []
+seeds_in (Some value) = do
+  items ← as_array value
+  listed ← endpoints_in items
+  Some (distinct listed)

@@ -1,11 +1,11 @@
 //! The keys that a table may have.
 
-ghost use Rattle.std.specs.Prelude.{◌≡◌, string_bytes};
-ghost use Rattle.std.specs.List.{list_all};
+ghost use Rattle.std.specs.Prelude.{◌≡◌, not, option_map, string_bytes};
+ghost use Rattle.std.specs.List.{find};
 ghost use Rattle.std.specs.BTreeMap.{keys};
 ghost use Rattle.toml.specs.View.{table_view};
 ghost use Rattle.cg_settings_file.specs.Keys.{is_text_key as names_text, is_turn_key as names_turn, is_silence_key as names_silence};
-ghost use Rattle.cg_settings_file.specs.Keys.{is_known as is_known_key, are_known as are_known_keys};
+ghost use Rattle.cg_settings_file.specs.Keys.{is_known as is_known_key, unknown_in as unknown_key};
 
 use toml::Table;
 
@@ -35,21 +35,24 @@ fn is_silence_key(key: &str) -> bool
 }
 
 #[tactic(auto, unfolding(crate::specs::Keys::is_known))]
-pub(crate) fn is_known(key: &str) -> bool
+fn is_known(key: &str) -> bool
     ensures { result ≡ is_known_key key.now }
 {
     is_text_key(key) || is_turn_key(key) || is_silence_key(key)
 }
 
-fn keys_are_known(table: &Table) -> bool
-    ensures { result ≡ list_all (λ k. is_known_key (string_bytes k)) (keys table.now) }
+fn first_unknown(table: &Table) -> Option<&String>
+    ensures { option_map (λ k. k.now) result ≡ find (λ k. not (is_known_key (string_bytes k))) (keys table.now) }
 {
-    table.keys().all(|key| is_known(key.as_str()))
+    table.keys().find(|key| !is_known(key.as_str()))
 }
 
-/// Tests whether each key of the table has a meaning.
-pub(crate) fn are_known(table: &Table) -> bool
-    ensures { result ≡ are_known_keys (table_view table.now) }
+/// The first key of the table that has no meaning.
+pub(crate) fn unknown_in(table: &Table) -> Option<&str>
+    ensures { option_map (λ k. k.now) result ≡ unknown_key (table_view table.now) }
 {
-    keys_are_known(table)
+    match first_unknown(table) {
+        Some(key) => Some(key.as_str()),
+        None => None,
+    }
 }

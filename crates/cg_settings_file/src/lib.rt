@@ -1,18 +1,19 @@
 //! The settings of a node that serves, as a TOML table holds them.
 //!
 //! Each key is a whole number, a text, an endpoint's text or an array of these. A table with another key, without a key
-//! that is needed, or with a value of another type or out of its range is refused.
+//! that is needed, or with a value of another type or out of its range is refused, and the
+//! first such key is told.
 #![tactic(auto)]
 
 mod keys;
 pub mod laws;
 mod limits;
-mod naming;
 mod node;
 mod seeds;
 mod settings;
+mod stop;
 mod values;
 
 pub use limits::{DEFAULT_INTERVAL, DEFAULT_RANDOM, INTERVAL_LIMIT, TURN_LIMIT};
-pub use naming::refused_key;
-pub use settings::{ServeSettings, Turns, settings_of, settings_of_bytes};
+pub use settings::{ServeSettings, Turns, settings_of, settings_of_bytes, settings_or_key};
+pub use stop::Unset;

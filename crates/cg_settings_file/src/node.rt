@@ -1,24 +1,28 @@
 //! The settings of the node itself: its cluster, its seeds, and its judgement of silence.
 
-ghost use Rattle.std.specs.Prelude.{◌≡◌, IfOk, codes, option_map};
+ghost use Rattle.std.specs.Prelude.{◌≡◌, IfOk, Err, codes, option_map};
 ghost use Rattle.toml.specs.Data.{get_member};
 ghost use Rattle.toml.specs.View.{table_view, view};
-ghost use Rattle.cg_settings_file.specs.Settings.{cluster_from as told_cluster, seeds_in as told_seeds, silence_by as told_judgement, silence_from as told_silence, node_from as told_node};
-ghost use Rattle.cg_settings_file.specs.Seen.{Finds};
+ghost use Rattle.cg_silence.specs.Values.{silence_of};
+ghost use Rattle.cg_settings_file.specs.Values.{cluster_from as told_cluster};
+ghost use Rattle.cg_settings_file.specs.Seeds.{seeds_in as told_seeds};
+ghost use Rattle.cg_settings_file.specs.Settings.{silence_key as told_key, silence_by as told_judgement, silence_from as told_silence, node_from as told_node};
+ghost use Rattle.cg_settings_file.specs.Seen.{Finds, Reads, Names};
 
 use crate::seeds::{distinct, endpoints_in};
-use crate::values::{number_at, text_at, value_at};
+use crate::stop::{Stop, stop_at};
+use crate::values::{number_or_key, text_at, value_at};
 use cg_settings::Settings;
 use cg_silence::{
     DEFAULT_INITIAL_GAP, DEFAULT_MAX_GAP, DEFAULT_THRESHOLD, DEFAULT_WINDOW, GAP_LIMIT, Silence,
-    THRESHOLD_LIMIT, WINDOW_LIMIT,
+    SilenceFault, THRESHOLD_LIMIT, WINDOW_LIMIT,
 };
 use cg_types::{Cluster, Endpoint, Fault};
 use std::alloc::Global;
 use toml::{Table, Value};
 
-#[tactic(auto, unfolding(crate::specs::Settings::cluster_from))]
-pub(crate) fn cluster_in(alloc: Global, table: &Table) -> Result<Cluster, Fault>
+#[tactic(auto, unfolding(crate::specs::Values::cluster_from))]
+fn cluster_in(alloc: Global, table: &Table) -> Result<Cluster, Fault>
     ensures { Finds (λ c. c) result (told_cluster (table_view table.now)) }
 {
     let Some(name) = text_at(table, "cluster") else {
@@ -31,8 +35,8 @@ pub(crate) fn cluster_in(alloc: Global, table: &Table) -> Result<Cluster, Fault>
     }
 }
 
-#[tactic(auto, unfolding(crate::specs::Settings::seeds_in))]
-pub(crate) fn seeds_in(alloc: Global, value: Option<&Value>) -> Result<Vec<Endpoint>, Fault>
+#[tactic(auto, unfolding(crate::specs::Seeds::seeds_in))]
+fn seeds_in(alloc: Global, value: Option<&Value>) -> Result<Vec<Endpoint>, Fault>
     ensures { Finds (λ v. v.items) result (told_seeds (option_map (λ v. view v.now) value.entry)) }
 {
     let Some(value) = value else {
@@ -47,42 +51,69 @@ pub(crate) fn seeds_in(alloc: Global, value: Option<&Value>) -> Result<Vec<Endpo
     Ok(distinct(alloc, &listed)?)
 }
 
-// Returns the settings by which these numbers judge silence, if each is in its range.
-#[tactic(auto, unfolding(crate::specs::Settings::silence_by))]
-fn silence_by(window: u32, initial_gap: u32, max_gap: u32, threshold: u32) -> Option<Silence>
-    ensures { result ≡ told_judgement window initial_gap max_gap threshold }
+// Returns the key of a number that is out of its range, by the fault of silence and the initial gap in the table. One
+// that is not there is right, so the greatest gap is not.
+fn silence_key(in_table: Option<&Value>, fault: SilenceFault) -> &'static str
+    ensures { result.now ≡ told_key (option_map (λ v. view v.now) in_table.entry) fault }
 {
-    Silence::try_new(window as usize, initial_gap, max_gap, threshold).ok()
+    match (fault, in_table) {
+        (SilenceFault::Window, _) => "window",
+        (SilenceFault::MaxGap, _) => "max_gap",
+        (SilenceFault::InitialGap, None) => "max_gap",
+        (SilenceFault::InitialGap, Some(_)) => "initial_gap",
+        (SilenceFault::Threshold, _) => "threshold",
+    }
+}
+
+// Returns the settings by which four numbers judge silence, if each is in its range.
+#[tactic(auto, unfolding(crate::specs::Settings::silence_by))]
+fn silence_by(
+    in_table: Option<&Value>,
+    window: u32,
+    gaps: (u32, u32),
+    threshold: u32,
+) -> Result<Silence, &'static str>
+    ensures { Names (λ s. s) result (told_judgement (option_map (λ v. view v.now) in_table.entry) (silence_of window gaps.0 gaps.1 threshold)) }
+{
+    match Silence::try_new(window as usize, gaps.0, gaps.1, threshold) {
+        Ok(silence) => Ok(silence),
+        Err(fault) => Err(silence_key(in_table, fault)),
+    }
 }
 
 #[tactic(auto, unfolding(crate::specs::Settings::silence_from))]
-fn silence_in(table: &Table) -> Option<Silence>
-    ensures { result ≡ told_silence (table_view table.now) }
+fn silence_in(table: &Table) -> Result<Silence, &'static str>
+    ensures { Names (λ s. s) result (told_silence (table_view table.now)) }
 {
-    let window = number_at(
-        table,
-        "window",
-        WINDOW_LIMIT as u32,
-        Some(DEFAULT_WINDOW as u32),
-    )?;
-    let initial_gap = number_at(table, "initial_gap", GAP_LIMIT, Some(DEFAULT_INITIAL_GAP))?;
-    let max_gap = number_at(table, "max_gap", GAP_LIMIT, Some(DEFAULT_MAX_GAP))?;
-    let threshold = number_at(table, "threshold", THRESHOLD_LIMIT, Some(DEFAULT_THRESHOLD))?;
-    silence_by(window, initial_gap, max_gap, threshold)
+    let default_window = DEFAULT_WINDOW as u32;
+    let window = number_or_key(table, "window", WINDOW_LIMIT as u32, Some(default_window))?;
+    let initial_gap = number_or_key(table, "initial_gap", GAP_LIMIT, Some(DEFAULT_INITIAL_GAP))?;
+    let max_gap = number_or_key(table, "max_gap", GAP_LIMIT, Some(DEFAULT_MAX_GAP))?;
+    let threshold = number_or_key(table, "threshold", THRESHOLD_LIMIT, Some(DEFAULT_THRESHOLD))?;
+    silence_by(
+        value_at(table, "initial_gap"),
+        window,
+        (initial_gap, max_gap),
+        threshold,
+    )
 }
 
 /// Reads the settings of the node itself.
 #[tactic(auto, unfolding(crate::specs::Settings::node_from))]
-pub(crate) fn node_in(alloc: Global, table: &Table) -> Result<Settings, Fault>
-    ensures { Finds (λ s. s) result (told_node (table_view table.now)) }
+pub(crate) fn node_in(alloc: Global, table: &Table) -> Result<Settings, Stop<'static>>
+    ensures { Reads (λ s. s) result (told_node (table_view table.now)) }
 {
-    let cluster = cluster_in(alloc, table)?;
-    let seeds = seeds_in(alloc, value_at(table, "seeds"))?;
-    let Some(silence) = silence_in(table) else {
-        return Err(Fault::BadText);
+    let cluster = match cluster_in(alloc, table) {
+        Ok(cluster) => cluster,
+        Err(fault) => return Err(stop_at("cluster", fault)),
     };
+    let seeds = match seeds_in(alloc, value_at(table, "seeds")) {
+        Ok(seeds) => seeds,
+        Err(fault) => return Err(stop_at("seeds", fault)),
+    };
+    let silence = silence_in(table)?;
     match Settings::try_new(cluster, seeds, silence) {
         Ok(settings) => Ok(settings),
-        Err(_) => Err(Fault::BadText),
+        Err(_) => Err(Stop::Key("seeds")),
     }
 }

@@ -1,15 +1,17 @@
 //! Settings of a node that serves, and how they are read.
 
-ghost use Rattle.std.specs.Prelude.{◌≡◌, IfOk, option_map, codes};
+ghost use Rattle.std.specs.Prelude.{◌≡◌, IfOk, Ok, Err, option_map, codes};
 ghost use Rattle.toml.specs.View.{table_view};
 ghost use Rattle.cg_settings_file.specs.Settings.{turns_from as told_turns, random_from as told_random, paths_from as told_paths, settings_from as told_settings};
-ghost use Rattle.cg_settings_file.specs.Settings.{settings_in, text_in as text_of_bytes, settings_in_bytes};
-ghost use Rattle.cg_settings_file.specs.Seen.{Finds, turns_view, settings_view};
+ghost use Rattle.cg_settings_file.specs.Settings.{settings_or_key as told_settings_or_key, settings_in, text_in as text_of_bytes};
+ghost use Rattle.cg_settings_file.specs.Settings.{settings_or_key_in_bytes, settings_in_bytes};
+ghost use Rattle.cg_settings_file.specs.Seen.{Finds, Reads, Names, Tells, IsUnsetBy, turns_view, settings_view};
 
-use crate::keys::are_known;
+use crate::keys::unknown_in;
 use crate::limits::{DEFAULT_INTERVAL, DEFAULT_RANDOM, INTERVAL_LIMIT, TURN_LIMIT};
 use crate::node::node_in;
-use crate::values::{endpoint_at, number_at, number_in, text_at, value_at};
+use crate::stop::{Stop, Unset, without_key};
+use crate::values::{endpoint_at, number_in, number_or_key, text_or_key, value_at};
 use cg_settings::Settings;
 use cg_types::{Endpoint, Fault};
 use std::alloc::Global;
@@ -44,13 +46,13 @@ pub struct ServeSettings {
 }
 
 #[tactic(auto, unfolding(crate::specs::Settings::turns_from))]
-fn turns_in(table: &Table) -> Option<Turns>
-    ensures { option_map turns_view result ≡ told_turns (table_view table.now) }
+fn turns_in(table: &Table) -> Result<Turns, &'static str>
+    ensures { Names turns_view result (told_turns (table_view table.now)) }
 {
-    let rounds = number_at(table, "rounds", TURN_LIMIT, None)?;
-    let exchanges = number_at(table, "exchanges", TURN_LIMIT, None)?;
-    let interval = number_at(table, "interval", INTERVAL_LIMIT, Some(DEFAULT_INTERVAL))?;
-    Some(Turns {
+    let rounds = number_or_key(table, "rounds", TURN_LIMIT, None)?;
+    let exchanges = number_or_key(table, "exchanges", TURN_LIMIT, None)?;
+    let interval = number_or_key(table, "interval", INTERVAL_LIMIT, Some(DEFAULT_INTERVAL))?;
+    Ok(Turns {
         rounds,
         exchanges,
         interval,
@@ -58,7 +60,7 @@ fn turns_in(table: &Table) -> Option<Turns>
 }
 
 #[tactic(auto, unfolding(crate::specs::Settings::random_from))]
-pub(crate) fn random_in(table: &Table) -> Option<u64>
+fn random_in(table: &Table) -> Option<u64>
     ensures { result ≡ told_random (table_view table.now) }
 {
     match value_at(table, "random") {
@@ -68,68 +70,86 @@ pub(crate) fn random_in(table: &Table) -> Option<u64>
 }
 
 #[tactic(auto, unfolding(crate::specs::Settings::paths_from))]
-fn paths_in(table: &Table) -> Option<(&str, &str)>
-    ensures { option_map (λ p. (p.0.now, p.1.now)) result ≡ told_paths (table_view table.now) }
+fn paths_in(table: &Table) -> Result<(&str, &str), &'static str>
+    ensures { Names (λ p. (p.0.now, p.1.now)) result (told_paths (table_view table.now)) }
 {
-    let generation_file = text_at(table, "generation_file")?;
-    let journal = text_at(table, "journal")?;
-    Some((generation_file, journal))
+    let generation_file = text_or_key(table, "generation_file")?;
+    let journal = text_or_key(table, "journal")?;
+    Ok((generation_file, journal))
 }
 
+// Reads the settings of a table, or the first key that is refused: by its value, or else since it has no meaning.
 #[tactic(auto, unfolding(crate::specs::Settings::settings_from))]
-fn settings_of_table(alloc: Global, table: &Table) -> Result<ServeSettings, Fault>
-    ensures { Finds settings_view result (told_settings (table_view table.now)) }
+fn settings_in_table(alloc: Global, table: &Table) -> Result<ServeSettings, Stop<'_>>
+    ensures { Reads settings_view result (told_settings (table_view table.now)) }
 {
     let node = node_in(alloc, table)?;
     let Some(listen) = endpoint_at(table, "listen") else {
-        return Err(Fault::BadText);
+        return Err(Stop::Key("listen"));
     };
-    let Some((generation_file, journal)) = paths_in(table) else {
-        return Err(Fault::BadText);
-    };
-    let Some(turns) = turns_in(table) else {
-        return Err(Fault::BadText);
-    };
+    let (generation_file, journal) = paths_in(table)?;
+    let turns = turns_in(table)?;
     let Some(random) = random_in(table) else {
-        return Err(Fault::BadText);
+        return Err(Stop::Key("random"));
     };
-    if !are_known(table) {
-        return Err(Fault::BadText);
+    if let Some(key) = unknown_in(table) {
+        return Err(Stop::Key(key));
     }
+    let Ok(generation_file) = String::from_str(alloc, generation_file) else {
+        return Err(Stop::Memory);
+    };
+    let Ok(journal) = String::from_str(alloc, journal) else {
+        return Err(Stop::Memory);
+    };
     Ok(ServeSettings {
         node,
         listen,
-        generation_file: String::from_str(alloc, generation_file)?,
-        journal: String::from_str(alloc, journal)?,
+        generation_file,
+        journal,
         turns,
         random,
     })
 }
 
-/// Reads the settings in a text, which is a TOML table.
-///
-/// `OutOfMemory` if memory runs out on the way. Else `BadText` if and only if the text is no TOML table or breaks one
-/// of these rules: each key has a meaning; no key that is needed is missing; each value is of its type and in its
-/// range.
-#[tactic(auto, unfolding(crate::specs::Settings::settings_in))]
-pub fn settings_of(alloc: Global, text: &str) -> Result<ServeSettings, Fault>
-    ensures { Finds settings_view result (settings_in text.now) }
+// Returns the fault by which the reading of a table ended, with the key that is refused.
+fn unset(alloc: Global, stop: Stop<'_>) -> Unset
+    ensures { IsUnsetBy stop.entry result }
 {
-    match toml::table_from_str(alloc, text) {
-        Ok(table) => settings_of_table(alloc, &table),
+    let Stop::Key(key) = stop else {
+        return without_key(Fault::OutOfMemory);
+    };
+    match String::from_str(alloc, key) {
+        Ok(key) => Unset {
+            fault: Fault::BadText,
+            key: Some(key),
+        },
+        Err(_) => without_key(Fault::OutOfMemory),
+    }
+}
+
+#[tactic(auto, unfolding(crate::specs::Settings::settings_or_key))]
+fn settings_in_text(alloc: Global, text: &str) -> Result<ServeSettings, Unset>
+    ensures { Tells settings_view result (told_settings_or_key text.now) }
+{
+    let table = match toml::table_from_str(alloc, text) {
+        Ok(table) => table,
         Err(error) => {
-            if error.is_memory() {
-                Err(Fault::OutOfMemory)
+            return Err(without_key(if error.is_memory() {
+                Fault::OutOfMemory
             } else {
-                Err(Fault::BadText)
-            }
+                Fault::BadText
+            }));
         }
+    };
+    match settings_in_table(alloc, &table) {
+        Ok(settings) => Ok(settings),
+        Err(stop) => Err(unset(alloc, stop)),
     }
 }
 
 // Returns the text that bytes are, if they are UTF-8.
 #[tactic(auto, unfolding(crate::specs::Settings::text_in))]
-pub(crate) fn text_in(bytes: &[u8]) -> Option<&str>
+fn text_in(bytes: &[u8]) -> Option<&str>
     ensures { option_map (λ t. t.now) result ≡ text_of_bytes bytes.now }
 {
     match std::str::from_utf8(bytes) {
@@ -138,13 +158,38 @@ pub(crate) fn text_in(bytes: &[u8]) -> Option<&str>
     }
 }
 
+/// Reads the settings in the bytes of a file, which are the text of a TOML table.
+///
+/// `OutOfMemory` if memory runs out on the way. Else `BadText` if and only if the bytes are no UTF-8 or no TOML table, or
+/// break one of these rules: no key that is needed is missing; each value is of its type and in its range; each key has
+/// a meaning. Of a rule that is broken the key is told.
+#[tactic(auto, unfolding(crate::specs::Settings::settings_or_key_in_bytes))]
+pub fn settings_or_key(alloc: Global, bytes: &[u8]) -> Result<ServeSettings, Unset>
+    ensures { Tells settings_view result (settings_or_key_in_bytes bytes.now) }
+{
+    match text_in(bytes) {
+        Some(text) => settings_in_text(alloc, text),
+        None => Err(without_key(Fault::BadText)),
+    }
+}
+
+/// Reads the settings in a text, which is a TOML table, as `settings_or_key` does, and returns the fault without the
+/// key.
+pub fn settings_of(alloc: Global, text: &str) -> Result<ServeSettings, Fault>
+    ensures { Finds settings_view result (settings_in text.now) }
+{
+    match settings_in_text(alloc, text) {
+        Ok(settings) => Ok(settings),
+        Err(unset) => Err(unset.fault),
+    }
+}
+
 /// Reads the settings in the bytes of a file: as `settings_of`, and `BadText` too if they are not UTF-8.
-#[tactic(auto, unfolding(crate::specs::Settings::settings_in_bytes))]
 pub fn settings_of_bytes(alloc: Global, bytes: &[u8]) -> Result<ServeSettings, Fault>
     ensures { Finds settings_view result (settings_in_bytes bytes.now) }
 {
-    match text_in(bytes) {
-        Some(text) => settings_of(alloc, text),
-        None => Err(Fault::BadText),
+    match settings_or_key(alloc, bytes) {
+        Ok(settings) => Ok(settings),
+        Err(unset) => Err(unset.fault),
     }
 }

@@ -1,10 +1,12 @@
 //! The values at the keys of a table.
 
-ghost use Rattle.std.specs.Prelude.{◌≡◌, option_map};
+ghost use Rattle.std.specs.Prelude.{◌≡◌, Ok, Err, option_map};
 ghost use Rattle.toml.specs.Data.{get_member};
 ghost use Rattle.toml.specs.View.{table_view, view};
 ghost use Rattle.cg_settings_file.specs.Values.{text_at as table_text_at, endpoint_in_value as value_endpoint, number_in as value_number};
 ghost use Rattle.cg_settings_file.specs.Values.{small_number_in as value_small_number, endpoint_at as table_endpoint_at, number_at as table_number_at};
+ghost use Rattle.cg_settings_file.specs.Values.{text_or_key as table_text_or_key, number_or_key as table_number_or_key};
+ghost use Rattle.cg_settings_file.specs.Seen.{Names};
 
 use cg_types::Endpoint;
 use toml::{Table, Value};
@@ -76,11 +78,36 @@ fn small_number_in(value: &Value, most: u32) -> Option<u32>
 
 /// The whole number from 0 to `most` at a key; if the key is missing, the default, if there is one.
 #[tactic(auto, unfolding(crate::specs::Values::number_at))]
-pub(crate) fn number_at(table: &Table, key: &str, most: u32, default: Option<u32>) -> Option<u32>
+fn number_at(table: &Table, key: &str, most: u32, default: Option<u32>) -> Option<u32>
     ensures { result ≡ table_number_at key.now most default (table_view table.now) }
 {
     match value_at(table, key) {
         Some(value) => small_number_in(value, most),
         None => default,
+    }
+}
+
+/// The same number, or the key.
+pub(crate) fn number_or_key<'k>(
+    table: &Table,
+    key: &'k str,
+    most: u32,
+    default: Option<u32>,
+) -> Result<u32, &'k str>
+    ensures { Names (λ n. n) result (table_number_or_key key.now most default (table_view table.now)) }
+{
+    match number_at(table, key, most, default) {
+        Some(number) => Ok(number),
+        None => Err(key),
+    }
+}
+
+/// The text at a key, or the key.
+pub(crate) fn text_or_key<'a, 'k>(table: &'a Table, key: &'k str) -> Result<&'a str, &'k str>
+    ensures { Names (λ t. t.now) result (table_text_or_key key.now (table_view table.now)) }
+{
+    match text_at(table, key) {
+        Some(text) => Ok(text),
+        None => Err(key),
     }
 }
