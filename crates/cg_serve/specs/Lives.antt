@@ -80,11 +80,11 @@ abbrev pub status_after : Option Fault → Option Fault → ℕ
 status_after None None = 0
 status_after stray unwritten = 1
 
--- The text and the status are these; or memory ran out, and the text says that.
+-- The status is this one. So is the text; or memory ran out for the line of a fault, and the text says that.
 abbrev pub Says : Option Fault → Option Fault → List ℕ → ℕ → Type 0
 Says stray unwritten text status =
-    ((text ≡ text_after stray unwritten) × (status ≡ status_after stray unwritten))
-    ⊎ ((text ≡ fault_text fault.OutOfMemory) × (status ≡ 1))
+    (status ≡ status_after stray unwritten)
+    × ((text ≡ text_after stray unwritten) ⊎ ((text ≡ fault_text fault.OutOfMemory) × (status ≡ 1)))
 
 module _ {F : Type 0} (did : Call F → Type 0) (contents : F → Option (List ℕ)) where
   -- The journal of the history was written to the file, and no record of it is folded; or it could not be.

@@ -1,6 +1,6 @@
 //! The life of a node that serves.
 
-ghost use Rattle.std.specs.Prelude.{◌≡◌, ◌++◌, ℕ, List, OnOk, IfOk, string_bytes};
+ghost use Rattle.std.specs.Prelude.{◌≡◌, ◌++◌, ℕ, List, IsSome, OnOk, OnErr, IfOk, string_bytes};
 ghost use Rattle.cg_links.specs.Counted.{link_of};
 ghost use Rattle.cg_printed.specs.Written.{WroteOut};
 ghost use Rattle.cg_serve.specs.Lives.{Lives, fault_lines, text_after, status_after, Says, Ends, WritesJournal, Serves};
@@ -102,7 +102,8 @@ where
 
 // Adds the line of a fault, if there is one.
 fn add_fault(text: &mut String, alloc: Global, fault: Option<Fault>) -> Result<(), AllocError>
-    ensures { OnOk result (string_bytes text.new ≡ string_bytes text.old ++ fault_lines fault) }
+    ensures text { OnOk result (string_bytes text.new ≡ string_bytes text.old ++ fault_lines fault) }
+    ensures refused { OnErr result (IsSome fault) }
 {
     let Some(fault) = fault else {
         return Ok(());
@@ -111,13 +112,15 @@ fn add_fault(text: &mut String, alloc: Global, fault: Option<Fault>) -> Result<(
     text.push_str(line.as_str())
 }
 
-// Returns the lines of the faults of a life's receipts and of its journal.
+// Returns the lines of the faults of a life's receipts and of its journal. Without a fault, no memory is asked for.
+#[tactic(auto, using(crate::proofs::Ending::after_stray, crate::proofs::Ending::after_unwritten))]
 fn end_text(
     alloc: Global,
     stray: Option<Fault>,
     unwritten: Option<Fault>,
 ) -> Result<String, AllocError>
-    ensures { IfOk result (λ text. string_bytes text ≡ text_after stray unwritten) }
+    ensures text { IfOk result (λ text. string_bytes text ≡ text_after stray unwritten) }
+    ensures refused { OnErr result (status_after stray unwritten ≡ 1) }
 {
     let mut text = String::new(alloc);
     add_fault(&mut text, alloc, stray)?;
@@ -201,15 +204,15 @@ fn ended<D: Disk + Eprint, W: Write>(
 /// kept (`WriteFault`); another program listens there (`ReadFault`); memory or a thread is refused (`OutOfMemory`).
 ///
 /// At the end it says the fault of the first receipt that the history does not confirm, and writes the journal all the
-/// same; `WriteFault` if it can't. If memory is refused for these lines, it says `OutOfMemory` in their place. A fault
-/// of a worker ends that worker, and does not change the status. The lines are flushed. If the writer fails or takes no
-/// byte, a prefix of the lines is written, and the status is 1.
+/// same; `WriteFault` if it can't. If memory is refused for a line, it says `OutOfMemory` in their place, never where
+/// there is no fault. A fault of a worker ends that worker, and does not change the status. The lines are flushed. If
+/// the writer fails or takes no byte, a prefix of the lines is written, and the status is 1.
 ///
 /// For each fault of a file it prints a line on standard error, with the file, the key if it is one of the settings, and
 /// the fault; and one with the endpoint at which it can't listen. Before it begins, it tries whether a file can stand
-/// beside the journal's, and prints a line there if not. While it lives, it prints there, each in a line a second at
-/// most, that a connection can't be taken and that a peer can't be dialed, and one line if no further connection is
-/// taken; no other fault of a worker is printed.
+/// beside the journal's, and prints a line there if not. While it lives, it prints there, a line of each a second at
+/// most, that a connection can't be taken, and that a peer can't be dialed or can be again, once each time; and one line
+/// if no further connection is taken. No other fault of a worker is printed.
 pub fn serve<R, W>(rt: &R, alloc: Global, file: &str, writer: &mut Counted<W>) -> u8
 where
     R: Threads
