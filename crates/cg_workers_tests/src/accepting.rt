@@ -162,11 +162,11 @@ fn dialed<R: Net<Listener = TcpListener, Stream = TcpStream>>(
     peers: &[Endpoint],
     times: u32,
 ) -> (u32, u64) {
-    let mut reached = 0;
+    let mut reached: u32 = 0;
     for _ in 0..times {
         for peer in peers {
             if dialer.dial(*peer).is_ok() {
-                reached += 1;
+                reached = reached.saturating_add(1);
             }
         }
         faulty.sleep(Duration::from_millis(100));
