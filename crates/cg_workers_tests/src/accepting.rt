@@ -175,20 +175,6 @@ fn dialed<R: Net<Listener = TcpListener, Stream = TcpStream>>(
 }
 
 #[test]
-fn a_peer_is_told_once_when_it_is_gone_and_once_when_it_is_back(
-    rt: HostRuntime,
-) -> Result<(), Fail> {
-    let to = free_endpoint(&rt)?;
-    let faulty = Faulty::new(&rt, &[]);
-    let mut dialer = Dialer::new(&faulty, rt.alloc(), 10000);
-    expect!(dialed(&mut dialer, &faulty, &[to], 30) == (0, 1))?;
-    let listener = Listener::bind(&rt, rt.alloc(), to, 2000)?;
-    expect!(dialed(&mut dialer, &faulty, &[to], 3) == (3, 2))?;
-    drop(listener);
-    expect!(dialed(&mut dialer, &faulty, &[to], 30) == (0, 3))
-}
-
-#[test]
 fn peers_that_are_gone_are_told_a_second_apart(rt: HostRuntime) -> Result<(), Fail> {
     let peers = [at_port(1)?, at_port(2)?];
     let faulty = Faulty::new(&rt, &[]);
