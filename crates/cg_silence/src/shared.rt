@@ -75,13 +75,14 @@ fn sum_left(past: &[u32], tail: &[u32], window: usize) -> u64
     sum_of(&past[..skipped]) + sum_of(&tail[..from - skipped])
 }
 
-// The gaps kept, in one list.
+// The gaps kept, in one list with room for all that the window will ever keep: so a node's memory does not grow while its
+// windows fill.
 fn joined(alloc: Global, past: &[u32], tail: &[u32], window: usize) -> Result<Vec<u32>, AllocError>
     ensures { IfOk result (λ v. v.items ≡ keep_last window (past.now ++ tail.now)) }
 {
     let from = (past.len() + tail.len()).saturating_sub(window);
     let skipped = from.min(past.len());
-    let mut gaps = Vec::with_capacity(alloc, past.len() + tail.len() - from)?;
+    let mut gaps = Vec::with_capacity(alloc, window)?;
     gaps.extend_from_slice(&past[skipped..])?;
     gaps.extend_from_slice(&tail[from - skipped..])?;
     Ok(gaps)
