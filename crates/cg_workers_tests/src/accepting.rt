@@ -79,6 +79,11 @@ impl<'a, R: Net<Listener = TcpListener, Stream = TcpStream>> Net for Faulty<'a, 
     fn connect(&self, addr: SocketAddr) -> io::Result<TcpStream> {
         self.rt.connect(addr)
     }
+
+    // Without it none is ever reached: by default it is unsupported.
+    fn connect_timeout(&self, addr: SocketAddr, timeout: Duration) -> io::Result<TcpStream> {
+        self.rt.connect_timeout(addr, timeout)
+    }
 }
 
 impl<'a, R> Clock for Faulty<'a, R> {
@@ -172,6 +177,20 @@ fn dialed<R: Net<Listener = TcpListener, Stream = TcpStream>>(
         faulty.sleep(Duration::from_millis(100));
     }
     (reached, faulty.lines.load(Ordering::SeqCst))
+}
+
+#[test]
+fn a_peer_is_told_once_when_it_is_gone_and_once_when_it_is_back(
+    rt: HostRuntime,
+) -> Result<(), Fail> {
+    let to = free_endpoint(&rt)?;
+    let faulty = Faulty::new(&rt, &[]);
+    let mut dialer = Dialer::new(&faulty, rt.alloc(), 10000);
+    expect!(dialed(&mut dialer, &faulty, &[to], 30) == (0, 1))?;
+    let listener = Listener::bind(&rt, rt.alloc(), to, 2000)?;
+    expect!(dialed(&mut dialer, &faulty, &[to], 3) == (3, 2))?;
+    drop(listener);
+    expect!(dialed(&mut dialer, &faulty, &[to], 30) == (0, 3))
 }
 
 #[test]
