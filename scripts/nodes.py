@@ -1,4 +1,4 @@
-"""Nodes that serve, each a process, as scripts/three-nodes and scripts/cluster run them. Every wait has an end."""
+"""Nodes that serve, each a process, as the scripts three-nodes, cluster, hostile and full-table run them. Every wait has an end."""
 
 import contextlib
 import os
@@ -21,6 +21,28 @@ def program():
     if not os.access(path, os.X_OK):
         sys.exit(f"no program at {path}, which CG names: leave CG unset, and rt ci builds crates/cg/out/cg")
     return os.path.abspath(path)
+
+
+# The first of the ports of the loopback that clusters take.
+FIRST_PORT = 7100
+CLUSTER = "load"
+SETTINGS = """\
+cluster = "{cluster}"
+listen = "{listen}"
+seeds = [{seeds}]
+generation_file = "{place}.generation"
+journal = "{place}.journal"
+rounds = {rounds}
+interval = {interval}
+exchanges = {exchanges}
+random = {place}
+threshold = 100000
+"""
+
+
+# A SYN of the cluster that names nobody, and an ACK2 without deltas.
+OPENING = bytes([0, 0, 0, 6 + len(CLUSTER), 2, 1, len(CLUSTER)]) + CLUSTER.encode() + b"\x01\0\0"
+NOTHING = bytes([0, 0, 0, 4, 2, 3, 0, 0])
 
 
 class Failed(Exception):
@@ -103,6 +125,50 @@ class Node:
             except OSError:
                 time.sleep(0.01)
         return self.process.returncode
+
+
+def made(count, folder, rounds, interval, exchanges):
+    """Returns the nodes of a cluster, with their settings in the folder. Half of them, at most 16, are seeds."""
+    listens = [f"127.0.0.1:{FIRST_PORT + place}" for place in range(count)]
+    seeds = ", ".join(f'"{listen}"' for listen in listens[: max(1, min(16, count // 2))])
+    numbers = {"rounds": rounds, "interval": interval, "exchanges": exchanges}
+    cluster = []
+    for place, listen in enumerate(listens):
+        path = os.path.join(folder, f"{place}.toml")
+        with open(path, "w") as settings:
+            settings.write(SETTINGS.format(cluster=CLUSTER, listen=listen, seeds=seeds, place=place, **numbers))
+        cluster.append(Node(path, listen, folder))
+    return cluster
+
+
+def claim(node, place, count):
+    """Has a node claim the token of its place."""
+    node.ask(f"set 2 {((place + 1) << 127) // (count + 1):032x}")
+    node.ask("set 1 NORMAL")
+
+
+def frame_from(link):
+    """Returns the bytes of a frame behind its length, as they come from a connection."""
+
+    def taken(size):
+        parts = []
+        while size > 0:
+            parts.append(link.recv(min(size, 1 << 20)))
+            if not parts[-1]:
+                raise Failed("a connection was closed within a frame")
+            size -= len(parts[-1])
+        return b"".join(parts)
+
+    return taken(int.from_bytes(taken(4), "big"))
+
+
+def lines_in(cluster, word):
+    """Returns how many lines of the journals of a cluster begin with a word."""
+    count = 0
+    for place, node in enumerate(cluster):
+        with open(os.path.join(node.folder, f"{place}.journal")) as lines:
+            count += sum(1 for line in lines if line.split(maxsplit=1)[:1] == [word])
+    return count
 
 
 def wait_until(is_so, seconds, what):
