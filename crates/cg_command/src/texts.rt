@@ -106,13 +106,13 @@ A set shows `version N unpublished` where no memory was left to publish it. A li
 `fault 2 BadText`, a refused one its fault, and the next line is read.\n\
 \n\
 It ends when its rounds are done, its exchanges are taken, and its input has ended or said `quit`; then it writes \
-its journal, which `cg audit` reads. A node that is killed writes none. Status 0; 1 after a fault, which is one \
-line: 14 ReadFault where the settings or the generation can't be read or nobody can listen there, 2 BadText where they are \
+its journal, which `cg audit` reads. A node that is killed writes none. Status 0; 1 after a fault, each told \
+by a line: 14 ReadFault where the settings or the generation can't be read or nobody can listen there, 2 BadText where they are \
 none, 4 VersionsSpent, 15 WriteFault, 1 OutOfMemory.\n\
 \n\
 Exchanges that peers begin are answered one at a time. Each has a third of the interval, 100 ms to 2 s, and for its first \
-byte a quarter of that, at least 100 ms. What it brings, up to 4.2 MB a message, is kept until the node ends. So let only \
-members reach the port.\n\
+byte a quarter of that, at least 100 ms. What it brings, up to 33.6 MB a message, is kept until the node ends. So let \
+only members reach the port.\n\
 \n\
 Example:\n\
 \n  printf 'set 3 x\\ngossipinfo\\nquit\\n' | cg serve node.toml\n\

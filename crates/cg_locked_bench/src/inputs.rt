@@ -1,4 +1,4 @@
-//! The events that are done, and the history of a node whose table is full.
+//! The events that are done, and the history of a node whose table has 256 owners.
 
 ghost use Rattle.std.specs.Prelude.{◌≡◌, [], IfOk};
 

@@ -1,5 +1,5 @@
-//! Measures a board: events that threads have done on a node whose table is full, beside the same events on a history
-//! alone; and beats of two threads that fold the board's records.
+//! Measures a board: events that threads have done on a node whose table has 256 owners, beside the same events on a
+//! history alone; and beats of two threads that fold the board's records.
 //!
 //! With no words it does each event a hundred times and prints the number of records. With the word `time` it measures
 //! each, and with the word `few` it does each twice, with a table of three.

@@ -1,5 +1,5 @@
-//! Measures published views of a full table. With no words it does each task a hundred times and prints what was read
-//! last. With the word `time` it measures each, and with the word `few` it does each twice, with a table of three.
+//! Measures published views of a table of 256 owners. With no words it does each task a hundred times and prints what was
+//! read last. With the word `time` it measures each, and with the word `few` it does each twice, with a table of three.
 #![tactic(auto)]
 
 ghost use Rattle.std.specs.Prelude.{◌≡◌};
