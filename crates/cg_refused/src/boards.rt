@@ -280,7 +280,9 @@ fn enter_earlier<N: Name, R: Wait>(
 {
     match work {
         Work::Fold => match shared.submit(rt, alloc, seat, event) {
-            Ok(_) => Ok(()),
+            Ok((_, Some(_))) => Ok(()),
+            // (entered, but its publication was refused)
+            Ok((_, None)) => Err(Fault::OutOfMemory),
             Err(fault) => Err(fault),
         },
         _ => match enter(rt, alloc, shared, seat, event) {
