@@ -1,5 +1,5 @@
 //! The work of the core in plain Rust over std: a yardstick, and a second opinion. With no words it runs each case once and
-//! prints a digest of what it makes; with the word `time` it measures each.
+//! prints a digest of what it makes; with the word `time` it measures each. `cargo test` reads the vectors of frames.
 
 mod chance;
 mod md5;
@@ -13,6 +13,8 @@ mod ring;
 mod shared;
 mod silence;
 mod timing;
+#[cfg(test)]
+mod vectors;
 mod world;
 
 use model::{Endpoint, Took};
@@ -235,12 +237,21 @@ fn set(node: &Table, key: u8, text: &str) -> Table {
     let mut after = node.clone();
     let own = after.entries.get_mut(&node.own).unwrap();
     let version = own.newest() + 1;
-    let text = text.into();
+    let text = Some(text.into());
     own.states.insert(key, naive::State { version, text });
     after
 }
 
-/// A node's work at one heartbeat of another endpoint, one of its own, and one set.
+fn remove(node: &Table, key: u8) -> Table {
+    let mut after = node.clone();
+    let own = after.entries.get_mut(&node.own).unwrap();
+    let version = own.newest() + 1;
+    let removed = own.states.get_mut(&key).unwrap();
+    *removed = naive::State { version, text: None };
+    after
+}
+
+/// A node's work at one heartbeat of another endpoint, one of its own, one set, and the removal of what was set.
 fn nodes(mode: Mode, tag: &str, states: usize, text: usize) {
     let node = joined(256, states, text);
     let newer = beaten(table(255, 256, states, text), 3, |_| true);
@@ -251,6 +262,8 @@ fn nodes(mode: Mode, tag: &str, states: usize, text: usize) {
     take_ack2(mode, &format!("node_heartbeat_{tag}"), &node, ack2);
     case(mode, &format!("naive_node_beat_{tag}"), || beat(black_box(&node)), held);
     case(mode, &format!("naive_node_set_{tag}"), || set(black_box(&node), 3, "1048576"), held);
+    let loaded = set(&node, 3, "1048576");
+    case(mode, &format!("naive_node_remove_{tag}"), || remove(black_box(&loaded), 3), held);
 }
 
 fn small(mode: Mode) {
@@ -297,10 +310,10 @@ fn claims(mode: Mode) {
     others.deltas.remove(0);
     let joins = || with_ring(naive::take_ack(black_box(&node), &others).unwrap().0);
     case(mode, "naive_node_joins_256x16", joins, show);
-    let tokens = claimed.entries[&node.own].states[&2].text.clone();
+    let tokens = claimed.entries[&node.own].states[&2].text.clone().unwrap();
     let node = set(&set(&joins().0, 2, &tokens), 1, "NORMAL");
     case(mode, "naive_node_set_status_256x16", || with_ring(set(black_box(&node), 1, "LEFT")), show);
-    let text = "LEFT".into();
+    let text = Some("LEFT".into());
     let delta = Delta {
         generation: 5,
         above: 18,
@@ -322,7 +335,7 @@ fn rings(mode: Mode) {
     case(mode, "naive_1000_searches_4096", places, |sum| sum.to_be_bytes().to_vec());
     case(mode, "naive_ring_build_256x16", || Ring::of_table(black_box(&table)), lines);
     let mut left = ring_table(256);
-    left.entries.get_mut(&Endpoint::number(7)).unwrap().states.get_mut(&1).unwrap().text = "LEFT".into();
+    left.entries.get_mut(&Endpoint::number(7)).unwrap().states.get_mut(&1).unwrap().text = Some("LEFT".into());
     case(mode, "naive_ring_moved_256x16", || Ring::of_table(black_box(&left)), lines);
     for rf in [1, 3] {
         let all = || tokens.iter().map(|t| black_box(ring.replicas(*t, rf))).last().unwrap();

@@ -7,7 +7,8 @@ use std::collections::BTreeMap;
 #[derive(Clone, PartialEq, Eq, Debug)]
 pub struct State {
     pub version: u32,
-    pub text: Text,
+    /// Nothing of a tombstone.
+    pub text: Option<Text>,
 }
 
 #[derive(Clone, PartialEq, Eq, Debug)]
@@ -257,6 +258,17 @@ fn put_digests(out: &mut Vec<u8>, digests: &[Digest]) {
     }
 }
 
+/// A text behind its length, or a tombstone.
+pub fn put_text(out: &mut Vec<u8>, text: Option<&str>) {
+    match text {
+        None => out.extend_from_slice(&TOMBSTONE.to_be_bytes()),
+        Some(text) => {
+            out.extend_from_slice(&(text.len() as u16).to_be_bytes());
+            out.extend_from_slice(text.as_bytes());
+        }
+    }
+}
+
 fn put_deltas(out: &mut Vec<u8>, deltas: &[(Endpoint, Delta)]) {
     out.extend_from_slice(&(deltas.len() as u16).to_be_bytes());
     for (endpoint, d) in deltas {
@@ -268,8 +280,7 @@ fn put_deltas(out: &mut Vec<u8>, deltas: &[(Endpoint, Delta)]) {
         for (key, s) in &d.states {
             out.push(*key);
             out.extend_from_slice(&s.version.to_be_bytes());
-            out.extend_from_slice(&(s.text.len() as u16).to_be_bytes());
-            out.extend_from_slice(s.text.as_bytes());
+            put_text(out, s.text.as_deref());
         }
     }
 }
@@ -418,23 +429,25 @@ impl<'a> Reader<'a> {
             return bad(place, Cause::Order);
         }
         let version = self.number(above + 1, Cause::Version)?;
+        let text = self.text()?;
+        Ok((key, State { version, text }))
+    }
+
+    fn text(&mut self) -> Result<Option<Text>, BadFrame> {
         let place = self.place;
-        let length = self.u16()? as usize;
-        if length > self.layout.text {
+        let length = self.u16()?;
+        if length == TOMBSTONE && self.layout.tombstones {
+            return Ok(None);
+        }
+        if length as usize > self.layout.text {
             return bad(place, Cause::Text);
         }
         let place = self.place;
-        let bytes = self.take(length)?;
+        let bytes = self.take(length as usize)?;
         if !is_plain(bytes) {
             return bad(place, Cause::Text);
         }
-        Ok((
-            key,
-            State {
-                version,
-                text: Text::from(std::str::from_utf8(bytes).unwrap()),
-            },
-        ))
+        Ok(Some(Text::from(std::str::from_utf8(bytes).unwrap())))
     }
 }
 

@@ -4,20 +4,26 @@ pub const MOST: u32 = 2_147_483_647;
 pub const ENDPOINTS: usize = 512;
 pub const STATES: usize = 16;
 
-/// The most members of a list, the most bytes of a text, and the most after a length, as a layout of frames has them.
+/// The most members of a list, the most bytes of a text, the most after a length, and whether there are tombstones, as a
+/// layout of frames has them.
 #[derive(Clone, Copy)]
 pub struct Layout {
     pub members: usize,
     pub text: usize,
     pub length: u32,
+    pub tombstones: bool,
 }
 
-/// The byte of the layout that is written, and the layout: its frames are the longest.
-pub const WRITTEN: u8 = 2;
+/// What a tombstone, the state of a removed text, has for the length of a text.
+pub const TOMBSTONE: u16 = 65_535;
+
+/// The byte of the layout that is written, and the layout: no frames are longer.
+pub const WRITTEN: u8 = 3;
 pub const WIDEST: Layout = Layout {
     members: 512,
     text: 4096,
     length: 40_000_000,
+    tombstones: true,
 };
 
 /// The layout that a byte names.
@@ -27,6 +33,11 @@ pub fn layout_of(byte: u8) -> Option<Layout> {
             members: 256,
             text: 1024,
             length: 5_000_000,
+            tombstones: false,
+        }),
+        2 => Some(Layout {
+            tombstones: false,
+            ..WIDEST
         }),
         WRITTEN => Some(WIDEST),
         _ => None,

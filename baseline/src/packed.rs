@@ -35,7 +35,7 @@ impl Entry {
                 key: packed[at],
             };
             newest = newest.max(version);
-            at += 7 + u16_at(&packed, at + 5) as usize;
+            at += size_at(&packed, at);
         }
         Entry {
             generation,
@@ -106,6 +106,14 @@ fn u32_at(b: &[u8], at: usize) -> u32 {
     u32::from_be_bytes(b[at..at + 4].try_into().unwrap())
 }
 
+/// The size of the state at a place: of a tombstone its head alone.
+fn size_at(b: &[u8], at: usize) -> usize {
+    match u16_at(b, at + 5) {
+        TOMBSTONE => 7,
+        length => 7 + length as usize,
+    }
+}
+
 // Frames.
 
 /// A frame that was found whole and without fault.
@@ -164,7 +172,7 @@ impl<'a> Iterator for Deltas<'a> {
         let count = b[18];
         let mut end = 19;
         for _ in 0..count {
-            end += 7 + u16_at(b, end + 5) as usize;
+            end += size_at(b, end);
         }
         self.rest = &b[end..];
         Some(DeltaView {
@@ -207,7 +215,7 @@ impl<'a> Walk<'a> {
     #[inline(always)]
     fn number(&mut self, least: u32, cause: Cause) -> Result<u32, BadFrame> {
         let value = u32::from_be_bytes(*self.field::<4>()?);
-        if value.wrapping_sub(least) > MOST - least {
+        if value < least || value > MOST {
             return bad(self.place - 4, cause);
         }
         Ok(value)
@@ -272,10 +280,14 @@ impl<'a> Walk<'a> {
                 }
                 last = key;
                 self.number(above + 1, Cause::Version)?;
-                let length = u16::from_be_bytes(*self.field::<2>()?) as usize;
-                if length > self.layout.text {
+                let length = u16::from_be_bytes(*self.field::<2>()?);
+                if length as usize > self.layout.text {
+                    if length == TOMBSTONE && self.layout.tombstones {
+                        continue;
+                    }
                     return bad(self.place - 2, Cause::Text);
                 }
+                let length = length as usize;
                 let Some(text) = self.frame.get(self.place..self.place + length) else {
                     return bad(self.place, Cause::Short);
                 };
@@ -459,7 +471,7 @@ fn absorb(x: &Entry, d: &DeltaView<'_>) -> Result<Entry, Took> {
     let mut at = 0;
     for _ in 0..d.count {
         greatest = greatest.max(u32_at(d.states, at + 1));
-        at += 7 + u16_at(d.states, at + 5) as usize;
+        at += size_at(d.states, at);
     }
     if greatest <= x.newest {
         return Err(Took::Old);
@@ -480,7 +492,7 @@ fn absorb(x: &Entry, d: &DeltaView<'_>) -> Result<Entry, Took> {
         let held = if i < x.count as usize { x.marks[i].key } else { u8::MAX };
         let given = if at < d.states.len() { d.states[at] } else { u8::MAX };
         if given <= held {
-            let end = at + 7 + u16_at(d.states, at + 5) as usize;
+            let end = at + size_at(d.states, at);
             packed.extend_from_slice(&d.states[at..end]);
             at = end;
             i += (given == held) as usize;
@@ -621,8 +633,7 @@ pub fn of_naive(table: &crate::naive::Table) -> Table {
             for (key, s) in &x.states {
                 packed.push(*key);
                 packed.extend_from_slice(&s.version.to_be_bytes());
-                packed.extend_from_slice(&(s.text.len() as u16).to_be_bytes());
-                packed.extend_from_slice(s.text.as_bytes());
+                crate::naive::put_text(&mut packed, s.text.as_deref());
             }
             (
                 *e,

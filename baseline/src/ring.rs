@@ -34,13 +34,11 @@ impl Ring {
     pub fn of_table(table: &naive::Table) -> Ring {
         let mut owners: BTreeMap<u128, (u32, Endpoint)> = BTreeMap::new();
         for (endpoint, x) in &table.entries {
-            let Some(status) = x.states.get(&1) else { continue };
-            if !claims(&status.text) {
+            let text = |key| x.states.get(key).and_then(|s| s.text.as_deref());
+            if !text(&1).is_some_and(claims) {
                 continue;
             }
-            let Some(tokens) = x.states.get(&2).and_then(|t| read_tokens(&t.text)) else {
-                continue;
-            };
+            let Some(tokens) = text(&2).and_then(read_tokens) else { continue };
             for token in tokens {
                 let owner = owners.entry(token).or_insert((x.generation, *endpoint));
                 if x.generation > owner.0 {

@@ -15,7 +15,7 @@ pub fn entry(i: usize, states: usize, text: usize) -> Entry {
                 key,
                 State {
                     version: key as u32 + 1,
-                    text,
+                    text: Some(text),
                 },
             )
         })
@@ -72,8 +72,8 @@ pub fn ring_table(n: usize) -> Table {
             .collect();
         tokens.sort();
         let text: Vec<String> = tokens.iter().map(|t| format!("{t:032x}")).collect();
-        x.states.get_mut(&1).unwrap().text = "NORMAL".into();
-        x.states.get_mut(&2).unwrap().text = text.join(",");
+        x.states.get_mut(&1).unwrap().text = Some("NORMAL".into());
+        x.states.get_mut(&2).unwrap().text = Some(text.join(","));
     }
     t
 }

@@ -31,7 +31,7 @@ use Rattle.cg_places.proofs.ExchangeLemmas.{receives}
 use Rattle.cg_steps.specs.Step.{message_in, action_at, spans_in, span_handed, IsPlaced, SaysSent, IsSentBefore, IsStepAt}
 use Rattle.cg_world.specs.declared.action.Action.{Action}
 use Rattle.cg_world.specs.declared.action.Action.TheVariants.{Local, Deliver}
-use Rattle.cg_world.specs.declared.action.LocalEvent.TheVariants.{Beat, Set, Opening, Tick}
+use Rattle.cg_world.specs.declared.action.LocalEvent.TheVariants.{Beat, Set, Remove, Opening, Tick}
 use Rattle.cg_world.specs.World.{plain}
 use Rattle.cg_world.specs.Terms.{deltas_in, is_gap, Mark, mark_led_to, with_delta, LiesPast}
 use Rattle.cg_world.specs.Taken.{with_outcome, taker}
@@ -48,6 +48,7 @@ abbrev world_action : ℕ → ℕ → Event → Action
 world_action node number event.Beat = Local node Beat
 world_action node number (event.Set key text) = Local node (Set key text)
 world_action node number (event.Tick now words) = Local node (Tick now words)
+world_action node number (event.Remove key) = Local node (Remove key)
 world_action node number event.Opening = Local node Opening
 world_action node number (event.Syn syn) = Deliver number node 0
 world_action node number (event.Ack now ack) = Deliver number node now
@@ -57,6 +58,7 @@ is_plain : (node number : ℕ) (e : Event) → plain (world_action node number e
 is_plain node number event.Beat = refl
 is_plain node number (event.Set key text) = refl
 is_plain node number (event.Tick now words) = refl
+is_plain node number (event.Remove key) = refl
 is_plain node number event.Opening = refl
 is_plain node number (event.Syn syn) = refl
 is_plain node number (event.Ack now ack) = refl
@@ -66,6 +68,7 @@ not_taker : (node number : ℕ) (e : Event) (other : ℕ) → other ≢ node →
 not_taker node number event.Beat other apart = λ is. cc
 not_taker node number (event.Set key text) other apart = λ is. cc
 not_taker node number (event.Tick now words) other apart = λ is. cc
+not_taker node number (event.Remove key) other apart = λ is. cc
 not_taker node number event.Opening other apart = λ is. cc
 not_taker node number (event.Syn syn) other apart = λ is. apart (let same : node ≡ other = cc in sym same)
 not_taker node number (event.Ack now ack) other apart = λ is. apart (let same : node ≡ other = cc in sym same)
@@ -151,6 +154,7 @@ module _ (w : PlaceWorld) (sound : IsSound w) (node number : ℕ) (n : NodeValue
   step_marked event.Beat x s st = quiet_marked w (after_action w (action_at node number event.Beat)) node owner marks _ (st.changed.histories owner) (local_takes_nothing w node Beat) m
   step_marked (event.Set key text) x s st = quiet_marked w (after_action w (action_at node number (event.Set key text))) node owner marks _ (st.changed.histories owner) (local_takes_nothing w node (Set key text)) m
   step_marked (event.Tick now words) x s st = quiet_marked w (after_action w (action_at node number (event.Tick now words))) node owner marks _ (st.changed.histories owner) (local_takes_nothing w node (Tick now words)) m
+  step_marked (event.Remove key) x s st = quiet_marked w (after_action w (action_at node number (event.Remove key))) node owner marks _ (st.changed.histories owner) (local_takes_nothing w node (Remove key)) m
   step_marked event.Opening x s st = quiet_marked w (after_action w (action_at node number event.Opening)) node owner marks _ (st.changed.histories owner) (local_takes_nothing w node Opening) m
   step_marked (event.Syn syn) x s st = delivered_marked x (kinds.Syn syn) s st.told (after_action w (action_at node number (event.Syn syn))) (λ said is. receives w number node said p.runs_here is) (st.changed.histories owner)
   step_marked (event.Ack now ack) x s st = delivered_marked x (kinds.Ack ack) s st.told (after_action w (action_at node number (event.Ack now ack))) (λ said is. receives w number node said p.runs_here is) (st.changed.histories owner)
@@ -200,6 +204,7 @@ module _ (w : PlaceWorld) (sound : IsSound w) (node number : ℕ) (n : NodeValue
   step_told event.Beat x s st eo ed = absurd cc
   step_told (event.Set key text) x s st eo ed = absurd cc
   step_told (event.Tick now words) x s st eo ed = absurd cc
+  step_told (event.Remove key) x s st eo ed = absurd cc
   step_told event.Opening x s st eo ed = absurd cc
   step_told (event.Syn syn) x s st eo ed = message_told x (kinds.Syn syn) s (st.told owner) eo ed
   step_told (event.Ack now ack) x s st eo ed = message_told x (kinds.Ack ack) s (st.told owner) eo ed

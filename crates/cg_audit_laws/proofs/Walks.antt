@@ -77,8 +77,9 @@ generation_kept n e x step = go e step (tables_go_by_their_rules n e x.0 x.1 ste
 
     go : (e : Event) → node_step n e ≡ Ok x → TableAfter n.table e x.0.table → (own_entry x.0.table).generation ≡ (own_entry n.table).generation
     go event.Beat step is = own_so (entry_after_beat (own_entry n.table)) is
-    go (event.Set key text) step is = own_so (with_state key text (own_entry n.table)) is
+    go (event.Set key text) step is = own_so (with_state key (Some text) (own_entry n.table)) is
     go (event.Tick now words) step is = own_so (entry_after_beat (own_entry n.table)) is
+    go (event.Remove key) step is = own_so (with_state key None (own_entry n.table)) is
     go event.Opening step is = table_so is
     go (event.Syn syn) step is = table_so is
     go (event.Ack now ack) step is = held_so ((only_own_events_change_the_own_entry n (event.Ack now ack) x.0 x.1 step).1 refl)

@@ -27,7 +27,7 @@ status 1.\n\
 \n\
 Example: node 10.0.0.2:7000 in generation 5 of the cluster c1 answers a SYN that names nobody:\n\
 \n  printf '10.0.0.2:7000 5 c1\\n000000080101026331010000\\n' | cg answer\n\
-\n  000000190202000000010a0000021b5800000005000000000000000100";
+\n  000000190302000000010a0000021b5800000005000000000000000100";
 
 /// `sim` in a line.
 pub const SIM_ABOUT: &str =
@@ -40,6 +40,7 @@ pub const SIM_HELP: &str =
 \n  start EP GENERATION            started EP GENERATION\
 \n  beat EP                        version N\
 \n  set EP KEY TEXT                version N; KEY is 1 to 16, TEXT the rest of the line\
+\n  remove EP KEY                  version N; the key's text is removed\
 \n  open EP                        message N syn\
 \n  tick EP NOW W1 W2 W3 W4        round and its peers, and message N syn; NOW in milliseconds, W random words\
 \n  deliver N EP NOW               took, old, gap or own and EP for each delta, and message N ack or ack2\
@@ -100,9 +101,10 @@ Then it keeps a greater generation in the file, listens, and does each line of s
 \n  ring                     token and endpoint of each position\
 \n  replicas RF TEXT         at most RF endpoints that keep the key TEXT\
 \n  set KEY TEXT             version N; KEY is 1 to 16, TEXT the rest of the line\
+\n  remove KEY               version N; the key's text is removed\
 \n  quit                     no further line is read\n\
 \n\
-A set shows `version N unpublished` where no memory was left to publish it. A line that can't be read shows \
+A set or removal shows `version N unpublished` where no memory was left to publish it. A line that can't be read shows \
 `fault 2 BadText`, a refused one its fault, and the next line is read.\n\
 \n\
 It ends when its rounds are done, its exchanges are taken, and its input has ended or said `quit`; then it writes \

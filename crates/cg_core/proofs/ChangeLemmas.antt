@@ -14,7 +14,7 @@ use Rattle.cg_map.specs.Map.{put_each}
 use Rattle.cg_entry.specs.declared.entry.Absorbed.{Absorbed}
 use Rattle.cg_entry.specs.declared.entry.Absorbed.TheVariants as absorbed
 use Rattle.cg_entry.specs.Values.{EntryValue, DeltaValue}
-use Rattle.cg_entry.specs.Entry.{starting_entry, entry_after_beat, with_state, is_later}
+use Rattle.cg_entry.specs.Entry.{starting_entry, entry_after_beat, with_state, removal_of, is_later}
 use Rattle.cg_entry.specs.Taking.{meeting}
 use Rattle.cg_entry.specs.declared.took.Took.TheVariants as took
 use Rattle.cg_table.specs.Values.{TableValue, Entries}
@@ -39,7 +39,7 @@ use Rattle.cg_events.specs.declared.reply.Reply.{Reply}
 use Rattle.cg_events.specs.declared.reply.Reply.TheVariants as reply
 use Rattle.cg_core.specs.Values.{NodeValue}
 use Rattle.cg_windows.specs.Windows.{was_taken}
-use Rattle.cg_core.specs.Step.{Leads, next_of, beating, setting, opening, round_of, after_taking}
+use Rattle.cg_core.specs.Step.{Leads, next_of, beating, setting, removing, opening, round_of, after_taking}
 use Rattle.cg_events.specs.Handed.{deltas_in}
 use Rattle.cg_core.specs.Changes.{taken_owners, changed_owners}
 use Rattle.cg_core.proofs.OrderLemmas.{met_ahead, beaten_later, given_later}
@@ -126,7 +126,10 @@ puts_are_the_changed_rows n event.Beat after answer held rise is =
     subst (Shows n) gave.1.1 (own_row n.table (entry_after_beat (own_entry n.table)) held (beaten_later (own_entry n.table)))
 puts_are_the_changed_rows n (event.Set key text) after answer held rise is =
     let gave = then_gave (λ v. (setting key text n, reply.Done v)) (next_of n) (after, answer) is in
-    subst (Shows n) gave.1.1 (own_row n.table (with_state key text (own_entry n.table)) held (given_later key text (own_entry n.table)))
+    subst (Shows n) gave.1.1 (own_row n.table (with_state key (Some text) (own_entry n.table)) held (given_later key (Some text) (own_entry n.table)))
+puts_are_the_changed_rows n (event.Remove key) after answer held rise is =
+    let gave = then_gave (λ v. (removing key n, reply.Done v)) (removal_of key (own_entry n.table)) (after, answer) is in
+    subst (Shows n) gave.1.1 (own_row n.table (with_state key None (own_entry n.table)) held (given_later key None (own_entry n.table)))
 puts_are_the_changed_rows n (event.Tick now words) after answer held rise is =
     let gave = then_gave (λ v. (beating n, reply.Round (round_of (beating n) now words) (opening (beating n)))) (next_of n) (after, answer) is in
     subst (Shows n) gave.1.1 (own_row n.table (entry_after_beat (own_entry n.table)) held (beaten_later (own_entry n.table)))
@@ -157,6 +160,9 @@ changed_owners_rise n event.Beat after answer rise is =
     subst (OwnersRise n) gave.1.1 refl
 changed_owners_rise n (event.Set key text) after answer rise is =
     let gave = then_gave (λ v. (setting key text n, reply.Done v)) (next_of n) (after, answer) is in
+    subst (OwnersRise n) gave.1.1 refl
+changed_owners_rise n (event.Remove key) after answer rise is =
+    let gave = then_gave (λ v. (removing key n, reply.Done v)) (removal_of key (own_entry n.table)) (after, answer) is in
     subst (OwnersRise n) gave.1.1 refl
 changed_owners_rise n (event.Tick now words) after answer rise is =
     let gave = then_gave (λ v. (beating n, reply.Round (round_of (beating n) now words) (opening (beating n)))) (next_of n) (after, answer) is in

@@ -20,7 +20,9 @@ use Rattle.cg_events.specs.declared.reply.Reply.TheVariants as reply
 use Rattle.cg_settings.specs.Values.{SettingsValue}
 use Rattle.cg_core.specs.Values.{NodeValue}
 use Rattle.cg_windows.specs.Windows.{Heard, was_taken, tells_taken, with_arrival, arrivals}
-use Rattle.cg_core.specs.Step.{starting_node, then, next_of, beating, setting, opening, round_of, after_taking, node_step, node_left, after_event, after_events}
+use Rattle.cg_entry.specs.Entry.{removal_of}
+use Rattle.cg_table.specs.Own.{own_entry}
+use Rattle.cg_core.specs.Step.{starting_node, then, next_of, beating, setting, removing, opening, round_of, after_taking, node_step, node_left, after_event, after_events}
 use Rattle.cg_events.specs.Replies.{outcomes_in}
 use Rattle.cg_core_laws.specs.Arrivals.{outcomes_told, moment_of, moments_told, moments_taken, window_of}
 use Rattle.cg_core_laws.specs.Laws.{WindowsShowAllTaken}
@@ -62,6 +64,7 @@ module _ (n : NodeValue) (q : ℕ) (past : List ℕ) (is : get n.windows q ≡ w
   event_shows : (e : Event) → get (after_event n e).windows q ≡ window_of n.settings.silence (past ++ moments_told q (moment_of e) (outcomes_told (node_step n e)))
   event_shows event.Beat = step_shows 0 (next_of n) (λ v. (beating n, reply.Done v)) (λ v. refl)
   event_shows (event.Set key text) = step_shows 0 (next_of n) (λ v. (setting key text n, reply.Done v)) (λ v. refl)
+  event_shows (event.Remove key) = step_shows 0 (removal_of key (own_entry n.table)) (λ v. (removing key n, reply.Done v)) (λ v. refl)
   event_shows (event.Tick now words) =
       step_shows now (next_of n) (λ v. (beating n, reply.Round (round_of (beating n) now words) (opening (beating n)))) (λ v. refl)
   event_shows event.Opening = is ∙ ap (window_of n.settings.silence) (sym (append-nil past))
@@ -77,6 +80,7 @@ module _ (n : NodeValue) where
   pub settings_kept : (e : Event) → (after_event n e).settings ≡ n.settings
   settings_kept event.Beat = settings_stay (next_of n) (λ v. (beating n, reply.Done v)) (λ v. refl)
   settings_kept (event.Set key text) = settings_stay (next_of n) (λ v. (setting key text n, reply.Done v)) (λ v. refl)
+  settings_kept (event.Remove key) = settings_stay (removal_of key (own_entry n.table)) (λ v. (removing key n, reply.Done v)) (λ v. refl)
   settings_kept (event.Tick now words) =
       settings_stay (next_of n) (λ v. (beating n, reply.Round (round_of (beating n) now words) (opening (beating n)))) (λ v. refl)
   settings_kept event.Opening = refl

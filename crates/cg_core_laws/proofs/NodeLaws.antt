@@ -10,7 +10,7 @@ use Rattle.cg_types.specs.declared.fault.Fault.TheVariants.{TableFull}
 use Rattle.cg_types.specs.declared.limits.TheConstants.{MEMBER_LIMIT}
 use Rattle.cg_types.proofs.RisingLemmas.{same_tied}
 use Rattle.cg_entry.specs.Values.{EntryValue}
-use Rattle.cg_entry.specs.Entry.{newest, starting_entry, entry_after_beat, with_state, is_later}
+use Rattle.cg_entry.specs.Entry.{newest, starting_entry, entry_after_beat, with_state, removal_of, is_later}
 use Rattle.cg_entry.proofs.HistoryLemmas.{newest_given}
 use Rattle.cg_entry.proofs.StandingLemmas.{next_is}
 use Rattle.cg_table.specs.Values.{TableValue, IsTable}
@@ -29,10 +29,10 @@ use Rattle.cg_events.specs.declared.reply.Reply.{Reply}
 use Rattle.cg_events.specs.declared.reply.Reply.TheVariants as reply
 use Rattle.cg_core.specs.Values.{NodeValue, IsSmall, HearsOthersAlone}
 use Rattle.cg_windows.specs.Windows.{arrivals}
-use Rattle.cg_core.specs.Step.{Step, Run, Leads, next_of, beating, setting, opening, round_of, after_taking, node_step, node_left, after_event, after_events, replay, on_step, with_reply}
+use Rattle.cg_core.specs.Step.{Step, Run, Leads, next_of, beating, setting, removing, opening, round_of, after_taking, with_table, node_step, node_left, after_event, after_events, replay, on_step, with_reply}
 use Rattle.cg_table.specs.Puts.{puts, goes_on}
-use Rattle.cg_core_laws.specs.Laws.{TableAfter, TablesGoByTheirRules, PutsKeepTheirOrder, SetsPutTheirText, OnlyOwnEventsChangeTheOwnEntry, NodesStaySmall, NodesHearOthersAlone, RunsGoEventByEvent, is_own_change}
-use Rattle.cg_core.proofs.StepLemmas.{then_gave}
+use Rattle.cg_core_laws.specs.Laws.{TableAfter, TablesGoByTheirRules, PutsKeepTheirOrder, PutsIts, SetsPutTheirText, RemovalsPutTheirTombstone, OnlyOwnEventsChangeTheOwnEntry, NodesStaySmall, NodesHearOthersAlone, RunsGoEventByEvent, is_own_change}
+use Rattle.cg_core.proofs.StepLemmas.{then_gave, removal_given}
 use Rattle.cg_core.proofs.OrderLemmas.{beaten_later, given_later, beaten_goes_on, given_goes_on, same_goes_on}
 use Rattle.cg_core.proofs.PutLemmas.{Moves, only_put}
 use Rattle.cg_core.proofs.SizeLemmas.{own_stays, own_held_stays, all_move, len_after}
@@ -53,6 +53,7 @@ room_by held y x false is e = (cc, ltb-false MEMBER_LIMIT held is)
 pub tables_go_by_their_rules : TablesGoByTheirRules
 tables_go_by_their_rules n event.Beat after answer is = let gave = then_gave (λ v. (beating n, reply.Done v)) (next_of n) (after, answer) is in sym (led gave.1.1)
 tables_go_by_their_rules n (event.Set key text) after answer is = let gave = then_gave (λ v. (setting key text n, reply.Done v)) (next_of n) (after, answer) is in sym (led gave.1.1)
+tables_go_by_their_rules n (event.Remove key) after answer is = let gave = then_gave (λ v. (removing key n, reply.Done v)) (removal_of key (own_entry n.table)) (after, answer) is in sym (led gave.1.1)
 tables_go_by_their_rules n (event.Tick now words) after answer is =
     let gave = then_gave (λ v. (beating n, reply.Round (round_of (beating n) now words) (opening (beating n)))) (next_of n) (after, answer) is in
     sym (led gave.1.1)
@@ -113,7 +114,9 @@ deltas_go_on t ds = record {
 table_goes_on : (t : TableValue) (e : Event) (after : TableValue) → IsTable t.own t.entries → TableAfter t e after → GoesOn t after
 table_goes_on t event.Beat after small is = subst (GoesOn t) (sym is) (own_goes_on t small (entry_after_beat (own_entry t)) (beaten_later (own_entry t)) (beaten_goes_on (own_entry t)))
 table_goes_on t (event.Set key text) after small is =
-    subst (GoesOn t) (sym is) (own_goes_on t small (with_state key text (own_entry t)) (given_later key text (own_entry t)) (given_goes_on key text (own_entry t)))
+    subst (GoesOn t) (sym is) (own_goes_on t small (with_state key (Some text) (own_entry t)) (given_later key (Some text) (own_entry t)) (given_goes_on key (Some text) (own_entry t)))
+table_goes_on t (event.Remove key) after small is =
+    subst (GoesOn t) (sym is) (own_goes_on t small (with_state key None (own_entry t)) (given_later key None (own_entry t)) (given_goes_on key None (own_entry t)))
 table_goes_on t (event.Tick now words) after small is = subst (GoesOn t) (sym is) (own_goes_on t small (entry_after_beat (own_entry t)) (beaten_later (own_entry t)) (beaten_goes_on (own_entry t)))
 table_goes_on t event.Opening after small is = subst (GoesOn t) (sym is) (stays_put t)
 table_goes_on t (event.Syn syn) after small is = subst (GoesOn t) (sym is) (stays_put t)
@@ -123,22 +126,33 @@ table_goes_on t (event.Ack2 now ack2) after small is = subst (GoesOn t) (sym is.
 pub puts_keep_their_order : PutsKeepTheirOrder
 puts_keep_their_order n e after answer small is = are_puts n.table after.table (table_goes_on n.table e after.table small (tables_go_by_their_rules n e after answer is))
 
--- ---- the puts of a Set
+-- ---- the puts of a Set and of a Remove
+
+module _ (n : NodeValue) (small : IsTable n.table.own n.table.entries) (key : ℕ) (text : Option (List ℕ)) (after : NodeValue) (answer : Reply) (v : ℕ) where
+  -- the own entry gets a text or a tombstone with the next version, and the reply has that
+  puts_its : next_of n ≡ Ok v → ◌≡◌ {A = NodeValue × Reply} (with_table (with_own (with_state key text (own_entry n.table)) n.table) n, reply.Done v) (after, answer) → PutsIts key text n after answer
+  puts_its due is =
+      let t = n.table in
+      let own = own_entry t in
+      let next : v ≡ newest own + 1 = next_is (newest own) v due in
+      let here = get-insert nat_cmp_total own.states key (record { text = text; version = newest own + 1 }) key in
+      record {
+        version = newest own + 1;
+        told = ap (λ (p : NodeValue × Reply). p.1) (sym is) ∙ ap reply.Done next;
+        only = ap (puts t) (sym (led is)) ∙ own_only t small (with_state key text own) (given_later key text own) (given_goes_on key text own);
+        given = here ∙ rw ((eq_by_cmp_equiv nat_cmp_total).refl key) refl;
+        is_newest = newest_given key text own;
+      }
 
 pub sets_put_their_text : SetsPutTheirText
 sets_put_their_text n key text after answer small is =
-    let t = n.table in
-    let own = own_entry t in
     let gave = then_gave (λ v. (setting key text n, reply.Done v)) (next_of n) (after, answer) is in
-    let next : gave.0 ≡ newest own + 1 = next_is (newest own) gave.0 gave.1.0 in
-    let here = get-insert nat_cmp_total own.states key (record { text = text; version = newest own + 1 }) key in
-    record {
-      version = newest own + 1;
-      told = ap (λ (p : NodeValue × Reply). p.1) (sym gave.1.1) ∙ ap reply.Done next;
-      only = ap (puts t) (sym (led gave.1.1)) ∙ own_only t small (with_state key text own) (given_later key text own) (given_goes_on key text own);
-      given = here ∙ rw ((eq_by_cmp_equiv nat_cmp_total).refl key) refl;
-      is_newest = newest_given key text own;
-    }
+    puts_its n small key (Some text) after answer gave.0 gave.1.0 gave.1.1
+
+pub removals_put_their_tombstone : RemovalsPutTheirTombstone
+removals_put_their_tombstone n key after answer small is =
+    let gave = then_gave (λ v. (removing key n, reply.Done v)) (removal_of key (own_entry n.table)) (after, answer) is in
+    puts_its n small key None after answer gave.0 (removal_given key (own_entry n.table) gave.0 gave.1.0).1 gave.1.1
 
 -- ---- the events that change the own entry
 
@@ -149,6 +163,7 @@ deltas_keep t ds after is =
 table_keeps : (t : TableValue) (e : Event) (after : TableValue) → TableAfter t e after → is_own_change e ≡ false → get after.entries after.own ≡ get t.entries t.own
 table_keeps t event.Beat after is other = absurd cc
 table_keeps t (event.Set key text) after is other = absurd cc
+table_keeps t (event.Remove key) after is other = absurd cc
 table_keeps t (event.Tick now words) after is other = absurd cc
 table_keeps t event.Opening after is other = ap (λ (u : TableValue). get u.entries u.own) is
 table_keeps t (event.Syn syn) after is other = ap (λ (u : TableValue). get u.entries u.own) is
@@ -158,6 +173,7 @@ table_keeps t (event.Ack2 now ack2) after is other = deltas_keep t ack2.deltas a
 own_kept : (t : TableValue) (e : Event) (after : TableValue) → TableAfter t e after → after.own ≡ t.own
 own_kept t event.Beat after is = ap (λ (u : TableValue). u.own) is
 own_kept t (event.Set key text) after is = ap (λ (u : TableValue). u.own) is
+own_kept t (event.Remove key) after is = ap (λ (u : TableValue). u.own) is
 own_kept t (event.Tick now words) after is = ap (λ (u : TableValue). u.own) is
 own_kept t event.Opening after is = ap (λ (u : TableValue). u.own) is
 own_kept t (event.Syn syn) after is = ap (λ (u : TableValue). u.own) is
@@ -185,7 +201,8 @@ deltas_small t ds small room = record {
 
 table_small : (t : TableValue) (e : Event) (after : TableValue) → Small t → TableAfter t e after → Small after
 table_small t event.Beat after small is = subst Small (sym is) (own_small t (entry_after_beat (own_entry t)) small)
-table_small t (event.Set key text) after small is = subst Small (sym is) (own_small t (with_state key text (own_entry t)) small)
+table_small t (event.Set key text) after small is = subst Small (sym is) (own_small t (with_state key (Some text) (own_entry t)) small)
+table_small t (event.Remove key) after small is = subst Small (sym is) (own_small t (with_state key None (own_entry t)) small)
 table_small t (event.Tick now words) after small is = subst Small (sym is) (own_small t (entry_after_beat (own_entry t)) small)
 table_small t event.Opening after small is = subst Small (sym is) small
 table_small t (event.Syn syn) after small is = subst Small (sym is) small
@@ -227,6 +244,9 @@ steps_hear n event.Beat after answer unheard is =
     subst HearsOthersAlone (ap (λ (p : NodeValue × Reply). p.0) gave.1.1) unheard
 steps_hear n (event.Set key text) after answer unheard is =
     let gave = then_gave (λ v. (setting key text n, reply.Done v)) (next_of n) (after, answer) is in
+    subst HearsOthersAlone (ap (λ (p : NodeValue × Reply). p.0) gave.1.1) unheard
+steps_hear n (event.Remove key) after answer unheard is =
+    let gave = then_gave (λ v. (removing key n, reply.Done v)) (removal_of key (own_entry n.table)) (after, answer) is in
     subst HearsOthersAlone (ap (λ (p : NodeValue × Reply). p.0) gave.1.1) unheard
 steps_hear n (event.Tick now words) after answer unheard is =
     let gave = then_gave (λ v. (beating n, reply.Round (round_of (beating n) now words) (opening (beating n)))) (next_of n) (after, answer) is in

@@ -19,6 +19,7 @@ outcomes_told (Err fault) = []
 abbrev pub moment_of : Event → ℕ
 moment_of event.Beat = 0
 moment_of (event.Set key text) = 0
+moment_of (event.Remove key) = 0
 moment_of (event.Tick now words) = now
 moment_of event.Opening = 0
 moment_of (event.Syn syn) = 0

@@ -1,5 +1,5 @@
 -- Properties of a node's steps: tables, puts, own entries, limits and windows.
-use Rattle.std.specs.Prelude.{◌≡◌, ◌≤◌, ℕ, Bool, true, false, List, [], ◌∷◌, Some, Ok}
+use Rattle.std.specs.Prelude.{◌≡◌, ◌≤◌, ℕ, Bool, true, false, List, [], ◌∷◌, Option, Some, None, Ok}
 use Rattle.std.specs.FinMap as map
 use Rattle.cg_types.specs.Rising.{Rises}
 use Rattle.cg_types.specs.declared.limits.TheConstants.{MEMBER_LIMIT}
@@ -30,7 +30,8 @@ pub record IsAfter (before : TableValue) (deltas : List OwnerDelta) (after : Tab
 -- the rule for the table after an event
 abbrev pub TableAfter : TableValue → Event → TableValue → Type 0
 TableAfter t event.Beat after = after ≡ with_own (entry_after_beat (own_entry t)) t
-TableAfter t (event.Set key text) after = after ≡ with_own (with_state key text (own_entry t)) t
+TableAfter t (event.Set key text) after = after ≡ with_own (with_state key (Some text) (own_entry t)) t
+TableAfter t (event.Remove key) after = after ≡ with_own (with_state key None (own_entry t)) t
 TableAfter t (event.Tick now words) after = after ≡ with_own (entry_after_beat (own_entry t)) t
 TableAfter t event.Opening after = after ≡ t
 TableAfter t (event.Syn syn) after = after ≡ t
@@ -65,14 +66,14 @@ PutsKeepTheirOrder =
     (n : NodeValue) (e : Event) (after : NodeValue) (answer : Reply) → IsSmall n → Leads n e after answer
     → ArePuts n.table after.table
 
--- properties of the puts of a Set
-pub record PutsIts (key : ℕ) (text : List ℕ) (n after : NodeValue) (answer : Reply) : Type 0 where
+-- properties of the puts of a Set or a Remove, which leaves a key a text or a tombstone
+pub record PutsIts (key : ℕ) (text : Option (List ℕ)) (n after : NodeValue) (answer : Reply) : Type 0 where
   pub version : ℕ
   -- the reply has the version
   pub told : answer ≡ reply.Done version
   -- the own entry is the only put
   pub only : puts n.table after.table ≡ (n.table.own, with_state key text (own_entry n.table)) ∷ []
-  -- it has the key's text at that version, which is its newest
+  -- it has that at the key, at that version, which is its newest
   pub given :
       map.get (with_state key text (own_entry n.table)).states key ≡ Some (record { text = text; version = version })
   pub is_newest : newest (with_state key text (own_entry n.table)) ≡ version
@@ -81,12 +82,19 @@ pub record PutsIts (key : ℕ) (text : List ℕ) (n after : NodeValue) (answer :
 abbrev pub SetsPutTheirText : Type 0
 SetsPutTheirText =
     (n : NodeValue) (key : ℕ) (text : List ℕ) (after : NodeValue) (answer : Reply) → IsSmall n
-    → Leads n (event.Set key text) after answer → PutsIts key text n after answer
+    → Leads n (event.Set key text) after answer → PutsIts key (Some text) n after answer
+
+-- A Remove puts the own entry, with the key's tombstone at the reply's version.
+abbrev pub RemovalsPutTheirTombstone : Type 0
+RemovalsPutTheirTombstone =
+    (n : NodeValue) (key : ℕ) (after : NodeValue) (answer : Reply) → IsSmall n
+    → Leads n (event.Remove key) after answer → PutsIts key None n after answer
 
 -- the events that change the own entry
 abbrev pub is_own_change : Event → Bool
 is_own_change event.Beat = true
 is_own_change (event.Set key text) = true
+is_own_change (event.Remove key) = true
 is_own_change (event.Tick now words) = true
 is_own_change event.Opening = false
 is_own_change (event.Syn syn) = false

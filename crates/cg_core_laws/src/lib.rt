@@ -8,19 +8,20 @@ ghost use Rattle.cg_core_laws.specs.Laws.{
   PutsAreTheChangedRows,
   PutsKeepTheirOrder,
   RunsGoEventByEvent,
+  RemovalsPutTheirTombstone,
   SetsPutTheirText,
   TablesGoByTheirRules,
   WindowsShowAllTaken,
 };
 
-/// The table part of a step follows the rule of tables and messages. The own entry is beaten or set, the table stays
-/// the same, or the deltas of a message are taken one after the other.
+/// The table part of a step follows the rule of tables and messages. The own entry is beaten, or a key of it set
+/// or removed, the table stays the same, or the deltas of a message are taken one after the other.
 pub fn tables_go_by_their_rules()
     ensures { TablesGoByTheirRules }
 {}
 
 /// The puts of a step are the rows, in its new table, of the owners whose entry it changed. These are the own one for
-/// Beat, Set and Tick, nobody for Opening and Syn, and the owners of the deltas taken for Ack and Ack2.
+/// Beat, Set, Remove and Tick, nobody for Opening and Syn, and the owners of the deltas taken for Ack and Ack2.
 pub fn puts_are_the_changed_rows()
     ensures { PutsAreTheChangedRows }
 {}
@@ -36,7 +37,12 @@ pub fn sets_put_their_text()
     ensures { SetsPutTheirText }
 {}
 
-/// The own entry changes by no event but Beat, Set and Tick, and a node keeps its endpoint at every event.
+/// A Remove puts the own entry alone, with the key's tombstone at the version that the reply has.
+pub fn removals_put_their_tombstone()
+    ensures { RemovalsPutTheirTombstone }
+{}
+
+/// The own entry changes by no event but Beat, Set, Remove and Tick, and a node keeps its endpoint at every event.
 /// `Node::with_own` is no event: it makes a node with any own entry.
 pub fn only_own_events_change_the_own_entry()
     ensures { OnlyOwnEventsChangeTheOwnEntry }

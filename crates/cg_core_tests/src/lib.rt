@@ -12,6 +12,8 @@ mod nodes;
 #[cfg(test)]
 mod parts;
 #[cfg(test)]
+mod removing;
+#[cfg(test)]
 mod samples;
 #[cfg(test)]
 mod settings;

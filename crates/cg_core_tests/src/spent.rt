@@ -2,10 +2,11 @@
 
 use crate::samples::{node, refusal, set_event};
 use cg_core::Node;
+use cg_entry::Entry;
 use cg_events::{Event, Reply};
 use cg_expect::{expect, expect_eq};
 use cg_messages::Message;
-use cg_samples::{A, bare_entry};
+use cg_samples::{A, bare_entry, delta, key, state};
 use cg_types::Fault;
 use std::alloc::Global;
 use std::test::Fail;
@@ -32,6 +33,28 @@ fn a_spent_node_keeps_its_table(rt: HostRuntime) -> Result<(), Fail> {
         expect_eq!(fault, Some(Fault::VersionsSpent))?;
     }
     Ok(())
+}
+
+// That a key has no text is told before that no version is left.
+#[test]
+fn a_spent_node_has_no_text_to_remove(rt: HostRuntime) -> Result<(), Fail> {
+    let fault = refusal_of_spent(rt.alloc(), &Event::Remove { key: key(3) })?;
+    expect_eq!(fault, Some(Fault::NoSuchKey))
+}
+
+// A spent node whose key 3 has a text.
+fn spent_with_key_3(alloc: Global) -> Result<Node, Fail> {
+    let states = vec![in alloc; state(alloc, 3, 2, "x")?]?;
+    let whole = delta((9, 0, 2147483647), states)?;
+    let entry = Entry::of_delta(alloc, &whole)?.ok_or("an entry")?;
+    Ok(node(alloc, A, 9)?.with_own(alloc, entry)?)
+}
+
+#[test]
+fn a_spent_node_keeps_its_text(rt: HostRuntime) -> Result<(), Fail> {
+    let mut node = spent_with_key_3(rt.alloc())?;
+    let fault = refusal(rt.alloc(), &mut node, &Event::Remove { key: key(3) })?;
+    expect_eq!(fault, Some(Fault::VersionsSpent))
 }
 
 #[test]

@@ -29,10 +29,15 @@ written_for (reply.Sent m) = frame WRITTEN m
 written_for (reply.Both outcomes ack2) = frame WRITTEN (messages.Ack2 ack2)
 written_for (reply.Took outcomes) = []
 
--- the faults that may refuse an event
-abbrev pub IsGateFault : Fault → Type 0
-IsGateFault fault.OutOfMemory = Unit {0}
-IsGateFault fault.VersionsSpent = Unit {0}
-IsGateFault fault.TableFull = Unit {0}
-IsGateFault fault.OtherCluster = Unit {0}
-IsGateFault f = ⊥
+abbrev pub IsRemoval : Event → Type 0
+IsRemoval (event.Remove key) = Unit {0}
+IsRemoval e = ⊥
+
+-- the faults that may refuse an event: NoSuchKey a removal alone, and so no event of an exchange
+abbrev pub IsGateFault : Event → Fault → Type 0
+IsGateFault e fault.OutOfMemory = Unit {0}
+IsGateFault e fault.VersionsSpent = Unit {0}
+IsGateFault e fault.TableFull = Unit {0}
+IsGateFault e fault.OtherCluster = Unit {0}
+IsGateFault e fault.NoSuchKey = IsRemoval e
+IsGateFault e f = ⊥

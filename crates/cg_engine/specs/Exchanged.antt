@@ -126,7 +126,7 @@ module _ {S R W : Type 0} (does : S → Event → Reply → S → Type 0) (refus
     pub read : ReceivesMessage there after reader r1 message
     pub due : event_due kind now message ≡ Ok event
     pub refused : refuses here event f
-    pub known : IsGateFault f
+    pub known : IsGateFault event f
     pub stayed : stays here t
     pub wrote : AllWritten opening held w0 turns holds w1
 

@@ -50,7 +50,7 @@ module _ {S L : Type 0} (does : S → Event → Reply → S → Type 0) (refuses
     pub read : ReceivesMessage before after old new message
     pub due : event_due kind now message ≡ Ok event
     pub refused : refuses s event f
-    pub known : IsGateFault f
+    pub known : IsGateFault event f
     pub stayed : stays s t
 
   -- the results of a turn: an event was done, or the input ended, or a fault

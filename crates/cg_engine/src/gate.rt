@@ -28,14 +28,14 @@ pub trait Gate {
 
     /// Does an event, and keeps its reply, of the event's kind, as the last one.
     ///
-    /// It is refused by `OutOfMemory`, `VersionsSpent`, `TableFull` and `OtherCluster` alone. So no refusal can be
-    /// taken for a fault of a link or a frame.
+    /// It is refused by `OutOfMemory`, `VersionsSpent`, `TableFull` and `OtherCluster` alone, and a removal also by
+    /// `NoSuchKey`. So no refusal can be taken for a fault of a link or a frame.
     fn event(&mut self, alloc: Global, event: Event) -> Result<(), Fault>
         ensures ok { OnOk result ((reply : ReplyValue) × (last self.new ≡ Some reply)
             × does self.old event reply self.new × IsReplyTo event reply) }
         ensures err { OnErr result (stays self.old self.new) }
         ensures fault { IfErr result (refuses self.old event) }
-        ensures known { IfErr result IsGateFault };
+        ensures known { IfErr result (IsGateFault event) };
 
     /// The reply of the last event done.
     fn reply(&self) -> Option<&Reply>

@@ -110,7 +110,7 @@ fn add_longest_delta(frame: &mut Vec<u8>, number: u16, text: &[u8]) -> Result<()
 // Returns the frame of the longest message: an ACK with requests of 512 endpoints, and of each the longest delta.
 fn longest(alloc: Global) -> Result<Vec<u8>, AllocError> {
     let mut frame = Vec::new(alloc);
-    frame.extend_from_slice(b"\x02\x01\x22\x06\x02\x02\x02\0")?;
+    frame.extend_from_slice(b"\x02\x01\x22\x06\x03\x02\x02\0")?;
     for number in 0..512u16 {
         frame.extend_from_slice(&[10, 0])?;
         frame.extend_from_slice(&address(number))?;

@@ -30,6 +30,16 @@ const ACK_2: &[u8] =
 
 const EMPTY_ACK2_2: &[u8] = b"\0\0\0\x04\x02\x03\0\0";
 
+// The same messages in layout 3.
+const SYN_3: &[u8] = b"\0\0\0\x16\x03\x01\x02c1\x01\0\x01\x0a\0\0\x01\x1b\x58\0\0\0\x09\0\0\0\x01";
+
+const EMPTY_SYN_3: &[u8] = b"\0\0\0\x08\x03\x01\x02c1\x01\0\0";
+
+const ACK_3: &[u8] =
+    b"\0\0\0\x34\x03\x02\0\x01\x0a\0\0\x01\x1b\x58\0\0\0\x09\0\0\0\0\0\x01\x0a\0\0\x02\x1b\x58\0\0\0\x05\0\0\0\0\0\0\0\x01\x01\x01\0\0\0\x02\0\x06NORMAL";
+
+const EMPTY_ACK2_3: &[u8] = b"\0\0\0\x04\x03\x03\0\0";
+
 // Returns `true` if a message is written as these bytes, by value and by reference.
 pub(crate) fn is_written_as(alloc: Global, message: &Message, bytes: &[u8]) -> Result<bool, Fault> {
     every_message_fits(message);
@@ -45,16 +55,16 @@ fn read_and_written(alloc: Global, bytes: &[u8], frame: &[u8]) -> Result<(usize,
 }
 
 #[test]
-fn messages_are_read_in_both_layouts_and_written_in_one(rt: HostRuntime) -> Result<(), Fail> {
-    for (first, second, size) in [
-        (SYN.as_slice(), SYN_2, 26),
-        (EMPTY_SYN, EMPTY_SYN_2, 12),
-        (ACK, ACK_2, 56),
-        (EMPTY_ACK2, EMPTY_ACK2_2, 8),
+fn messages_are_read_in_each_layout_and_written_in_one(rt: HostRuntime) -> Result<(), Fail> {
+    for (first, second, third, size) in [
+        (SYN.as_slice(), SYN_2, SYN_3, 26),
+        (EMPTY_SYN, EMPTY_SYN_2, EMPTY_SYN_3, 12),
+        (ACK, ACK_2, ACK_3, 56),
+        (EMPTY_ACK2, EMPTY_ACK2_2, EMPTY_ACK2_3, 8),
     ] {
-        let alloc = rt.alloc();
-        expect_eq!(read_and_written(alloc, first, second)?, (size, true))?;
-        expect_eq!(read_and_written(alloc, second, second)?, (size, true))?;
+        for frame in [first, second, third] {
+            expect_eq!(read_and_written(rt.alloc(), frame, third)?, (size, true))?;
+        }
     }
     Ok(())
 }
@@ -79,7 +89,7 @@ fn wants_more(rt: HostRuntime) -> Result<(), Fail> {
 
 #[test]
 fn announced_members_have_to_come(rt: HostRuntime) -> Result<(), Fail> {
-    // 256 digests, 256 requests and 256 deltas, and 512 of each in layout 2, of which none comes
+    // 256 digests, 256 requests and 256 deltas, and 512 of each in layouts 2 and 3, of which none comes
     for (bytes, place) in [
         (b"\0\0\0\x08\x01\x01\x02c1\x01\x01\0".as_slice(), 12),
         (b"\0\0\0\x04\x01\x02\x01\0", 8),
@@ -87,6 +97,9 @@ fn announced_members_have_to_come(rt: HostRuntime) -> Result<(), Fail> {
         (b"\0\0\0\x08\x02\x01\x02c1\x01\x02\0", 12),
         (b"\0\0\0\x04\x02\x02\x02\0", 8),
         (b"\0\0\0\x04\x02\x03\x02\0", 8),
+        (b"\0\0\0\x08\x03\x01\x02c1\x01\x02\0", 12),
+        (b"\0\0\0\x04\x03\x02\x02\0", 8),
+        (b"\0\0\0\x04\x03\x03\x02\0", 8),
     ] {
         let cause = Cause::Short;
         expect_eq!(

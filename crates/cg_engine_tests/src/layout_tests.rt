@@ -1,10 +1,12 @@
 //! Other layouts with the same readers and writers: another byte, other limits, and the layouts that the byte names.
 
 ghost use Rattle.cg_frames.specs.Choosing.{AreLayouts, AreRead};
-ghost use Rattle.cg_engine_tests.specs.declared.layout_tests.TheConstants.{THREE};
+ghost use Rattle.cg_engine_tests.specs.declared.layout_tests.TheConstants.{FOUR};
 
 use cg_expect::{expect, expect_eq};
-use cg_frames::{LAYOUT_1, LAYOUT_2, LAYOUTS, Layout, decode_among, decode_in, encode_in};
+use cg_frames::{
+    LAYOUT_1, LAYOUT_2, LAYOUT_3, LAYOUTS, Layout, decode_among, decode_in, encode_in,
+};
 use cg_types::{Cause, Fault, MEMBER_LIMIT, TEXT_LIMIT};
 use std::alloc::Global;
 use std::test::Fail;
@@ -15,7 +17,7 @@ const OTHER: Layout = Layout {
     members: MEMBER_LIMIT,
     text: TEXT_LIMIT,
     length: 40_000_000,
-    tombstones: false,
+    tombstones: true,
 };
 
 // Another byte, and small limits.
@@ -41,6 +43,7 @@ fn reads_and_writes_another_layout(rt: HostRuntime) -> Result<(), Fail> {
         b"\0\0\0\x16\x07\x01\x02c1\x01\0\x01\x0a\0\0\x01\x1b\x58\0\0\0\x09\0\0\0\x01".as_slice(),
         b"\0\0\0\x27\x07\x02\0\x01\x0a\0\0\x01\x1b\x58\0\0\0\x09\0\0\0\0\0\x01\x0a\0\0\x02\x1b\x58\0\0\0\x05\0\0\0\0\0\0\0\x01\0",
         b"\0\0\0\x17\x07\x03\0\x01\x0a\0\0\x01\x1b\x58\0\0\0\x09\0\0\0\0\0\0\0\x01\0",
+        b"\0\0\0\x1e\x07\x03\0\x01\x0a\0\0\x01\x1b\x58\0\0\0\x09\0\0\0\x03\0\0\0\x01\x01\x01\0\0\0\x04\xff\xff",
     ] {
         expect!(is_read_and_written(rt.alloc(), frame)?)?;
     }
@@ -56,17 +59,17 @@ const LONG: Layout = Layout {
     tombstones: false,
 };
 
-const THREE: [Layout; 3] = [LAYOUT_1, LAYOUT_2, LONG];
+const FOUR: [Layout; 4] = [LAYOUT_1, LAYOUT_2, LAYOUT_3, LONG];
 
-// The laws of several layouts hold of three.
-fn three_are_layouts()
-    ensures layouts { AreLayouts THREE }
-    ensures read { AreRead THREE }
+// The laws of several layouts hold of four.
+fn four_are_layouts()
+    ensures layouts { AreLayouts FOUR }
+    ensures read { AreRead FOUR }
 {}
 
 #[test]
-fn three_are_told_apart(_rt: HostRuntime) {
-    three_are_layouts();
+fn four_are_told_apart(_rt: HostRuntime) {
+    four_are_layouts();
 }
 
 // The length of the frame that is read in one of these layouts, and the first fault; neither if more bytes are needed.
@@ -105,6 +108,10 @@ fn limits_of_another_layout(rt: HostRuntime) -> Result<(), Fail> {
             b"\0\0\0\x21\x07\x03\0\x01\x0a\0\0\x01\x1b\x58\0\0\0\x09\0\0\0\x02\0\0\0\x03\x01\x01\0\0\0\x04\0\x03NNN",
             (None, Some((32, Cause::Text))),
         ),
+        (
+            b"\0\0\0\x1e\x07\x03\0\x01\x0a\0\0\x01\x1b\x58\0\0\0\x09\0\0\0\x03\0\0\0\x01\x01\x01\0\0\0\x04\xff\xff",
+            (None, Some((32, Cause::Text))),
+        ),
     ] {
         expect_eq!(read_among(rt.alloc(), &[SMALL], bytes)?, due)?;
     }
@@ -130,6 +137,19 @@ fn the_byte_names_the_layout(rt: HostRuntime) -> Result<(), Fail> {
             b"\0\0\0\x16\x02\x01\x02c1\x01\0\x01\x0a\0\0\x01\x1b\x58\0\0\0\x09\0\0\0\x01",
             (Some(26), None),
         ),
+        (
+            b"\0\0\0\x1e\x03\x03\0\x01\x0a\0\0\x01\x1b\x58\0\0\0\x09\0\0\0\x03\0\0\0\x01\x01\x01\0\0\0\x04\xff\xff",
+            (Some(34), None),
+        ),
+        (
+            b"\0\0\0\x1e\x02\x03\0\x01\x0a\0\0\x01\x1b\x58\0\0\0\x09\0\0\0\x03\0\0\0\x01\x01\x01\0\0\0\x04\xff\xff",
+            (None, Some((32, Cause::Text))),
+        ),
+        (
+            b"\0\0\0\x1e\x01\x03\0\x01\x0a\0\0\x01\x1b\x58\0\0\0\x09\0\0\0\x03\0\0\0\x01\x01\x01\0\0\0\x04\xff\xff",
+            (None, Some((32, Cause::Text))),
+        ),
+        (b"\0\0\0\x02\x04\x01", (None, Some((4, Cause::Layout)))),
         (b"\0\0\0\x02\x09", (None, None)),
         (b"\0\0\0\x02\x09\x01", (None, Some((4, Cause::Layout)))),
         (b"\0\0\0\x02\0\x01", (None, Some((4, Cause::Layout)))),
@@ -141,7 +161,7 @@ fn the_byte_names_the_layout(rt: HostRuntime) -> Result<(), Fail> {
 }
 
 #[test]
-fn a_third_layout_is_one_more(rt: HostRuntime) -> Result<(), Fail> {
+fn a_fourth_layout_is_one_more(rt: HostRuntime) -> Result<(), Fail> {
     for (bytes, due) in [
         (b"\x02\x62\x5a\x01".as_slice(), (None, None)),
         (b"\x02\xfa\xf0\x81", (None, Some((0, Cause::Length)))),
@@ -152,9 +172,9 @@ fn a_third_layout_is_one_more(rt: HostRuntime) -> Result<(), Fail> {
             b"\0\0\0\x16\x09\x01\x02c1\x01\0\x01\x0a\0\0\x01\x1b\x58\0\0\0\x09\0\0\0\x01",
             (Some(26), None),
         ),
-        (b"\0\0\0\x02\x03\x01", (None, Some((4, Cause::Layout)))),
+        (b"\0\0\0\x02\x04\x01", (None, Some((4, Cause::Layout)))),
     ] {
-        expect_eq!(read_among(rt.alloc(), &THREE, bytes)?, due)?;
+        expect_eq!(read_among(rt.alloc(), &FOUR, bytes)?, due)?;
     }
     Ok(())
 }

@@ -20,6 +20,8 @@ mod layout_tests;
 #[cfg(test)]
 mod link_tests;
 #[cfg(test)]
+mod removal_tests;
+#[cfg(test)]
 mod samples;
 #[cfg(test)]
 mod transfer_tests;

@@ -10,7 +10,7 @@ use Rattle.cg_entry.proofs.StateLemmas.{newer, pairs-filter}
 abbrev pub AreValid : List (ℕ × Versioned) → Type 0
 AreValid es = AllByRecursion IsState es
 
-all_filter : {X : Type 0} (P : X → Type 0) (p : X → Bool) (xs : List X) → AllByRecursion P xs → AllByRecursion P (filter p xs)
+pub all_filter : {X : Type 0} (P : X → Type 0) (p : X → Bool) (xs : List X) → AllByRecursion P xs → AllByRecursion P (filter p xs)
 all_filter P p [] all = tt
 all_filter P p (x ∷ xs) all =
     elim (p x) as (λ b. AllByRecursion P (cond b (x ∷ filter p xs) (filter p xs))) [

@@ -10,7 +10,7 @@ use Rattle.std.proofs.lemmas.List.Sorted.{IsNonDecreasingBy-drop}
 use Rattle.cg_types.specs.Rising.{is_among}
 use Rattle.cg_entry.specs.declared.state.State.{State}
 use Rattle.cg_entry.specs.Contents.{IsState}
-use Rattle.cg_entry.specs.Entry.{newer_than}
+use Rattle.cg_entry.specs.Entry.{newer_than, text_size}
 use Rattle.cg_entry.specs.State.{pairs, listed_bytes, KeysRise}
 use Rattle.cg_entry.specs.Versioned.{States}
 use Rattle.cg_entry.proofs.StateLemmas.{newer, newer_rise, newer_than-pairs}
@@ -74,8 +74,8 @@ module _ (xs : List State) (from : ℕ) where
 pub bytes-picked : (xs : List State) (ps : List ℕ) → bytes_at xs ps ≡ listed_bytes (picked xs ps)
 bytes-picked xs [] = refl
 bytes-picked xs (p ∷ ps) =
-    sum_by-cons (λ q. length (state_at xs q).text) p ps ∙ ap (λ n. length (state_at xs p).text + n) (bytes-picked xs ps)
-    ∙ sym (sum_by-cons (λ (s : State). length s.text) (state_at xs p) (picked xs ps))
+    sum_by-cons (λ q. text_size (state_at xs q).text) p ps ∙ ap (λ n. text_size (state_at xs p).text + n) (bytes-picked xs ps)
+    ∙ sym (sum_by-cons (λ (s : State). text_size s.text) (state_at xs p) (picked xs ps))
 
 -- a block has no more states than there are keys
 pub few_states : (xs : List State) (ps : List ℕ) (bytes : ℕ) → IsBlock xs ps bytes → length xs ≤ STATE_LIMIT

@@ -1,5 +1,5 @@
 -- Generation and version rise along a history.
-use Rattle.std.proofs.Common.{◌≡◌, ◌↔◌, ℕ, zero, suc, ◌+◌, ◌-◌, ◌<◌, ◌≤◌, ◌⊎◌, inl, inr, Bool, true, false, cond, List, length, Some, refl, sym, ap, subst, ◌∙◌, arith}
+use Rattle.std.proofs.Common.{◌≡◌, ◌↔◌, ℕ, zero, suc, ◌+◌, ◌-◌, ◌<◌, ◌≤◌, ◌⊎◌, inl, inr, Bool, true, false, cond, List, length, Option, Some, None, refl, sym, ap, subst, ◌∙◌, arith}
 use Rattle.std.specs.Ordering.{nat_cmp, eq_by_cmp}
 use Rattle.std.specs.Cmp.{nat_cmp_total, eq_by_cmp_equiv}
 use Rattle.std.specs.FinMap.{get, get-insert, get-empty}
@@ -8,7 +8,7 @@ use Rattle.cg_entry.specs.Versioned.{Versioned}
 use Rattle.cg_entry.specs.Values.{EntryValue}
 use Rattle.cg_entry.specs.Entry.{newest, starting_entry, entry_after_beat, with_state, is_later}
 use Rattle.cg_types.specs.ListPlace.{at_place}
-use Rattle.cg_entry.specs.History.{Follows, Starts, Beats, Sets, IsHistory, generation_at, generation_of}
+use Rattle.cg_entry.specs.History.{Follows, Starts, Beats, Sets, Removes, IsHistory, generation_at, generation_of}
 use Rattle.cg_entry.specs.Spelling.{version_of, version_at}
 use Rattle.cg_entry.proofs.PlaceLemmas.{at_place_some, at_place_within}
 use Rattle.cg_entry.proofs.VersionLemmas.{Stands, at_least, version_within, greatest_stands}
@@ -38,8 +38,8 @@ newest_beaten x = go (newest_stands (entry_after_beat x))
     go (inl e) = e
     go (inr e) = absurd (omega (arith, e.3, state_within x e.0 e.1 e.2, heartbeat_within (entry_after_beat x)))
 
-module _ (key : ℕ) (text : List ℕ) (x : EntryValue) where
-  -- the text and version that a set leaves at its key
+module _ (key : ℕ) (text : Option (List ℕ)) (x : EntryValue) where
+  -- what a set or a removal leaves at its key
   abbrev pub given : Versioned
   given = record { text = text; version = newest x + 1 }
 
@@ -84,7 +84,8 @@ IsBefore g n g' n' = (g < g') ⊎ ((g ≡ g') × (n < n'))
 follows_before : {x y : EntryValue} → Follows x y → IsBefore x.generation (newest x) y.generation (newest y)
 follows_before {x} (Starts g l e) = rw e (inl l)
 follows_before {x} (Beats e) = rw e (inr (refl, omega (arith, newest_beaten x)))
-follows_before {x} (Sets key text e) = rw e (inr (refl, omega (arith, newest_given key text x)))
+follows_before {x} (Sets key text e) = rw e (inr (refl, omega (arith, newest_given key (Some text) x)))
+follows_before {x} (Removes key stood e) = rw e (inr (refl, omega (arith, newest_given key None x)))
 
 abbrev pub ComesBefore : List EntryValue → ℕ → ℕ → Type 0
 ComesBefore h p q = IsBefore (generation_at h p) (version_at h p) (generation_at h q) (version_at h q)
@@ -150,17 +151,21 @@ started_positive g = record {
   states_are = λ k s e. absurd (let none = get-empty {X = Versioned} nat_cmp k in cc);
 }
 
-given_positive : (key : ℕ) (text : List ℕ) (x : EntryValue) (k : ℕ) (s : Versioned) → AllPositive x → get (with_state key text x).states k ≡ Some s → GivenAt key text x k → 1 ≤ s.version
+given_positive : (key : ℕ) (text : Option (List ℕ)) (x : EntryValue) (k : ℕ) (s : Versioned) → AllPositive x → get (with_state key text x).states k ≡ Some s → GivenAt key text x k → 1 ≤ s.version
 given_positive key text x k s a f (Here g) = let same : given key text x ≡ s = cc in omega (arith, ap (λ (s : Versioned). s.version) same)
 given_positive key text x k s a f (Elsewhere g) = a.states_are k s (sym g ∙ f)
+
+given_all_positive : (key : ℕ) (text : Option (List ℕ)) (x : EntryValue) → AllPositive x → AllPositive (with_state key text x)
+given_all_positive key text x a = record {
+  newest_is = omega (arith, newest_given key text x);
+  states_are = λ k s f. given_positive key text x k s a f (given_at key text x k);
+}
 
 follows_positive : {x y : EntryValue} → Follows x y → AllPositive x → AllPositive y
 follows_positive {x} {y} (Starts g l e) a = subst AllPositive (sym e) (started_positive g)
 follows_positive {x} {y} (Beats e) a = subst AllPositive (sym e) (record { newest_is = omega (arith, newest_beaten x); states_are = a.states_are })
-follows_positive {x} {y} (Sets key text e) a = subst AllPositive (sym e) (record {
-  newest_is = omega (arith, newest_given key text x);
-  states_are = λ k s f. given_positive key text x k s a f (given_at key text x k);
-})
+follows_positive {x} {y} (Sets key text e) a = subst AllPositive (sym e) (given_all_positive key (Some text) x a)
+follows_positive {x} {y} (Removes key stood e) a = subst AllPositive (sym e) (given_all_positive key None x a)
 
 pub all_positive : (h : List EntryValue) (p : ℕ) → IsHistory h → (x : EntryValue) → at_place h p ≡ Some x → AllPositive x
 all_positive h zero is x e = cc

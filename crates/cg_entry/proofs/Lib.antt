@@ -22,3 +22,5 @@ pub mod HeldLemmas
 pub mod OrderLemmas
 pub mod NewestLemmas
 pub mod OverlayLemmas
+pub mod RemovalLemmas
+pub mod NewerLemmas

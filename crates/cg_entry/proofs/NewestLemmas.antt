@@ -19,6 +19,7 @@ use Rattle.cg_map.proofs.PutLemmas.{put_less, put_same, put_greater}
 use Rattle.cg_map.proofs.RowLemmas.{keys_lt}
 use Rattle.cg_entry.specs.declared.state.State.{State}
 use Rattle.cg_entry.specs.Contents.{IsState}
+use Rattle.cg_entry.specs.Entry.{text_size}
 use Rattle.cg_entry.specs.State.{pair, pairs, value_at_key, listed_bytes, KeysRise}
 use Rattle.cg_entry.specs.Versioned.{Versioned, States}
 use Rattle.cg_entry.specs.Block.{no_state, state_at, picked, closed, IsRisen, IsBlock}
@@ -272,21 +273,21 @@ module _ (xs : List State) (ps : List ℕ) (bytes n : ℕ) (s : State) (states :
         let same : (get_or (pairs (picked xs ps)) n d).0 ≡ s.key = row_is.has_key d in
         omega (arith, same, keys_lt None (pairs (picked xs ps)) (pairs_rise (picked xs ps) b.rise) j n d hi row_is.in_range)
 
-    old_text : length (get_or (picked xs ps) n no_state).text ≡ length (state_at xs (get_or ps n 0)).text
-    old_text = ap (λ (t : State). length t.text) (get_or-map (state_at xs) ps n 0 no_state number_within)
+    old_text : text_size (get_or (picked xs ps) n no_state).text ≡ text_size (state_at xs (get_or ps n 0)).text
+    old_text = ap (λ (t : State). text_size t.text) (get_or-map (state_at xs) ps n 0 no_state number_within)
 
     listed_within : n < length (picked xs ps)
     listed_within = omega (arith, number_within, length-picked xs ps)
 
-    pub old_bytes : length (state_at xs (get_or ps n 0)).text ≤ bytes
+    pub old_bytes : text_size (state_at xs (get_or ps n 0)).text ≤ bytes
     old_bytes =
-        let sum = sum_by-remove (λ (t : State). length t.text) (picked xs ps) n no_state listed_within in
+        let sum = sum_by-remove (λ (t : State). text_size t.text) (picked xs ps) n no_state listed_within in
         let counted = b.counted in
         omega (arith, sum, counted, old_text)
 
-    bytes_moved : bytes - length (state_at xs (get_or ps n 0)).text + length s.text ≡ listed_bytes (set (picked xs ps) n s)
+    bytes_moved : bytes - text_size (state_at xs (get_or ps n 0)).text + text_size s.text ≡ listed_bytes (set (picked xs ps) n s)
     bytes_moved =
-        let sum = sum_by-set (λ (t : State). length t.text) (picked xs ps) n s no_state listed_within in
+        let sum = sum_by-set (λ (t : State). text_size t.text) (picked xs ps) n s no_state listed_within in
         let counted = b.counted in
         omega (arith, sum, counted, old_text, old_bytes)
 
@@ -297,11 +298,11 @@ module _ (xs : List State) (ps : List ℕ) (bytes n : ℕ) (s : State) (states :
           | inr from ↦ rw (get_or-remove_above xs (get_or ps n 0) no_state i from place_within) (older (i + 1) (omega (arith, lt, length-remove xs (get_or ps n 0) place_within)))
         ]
 
-    pub replaced : Put (remove xs (get_or ps n 0) ++ s ∷ []) (set (closed (get_or ps n 0) ps) n (length (remove xs (get_or ps n 0)))) (bytes - length (state_at xs (get_or ps n 0)).text + length s.text) s states
+    pub replaced : Put (remove xs (get_or ps n 0) ++ s ∷ []) (set (closed (get_or ps n 0) ps) n (length (remove xs (get_or ps n 0)))) (bytes - text_size (state_at xs (get_or ps n 0)).text + text_size s.text) s states
     replaced =
         let size : length (remove xs (get_or ps n 0)) + 1 ≡ length xs = length-remove xs (get_or ps n 0) place_within in
         let long : length (remove xs (get_or ps n 0) ++ s ∷ []) ≡ length (remove xs (get_or ps n 0)) + 1 = length-append (remove xs (get_or ps n 0)) (s ∷ []) in
-        put_of xs ps bytes (remove xs (get_or ps n 0) ++ s ∷ []) (set (closed (get_or ps n 0) ps) n (length (remove xs (get_or ps n 0)))) (bytes - length (state_at xs (get_or ps n 0)).text + length s.text) s states b seen
+        put_of xs ps bytes (remove xs (get_or ps n 0) ++ s ∷ []) (set (closed (get_or ps n 0) ps) n (length (remove xs (get_or ps n 0)))) (bytes - text_size (state_at xs (get_or ps n 0)).text + text_size s.text) s states b seen
         (risen_push (remove xs (get_or ps n 0)) s older_rest (risen_remove xs (get_or ps n 0) place_within b.risen))
         (rows_moved ∙ put_here s.key (value_at_key s) (pair no_state) (pairs (picked xs ps)) n row_is.in_range less_before (row_is.has_key (pair no_state)))
         (all_set (λ q. q < length (remove xs (get_or ps n 0) ++ s ∷ [])) (closed (get_or ps n 0) ps) n (length (remove xs (get_or ps n 0))) (within_closed xs (get_or ps n 0) s place_within ps b.within) (omega arith))
@@ -329,12 +330,12 @@ module _ (xs : List State) (ps : List ℕ) (bytes n : ℕ) (s : State) (states :
     rows_added : pairs (picked (xs ++ s ∷ []) (insert ps n (length xs))) ≡ insert (pairs (picked xs ps)) n (pair s)
     rows_added = ap pairs listed_added ∙ map_insert pair (picked xs ps) n s
 
-    pub added : Put (xs ++ s ∷ []) (insert ps n (length xs)) (bytes + length s.text) s states
+    pub added : Put (xs ++ s ∷ []) (insert ps n (length xs)) (bytes + text_size s.text) s states
     added =
         let long : length (xs ++ s ∷ []) ≡ length xs + 1 = length-append xs (s ∷ []) in
         let counted = b.counted in
-        let sum = sum_by-insert (λ (t : State). length t.text) (picked xs ps) n s in
-        put_of xs ps bytes (xs ++ s ∷ []) (insert ps n (length xs)) (bytes + length s.text) s states b seen
+        let sum = sum_by-insert (λ (t : State). text_size t.text) (picked xs ps) n s in
+        put_of xs ps bytes (xs ++ s ∷ []) (insert ps n (length xs)) (bytes + text_size s.text) s states b seen
         (risen_push xs s older b.risen)
         (rows_added ∙ put_gap s.key (value_at_key s) (pairs (picked xs ps)) n gap_is.in_range gap_is.less_before gap_is.greater_from)
         (all_insert (λ q. q < length (xs ++ s ∷ [])) ps n (length xs) (within_more xs s ps b.within) (omega arith))

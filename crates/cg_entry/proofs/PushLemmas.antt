@@ -20,6 +20,7 @@ use Rattle.cg_types.specs.Rising.{Rises, rise_past, is_past, is_among}
 use Rattle.cg_types.proofs.RisingLemmas.{both, first_of, second_of}
 use Rattle.cg_entry.specs.declared.state.State.{State}
 use Rattle.cg_entry.specs.Contents.{IsState}
+use Rattle.cg_entry.specs.Entry.{text_size}
 use Rattle.cg_entry.specs.State.{pair, pairs, value_at_key, listed_bytes, KeysRise}
 use Rattle.cg_entry.specs.Versioned.{Versioned, States}
 use Rattle.cg_entry.proofs.StateLemmas.{pairs_rise, entries-pairs}
@@ -204,14 +205,14 @@ module _ (xs : List State) (ps : List ℕ) (bytes at : ℕ) (s : State) (b : IsB
   pub listed_put : picked (insert xs at s) (bumped at ps ++ at ∷ []) ≡ picked xs ps ++ s ∷ []
   listed_put = picked_put xs at s le ps
 
-  bytes_put : bytes + length s.text ≡ listed_bytes (picked xs ps ++ s ∷ [])
+  bytes_put : bytes + text_size s.text ≡ listed_bytes (picked xs ps ++ s ∷ [])
   bytes_put =
-      let parts : listed_bytes (picked xs ps ++ s ∷ []) ≡ listed_bytes (picked xs ps) + listed_bytes (s ∷ []) = sum_by-append (λ (t : State). length t.text) (picked xs ps) (s ∷ []) in
-      let one : listed_bytes (s ∷ []) ≡ length s.text + 0 = sum_by-cons (λ (t : State). length t.text) s [] in
+      let parts : listed_bytes (picked xs ps ++ s ∷ []) ≡ listed_bytes (picked xs ps) + listed_bytes (s ∷ []) = sum_by-append (λ (t : State). text_size t.text) (picked xs ps) (s ∷ []) in
+      let one : listed_bytes (s ∷ []) ≡ text_size s.text + 0 = sum_by-cons (λ (t : State). text_size t.text) s [] in
       let counted = b.counted in
       omega arith
 
-  pub block_put : IsBlock (insert xs at s) (bumped at ps ++ at ∷ []) (bytes + length s.text)
+  pub block_put : IsBlock (insert xs at s) (bumped at ps ++ at ∷ []) (bytes + text_size s.text)
   block_put = record {
     risen = risen_put;
     rise = subst (λ (ys : List State). KeysRise ys) (sym listed_put) (keys_push (picked xs ps) s b.rise past);
@@ -237,7 +238,7 @@ module _ (xs : List State) (ps : List ℕ) (bytes at : ℕ) (s : State) (b : IsB
       let places : length xs ≤ length ps = few_places (length xs) ps b.whole in
       (omega arith, omega arith)
 
-  pub bytes_few_put : bytes + length s.text < 2 ^ 32
+  pub bytes_few_put : bytes + text_size s.text < 2 ^ 32
   bytes_few_put =
       let ys = picked xs ps ++ s ∷ [] in
       let few : listed_bytes ys < 2 ^ 32 = bytes_few ys ys refl (keys_push (picked xs ps) s b.rise past)
@@ -249,8 +250,8 @@ pub record Pushed (xs : List State) (ps : List ℕ) (bytes at : ℕ) (s : State)
   pub within : at ≤ length xs
   pub few : length xs < STATE_LIMIT
   pub few_places : length ps < STATE_LIMIT
-  pub few_bytes : bytes + length s.text < 2 ^ 32
-  pub block : IsBlock (insert xs at s) (bumped at ps ++ at ∷ []) (bytes + length s.text)
+  pub few_bytes : bytes + text_size s.text < 2 ^ 32
+  pub block : IsBlock (insert xs at s) (bumped at ps ++ at ∷ []) (bytes + text_size s.text)
   pub view : finmap.from_sorted {R = nat_cmp} (pairs (picked (insert xs at s) (bumped at ps ++ at ∷ []))) ≡ finmap.insert states s.key (value_at_key s)
 
 pub pushed : (given xs : List State) (ps : List ℕ) (bytes at v : ℕ) (s : State) (states : States) → IsBlock xs ps bytes → finmap.from_sorted {R = nat_cmp} (pairs (picked xs ps)) ≡ states

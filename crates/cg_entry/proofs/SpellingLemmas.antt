@@ -8,7 +8,7 @@ use Rattle.cg_entry.specs.Values.{EntryValue}
 use Rattle.cg_entry.specs.Entry.{newest, with_state}
 use Rattle.cg_entry.specs.Taking.{absorption, meeting, taken_or_gap}
 use Rattle.cg_types.specs.ListPlace.{at_place}
-use Rattle.cg_entry.specs.History.{Follows, Starts, Beats, Sets, IsHistory, generation_at, generation_of}
+use Rattle.cg_entry.specs.History.{Follows, Starts, Beats, Sets, Removes, IsHistory, generation_at, generation_of}
 use Rattle.cg_entry.specs.Place.{Span, IsSpan, SpanOutcome, Taken, Old, Gap, span_outcome}
 use Rattle.cg_entry.specs.Spelling.{version_of, version_at, absorbed_of}
 use Rattle.cg_entry.proofs.PlaceLemmas.{at_place_some, at_place_within, at_place_none}
@@ -17,14 +17,15 @@ use Rattle.cg_entry.proofs.TakingLemmas.{part, KeptAt, Kept, Renewed, whole_part
 
 -- ---- a key keeps its state until it is given another
 
-given_keeps : (key : ℕ) (text : List ℕ) (x y : EntryValue) (k : ℕ) → y ≡ with_state key text x → GivenAt key text x k → KeptAt x y k
+given_keeps : (key : ℕ) (text : Option (List ℕ)) (x y : EntryValue) (k : ℕ) → y ≡ with_state key text x → GivenAt key text x k → KeptAt x y k
 given_keeps key text x y k e (Here f) = Renewed (given key text x) (ap (λ (y : EntryValue). get y.states k) e ∙ f) (omega arith)
 given_keeps key text x y k e (Elsewhere f) = Kept (ap (λ (y : EntryValue). get y.states k) e ∙ f)
 
 follows_keeps : {x y : EntryValue} → Follows x y → x.generation ≡ y.generation → (k : ℕ) → KeptAt x y k
 follows_keeps (Starts g l e) same k = absurd (omega (arith, l, same, ap (λ (y : EntryValue). y.generation) e))
 follows_keeps (Beats e) same k = Kept (ap (λ (y : EntryValue). get y.states k) e)
-follows_keeps {x} {y} (Sets key text e) same k = given_keeps key text x y k e (given_at key text x k)
+follows_keeps {x} {y} (Sets key text e) same k = given_keeps key (Some text) x y k e (given_at key (Some text) x k)
+follows_keeps {x} {y} (Removes key stood e) same k = given_keeps key None x y k e (given_at key None x k)
 
 keeps_on : (x y z : EntryValue) (k : ℕ) → newest x ≤ newest y → KeptAt x y k → KeptAt y z k → KeptAt x z k
 keeps_on x y z k le (Kept e) (Kept f) = Kept (f ∙ e)

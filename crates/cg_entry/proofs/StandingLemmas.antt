@@ -1,14 +1,14 @@
--- After a beat or a set the version given is the newest.
-use Rattle.std.proofs.Common.{◌≡◌, ℕ, ◌+◌, List, sym, ap, ◌∙◌, Bool, true, false, cond}
+-- After a beat, a set or a removal the version given is the newest.
+use Rattle.std.proofs.Common.{◌≡◌, ℕ, ◌+◌, List, Option, sym, ap, ◌∙◌, Bool, true, false, cond}
 use Rattle.std.specs.Prelude.{Result, Ok, Err, nat_lt}
 use Rattle.std.specs.FinMap.{insert}
 use Rattle.cg_types.specs.declared.fault.Fault.{Fault}
 use Rattle.cg_types.specs.declared.fault.Fault.TheVariants.{VersionsSpent}
 use Rattle.cg_types.specs.declared.limits.TheConstants.{NUMBER_LIMIT}
 use Rattle.cg_version.specs.Version.{next_version}
-use Rattle.cg_entry.specs.Versioned.{Versioned, States}
+use Rattle.cg_entry.specs.Versioned.{States}
 use Rattle.cg_entry.specs.Values.{EntryValue}
-use Rattle.cg_entry.specs.Entry.{newest}
+use Rattle.cg_entry.specs.Entry.{newest, with_state}
 use Rattle.cg_entry.proofs.HistoryLemmas.{newest_beaten, newest_given}
 
 next_by : (b : Bool) (n v : ℕ) → cond {A = Result ℕ Fault} b (Ok n) (Err VersionsSpent) ≡ Ok v → v ≡ n
@@ -28,10 +28,11 @@ module _ (generation heartbeat last v : ℕ) (states : States) (e : EntryValue) 
       one_more ∙ sym (newest_beaten e)
       ∙ ap newest (ap (λ (n : ℕ). record { generation = e.generation; heartbeat = n; states = e.states }) (sym one_more) ∙ ap (λ (x : EntryValue). record { generation = x.generation; heartbeat = v; states = x.states }) (sym is))
 
-  pub set_stands : (key : ℕ) (text : List ℕ) (after : States) → after ≡ insert states key (record { text = text; version = v }) → v ≡ newest (record { generation = generation; heartbeat = heartbeat; states = after })
-  set_stands key text after put =
-      let given : ℕ → Versioned = λ n. record { text = text; version = n } in
-      one_more ∙ sym (newest_given key text e)
-      ∙ ap newest (ap (λ (n : ℕ). record { generation = e.generation; heartbeat = e.heartbeat; states = insert e.states key (given n) }) (sym one_more)
-      ∙ ap (λ (x : EntryValue). record { generation = x.generation; heartbeat = x.heartbeat; states = insert x.states key (given v) }) (sym is)
-      ∙ ap (λ (m : States). record { generation = generation; heartbeat = heartbeat; states = m }) (sym put))
+  -- a text or a tombstone with that version at a key
+  pub set_is : (key : ℕ) (text : Option (List ℕ)) (after : States) → after ≡ insert states key (record { text = text; version = v }) → record { generation = generation; heartbeat = heartbeat; states = after } ≡ with_state key text e
+  set_is key text after put =
+      ap (λ (m : States). record { generation = generation; heartbeat = heartbeat; states = m }) (put ∙ ap (λ (n : ℕ). insert states key (record { text = text; version = n })) one_more)
+      ∙ ap (λ (x : EntryValue). record { generation = x.generation; heartbeat = x.heartbeat; states = insert x.states key (record { text = text; version = newest e + 1 }) }) is
+
+  pub set_stands : (key : ℕ) (text : Option (List ℕ)) (after : States) → after ≡ insert states key (record { text = text; version = v }) → v ≡ newest (record { generation = generation; heartbeat = heartbeat; states = after })
+  set_stands key text after put = one_more ∙ sym (newest_given key text e) ∙ ap newest (sym (set_is key text after put))

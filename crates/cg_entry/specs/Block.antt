@@ -5,19 +5,20 @@
 -- their keys, and each goes behind all that are not newer, while its place goes behind the other places. When a front of
 -- the vector is dropped, the places that are left are still in the order of the keys. A state that is newer than all goes
 -- to the vector's end: the one that it replaces is taken out, and those behind that one move down by a place.
-use Rattle.std.specs.Prelude.{ℕ, suc, ◌≡◌, ◌-◌, ◌<◌, true, List, [], ◌∷◌, map, length, sum_by, nat_le, nat_lt, slice_index_or, if◌then◌else◌}
+use Rattle.std.specs.Prelude.{ℕ, suc, ◌≡◌, ◌-◌, ◌<◌, true, List, [], ◌∷◌, map, length, sum_by, nat_le, nat_lt, slice_index_or, None, if◌then◌else◌}
 use Rattle.std.specs.List.{filter, AllByRecursion}
 use Rattle.std.specs.List.Sorted.{IsNonDecreasingBy}
 use Rattle.cg_types.specs.Rising.{is_among}
 use Rattle.cg_entry.specs.declared.state.State.{State}
 use Rattle.cg_entry.specs.Contents.{IsState}
+use Rattle.cg_entry.specs.Entry.{text_size}
 use Rattle.std.specs.FinMap as finmap
 use Rattle.cg_entry.specs.State.{pairs, listed_bytes, value_at_key, KeysRise}
 use Rattle.cg_entry.specs.Versioned.{States}
 
 -- a state that no list holds
 abbrev pub no_state : State
-no_state = record { key = 0; version = 0; text = [] }
+no_state = record { key = 0; version = 0; text = None }
 
 -- the state at a place, counted from 0
 abbrev pub state_at : List State → ℕ → State
@@ -29,7 +30,7 @@ picked items places = map (state_at items) places
 
 -- the number of bytes of the texts at places
 abbrev pub bytes_at : List State → List ℕ → ℕ
-bytes_at items places = sum_by (λ p. length (state_at items p).text) places
+bytes_at items places = sum_by (λ p. text_size (state_at items p).text) places
 
 -- the places that are left once all before `from` are dropped
 abbrev pub lowered : ℕ → List ℕ → List ℕ

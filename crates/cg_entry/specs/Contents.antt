@@ -1,5 +1,5 @@
 -- The contents of entries and deltas: numbers in their ranges, and plain and short texts.
-use Rattle.std.specs.Prelude.{ℕ}
+use Rattle.std.specs.Prelude.{ℕ, IfSome}
 use Rattle.std.specs.List.{AllByRecursion}
 use Rattle.std.specs.FinMap as map
 use Rattle.cg_types.specs.Numbers.{IsGeneration, IsVersion, IsVersionHeld, IsKey}
@@ -8,11 +8,11 @@ use Rattle.cg_entry.specs.Values.{EntryValue, DeltaValue}
 use Rattle.cg_entry.specs.Versioned.{Versioned, States}
 use Rattle.cg_entry.specs.Entry.{IsDelta}
 
--- a state with its key
+-- a state with its key; a tombstone has no text
 pub record IsState (s : ℕ × Versioned) : Type 0 where
   pub key : IsKey s.0
   pub version : IsVersion s.1.version
-  pub text : IsStateText s.1.text
+  pub text : IfSome s.1.text IsStateText
 
 -- the states of a map
 abbrev pub AreStates : States → Type 0

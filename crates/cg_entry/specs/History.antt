@@ -1,14 +1,15 @@
 -- Histories: the entries of one owner, each following the one before.
-use Rattle.std.specs.Prelude.{◌≡◌, ℕ, suc, ◌<◌, List, Option, Some, None}
+use Rattle.std.specs.Prelude.{◌≡◌, ℕ, suc, ◌<◌, true, List, Option, Some, None}
 pub use Rattle.cg_types.specs.ListPlace.{at_place}
 use Rattle.cg_entry.specs.Values.{EntryValue}
-use Rattle.cg_entry.specs.Entry.{starting_entry, entry_after_beat, with_state}
+use Rattle.cg_entry.specs.Entry.{starting_entry, entry_after_beat, with_state, has_text}
 
--- Entry y may come next after x: the owner starts again, beats, or gives a key a text.
+-- Entry y may come next after x: the owner starts again, beats, gives a key a text, or removes a text that stands.
 pub data Follows (x y : EntryValue) : Type 0 where
   Starts : (generation : ℕ) → x.generation < generation → y ≡ starting_entry generation → Follows x y
   Beats : y ≡ entry_after_beat x → Follows x y
-  Sets : (key : ℕ) (text : List ℕ) → y ≡ with_state key text x → Follows x y
+  Sets : (key : ℕ) (text : List ℕ) → y ≡ with_state key (Some text) x → Follows x y
+  Removes : (key : ℕ) → has_text key x ≡ true → y ≡ with_state key None x → Follows x y
 
 -- The entries of one owner, oldest first: the first is a start, and each other follows the one before.
 pub record IsHistory (history : List EntryValue) : Type 0 where

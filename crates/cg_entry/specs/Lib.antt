@@ -7,6 +7,7 @@ pub mod Contents
 pub mod Held
 pub mod Block
 pub mod Newer
+pub mod Removals
 pub mod Taking
 pub mod History
 pub mod Place

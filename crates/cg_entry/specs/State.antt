@@ -8,14 +8,14 @@ use Rattle.cg_types.specs.Rising.{Rises, rise_past}
 use Rattle.cg_entry.specs.declared.state.State.{State}
 use Rattle.cg_entry.specs.Values.{DeltaValue}
 use Rattle.cg_entry.specs.Versioned.{Versioned}
-use Rattle.cg_entry.specs.Entry.{greatest}
+use Rattle.cg_entry.specs.Entry.{greatest, text_size}
 use Rattle.cg_entry.specs.Contents.{IsState}
 
--- the text and version held at a state's key
+-- the text, or its tombstone, and the version held at a state's key
 abbrev pub value_at_key : State → Versioned
 value_at_key s = record { text = s.text; version = s.version }
 
--- a state as its key and the text and version at it
+-- a state as its key and what is held at it
 abbrev pub pair : State → ℕ × Versioned
 pair s = (s.key, value_at_key s)
 
@@ -29,7 +29,7 @@ KeysRise items = Rises (map (λ s. s.key) items)
 
 -- the number of bytes of the texts of listed states
 abbrev pub listed_bytes : List State → ℕ
-listed_bytes items = sum_by (λ s. length s.text) items
+listed_bytes items = sum_by (λ s. text_size s.text) items
 
 -- The keys rise strictly, each state is in range, and the texts have that number of bytes.
 pub record IsStateList (items : List State) (bytes : ℕ) : Type 0 where

@@ -9,7 +9,7 @@ ghost use Rattle.std.specs.Ordering.{nat_cmp};
 ghost use Rattle.std.specs.List.{AllByRecursion, AllWithin};
 ghost use Rattle.std.specs.List.Sorted.{IsNonDecreasingBy};
 ghost use Rattle.cg_entry.specs.Contents.{AreStates, IsState};
-ghost use Rattle.cg_entry.specs.Entry.{greatest, newer_than, overlay, text_bytes as text_bytes_of};
+ghost use Rattle.cg_entry.specs.Entry.{greatest, newer_than, overlay, text_bytes as text_bytes_of, text_size as text_size_of};
 ghost use Rattle.cg_entry.specs.State.{IsStateList, KeysRise, pair, pairs, value_at_key};
 ghost use Rattle.cg_entry.specs.Versioned.{States};
 ghost use Rattle.cg_entry.specs.Block.{bytes_at, picked, put_all, state_at};
@@ -143,18 +143,23 @@ fn show_state(state: &State)
 {
     let _key = state.key.get();
     let _version = state.version.get();
-    let _text = state.text.as_str();
+    if let Some(text) = &state.text {
+        let _text = text.as_str();
+    }
 }
 
 fn text_size(state: &State) -> usize
-    ensures { result ≡ length state.now.text }
+    ensures { result ≡ text_size_of state.now.text }
 {
-    state.text.as_str().len()
+    match &state.text {
+        Some(text) => text.as_str().len(),
+        None => 0,
+    }
 }
 
 // The number of bytes of the text at a place; 0 at none.
 fn size_at(items: &[State], place: u8) -> usize
-    ensures { result ≡ length (state_at items.now place).text }
+    ensures { result ≡ text_size_of (state_at items.now place).text }
 {
     match items.get(place as usize) {
         Some(state) => text_size(state),

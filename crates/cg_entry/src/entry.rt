@@ -1,18 +1,20 @@
 //! Entries: all that is held of one endpoint.
 
-ghost use Rattle.std.specs.Prelude.{◌≡◌, ◌↔◌, true, IsTrue, IfOk, IfErr, OnOk, OnErr, IsOk, Some, None, Ok, option_copied, slice_get, length, ◌<◌};
+ghost use Rattle.std.specs.Prelude.{◌≡◌, ◌↔◌, true, IsTrue, IfOk, IfErr, OnOk, OnErr, IsOk, Some, None, Ok, option_copied, is_some, length};
 ghost use Rattle.std.specs.FinMap as map;
 ghost use Rattle.std.specs.Option.{option_map};
 ghost use Rattle.cg_types.specs.Answer.{Answers, AnswersExactly};
 ghost use Rattle.cg_version.specs.Version.{next_version};
 ghost use Rattle.cg_entry.specs.Contents.{IsEntry};
-ghost use Rattle.cg_entry.specs.Entry.{newest, newer_than, delta_above, starting_entry, entry_after_beat, with_state, is_later as is_later_of};
-ghost use Rattle.cg_entry.specs.State.{pair};
+ghost use Rattle.cg_entry.specs.Entry.{newest, newer_than, overlay, delta_above, starting_entry, entry_after_beat, with_state, has_text as has_text_of, text_standing, removal_of, is_later as is_later_of};
+ghost use Rattle.cg_entry.specs.State.{value_at_key};
 ghost use Rattle.cg_entry.specs.Taking.{whole_entry, taken_or_gap, advanced_entry, absorption, is_taken, meeting as met_of, IsTakenEntry, IfTaken};
 
-use crate::by_key::ByKey;
+use crate::block::Block;
 use crate::delta::Delta;
 use crate::held::Held;
+use crate::lent::LentStates;
+use crate::removals::Removals;
 use crate::state::State;
 use cg_types::{Fault, Generation, StateKey, StateText, Version};
 use cg_version::Versions;
@@ -28,21 +30,28 @@ pub struct Entry {
     // The greatest version of all, so that a digest costs no walk over the states.
     newest: Version,
     states: Held,
+    // The removals since the block of states was made, beside it.
+    removals: Removals,
 }
 
 impl Model for Entry {
     ghost use Rattle.cg_entry.specs.Values.{EntryValue, entry_code};
+    ghost use Rattle.cg_entry.specs.Removals.{with_tombstones};
 
     ghost Value = { EntryValue };
 
     ghost coded = { entry_code };
 
-    ghost view = { λ e. record { generation = e.generation; heartbeat = e.heartbeat; states = e.states } };
+    ghost view = { λ e. record {
+      generation = e.generation;
+      heartbeat = e.heartbeat;
+      states = with_tombstones e.removals e.states;
+    } };
 
     ghost use Rattle.std.specs.Prelude.{◌≡◌};
     ghost use Rattle.cg_entry.specs.Entry.{greatest};
 
-    ghost invariant = { λ e. e.newest ≡ greatest e.heartbeat e.states };
+    ghost invariant = { λ e. e.newest ≡ greatest e.heartbeat (with_tombstones e.removals e.states) };
 }
 
 /// The outcome of a delta: the entry that it led to, or why it was not taken. `Old` brings nothing new; at a `Gap` the
@@ -76,8 +85,9 @@ fn outcome_of(alloc: Global, held: Option<&Entry>, delta: &Delta) -> Result<Abso
 }
 
 /// Meets a delta with what is held of its endpoint, if anything is, and returns the outcome. Texts are shared. The
-/// block of states is the entry's if the delta brings no state. It is the delta's if the delta brings each key that
-/// the entry has. `AllocError` only if the delta is to be taken and a new block finds no memory.
+/// block of states is the entry's if the delta brings no state and the entry has no removal beside its block. It is the
+/// delta's if the delta brings each key that the entry has. `AllocError` only if the delta is to be taken and a new block
+/// finds no memory.
 pub fn meet(alloc: Global, held: Option<&Entry>, delta: &Delta) -> Result<Absorbed, AllocError>
     ensures value { IfOk result (λ a. a ≡ met_of (option_copied held.entry) delta.now) }
     ensures each { IfOk result (λ a. IfTaken a (IsTakenEntry (option_copied held.entry) delta.now)) }
@@ -103,6 +113,7 @@ impl Entry {
             heartbeat,
             newest,
             states,
+            removals: Removals::none(),
         }
     }
 
@@ -132,7 +143,7 @@ impl Entry {
     {
         let version = versions.next()?;
         self.heartbeat = version;
-        self.newest = self.states.greatest(version);
+        self.newest = version;
         Ok(version)
     }
 
@@ -146,7 +157,7 @@ impl Entry {
     ) -> Result<Version, Fault>
         requires { versions.old ≡ newest self.old }
         ensures version { Answers (λ v. v) (next_version (newest self.old)) result }
-        ensures ok { OnOk result (self.new ≡ with_state key text self.old) }
+        ensures ok { OnOk result (self.new ≡ with_state key (Some text) self.old) }
         ensures given { IfOk result (λ v. versions.new ≡ v) }
         ensures stands { versions.new ≡ newest self.new }
         ensures err { OnErr result (self.new ≡ self.old) }
@@ -154,19 +165,66 @@ impl Entry {
     {
         let mut after = *versions;
         let version = after.next()?;
-        self.states.put(State { key, version, text })?;
-        self.newest = self.states.greatest(self.heartbeat);
+        let text = Some(text);
+        let states = self.with(State { key, version, text })?;
+        self.states = states;
+        self.removals = Removals::none();
+        self.newest = version;
         *versions = after;
         Ok(version)
     }
 
-    /// The text of a key and the version that set it, if it was set.
-    pub fn get(&self, key: StateKey) -> Option<(&StateText, Version)>
-        ensures { option_map (λ s. record { text = s.0.now; version = s.1 }) result ≡ map.get self.now.states key }
+    /// Removes the text of a key: it puts a tombstone in its place, with the next version. `NoSuchKey` if the key has no
+    /// text, else `VersionsSpent` if there is no next version; the entry and the versions then stay unchanged. No other
+    /// refusal comes: it takes no memory.
+    pub fn remove(&mut self, versions: &mut Versions, key: StateKey) -> Result<Version, Fault>
+        requires { versions.old ≡ newest self.old }
+        ensures version { AnswersExactly (λ v. v) (removal_of key self.old) result }
+        ensures ok { OnOk result (self.new ≡ with_state key None self.old) }
+        ensures given { IfOk result (λ v. versions.new ≡ v) }
+        ensures stands { versions.new ≡ newest self.new }
+        ensures err { OnErr result (self.new ≡ self.old) }
+        ensures kept { OnErr result (versions.new ≡ versions.old) }
     {
-        match self.states.get(key) {
-            Some(state) => Some((&state.text, state.version)),
-            None => None,
+        if !self.has_text(key) {
+            return Err(Fault::NoSuchKey);
+        }
+        let version = versions.next()?;
+        self.removals.put(key, version);
+        self.newest = version;
+        Ok(version)
+    }
+
+    /// The text of a key and the version that set it; `None` if it was never set, or was removed since.
+    pub fn get(&self, key: StateKey) -> Option<(&StateText, Version)>
+        ensures value { option_map (λ s. record { text = Some s.0.now; version = s.1 }) result
+            ≡ text_standing (map.get self.now.states key) }
+        ensures text { is_some result ≡ has_text_of key self.now }
+    {
+        match self.state(key) {
+            Some((Some(text), version)) => Some((text, version)),
+            _ => None,
+        }
+    }
+
+    fn has_text(&self, key: StateKey) -> bool
+        ensures { result ≡ has_text_of key self.now }
+    {
+        self.get(key).is_some()
+    }
+
+    /// The text of a key and the version that set it, if it was ever set. A tombstone has no text, and its version is that
+    /// of the removal.
+    pub fn state(&self, key: StateKey) -> Option<(Option<&StateText>, Version)>
+        ensures { option_map (λ s. record { text = option_copied s.0; version = s.1 }) result
+            ≡ map.get self.now.states key }
+    {
+        let Some(state) = self.states.get(key) else {
+            return None;
+        };
+        match self.removals.get(key) {
+            Some(version) => Some((None, version)),
+            None => Some((state.text.as_ref(), state.version)),
         }
     }
 
@@ -178,21 +236,88 @@ impl Entry {
         let _generation = self.generation.get();
         let _heartbeat = self.heartbeat.get();
         self.states.show();
+        self.removals.show();
         self.states.len()
     }
 
     /// The states, in the order of their keys.
-    pub fn by_key(&self) -> ByKey<'_>
+    pub fn by_key(&self) -> LentStates<'_>
         ensures { result ≡ map.entries self.now.states }
     {
-        self.states.by_key()
+        LentStates::under(self.states.by_key(), &self.removals)
+    }
+
+    // A block of the states newer than a version, the removals among them. Without such a state it takes no memory.
+    fn newer_block(&self, alloc: Global, above: u32) -> Result<Block, AllocError>
+        ensures value { IfOk result (λ b. b ≡ newer_than above self.now.states) }
+        ensures bare { newer_than above self.now.states ≡ map.empty → IsOk result }
+    {
+        let states = self.by_key();
+        let mut block = Block::empty(alloc);
+        for number in 0..states.len() {
+            let (_key, _text, version) = states.at(number);
+            if above < version.get() {
+                block.push(states.copy_at(number)?)?;
+            }
+        }
+        Ok(block)
+    }
+
+    // The states newer than a version.
+    fn newer(&self, alloc: Global, above: u32) -> Result<Held, AllocError>
+        ensures value { IfOk result (λ h. h ≡ newer_than above self.now.states) }
+        ensures bare { newer_than above self.now.states ≡ map.empty → IsOk result }
+    {
+        if self.removals.is_none() {
+            return self.states.newer_than(alloc, above);
+        }
+        Held::of_any(alloc, self.newer_block(alloc, above)?)
+    }
+
+    // All states, the removals among them, in a block of their own.
+    fn settled(&self, alloc: Global) -> Result<Held, AllocError>
+        ensures { IfOk result (λ h. h ≡ self.now.states) }
+    {
+        let _count = self.count();
+        let block = self.newer_block(alloc, 0)?;
+        Held::of(alloc, block)
+    }
+
+    // The states with another one put, in place of one with its key, in a block of their own.
+    fn with(&self, state: State) -> Result<Held, AllocError>
+        ensures { IfOk result (λ h. h ≡ map.insert self.now.states state.key (value_at_key state)) }
+    {
+        let alloc = self.states.allocator()?;
+        if self.removals.is_none() {
+            return Held::of(alloc, self.states.with(alloc, state)?);
+        }
+        Held::of(alloc, self.settled(alloc)?.with(alloc, state)?)
+    }
+
+    // The states with those of a delta over them.
+    fn overlaid(&self, alloc: Global, newer: &Held) -> Result<Held, AllocError>
+        ensures { IfOk result (λ h. h ≡ overlay self.now.states newer.now) }
+    {
+        if self.removals.is_none() {
+            return self.states.overlay(alloc, newer);
+        }
+        self.settled(alloc)?.overlay(alloc, newer)
+    }
+
+    fn has_same_states(&self, other: &Entry) -> bool
+        ensures { IsTrue result ↔ (self.now.states ≡ other.now.states) }
+    {
+        if self.removals.is_none() && other.removals.is_none() {
+            return self.states.is_same(&other.states);
+        }
+        self.by_key().are_same(&other.by_key())
     }
 
     // The entry with a delta of its generation.
     fn advance(&self, alloc: Global, delta: &Delta) -> Result<Entry, AllocError>
         ensures { IfOk result (λ e. e ≡ advanced_entry self.now delta.now) }
     {
-        let states = self.states.overlay(alloc, delta.held())?;
+        let states = self.overlaid(alloc, delta.held())?;
         Ok(Entry::of_parts(self.generation, delta.heartbeat(), states))
     }
 
@@ -252,7 +377,7 @@ impl Entry {
     {
         other.generation == self.generation
             && self.heartbeat == other.heartbeat
-            && self.states.is_same(&other.states)
+            && self.has_same_states(other)
     }
 
     /// Tests whether the entry is later than another of this endpoint: of a greater generation, or of the same one with
@@ -265,8 +390,8 @@ impl Entry {
     }
 
     /// Returns the delta that a holder of this generation at version `above` lacks; 0 represents a holder of nothing.
-    /// `None` if it lacks nothing. If it lacks all states, the delta shares their list; else `AllocError` if a list of
-    /// newer states finds no memory.
+    /// `None` if it lacks nothing. If it lacks all states, and no removal is beside their block, the delta shares that;
+    /// else `AllocError` if a block of newer states finds no memory.
     pub fn above(&self, alloc: Global, above: u32) -> Result<Option<Delta>, AllocError>
         ensures value { IfOk result (λ d. d ≡ delta_above above self.now) }
         ensures none { delta_above above self.now ≡ None → result ≡ Ok None }
@@ -276,7 +401,7 @@ impl Entry {
         if self.newest().get() <= above {
             return Ok(None);
         }
-        let states = self.states.newer_than(alloc, above)?;
+        let states = self.newer(alloc, above)?;
         Ok(Some(Delta::of_parts(self.generation, above, self.heartbeat, states)))
     }
 
@@ -289,6 +414,7 @@ impl Entry {
             heartbeat: self.heartbeat,
             newest: self.newest,
             states: self.states.copy(alloc)?,
+            removals: self.removals.copy(),
         })
     }
 }

@@ -66,7 +66,7 @@ impl Held {
         Held::own(States::empty(alloc))
     }
 
-    fn of(alloc: Global, block: Block) -> Result<Held, AllocError>
+    pub(crate) fn of(alloc: Global, block: Block) -> Result<Held, AllocError>
         ensures { IfOk result (λ h. h ≡ block) }
     {
         Ok(Held {
@@ -74,7 +74,18 @@ impl Held {
         })
     }
 
-    fn allocator(&self) -> Result<Global, AllocError> {
+    // The same, but a block without states takes no memory.
+    pub(crate) fn of_any(alloc: Global, block: Block) -> Result<Held, AllocError>
+        ensures value { IfOk result (λ h. h ≡ block) }
+        ensures bare { block ≡ map.empty → IsOk result }
+    {
+        if block.len() == 0 {
+            return Ok(Held::none(alloc));
+        }
+        Held::of(alloc, block)
+    }
+
+    pub(crate) fn allocator(&self) -> Result<Global, AllocError> {
         match &self.kept {
             Kept::Own(states) => states.allocator(),
             Kept::Shared(block) => block.deref().allocator(),
@@ -242,7 +253,7 @@ impl Held {
     }
 
     // A block of these with a state put: copied, if the state is newer than each.
-    fn with(&self, alloc: Global, state: State) -> Result<Block, AllocError>
+    pub(crate) fn with(&self, alloc: Global, state: State) -> Result<Block, AllocError>
         ensures { IfOk result (λ b. b ≡ map.insert self.now state.key (value_at_key state)) }
     {
         match &self.kept {
@@ -287,16 +298,6 @@ impl Held {
             }),
             None => Held::of(alloc, self.laid_under(alloc, newer)?),
         }
-    }
-
-    // Puts a state, in place of one with its key, into a block of its own.
-    pub(crate) fn put(&mut self, state: State) -> Result<(), AllocError>
-        ensures ok { OnOk result (self.new ≡ map.insert self.old state.key (value_at_key state)) }
-        ensures err { OnErr result (self.new ≡ self.old) }
-    {
-        let alloc = self.allocator()?;
-        *self = Held::of(alloc, self.with(alloc, state)?)?;
-        Ok(())
     }
 
     // The states with a version greater than `above`. If none is, it takes no memory; if each is, a block is shared.

@@ -8,7 +8,7 @@ ghost use Rattle.cg_entry.specs.Laws.{
   VersionsNameEntries,
 };
 
-/// Starts, heartbeats and sets make histories.
+/// Starts, heartbeats, sets and removals make histories.
 pub fn histories_grow()
     ensures { HistoriesGrow }
 {}

@@ -14,7 +14,9 @@ mod entry;
 mod held;
 /// Laws of histories and deltas.
 pub mod laws;
+mod lent;
 mod places;
+mod removals;
 mod state;
 mod states;
 mod took;
@@ -23,5 +25,6 @@ pub use by_key::ByKey;
 pub use delta::Delta;
 pub use digest::Digest;
 pub use entry::{Absorbed, Entry, meet};
+pub use lent::LentStates;
 pub use state::State;
 pub use took::Took;

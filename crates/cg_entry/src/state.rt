@@ -1,16 +1,27 @@
 //! One state of an endpoint.
 
-ghost use Rattle.std.specs.Prelude.{◌≡◌, IfOk};
+ghost use Rattle.std.specs.Prelude.{◌≡◌, IfOk, option_copied};
 
 use cg_types::{StateKey, StateText, Version};
 use std::alloc::AllocError;
 
-/// A state: a key's text, and the version that set it (Apache Cassandra's `VersionedValue` at its `ApplicationState`).
+/// A state: a key's text, and the version that set it (Apache Cassandra's `VersionedValue` at its `ApplicationState`). A
+/// state without a text is a tombstone: with that version the key's text was removed.
 #[derive(Debug, Drop, PartialEq, Eq)]
 pub struct State {
     pub key: StateKey,
     pub version: Version,
-    pub text: StateText,
+    pub text: Option<StateText>,
+}
+
+// The same text, shared; none of a tombstone.
+pub(crate) fn copy_of(text: Option<&StateText>) -> Result<Option<StateText>, AllocError>
+    ensures { IfOk result (λ t. t ≡ option_copied text.entry) }
+{
+    match text {
+        Some(text) => Ok(Some(text.copy()?)),
+        None => Ok(None),
+    }
 }
 
 impl State {
@@ -21,7 +32,7 @@ impl State {
         Ok(State {
             key: self.key,
             version: self.version,
-            text: self.text.copy()?,
+            text: copy_of(self.text.as_ref())?,
         })
     }
 }

@@ -6,7 +6,7 @@ ghost use Rattle.std.specs.Option.{option_map};
 ghost use Rattle.std.specs.List.{AllByRecursion};
 ghost use Rattle.std.specs.List.Sorted.{IsNonDecreasingBy};
 ghost use Rattle.cg_entry.specs.Contents.{IsState, AreStates};
-ghost use Rattle.cg_entry.specs.Entry.{greatest, newer_than, overlay, text_bytes as text_bytes_of};
+ghost use Rattle.cg_entry.specs.Entry.{greatest, newer_than, overlay, text_bytes as text_bytes_of, text_size as text_size_of};
 ghost use Rattle.cg_entry.specs.State.{KeysRise, keys_rise as keys_rise_of, pair, pairs, listed_bytes, value_at_key};
 ghost use Rattle.cg_entry.specs.Versioned.{States as Map};
 ghost use Rattle.cg_entry.specs.Block.{put_all};
@@ -69,7 +69,9 @@ fn show_state(state: &State)
 {
     let _key = state.key.get();
     let _version = state.version.get();
-    let _text = state.text.as_str();
+    if let Some(text) = &state.text {
+        let _text = text.as_str();
+    }
 }
 
 fn show_states(items: &[State])
@@ -81,9 +83,12 @@ fn show_states(items: &[State])
 }
 
 fn text_size(state: &State) -> usize
-    ensures { result ≡ length state.now.text }
+    ensures { result ≡ text_size_of state.now.text }
 {
-    state.text.as_str().len()
+    match &state.text {
+        Some(text) => text.as_str().len(),
+        None => 0,
+    }
 }
 
 fn size_of_texts(items: &[State]) -> usize

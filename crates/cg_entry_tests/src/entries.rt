@@ -11,14 +11,23 @@ use std::test::Fail;
 
 // ---- states and deltas
 
-fn parts_of_state(state: &State) -> (u8, u32, &str) {
-    (state.key.get(), state.version.get(), state.text.as_str())
+// The text of a state; none of a tombstone.
+fn text_of(text: Option<&StateText>) -> Option<&str> {
+    match text {
+        Some(text) => Some(text.as_str()),
+        None => None,
+    }
+}
+
+fn parts_of_state(state: &State) -> (u8, u32, Option<&str>) {
+    let text = text_of(state.text.as_ref());
+    (state.key.get(), state.version.get(), text)
 }
 
 #[test]
 fn a_state_is_copied(rt: HostRuntime) -> Result<(), Fail> {
     let copy = state(rt.alloc(), 2, 4, "N")?.copy()?;
-    expect_eq!(parts_of_state(&copy), (2, 4, "N"))
+    expect_eq!(parts_of_state(&copy), (2, 4, Some("N")))
 }
 
 fn one_state(alloc: Global, key: u8, at: u32) -> Result<Vec<State>, Fail> {
@@ -222,18 +231,19 @@ fn a_set_and_a_beat(rt: HostRuntime) -> Result<(), Fail> {
 }
 
 // The key, version and text of the only state.
-fn only_state(entry: &Entry) -> Option<(u8, u32, &str)> {
+fn only_state(entry: &Entry) -> Option<(u8, u32, Option<&str>)> {
     let states = entry.by_key();
     if states.len() != 1 {
         return None;
     }
-    Some(parts_of_state(states.at(0)))
+    let (key, text, version) = states.at(0);
+    Some((key.get(), version.get(), text_of(text)))
 }
 
 #[test]
 fn states_are_listed(rt: HostRuntime) -> Result<(), Fail> {
     let entry = set_and_beaten(rt.alloc())?;
-    expect_eq!(only_state(&entry), Some((1, 2, "NORMAL")))
+    expect_eq!(only_state(&entry), Some((1, 2, Some("NORMAL"))))
 }
 
 // The parts of an entry's delta above a version.

@@ -5,6 +5,8 @@
 #[cfg(test)]
 mod entries;
 #[cfg(test)]
+mod removals;
+#[cfg(test)]
 mod types;
 #[cfg(test)]
 mod versions;

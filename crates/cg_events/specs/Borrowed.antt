@@ -11,6 +11,7 @@ use Rattle.cg_events.specs.declared.lent.LentEvent.TheVariants as lent
 abbrev pub lent_event : LentEvent → Event
 lent_event lent.Beat = event.Beat
 lent_event (lent.Set key text) = event.Set key.now text.now
+lent_event (lent.Remove key) = event.Remove key.now
 lent_event (lent.Tick now words) = event.Tick now words
 lent_event lent.Opening = event.Opening
 lent_event (lent.Syn m) = event.Syn m.now

@@ -16,16 +16,17 @@ use Rattle.cg_events.specs.Codes.{outcomes_code}
 -- ---- events
 
 abbrev EventContent : Type 0
-EventContent = ℕ ⊎ ((ℕ × List ℕ) ⊎ ((ℕ × List ℕ) ⊎ (ℕ ⊎ (SynValue ⊎ ((ℕ × AckValue) ⊎ (ℕ × Ack2Value))))))
+EventContent = ℕ ⊎ ((ℕ × List ℕ) ⊎ ((ℕ × List ℕ) ⊎ (ℕ ⊎ (SynValue ⊎ ((ℕ × AckValue) ⊎ ((ℕ × Ack2Value) ⊎ ℕ))))))
 
 abbrev content_of_event : Event → EventContent
 content_of_event event.Beat = inl 0
 content_of_event (event.Set key text) = inr (inl (key, text))
+content_of_event (event.Remove key) = inr (inr (inr (inr (inr (inr (inr key))))))
 content_of_event (event.Tick now words) = inr (inr (inl (now, words)))
 content_of_event event.Opening = inr (inr (inr (inl 0)))
 content_of_event (event.Syn m) = inr (inr (inr (inr (inl m))))
 content_of_event (event.Ack now m) = inr (inr (inr (inr (inr (inl (now, m))))))
-content_of_event (event.Ack2 now m) = inr (inr (inr (inr (inr (inr (now, m))))))
+content_of_event (event.Ack2 now m) = inr (inr (inr (inr (inr (inr (inl (now, m)))))))
 
 abbrev event_of : EventContent → Event
 event_of (inl _) = event.Beat
@@ -34,11 +35,13 @@ event_of (inr (inr (inl p))) = event.Tick p.0 p.1
 event_of (inr (inr (inr (inl _)))) = event.Opening
 event_of (inr (inr (inr (inr (inl m))))) = event.Syn m
 event_of (inr (inr (inr (inr (inr (inl p)))))) = event.Ack p.0 p.1
-event_of (inr (inr (inr (inr (inr (inr p)))))) = event.Ack2 p.0 p.1
+event_of (inr (inr (inr (inr (inr (inr (inl p))))))) = event.Ack2 p.0 p.1
+event_of (inr (inr (inr (inr (inr (inr (inr key))))))) = event.Remove key
 
 pub event_of_its_content : (e : Event) → event_of (content_of_event e) ≡ e
 event_of_its_content event.Beat = refl
 event_of_its_content (event.Set key text) = refl
+event_of_its_content (event.Remove key) = refl
 event_of_its_content (event.Tick now words) = refl
 event_of_its_content event.Opening = refl
 event_of_its_content (event.Syn m) = refl
@@ -50,7 +53,8 @@ event_content_code =
     coded⊎ coded_ℕ
     (coded⊎ (coded× coded_ℕ (coded_list coded_ℕ))
     (coded⊎ (coded× coded_ℕ (coded_list coded_ℕ))
-    (coded⊎ coded_ℕ (coded⊎ syn_code (coded⊎ (coded× coded_ℕ ack_code) (coded× coded_ℕ ack2_code))))))
+    (coded⊎ coded_ℕ
+    (coded⊎ syn_code (coded⊎ (coded× coded_ℕ ack_code) (coded⊎ (coded× coded_ℕ ack2_code) coded_ℕ))))))
 
 abbrev pub event_code : Coded Event
 event_code = code_by EventContent event_content_code content_of_event event_of event_of_its_content

@@ -8,6 +8,7 @@ use Rattle.cg_events.specs.declared.event.Event.TheVariants as event
 abbrev pub deltas_in : Event → List OwnerDelta
 deltas_in event.Beat = []
 deltas_in (event.Set key text) = []
+deltas_in (event.Remove key) = []
 deltas_in (event.Tick now words) = []
 deltas_in event.Opening = []
 deltas_in (event.Syn syn) = []

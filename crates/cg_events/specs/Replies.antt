@@ -44,6 +44,7 @@ IsTook r = ⊥
 abbrev pub IsReplyTo : Event → Reply → Type 0
 IsReplyTo event.Beat r = IsDone r
 IsReplyTo (event.Set key text) r = IsDone r
+IsReplyTo (event.Remove key) r = IsDone r
 IsReplyTo (event.Tick now words) r = IsRound r
 IsReplyTo event.Opening r = IsSyn r
 IsReplyTo (event.Syn m) r = IsAck r

@@ -14,6 +14,8 @@ pub enum Event {
     Beat,
     /// One of the node's own keys is to get a text.
     Set { key: StateKey, text: StateText },
+    /// The text of one of the node's own keys is to be removed.
+    Remove { key: StateKey },
     /// It is time for a round: a beat, and a SYN for peers that are chosen with four random words.
     Tick { now: u64, words: [u64; 4] },
     /// A SYN is wanted, with no beat and for nobody in particular.
@@ -43,6 +45,7 @@ impl PartialEq for Event {
             (Event::Set { key: a, text: s }, Event::Set { key: b, text: t }) => {
                 a == b && same_text(s, t)
             }
+            (Event::Remove { key: a }, Event::Remove { key: b }) => a == b,
             (Event::Tick { now: a, words: s }, Event::Tick { now: b, words: t }) => {
                 a == b && same_words(s, t)
             }
@@ -75,6 +78,7 @@ impl Event {
                 key: *key,
                 text: text.copy()?,
             },
+            Event::Remove { key } => Event::Remove { key: *key },
             Event::Tick { now, words } => Event::Tick {
                 now: *now,
                 words: *words,

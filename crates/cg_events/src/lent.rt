@@ -16,6 +16,9 @@ pub enum LentEvent<'a> {
         key: &'a StateKey,
         text: &'a StateText,
     },
+    Remove {
+        key: &'a StateKey,
+    },
     Tick {
         now: u64,
         words: [u64; 4],
@@ -55,6 +58,7 @@ impl Event {
         match self {
             Event::Beat => LentEvent::Beat,
             Event::Set { key, text } => LentEvent::Set { key, text },
+            Event::Remove { key } => LentEvent::Remove { key },
             Event::Tick { now, words } => LentEvent::Tick {
                 now: *now,
                 words: *words,

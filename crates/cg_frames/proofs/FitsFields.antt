@@ -1,5 +1,5 @@
 -- Messages that a layout can spell, field by field, as reading meets them.
-use Rattle.std.specs.Prelude.{ℕ, ◌≡◌, ◌<◌, ◌≤◌, ◌^◌, true, List, length}
+use Rattle.std.specs.Prelude.{ℕ, ◌≡◌, ◌<◌, ◌≤◌, ◌^◌, true, List, length, Option, Some, None}
 use Rattle.std.specs.List.{AllByRecursion}
 use Rattle.std.specs.FinMap as map
 use Rattle.cg_types.specs.Numbers.{IsEndpoint, IsGeneration, IsVersion, IsVersionHeld, IsKey}
@@ -15,13 +15,17 @@ use Rattle.cg_messages.specs.Members.{endpoints_of_digests, endpoints_of_request
 use Rattle.cg_messages.specs.Contents.{IsDigest, IsRequest}
 use Rattle.cg_frames.specs.declared.layout.Layout.{Layout}
 
+-- a plain and short text, or a tombstone, if the layout has them
+abbrev pub FitsValue : Layout → Option (List ℕ) → Type 0
+FitsValue layout (Some text) = (plain text ≡ true) × (length text ≤ layout.text)
+FitsValue layout None = layout.tombstones ≡ true
+
 -- a state of a delta above a version
 pub record FitsState (layout : Layout) (above : ℕ) (s : ℕ × Versioned) : Type 0 where
   pub key : IsKey s.0
   pub version : IsVersion s.1.version
   pub newer : above < s.1.version
-  pub is_plain : plain s.1.text ≡ true
-  pub short : length s.1.text ≤ layout.text
+  pub value : FitsValue layout s.1.text
 
 -- The keys of a finite map rise; with their range there are no more states than keys.
 pub record FitsDelta (layout : Layout) (d : OwnerDelta) : Type 0 where

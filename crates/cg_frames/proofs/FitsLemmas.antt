@@ -1,7 +1,8 @@
 -- Properties of list members, one by one, and messages that fit.
-use Rattle.std.proofs.Common.{◌≡◌, ℕ, ◌≤◌, Bool, true, false, cond, List, [], ◌∷◌, length, map, refl, sym, ap, ◌∙◌, arith}
+use Rattle.std.proofs.Common.{◌≡◌, ℕ, ◌≤◌, Bool, true, false, cond, List, [], ◌∷◌, length, map, Option, Some, None, IfSome, refl, sym, ap, ◌∙◌, arith}
 use Rattle.std.specs.Prelude.{nat_lt}
-use Rattle.cg_types.specs.declared.limits.TheConstants.{TEXT_LIMIT, STATE_LIMIT}
+use Rattle.cg_types.specs.declared.limits.TheConstants.{STATE_LIMIT}
+use Rattle.cg_types.specs.Text.{IsStateText}
 use Rattle.cg_types.proofs.RisingLemmas.{rise_sorted}
 use Rattle.std.specs.List.{AllByRecursion, filter}
 use Rattle.std.specs.FinMap.{entries, entries_sorted, from_sorted, entries-from_sorted, same_entries_map}
@@ -22,8 +23,8 @@ use Rattle.cg_messages.specs.Messages.{IsMessage}
 pub use Rattle.cg_entry.proofs.ContentLemmas.{all_pairs}
 use Rattle.cg_frames.specs.declared.layout.Layout.{Layout}
 use Rattle.cg_frames.specs.Layouts.{IsRead, IsWritten}
-use Rattle.cg_frames.specs.Fits.{AreFew, HasShortTexts, AreWithin, Fits}
-use Rattle.cg_frames.proofs.FitsFields.{FitsState, FitsDelta, FitsMembers, FitsFields}
+use Rattle.cg_frames.specs.Fits.{IsShort, AreFew, HasShortTexts, AreWithin, Fits}
+use Rattle.cg_frames.proofs.FitsFields.{FitsValue, FitsState, FitsDelta, FitsMembers, FitsFields}
 use Rattle.cg_frames.proofs.SpelledIsReadLemmas.{length_keys}
 use Rattle.cg_entry.proofs.FewLemmas.{states_few}
 
@@ -35,10 +36,14 @@ few_entries d is =
 
 -- ---- a layout that allows what messages hold can spell each of them
 
+text_short : (layout : Layout) → IsWritten layout → (o : Option (List ℕ)) → IfSome o IsStateText → IsShort layout o
+text_short layout written None is = written.tombstones
+text_short layout written (Some t) is = omega (arith, is.fits, written.text)
+
 texts_short : (layout : Layout) → IsWritten layout → (es : List (ℕ × Versioned)) → AllByRecursion IsState es
-    → AllByRecursion (λ (s : ℕ × Versioned). length s.1.text ≤ layout.text) es
+    → AllByRecursion (λ (s : ℕ × Versioned). IsShort layout s.1.text) es
 texts_short layout written [] all = tt
-texts_short layout written (s ∷ es) all = (omega (arith, all.0.text.fits, written.text), texts_short layout written es all.1)
+texts_short layout written (s ∷ es) all = (text_short layout written s.1.text all.0.text, texts_short layout written es all.1)
 
 deltas_short : (layout : Layout) → IsWritten layout → (ds : List OwnerDelta) → AllByRecursion IsOwnerDelta ds → AllByRecursion (HasShortTexts layout) ds
 deltas_short layout written [] all = tt
@@ -83,13 +88,17 @@ kept p x xs e = elim (p x) as (λ b. cond b (x ∷ filter p xs) (filter p xs) �
   | false ↦ λ e. absurd (omega (arith, filtered p xs, ap length e))
 ] e
 
+value_fields : (layout : Layout) (o : Option (List ℕ)) → IfSome o IsStateText → IsShort layout o → FitsValue layout o
+value_fields layout None is short = short
+value_fields layout (Some t) is short = (is.is_plain, short)
+
 -- the states of a delta, each of which is above the version that the delta is above
 states_fields : (layout : Layout) (above : ℕ) (es : List (ℕ × Versioned)) → filter (λ s. nat_lt above s.1.version) es ≡ es → AllByRecursion IsState es
-    → AllByRecursion (λ (s : ℕ × Versioned). length s.1.text ≤ layout.text) es → AllByRecursion (FitsState layout above) es
+    → AllByRecursion (λ (s : ℕ × Versioned). IsShort layout s.1.text) es → AllByRecursion (FitsState layout above) es
 states_fields layout above [] e all short = tt
 states_fields layout above (s ∷ es) e all short =
     let k = kept (λ (s : ℕ × Versioned). nat_lt above s.1.version) s es e in
-    (record { key = all.0.key; version = all.0.version; newer = ltb-true above s.1.version k.0; is_plain = all.0.text.is_plain; short = short.0 }, states_fields layout above es k.1 all.1 short.1)
+    (record { key = all.0.key; version = all.0.version; newer = ltb-true above s.1.version k.0; value = value_fields layout s.1.text all.0.text short.0 }, states_fields layout above es k.1 all.1 short.1)
 
 delta_fields : (layout : Layout) (d : OwnerDelta) → IsOwnerDelta d → HasShortTexts layout d → FitsDelta layout d
 delta_fields layout d is short =
@@ -143,15 +152,22 @@ newer_all layout above m all =
     ap (λ (es : List (ℕ × Versioned)). from_sorted {R = nat_cmp} es) (all_kept layout above (entries m) all)
     ∙ same_entries_map (from_sorted {R = nat_cmp} (entries m)) m (entries-from_sorted nat_cmp (entries m) (entries_sorted m))
 
+value_is : (layout : Layout) → IsRead layout → (o : Option (List ℕ)) → FitsValue layout o → IfSome o IsStateText
+value_is layout read None fits = tt
+value_is layout read (Some t) fits = record { is_plain = fits.0; fits = omega (arith, fits.1, read.text) }
+
+value_short : (layout : Layout) (o : Option (List ℕ)) → FitsValue layout o → IsShort layout o
+value_short layout None fits = fits
+value_short layout (Some t) fits = fits.1
+
 states_are : (layout : Layout) → IsRead layout → (above : ℕ) (es : List (ℕ × Versioned)) → AllByRecursion (FitsState layout above) es → AllByRecursion IsState es
 states_are layout read above [] all = tt
 states_are layout read above (s ∷ es) all =
-    let fits : length s.1.text ≤ TEXT_LIMIT = omega (arith, all.0.short, read.text) in
-    (record { key = all.0.key; version = all.0.version; text = record { is_plain = all.0.is_plain; fits = fits } }, states_are layout read above es all.1)
+    (record { key = all.0.key; version = all.0.version; text = value_is layout read s.1.text all.0.value }, states_are layout read above es all.1)
 
-texts_are_short : (layout : Layout) (above : ℕ) (es : List (ℕ × Versioned)) → AllByRecursion (FitsState layout above) es → AllByRecursion (λ (s : ℕ × Versioned). length s.1.text ≤ layout.text) es
+texts_are_short : (layout : Layout) (above : ℕ) (es : List (ℕ × Versioned)) → AllByRecursion (FitsState layout above) es → AllByRecursion (λ (s : ℕ × Versioned). IsShort layout s.1.text) es
 texts_are_short layout above [] all = tt
-texts_are_short layout above (s ∷ es) all = (all.0.short, texts_are_short layout above es all.1)
+texts_are_short layout above (s ∷ es) all = (value_short layout s.1.text all.0.value, texts_are_short layout above es all.1)
 
 delta_is : (layout : Layout) → IsRead layout → (d : OwnerDelta) → FitsDelta layout d → IsOwnerDelta d
 delta_is layout read d fits = record {

@@ -1,5 +1,5 @@
 -- Laws of whole messages: one that is spelled so is read, is short, and has no other message's spelling.
-use Rattle.std.proofs.Common.{◌≡◌, ℕ, ◌+◌, ◌*◌, ◌^◌, ◌<◌, ◌≤◌, Bool, true, cond, List, [], ◌∷◌, ◌++◌, length, take, drop, Option, Some, Result, Ok, Err, refl, sym, ap, subst, ◌∙◌, append_assoc, arith, length-append}
+use Rattle.std.proofs.Common.{◌≡◌, ℕ, ◌+◌, ◌*◌, ◌^◌, ◌<◌, ◌≤◌, Bool, true, cond, List, [], ◌∷◌, ◌++◌, length, take, drop, Option, Some, None, Result, Ok, Err, refl, sym, ap, subst, ◌∙◌, append_assoc, arith, length-append}
 use Rattle.std.specs.Prelude.{◌==◌, max}
 use Rattle.std.proofs.Math.Nat.{le_trans}
 use Rattle.std.specs.Int.{w32, from_be_bytes, to_be_bytes}
@@ -24,14 +24,14 @@ use Rattle.cg_messages.specs.Kind.{kind_of}
 use Rattle.cg_messages.specs.Members.{endpoints_of_requests, endpoints_of_deltas}
 use Rattle.cg_messages.specs.Values.{RequestValue, SynValue}
 use Rattle.cg_frames.specs.declared.layout.Layout.{Layout}
-use Rattle.cg_frames.specs.declared.layout.TheConstants.{LAYOUT_1, LAYOUT_2, LAYOUTS}
+use Rattle.cg_frames.specs.declared.layout.TheConstants.{LAYOUT_1, LAYOUT_2, LAYOUT_3, LAYOUTS, TOMBSTONE}
 use Rattle.cg_frames.specs.declared.misread.Misread.{Misread}
 use Rattle.cg_types.specs.ResultSteps.{◌>>=◌}
 use Rattle.cg_frames.specs.Fields.{Field}
 use Rattle.cg_frames.specs.Reading.{whole_field, as_message, layout_at, kind_from, kind_at, of_kind, syn_at, inside_at, frame_at, ack_at, ack2_at}
-use Rattle.cg_frames.specs.Spelling.{two_bytes, four_bytes, digest, request, text, state, delta, members, cluster, kind, body, message, inside, frame}
+use Rattle.cg_frames.specs.Spelling.{two_bytes, four_bytes, digest, request, state, delta, members, cluster, kind, body, message, inside, frame}
 use Rattle.cg_frames.specs.Fits.{Fits}
-use Rattle.cg_frames.proofs.FitsFields.{FitsState, FitsDelta, FitsMembers, FitsSyn, FitsFields}
+use Rattle.cg_frames.proofs.FitsFields.{FitsValue, FitsState, FitsDelta, FitsMembers, FitsSyn, FitsFields}
 use Rattle.cg_frames.proofs.FitsLemmas.{fields_of}
 use Rattle.cg_frames.specs.Lengths.{state_most, delta_most, deltas_most, digests_most, syn_most, ack_most, greatest_length}
 use Rattle.cg_frames.specs.Layouts.{IsLayout}
@@ -39,6 +39,7 @@ use Rattle.cg_frames.specs.Choosing.{layout_with_byte, frame_among, IsOneOf, Are
 use Rattle.cg_frames.specs.Laws.{GivesEachSpelled, NoSpellingBeginsAnother, EachIsShort}
 use Rattle.cg_frames.proofs.ChoosingLemmas.{named_all, due_of_frame}
 use Rattle.cg_frames.proofs.SpelledIsReadLemmas.{byte_again, length_keys, syn_again}
+use Rattle.cg_entry.specs.Entry.{text_size}
 use Rattle.cg_entry.proofs.FewLemmas.{states_few}
 use Rattle.cg_frames.proofs.SpelledIsReadLists.{ack_again, ack2_again}
 use Rattle.cg_frames.proofs.LengthLemmas.{length-two_bytes, length-four_bytes, length-state, length-delta, length-digests, length-requests}
@@ -47,8 +48,12 @@ use Rattle.cg_frames.proofs.ReadIsSpelledParts.{ok_is}
 
 -- ---- lengths
 
+value_size : (layout : Layout) (o : Option (List ℕ)) → FitsValue layout o → text_size o ≤ layout.text
+value_size layout None fits = omega arith
+value_size layout (Some t) fits = fits.1
+
 state_short : (layout : Layout) (above : ℕ) (s : ℕ × Versioned) → FitsState layout above s → length (state s) ≤ state_most layout
-state_short layout above s fits = omega (arith, length-state s, fits.short)
+state_short layout above s fits = omega (arith, length-state s, value_size layout s.1.text fits.value)
 
 -- members of which each is short
 each_short : {X : Type 0} (spell : X → List ℕ) (Fits : X → Type 0) (most : ℕ) → ((x : X) → Fits x → length (spell x) ≤ most) → (xs : List X) → AllByRecursion Fits xs → length (flat_map spell xs) ≤ length xs * most
@@ -121,7 +126,7 @@ inside_short layout m fits = fields_short layout m (fields_of layout m fits)
 ended_again : {A : Type 0} (tag : A → Message) (at : List ℕ → Field A) (x : A) (bytes : List ℕ) → at (bytes ++ []) ≡ Ok (x, []) → as_message tag (whole_field (at bytes)) ≡ Ok (tag x)
 ended_again {A = A} tag at x bytes read = ap (λ (r : Field A). as_message tag (whole_field r)) (ap at (sym (append-nil bytes)) ∙ read)
 
-body_again : (layout : Layout) (m : Message) → layout.text < 2 ^ 16 → layout.members < 2 ^ 16 → FitsFields layout m → of_kind layout (kind_of m) (body m) ≡ Ok m
+body_again : (layout : Layout) (m : Message) → layout.text < TOMBSTONE → layout.members < 2 ^ 16 → FitsFields layout m → of_kind layout (kind_of m) (body m) ≡ Ok m
 body_again layout (Syn m) text wide fits = ended_again Syn (syn_at layout) m (body (Syn m)) (syn_again layout m [] wide fits)
 body_again layout (Ack m) text wide fits = ended_again Ack (ack_at layout) m (body (Ack m)) (ack_again layout m [] text wide fits)
 body_again layout (Ack2 m) text wide fits = ended_again Ack2 (ack2_at layout) m (body (Ack2 m)) (ack2_again layout m [] text wide fits)
@@ -142,7 +147,7 @@ kind_again : (m : Message) (rest : List ℕ) → kind_at (kind m ∷ rest) ≡ O
 kind_again m rest =
     ap (λ (r : Field ℕ). r >>= λ number. kind_from (kind m ∷ rest) number.0 number.1) (byte_again (kind m) rest) ∙ kind_from_again m (kind m ∷ rest) rest
 
-pub inside_again : (layout : Layout) (m : Message) → layout.text < 2 ^ 16 → layout.members < 2 ^ 16 → Fits layout m → inside_at layout (inside layout m) ≡ Ok m
+pub inside_again : (layout : Layout) (m : Message) → layout.text < TOMBSTONE → layout.members < 2 ^ 16 → Fits layout m → inside_at layout (inside layout m) ≡ Ok m
 unfolding inside_at
 inside_again layout m text wide fits =
     ap (λ (r : Field ℕ). r >>= λ byte. kind_at byte.1 >>= λ kind. of_kind layout kind.0 kind.1) (layout_again layout (message m))
@@ -220,16 +225,19 @@ first_is_layout = record { members = omega arith; text = omega arith; length = o
 pub second_is_layout : IsLayout LAYOUT_2
 second_is_layout = record { members = omega arith; text = omega arith; length = omega arith; room = omega arith }
 
+pub third_is_layout : IsLayout LAYOUT_3
+third_is_layout = record { members = omega arith; text = omega arith; length = omega arith; room = omega arith }
+
 -- ---- the layouts of this version
 
 pub layouts_are : AreLayouts LAYOUTS
-layouts_are = record { some = omega arith; found = (refl, (refl, tt)); each = (first_is_layout, (second_is_layout, tt)) }
+layouts_are = record { some = omega arith; found = (refl, (refl, (refl, tt))); each = (first_is_layout, (second_is_layout, (third_is_layout, tt))) }
 
 pub layouts_are_read : AreRead LAYOUTS
 layouts_are_read = record {
   some = omega arith;
   each = (
-    record { members = omega arith; text = omega arith; length = omega arith; tombstones = refl },
-    (record { members = omega arith; text = omega arith; length = omega arith; tombstones = refl }, tt),
+    record { members = omega arith; text = omega arith; length = omega arith },
+    (record { members = omega arith; text = omega arith; length = omega arith }, (record { members = omega arith; text = omega arith; length = omega arith }, tt)),
   );
 }

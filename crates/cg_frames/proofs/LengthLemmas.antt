@@ -1,5 +1,5 @@
 -- Lengths of spellings.
-use Rattle.std.proofs.Common.{◌≡◌, ℕ, ◌+◌, ◌*◌, ◌<◌, ◌≤◌, List, [], ◌∷◌, ◌++◌, length, get_or, zero, suc, refl, sym, ap, ◌∙◌, take, arith, length-append}
+use Rattle.std.proofs.Common.{◌≡◌, ℕ, ◌+◌, ◌*◌, ◌<◌, ◌≤◌, List, [], ◌∷◌, ◌++◌, length, get_or, zero, suc, Option, Some, None, refl, sym, ap, ◌∙◌, take, arith, length-append}
 use Rattle.std.specs.Prelude.{sum_by}
 use Rattle.std.specs.FinMap.{entries}
 use Rattle.std.proofs.lemmas.List.{take_all}
@@ -8,11 +8,13 @@ use Rattle.cg_entry.specs.declared.state.State.{State}
 use Rattle.cg_entry.specs.State.{pair, pairs}
 use Rattle.std.specs.List.{flat_map}
 use Rattle.std.proofs.lemmas.List.Concat.{flat_map-cons}
+use Rattle.cg_entry.specs.Entry.{text_size}
 use Rattle.cg_entry.specs.Versioned.{Versioned}
 use Rattle.cg_entry.specs.declared.digest.Digest.{Digest}
 use Rattle.cg_messages.specs.declared.owner_delta.OwnerDelta.{OwnerDelta}
 use Rattle.cg_messages.specs.Values.{RequestValue}
-use Rattle.cg_frames.specs.Spelling.{two_bytes, four_bytes, endpoint, digest, request, text, state, delta, members}
+use Rattle.cg_frames.specs.declared.layout.TheConstants.{TOMBSTONE}
+use Rattle.cg_frames.specs.Spelling.{two_bytes, four_bytes, endpoint, digest, request, value, state, delta, members}
 
 pub length-two_bytes : (n : ℕ) → length (two_bytes n) ≡ 2
 unfolding two_bytes
@@ -42,9 +44,12 @@ pub length-requests : (rs : List RequestValue) → length (flat_map request rs) 
 length-requests [] = refl
 length-requests (r ∷ rs) = rw (flat_map-cons request r rs) (omega (arith, length-append (request r) (flat_map request rs), length-request r, length-requests rs))
 
-pub length-state : (s : ℕ × Versioned) → length (state s) ≡ 7 + length s.1.text
-length-state s =
-    omega (arith, length-append (four_bytes s.1.version) (text s.1.text), length-append (two_bytes (length s.1.text)) s.1.text, length-four_bytes s.1.version, length-two_bytes (length s.1.text))
+length-value : (o : Option (List ℕ)) → length (value o) ≡ 2 + text_size o
+length-value (Some t) = omega (arith, length-append (two_bytes (length t)) t, length-two_bytes (length t))
+length-value None = length-two_bytes TOMBSTONE
+
+pub length-state : (s : ℕ × Versioned) → length (state s) ≡ 7 + text_size s.1.text
+length-state s = omega (arith, length-append (four_bytes s.1.version) (value s.1.text), length-four_bytes s.1.version, length-value s.1.text)
 
 pub length-delta : (d : OwnerDelta) → length (delta d) ≡ 19 + length (flat_map state (entries d.delta.states))
 length-delta d =
@@ -65,12 +70,12 @@ length-delta d =
       length-four_bytes d.delta.heartbeat,
     )
 
--- of each state seven bytes, and its text
-pub length-states : (es : List (ℕ × Versioned)) → length (flat_map state es) ≡ 7 * length es + sum_by (λ (e : ℕ × Versioned). length e.1.text) es
+-- of each state seven bytes, and its text's
+pub length-states : (es : List (ℕ × Versioned)) → length (flat_map state es) ≡ 7 * length es + sum_by (λ (e : ℕ × Versioned). text_size e.1.text) es
 length-states [] = refl
 length-states (e ∷ es) =
-    let size : ℕ × Versioned → ℕ = λ e. length e.1.text in
-    let step : length (state e) + length (flat_map state es) ≡ 7 * suc (length es) + (length e.1.text + sum_by size es) = omega (arith, length-state e, length-states es) in
+    let size : ℕ × Versioned → ℕ = λ e. text_size e.1.text in
+    let step : length (state e) + length (flat_map state es) ≡ 7 * suc (length es) + (text_size e.1.text + sum_by size es) = omega (arith, length-state e, length-states es) in
     ap length (flat_map-cons state e es) ∙ length-append (state e) (flat_map state es) ∙ step ∙ ap (λ (n : ℕ). 7 * suc (length es) + n) (sym (sum_by-cons size e es))
 
 -- ---- counted members

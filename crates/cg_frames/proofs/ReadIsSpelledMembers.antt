@@ -1,15 +1,15 @@
 -- Requests, states and deltas that are read are spelled so, and fit.
-use Rattle.std.proofs.Common.{◌≡◌, ℕ, ◌<◌, ◌≤◌, Bool, true, false, cond, List, [], ◌∷◌, ◌++◌, length, Option, None, Ok, Err, refl, sym, ap, subst, ◌∙◌, arith}
-use Rattle.std.specs.Prelude.{nat_lt, ◌==◌, ◌||◌, max}
+use Rattle.std.proofs.Common.{◌≡◌, ℕ, ◌<◌, ◌≤◌, Bool, true, false, cond, List, [], ◌∷◌, ◌++◌, length, Option, Some, None, Ok, Err, refl, sym, ap, subst, ◌∙◌, arith}
+use Rattle.std.specs.Prelude.{nat_lt, ◌==◌, ◌||◌, ◌&&◌, max}
 use Rattle.std.specs.Int.{w8, w16}
 use Rattle.std.specs.List.{flat_map, AllByRecursion}
 use Rattle.std.specs.FinMap.{entries}
-use Rattle.std.proofs.lemmas.Bool.{ltb-false, ltb-true}
+use Rattle.std.proofs.lemmas.Bool.{ltb-false, ltb-true, eqb-true, and_parts}
 use Rattle.std.proofs.lemmas.List.{length-map}
 use Rattle.cg_types.specs.declared.limits.TheConstants.{STATE_LIMIT}
 use Rattle.cg_types.specs.declared.fault.Cause.TheVariants as causes
 use Rattle.cg_types.specs.Numbers.{IsKey}
-use Rattle.cg_types.specs.Text.{plain}
+use Rattle.cg_types.specs.ResultSteps.{◌>>=◌}
 use Rattle.cg_entry.specs.declared.state.State.{State}
 use Rattle.cg_entry.specs.State.{pair, pairs}
 use Rattle.cg_entry.specs.Versioned.{Versioned}
@@ -19,12 +19,13 @@ use Rattle.cg_entry.proofs.DeltaLemmas.{greatest_over}
 use Rattle.cg_messages.specs.declared.owner_delta.OwnerDelta.{OwnerDelta}
 use Rattle.cg_messages.specs.Values.{RequestValue}
 use Rattle.cg_frames.specs.declared.layout.Layout.{Layout}
+use Rattle.cg_frames.specs.declared.layout.TheConstants.{TOMBSTONE}
 use Rattle.cg_frames.specs.declared.misread.Misread.{Misread}
-use Rattle.cg_frames.specs.Fields.{number_at, plain_at, key_at, state_count_at, text_at}
+use Rattle.cg_frames.specs.Fields.{Field, number_at, plain_at, some_text, tombstone_or_fault, value_from, key_at, state_count_at, value_at}
 use Rattle.cg_frames.specs.Lists.{request_at, state_at, carries, delta_at}
-use Rattle.cg_frames.specs.Spelling.{two_bytes, four_bytes, endpoint, request, text, state, delta}
+use Rattle.cg_frames.specs.Spelling.{two_bytes, four_bytes, endpoint, request, value, state, delta}
 use Rattle.cg_messages.specs.Contents.{IsRequest}
-use Rattle.cg_frames.proofs.FitsFields.{FitsState, FitsDelta}
+use Rattle.cg_frames.proofs.FitsFields.{FitsValue, FitsState, FitsDelta}
 use Rattle.cg_frames.specs.Laws.{AreBytes}
 use Rattle.cg_frames.proofs.FitsLemmas.{all_pairs}
 use Rattle.cg_frames.proofs.LengthLemmas.{spelled_pairs}
@@ -43,23 +44,44 @@ request_found last bytes r rest small h =
 
 -- ---- states
 
-pub record TextFound (layout : Layout) (t bytes rest : List ℕ) : Type 0 where
-  pub stands : Stands (text t) bytes rest
-  pub is_plain : plain t ≡ true
-  pub short : length t ≤ layout.text
+pub record ValueFound (layout : Layout) (o : Option (List ℕ)) (bytes rest : List ℕ) : Type 0 where
+  pub stands : Stands (value o) bytes rest
+  pub fits : FitsValue layout o
 
-text_found : (layout : Layout) (bytes t rest : List ℕ) → AreBytes bytes → text_at layout bytes ≡ Ok (t, rest) → TextFound layout t bytes rest
-unfolding text_at
-text_found layout bytes t rest small h =
-    let fault : Misread = record { cause = causes.Text; left = length bytes } in
-    let a = bind_ok (number_at w16 bytes) (λ len. cond (nat_lt layout.text len.0) (Err fault) (plain_at len.0 causes.Text len.1)) (t, rest) h in
-    let g = goes_by (nat_lt layout.text a.0.0) fault (plain_at a.0.0 causes.Text a.0.1) (t, rest) a.2 in
-    let two = two_found bytes a.0.0 a.0.1 small a.1 in
-    let f = plain_found a.0.0 causes.Text a.0.1 t rest two.bytes_behind g.1 in
-    let most : a.0.0 ≤ layout.text = ltb-false layout.text a.0.0 g.0 in
-    let long : length t ≡ a.0.0 = f.len in
-    let behind : Stands (two_bytes a.0.0 ++ t) bytes rest = then (two_bytes a.0.0) t bytes a.0.1 rest two f.stands in
-    record { stands = subst (λ (n : ℕ). Stands (two_bytes n ++ t) bytes rest) (sym long) behind; is_plain = f.is_plain; short = omega arith }
+some_found : (read : Field (List ℕ)) (o : Option (List ℕ)) (rest : List ℕ) → some_text read ≡ Ok (o, rest) → (t : List ℕ) × (read ≡ Ok (t, rest)) × (Some t ≡ o)
+some_found (Ok t) o rest h =
+    let is = ok_is (Some t.0, t.1) (o, rest) h in
+    (t.0, ap (λ (p : Option (List ℕ) × List ℕ). Ok (t.0, p.1)) is, ap (λ (p : Option (List ℕ) × List ℕ). p.0) is)
+some_found (Err m) o rest h = absurd cc
+
+-- what passes a test, whatever the test gives
+passed : {X : Type 0} (test : Bool) (fault : Misread) (x y : X) → (cond test (Ok tt) (Err fault) >>= λ (_ : Unit {0}). Ok x) ≡ Ok y → (test ≡ true) × (x ≡ y)
+passed true fault x y h = (refl, ok_is x y h)
+passed false fault x y h = absurd cc
+
+value_behind : (layout : Layout) (long : Bool) (n : ℕ) (bytes after : List ℕ) (o : Option (List ℕ)) (rest : List ℕ) → nat_lt layout.text n ≡ long
+    → Stands (two_bytes n) bytes after → cond long (tombstone_or_fault layout n (length bytes) >>= λ (_ : Unit {0}). Ok (None, after)) (some_text (plain_at n causes.Text after)) ≡ Ok (o, rest) → ValueFound layout o bytes rest
+value_behind layout true n bytes after o rest is two h =
+    let p = passed (layout.tombstones && (n == TOMBSTONE)) (record { cause = causes.Text; left = length bytes }) (None, after) (o, rest) h in
+    let b = and_parts layout.tombstones (n == TOMBSTONE) p.0 in
+    subst (λ (p : Option (List ℕ) × List ℕ). ValueFound layout p.0 bytes p.1) {x = (None, after)} p.1
+    (record { stands = subst (λ (k : ℕ). Stands (two_bytes k) bytes after) (eqb-true n TOMBSTONE b.1) two; fits = b.0 })
+value_behind layout false n bytes after o rest is two h =
+    let s = some_found (plain_at n causes.Text after) o rest h in
+    let t : List ℕ = s.0 in
+    let f = plain_found n causes.Text after t rest two.bytes_behind s.1 in
+    let most : n ≤ layout.text = ltb-false layout.text n is in
+    let long : length t ≡ n = f.len in
+    let behind : Stands (two_bytes n ++ t) bytes rest = then (two_bytes n) t bytes after rest two f.stands in
+    subst (λ (x : Option (List ℕ)). ValueFound layout x bytes rest) {x = Some t} s.2
+    (record { stands = subst (λ (k : ℕ). Stands (two_bytes k ++ t) bytes rest) (sym long) behind; fits = (f.is_plain, omega arith) })
+
+value_found : (layout : Layout) (bytes : List ℕ) (o : Option (List ℕ)) (rest : List ℕ) → AreBytes bytes → value_at layout bytes ≡ Ok (o, rest) → ValueFound layout o bytes rest
+unfolding value_at
+value_found layout bytes o rest small h =
+    let after = λ (len : ℕ × List ℕ). value_from layout bytes len.0 len.1 in
+    let a = bind_ok (number_at w16 bytes) after (o, rest) h in
+    value_behind layout (nat_lt layout.text a.0.0) a.0.0 bytes a.0.1 o rest refl (two_found bytes a.0.0 a.0.1 small a.1) a.2
 
 key_found : (last : Option ℕ) (bytes : List ℕ) (k : ℕ) (rest : List ℕ) → AreBytes bytes → key_at last bytes ≡ Ok (k, rest) → Stands (k ∷ []) bytes rest × IsKey k
 key_found last bytes k rest small h =
@@ -73,9 +95,9 @@ state_found layout above last bytes s rest small h =
     let k = key_found last bytes s.key p.from_version small p.key in
     let w = version_newer above p.from_version s.version p.from_text p.version in
     let v = ranged_found causes.Version 1 p.from_version s.version p.from_text k.0.bytes_behind w.0 in
-    let t = text_found layout p.from_text s.text rest v.stands.bytes_behind p.text in (
-      then (s.key ∷ []) (four_bytes s.version ++ text s.text) bytes p.from_version rest k.0 (then (four_bytes s.version) (text s.text) p.from_version p.from_text rest v.stands t.stands),
-      record { key = k.1; version = in_range s.version p.from_version p.from_text v; newer = ltb-true above s.version w.1; is_plain = t.is_plain; short = t.short },
+    let t = value_found layout p.from_text s.text rest v.stands.bytes_behind p.text in (
+      then (s.key ∷ []) (four_bytes s.version ++ value s.text) bytes p.from_version rest k.0 (then (four_bytes s.version) (value s.text) p.from_version p.from_text rest v.stands t.stands),
+      record { key = k.1; version = in_range s.version p.from_version p.from_text v; newer = ltb-true above s.version w.1; value = t.fits },
     )
 
 -- ---- deltas

@@ -20,7 +20,7 @@ use Rattle.cg_messages.specs.Values.{RequestValue, SynValue}
 use Rattle.cg_frames.specs.declared.layout.Layout.{Layout}
 use Rattle.cg_frames.specs.declared.misread.Misread.{Misread}
 use Rattle.cg_types.specs.ResultSteps.{◌>>=◌}
-use Rattle.cg_frames.specs.Fields.{Field, bytes_at, number_at, endpoint_from, endpoint_at, generation_at, version_at, count_at, name_at, held_at, heartbeat_at, version_above_at, key_from, key_at, state_count_at, text_at}
+use Rattle.cg_frames.specs.Fields.{Field, bytes_at, number_at, endpoint_from, endpoint_at, generation_at, version_at, count_at, name_at, held_at, heartbeat_at, version_above_at, key_from, key_at, state_count_at, value_at}
 use Rattle.cg_frames.specs.Lists.{digest_at, rising_at, digests_at, request_at, state_at, states_at, carries, delta_from, delta_at, listed_requests_at, listed_deltas_at}
 use Rattle.cg_frames.specs.Reading.{syn_at}
 
@@ -193,13 +193,13 @@ pub record StateParts (layout : Layout) (above : ℕ) (last : Option ℕ) (bytes
   pub from_text : List ℕ
   pub key : key_at last bytes ≡ Ok (s.key, from_version)
   pub version : version_above_at above from_version ≡ Ok (s.version, from_text)
-  pub text : text_at layout from_text ≡ Ok (s.text, after)
+  pub text : value_at layout from_text ≡ Ok (s.text, after)
 
-abbrev state_of : ℕ → ℕ → List ℕ × List ℕ → Field State
+abbrev state_of : ℕ → ℕ → Option (List ℕ) × List ℕ → Field State
 state_of k v t = Ok (record { key = k; version = v; text = t.0 }, t.1)
 
 abbrev state_from_version : Layout → ℕ → ℕ × List ℕ → Field State
-state_from_version layout k v = text_at layout v.1 >>= state_of k v.0
+state_from_version layout k v = value_at layout v.1 >>= state_of k v.0
 
 abbrev state_from_key : Layout → ℕ → ℕ × List ℕ → Field State
 state_from_key layout above k = version_above_at above k.1 >>= state_from_version layout k.0
@@ -209,7 +209,7 @@ unfolding state_at
 state_parts layout above last bytes s after h =
     let k = bind_ok (key_at last bytes) (state_from_key layout above) (s, after) h in
     let v = bind_ok (version_above_at above k.0.1) (state_from_version layout k.0.0) (s, after) k.2 in
-    let t = bind_ok (text_at layout v.0.1) (state_of k.0.0 v.0.0) (s, after) v.2 in
+    let t = bind_ok (value_at layout v.0.1) (state_of k.0.0 v.0.0) (s, after) v.2 in
     let made : State = record { key = k.0.0; version = v.0.0; text = t.0.0 } in
     subst (λ (p : State × List ℕ). StateParts layout above last bytes p.0 p.1) {x = (made, t.0.1)} (ok_is (made, t.0.1) (s, after) t.2)
     (record { from_version = k.0.1; from_text = v.0.1; key = k.1; version = v.1; text = t.1 })

@@ -1,5 +1,5 @@
 -- A delta that is spelled so is read, whatever follows.
-use Rattle.std.proofs.Common.{◌≡◌, ℕ, suc, ◌^◌, ◌<◌, ◌≤◌, Bool, true, false, cond, List, [], ◌∷◌, ◌++◌, length, map, Option, None, Ok, Err, refl, sym, ap, ◌∙◌, append_assoc, arith}
+use Rattle.std.proofs.Common.{◌≡◌, ℕ, suc, ◌<◌, ◌≤◌, Bool, true, false, cond, List, [], ◌∷◌, ◌++◌, length, map, Option, None, Ok, Err, refl, sym, ap, ◌∙◌, append_assoc, arith}
 use Rattle.std.specs.Prelude.{nat_lt, ◌==◌, not, ◌||◌}
 use Rattle.std.specs.List.{flat_map, AllByRecursion}
 use Rattle.std.specs.FinMap.{entries, entries_sorted, from_sorted, entries-from_sorted, same_entries_map}
@@ -15,6 +15,7 @@ use Rattle.cg_entry.specs.Entry.{greatest_of}
 use Rattle.cg_entry.proofs.FewLemmas.{states_few}
 use Rattle.cg_messages.specs.declared.owner_delta.OwnerDelta.{OwnerDelta}
 use Rattle.cg_frames.specs.declared.layout.Layout.{Layout}
+use Rattle.cg_frames.specs.declared.layout.TheConstants.{TOMBSTONE}
 use Rattle.cg_types.specs.declared.limits.TheConstants.{STATE_LIMIT}
 use Rattle.cg_types.specs.ResultSteps.{◌>>=◌}
 use Rattle.cg_frames.specs.Fields.{Field, state_count_at}
@@ -59,7 +60,7 @@ state_count_again n rest le =
     let low : nat_lt STATE_LIMIT n ≡ false = le-ltb STATE_LIMIT n le in
     ap (λ (r : Field ℕ). r >>= λ count. cond (nat_lt STATE_LIMIT count.0) (Err (record { cause = causes.Count; left = length (n ∷ rest) })) (Ok count)) (byte_again n rest) ∙ rw low refl
 
-states_again : (layout : Layout) (above : ℕ) (m : States) (rest : List ℕ) → layout.text < 2 ^ 16 → AllByRecursion (FitsState layout above) (entries m) → states_at layout above (length (entries m)) None (flat_map state (entries m) ++ rest) ≡ Ok (map unpair (entries m), rest)
+states_again : (layout : Layout) (above : ℕ) (m : States) (rest : List ℕ) → layout.text < TOMBSTONE → AllByRecursion (FitsState layout above) (entries m) → states_at layout above (length (entries m)) None (flat_map state (entries m) ++ rest) ≡ Ok (map unpair (entries m), rest)
 states_again layout above m rest wide all =
     let es = entries m in
     let ss = map unpair es in
@@ -75,7 +76,7 @@ same_states m = ap (λ (es : List (ℕ × Versioned)). from_sorted {R = nat_cmp}
 abbrev counted_from : Layout → List ℕ → OwnerDelta → List ℕ → Field OwnerDelta
 counted_from layout bytes d from = state_count_at from >>= λ n. states_at layout d.delta.above n.0 None n.1 >>= λ ss. delta_from bytes d.endpoint d.delta.generation d.delta.above d.delta.heartbeat n.0 ss.0 ss.1
 
-counted_again : (layout : Layout) (bytes : List ℕ) (d : OwnerDelta) (rest : List ℕ) → layout.text < 2 ^ 16 → FitsDelta layout d → counted_from layout bytes d (length (entries d.delta.states) ∷ (flat_map state (entries d.delta.states) ++ rest)) ≡ Ok (d, rest)
+counted_again : (layout : Layout) (bytes : List ℕ) (d : OwnerDelta) (rest : List ℕ) → layout.text < TOMBSTONE → FitsDelta layout d → counted_from layout bytes d (length (entries d.delta.states) ∷ (flat_map state (entries d.delta.states) ++ rest)) ≡ Ok (d, rest)
 counted_again layout bytes d rest wide fits =
     let es = entries d.delta.states in
     let few = states_few (FitsState layout d.delta.above) (λ e is. is.key) es fits.states (rise_sorted es (entries_sorted d.delta.states)) in
@@ -84,7 +85,7 @@ counted_again layout bytes d rest wide fits =
     ∙ ap (λ (r : Field (List State)). r >>= λ ss. delta_from bytes d.endpoint d.delta.generation d.delta.above d.delta.heartbeat (length es) ss.0 ss.1) (states_again layout d.delta.above d.delta.states rest wide fits.states)
     ∙ rw some (ap (λ (m : States). Ok (record { endpoint = d.endpoint; delta = record { generation = d.delta.generation; above = d.delta.above; heartbeat = d.delta.heartbeat; states = m } }, rest)) (same_states d.delta.states))
 
-pub delta_again : (layout : Layout) → layout.text < 2 ^ 16 → (last : Option ℕ) (d : OwnerDelta) (rest : List ℕ) → FitsDelta layout d → is_past last d.endpoint ≡ true → delta_at layout last (delta d ++ rest) ≡ Ok (d, rest)
+pub delta_again : (layout : Layout) → layout.text < TOMBSTONE → (last : Option ℕ) (d : OwnerDelta) (rest : List ℕ) → FitsDelta layout d → is_past last d.endpoint ≡ true → delta_at layout last (delta d ++ rest) ≡ Ok (d, rest)
 unfolding delta_at
 delta_again layout wide last d rest fits past =
     let counted = length (entries d.delta.states) ∷ (flat_map state (entries d.delta.states) ++ rest) in

@@ -1,5 +1,5 @@
 -- The fields of a frame, read from left to right, with the first fault that is met.
-use Rattle.std.specs.Prelude.{ℕ, ◌&&◌, ◌||◌, not, List, length, take, drop, Option, Result, Ok, Err, nat_lt, ◌==◌, if◌then◌else◌}
+use Rattle.std.specs.Prelude.{ℕ, ◌&&◌, ◌||◌, not, List, length, take, drop, Option, Some, None, Result, Ok, Err, nat_lt, ◌==◌, if◌then◌else◌}
 use Rattle.std.specs.Int.{Width, w8, w16, w32, byte_len, from_be_bytes}
 use Rattle.cg_types.specs.declared.fault.Cause.{Cause}
 use Rattle.cg_types.specs.declared.fault.Cause.TheVariants as causes
@@ -9,6 +9,7 @@ use Rattle.cg_types.specs.ResultSteps.{◌>>=◌}
 use Rattle.cg_types.specs.Rising.{is_past}
 use Rattle.cg_types.specs.Text.{plain}
 use Rattle.cg_frames.specs.declared.layout.Layout.{Layout}
+use Rattle.cg_frames.specs.declared.layout.TheConstants.{TOMBSTONE}
 use Rattle.cg_frames.specs.declared.misread.Misread.{Misread}
 
 -- A field is a value and the bytes after it.
@@ -103,8 +104,24 @@ state_count_at bytes = do
   count ← number_at w8 bytes
   if nat_lt STATE_LIMIT count.0 then wrong causes.Count bytes else Ok count
 
--- a state's text, with its length before it
-unfoldable pub text_at : Layout → List ℕ → Field (List ℕ)
-text_at layout bytes = do
+-- a text that is read as the value of a state, which might have been a tombstone
+abbrev pub some_text : Field (List ℕ) → Field (Option (List ℕ))
+some_text (Ok t) = Ok (Some t.0, t.1)
+some_text (Err m) = Err m
+
+-- A length over that of each text stands for a tombstone; else it is a fault, from which on so many bytes are left.
+abbrev pub tombstone_or_fault : Layout → ℕ → ℕ → Result (Unit {0}) Misread
+tombstone_or_fault layout len left =
+    if layout.tombstones && len == TOMBSTONE then Ok tt else Err (record { cause = causes.Text; left = left })
+
+-- what stands behind the length of a state's value: nothing behind a tombstone
+abbrev pub value_from : Layout → List ℕ → ℕ → List ℕ → Field (Option (List ℕ))
+value_from layout bytes len rest =
+    if nat_lt layout.text len then (tombstone_or_fault layout len (length bytes) >>= λ _. Ok (None, rest))
+    else some_text (plain_at len causes.Text rest)
+
+-- a state's value: a text, with its length before it, or a tombstone's length, if the layout has tombstones
+unfoldable pub value_at : Layout → List ℕ → Field (Option (List ℕ))
+value_at layout bytes = do
   len ← number_at w16 bytes
-  if nat_lt layout.text len.0 then wrong causes.Text bytes else plain_at len.0 causes.Text len.1
+  value_from layout bytes len.0 len.1

@@ -1,5 +1,5 @@
 -- Messages that a layout can spell: the premise of the laws of spelling and reading.
-use Rattle.std.specs.Prelude.{◌≤◌, List, length}
+use Rattle.std.specs.Prelude.{ℕ, ◌≡◌, ◌≤◌, true, List, length, Option, Some, None}
 use Rattle.std.specs.List.{AllByRecursion}
 use Rattle.std.specs.FinMap as map
 use Rattle.cg_messages.specs.declared.owner_delta.OwnerDelta.{OwnerDelta}
@@ -12,11 +12,16 @@ use Rattle.cg_frames.specs.declared.layout.Layout.{Layout}
 abbrev pub AreFew : {X : Type 0} → Layout → List X → Type 0
 AreFew layout members = length members ≤ layout.members
 
--- No text of a delta is longer than the layout allows.
-abbrev pub HasShortTexts : Layout → OwnerDelta → Type 0
-HasShortTexts layout d = AllByRecursion (λ s. length s.1.text ≤ layout.text) (map.entries d.delta.states)
+-- A text is no longer than the layout allows; None is a tombstone, which is allowed if the layout has tombstones.
+abbrev pub IsShort : Layout → Option (List ℕ) → Type 0
+IsShort layout (Some text) = length text ≤ layout.text
+IsShort layout None = layout.tombstones ≡ true
 
--- few deltas with short texts
+-- No text of a delta is longer than the layout allows, and if the layout has no tombstones, the delta has none.
+abbrev pub HasShortTexts : Layout → OwnerDelta → Type 0
+HasShortTexts layout d = AllByRecursion (λ s. IsShort layout s.1.text) (map.entries d.delta.states)
+
+-- few deltas, each value of which the layout allows
 pub record AreWithin (layout : Layout) (deltas : List OwnerDelta) : Type 0 where
   pub few : AreFew layout deltas
   pub short : AllByRecursion (HasShortTexts layout) deltas

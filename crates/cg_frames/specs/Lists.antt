@@ -9,7 +9,7 @@ use Rattle.cg_entry.specs.declared.digest.Digest.{Digest}
 use Rattle.cg_messages.specs.declared.owner_delta.OwnerDelta.{OwnerDelta}
 use Rattle.cg_messages.specs.Values.{RequestValue}
 use Rattle.cg_frames.specs.declared.layout.Layout.{Layout}
-use Rattle.cg_frames.specs.Fields.{Field, wrong, count_at, endpoint_at, generation_at, version_at, heartbeat_at, held_at, version_above_at, key_at, state_count_at, text_at}
+use Rattle.cg_frames.specs.Fields.{Field, wrong, count_at, endpoint_at, generation_at, version_at, heartbeat_at, held_at, version_above_at, key_at, state_count_at, value_at}
 
 unfoldable pub digest_at : Option ℕ → List ℕ → Field Digest
 digest_at last bytes = do
@@ -31,7 +31,7 @@ unfoldable pub state_at : Layout → ℕ → Option ℕ → List ℕ → Field S
 state_at layout above last bytes = do
   key ← key_at last bytes
   version ← version_above_at above key.1
-  text ← text_at layout version.1
+  text ← value_at layout version.1
   Ok (record { key = key.0; version = version.0; text = text.0 }, text.1)
 
 -- The members, n of them, each of which comes after the one before it.

@@ -13,7 +13,7 @@ use Rattle.cg_messages.specs.Values.{SynValue, AckValue, Ack2Value}
 use Rattle.cg_frames.specs.declared.layout.Layout.{Layout}
 use Rattle.cg_frames.specs.declared.misread.Misread.{Misread}
 use Rattle.cg_frames.specs.Spelling.{number_of_kind}
-pub use Rattle.cg_frames.specs.Fields.{Field, wrong, bytes_at, number_at, count_at, endpoint_from, endpoint_at, ranged_at, generation_at, version_at, heartbeat_at, held_at, version_above_at, plain_at, name_at, key_from, key_at, state_count_at, text_at}
+pub use Rattle.cg_frames.specs.Fields.{Field, wrong, bytes_at, number_at, count_at, endpoint_from, endpoint_at, ranged_at, generation_at, version_at, heartbeat_at, held_at, version_above_at, plain_at, name_at, key_from, key_at, state_count_at, tombstone_or_fault, value_at}
 pub use Rattle.cg_frames.specs.Lists.{digest_at, request_at, state_at, rising_at, digests_at, requests_at, states_at, carries, delta_from, delta_at, deltas_at, listed_requests_at, listed_deltas_at}
 pub use Rattle.cg_frames.specs.Readers.{Reads, part_of_field, behind, Passes, Fails, GivesField, FindsEnd, Checks, GivesWhole}
 

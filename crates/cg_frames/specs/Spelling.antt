@@ -1,5 +1,5 @@
 -- The one spelling of each message in a layout.
-use Rattle.std.specs.Prelude.{ℕ, List, [], ◌∷◌, ◌++◌, length}
+use Rattle.std.specs.Prelude.{ℕ, List, [], ◌∷◌, ◌++◌, length, Option, Some, None}
 use Rattle.std.specs.List.{flat_map}
 use Rattle.std.specs.Int.{w16, w32, to_be_bytes}
 use Rattle.std.specs.FinMap as map
@@ -15,6 +15,7 @@ use Rattle.cg_messages.specs.declared.kind.Kind.TheVariants as kinds
 use Rattle.cg_messages.specs.Kind.{kind_of}
 use Rattle.cg_messages.specs.Values.{RequestValue}
 use Rattle.cg_frames.specs.declared.layout.Layout.{Layout}
+use Rattle.cg_frames.specs.declared.layout.TheConstants.{TOMBSTONE}
 
 -- Numbers, the greatest byte first. They stay closed, so that goals name the number and not its bytes.
 unfoldable pub two_bytes : ℕ → List ℕ
@@ -37,8 +38,13 @@ request r = endpoint r.endpoint ++ four_bytes r.generation ++ four_bytes r.versi
 abbrev pub text : List ℕ → List ℕ
 text bytes = two_bytes (length bytes) ++ bytes
 
+-- a state's value: a text, or the length of a tombstone, which no bytes follow
+abbrev pub value : Option (List ℕ) → List ℕ
+value (Some bytes) = text bytes
+value None = two_bytes TOMBSTONE
+
 abbrev pub state : ℕ × Versioned → List ℕ
-state s = s.0 ∷ (four_bytes s.1.version ++ text s.1.text)
+state s = s.0 ∷ (four_bytes s.1.version ++ value s.1.text)
 
 abbrev pub delta : OwnerDelta → List ℕ
 delta d =

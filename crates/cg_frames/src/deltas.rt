@@ -1,6 +1,6 @@
 //! Deltas and their states, which rise: checked with no memory, and read.
 
-ghost use Rattle.std.specs.Prelude.{Ok, None};
+ghost use Rattle.std.specs.Prelude.{Ok, None, IfSome, option_map};
 ghost use Rattle.cg_types.specs.Text.{IsStateText};
 ghost use Rattle.cg_frames.specs.Layouts.{IsRead};
 ghost use Rattle.cg_frames.specs.Reading as spec;
@@ -27,7 +27,7 @@ fn check_state(
 {
     let key = reader.key(last)?;
     reader.version_above(above)?;
-    reader.text(layout)?;
+    reader.value(layout)?;
     Ok(key)
 }
 
@@ -91,12 +91,15 @@ pub(crate) fn check_deltas(
     Ok(())
 }
 
-// Copies a text of a state, so that it keeps no frame alive.
-fn text_of(alloc: Global, text: &str) -> Result<StateText, ReadError>
-    requires { IsStateText text.now }
-    ensures { spec.GivesWhole (λ t. t) result (Ok text.now) }
+// Copies a text of a state, so that it keeps no frame alive. A tombstone takes no memory.
+fn text_of(alloc: Global, text: Option<&str>) -> Result<Option<StateText>, ReadError>
+    requires { IfSome text (λ x. IsStateText x.now) }
+    ensures { spec.GivesWhole (λ t. t) result (Ok (option_map (λ x. x.now) text.entry)) }
 {
-    Ok(StateText::of_plain(alloc, text)?)
+    match text {
+        Some(text) => Ok(Some(StateText::of_plain(alloc, text)?)),
+        None => Ok(None),
+    }
 }
 
 // Reads a state of a delta above a version.
@@ -113,7 +116,7 @@ fn state_of(
 {
     let key = reader.key(last)?;
     let version = reader.version_above(above)?;
-    let text = reader.text(layout)?;
+    let text = reader.value(layout)?;
     let text = text_of(alloc, text)?;
     Ok(State { key, version, text })
 }

@@ -13,7 +13,7 @@ ghost use Rattle.cg_frames.specs.Layouts.{IsLayout, IsWritten};
 ghost use Rattle.cg_frames.specs.Spelling as spelling;
 
 use crate::fits::message_fits;
-use crate::layout::{Layout, WRITTEN};
+use crate::layout::{Layout, TOMBSTONE, WRITTEN};
 use crate::lengths::message_length;
 use bytes::{BufMut, Bytes};
 use cg_entry::{Delta, Digest, State};
@@ -113,9 +113,16 @@ fn state_head(key: u8, version: u32, size: u16) -> [u8; 7]
 fn put_state(out: &mut Vec<u8>, state: &State) -> Result<(), AllocError>
     ensures { OnOk result (out.new.items ≡ out.old.items ++ spelling.state (pair state.now)) }
 {
-    let text = state.text.as_str().as_bytes();
-    out.put_slice(&state_head(state.key.get(), state.version.get(), text.len() as u16))?;
-    out.put_slice(text)?;
+    let key = state.key.get();
+    let version = state.version.get();
+    match &state.text {
+        Some(text) => {
+            let text = text.as_str().as_bytes();
+            out.put_slice(&state_head(key, version, text.len() as u16))?;
+            out.put_slice(text)?;
+        }
+        None => out.put_slice(&state_head(key, version, TOMBSTONE))?,
+    }
     Ok(())
 }
 

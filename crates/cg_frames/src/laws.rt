@@ -1,8 +1,8 @@
 //! Laws of frames, each the contract of an empty function.
 
-ghost use Rattle.std.specs.Prelude.{◌≡◌, ◌<◌, List, length, false};
+ghost use Rattle.std.specs.Prelude.{◌≡◌, ◌<◌, List, length, true, false};
 ghost use Rattle.cg_frames.specs.declared.layout.Layout.{Layout};
-ghost use Rattle.cg_frames.specs.declared.layout.TheConstants.{LAYOUT_1, LAYOUT_2, LAYOUTS, WRITTEN};
+ghost use Rattle.cg_frames.specs.declared.layout.TheConstants.{LAYOUT_1, LAYOUT_2, LAYOUT_3, LAYOUTS, TOMBSTONE, WRITTEN};
 ghost use Rattle.cg_frames.specs.Layouts.{IsLayout, IsRead, IsWritten};
 ghost use Rattle.cg_frames.specs.Choosing.{AreLayouts, AreRead, IsOneOf};
 ghost use Rattle.cg_frames.specs.Lengths.{greatest_length};
@@ -14,11 +14,12 @@ pub fn no_spelling_begins_another()
 {}
 
 /// No message's frame has more bytes after its length than its layout's greatest, by the limits: 4,231,430
-/// in the first layout, 33,628,678 in the second.
+/// in the first layout, 33,628,678 in the second and in the one that is written.
 pub fn each_is_short()
     ensures each { (layout : Layout) → EachIsShort layout }
     ensures greatest { greatest_length LAYOUT_1 ≡ 4231430 }
     ensures greatest_2 { greatest_length LAYOUT_2 ≡ 33628678 }
+    ensures greatest_written { greatest_length WRITTEN ≡ 33628678 }
 {}
 
 /// The first layout's numbers fit into the fields that count and measure, and its greatest frame is read. The law
@@ -35,14 +36,26 @@ pub fn layout_2_is_one()
     ensures layout { IsLayout LAYOUT_2 }
 {}
 
-/// The layout that is written allows what messages hold, and is one of those that are read.
+/// The numbers of the third layout: as the second, with tombstones, which a length of 65,535 stands for.
+pub fn layout_3_is_one()
+    ensures numbers { LAYOUT_3 ≡ record { byte = 3; members = 512; text = 4096; length = 40000000; tombstones = true } }
+    ensures tombstone { TOMBSTONE ≡ 65535 }
+    ensures layout { IsLayout LAYOUT_3 }
+{}
+
+/// The layout that is written is the third. It allows what messages hold, and is one of those that are read.
 pub fn what_is_written_is_read()
+    ensures third { WRITTEN ≡ LAYOUT_3 }
     ensures written { IsWritten WRITTEN }
     ensures read { IsOneOf LAYOUTS WRITTEN }
 {}
 
-/// The layouts of this version have different bytes; the limits of each fit, and messages hold what it allows.
+/// Each of the three layouts is read. The layouts that are read have different bytes; the limits of each fit, and
+/// messages hold what it allows.
 pub fn layouts_are_told_apart()
+    ensures first { IsOneOf LAYOUTS LAYOUT_1 }
+    ensures second { IsOneOf LAYOUTS LAYOUT_2 }
+    ensures third { IsOneOf LAYOUTS LAYOUT_3 }
     ensures layouts { AreLayouts LAYOUTS }
     ensures read { AreRead LAYOUTS }
 {}

@@ -12,11 +12,12 @@ pub struct Layout {
     pub text: usize,
     /// The most bytes after the length, which has four bytes.
     pub length: usize,
-    /// `true` if a state's length of 65,535 is a tombstone: the key was removed, and no text follows. No message holds
-    /// one in this version, so no layout that has them is read or written (`IsRead`, `IsWritten`). Nothing else
-    /// looks at this: the laws of spelling are of messages without tombstones.
+    /// `true` if a state's length may be that of a tombstone: the key's text was removed, and no text follows.
     pub tombstones: bool,
 }
+
+/// The length that stands for a tombstone; no text is so long.
+pub const TOMBSTONE: u16 = 65_535;
 
 /// The first layout. Its numbers are its own: members of other versions read and write by them, so a change of what
 /// messages may hold leaves them unchanged.
@@ -37,8 +38,17 @@ pub const LAYOUT_2: Layout = Layout {
     tombstones: false,
 };
 
+/// The third layout: that of the second, with tombstones.
+pub const LAYOUT_3: Layout = Layout {
+    byte: 3,
+    members: 512,
+    text: 4_096,
+    length: 40_000_000,
+    tombstones: true,
+};
+
 /// The layout that frames are written in.
-pub const WRITTEN: Layout = LAYOUT_2;
+pub const WRITTEN: Layout = LAYOUT_3;
 
 /// The layouts that frames are read in, distinguished by their bytes.
-pub const LAYOUTS: [Layout; 2] = [LAYOUT_1, LAYOUT_2];
+pub const LAYOUTS: [Layout; 3] = [LAYOUT_1, LAYOUT_2, LAYOUT_3];

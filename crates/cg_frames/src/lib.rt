@@ -20,4 +20,4 @@ pub use decoding::{decode, decode_among, decode_in};
 pub use encoding::{encode, encode_in, encode_lent};
 pub use feed::{Fed, Feed};
 pub use fits::every_message_fits;
-pub use layout::{LAYOUT_1, LAYOUT_2, LAYOUTS, Layout, WRITTEN};
+pub use layout::{LAYOUT_1, LAYOUT_2, LAYOUT_3, LAYOUTS, Layout, TOMBSTONE, WRITTEN};

@@ -1,12 +1,12 @@
 //! Fields at the start of the rest of a frame, read with no memory.
 
-ghost use Rattle.std.specs.Prelude.{◌≡◌, ◌<◌, ◌≤◌, ◌*◌, ◌^◌, nat_le, true, length, IfOk};
+ghost use Rattle.std.specs.Prelude.{◌≡◌, ◌<◌, ◌≤◌, ◌*◌, ◌^◌, nat_le, true, length, IfOk, IfSome, option_map};
 ghost use Rattle.cg_types.specs.Text.{plain};
 ghost use Rattle.cg_types.specs.declared.limits.TheConstants.{NAME_LIMIT, NUMBER_LIMIT};
 ghost use Rattle.std.specs.Int.{w8, w16, w32};
 ghost use Rattle.cg_frames.specs.Reading as spec;
 
-use crate::layout::Layout;
+use crate::layout::{Layout, TOMBSTONE};
 use crate::misread::Misread;
 use cg_entry::Digest;
 use cg_messages::{Kind, Request};
@@ -348,21 +348,34 @@ impl<'a> Reader<'a> {
         self.plain(len, Cause::Name)
     }
 
-    /// Reads a state's text, with its length before it.
-    #[tactic(auto, unfolding(crate::specs::Fields::text_at))]
-    pub(crate) fn text(&mut self, layout: &Layout) -> Result<&'a str, Misread>
-        ensures value { spec.Reads (λ x. x.now) result self.new (spec.text_at layout.now self.old) }
-        ensures short { IfOk result (λ x. length x.now ≤ layout.now.text) }
-        ensures plain { IfOk result (λ x. plain x.now ≡ true) }
+    /// Reads a state's value: a text, with its length before it, or a tombstone.
+    #[tactic(auto, unfolding(crate::specs::Fields::value_at))]
+    pub(crate) fn value(&mut self, layout: &Layout) -> Result<Option<&'a str>, Misread>
+        ensures value { spec.Reads (option_map (λ x. x.now)) result self.new (spec.value_at layout.now self.old) }
+        ensures short { IfOk result (λ o. IfSome o (λ x. length x.now ≤ layout.now.text)) }
+        ensures plain { IfOk result (λ o. IfSome o (λ x. plain x.now ≡ true)) }
     {
         let left = self.left();
-        let len = self.two()? as usize;
+        let size = self.two()?;
+        let len = size as usize;
         if len > layout.text {
-            return Err(Misread {
-                cause: Cause::Text,
-                left,
-            });
+            tombstone_or_fault(layout, size, left)?;
+            return Ok(None);
         }
-        self.plain(len, Cause::Text)
+        let text = self.plain(len, Cause::Text)?;
+        Ok(Some(text))
     }
+}
+
+// Tests a length over that of each text, off the way of ordinary texts: it stands for a tombstone, or is a fault.
+fn tombstone_or_fault(layout: &Layout, len: u16, left: usize) -> Result<(), Misread>
+    ensures { result ≡ spec.tombstone_or_fault layout.now len left }
+{
+    if layout.tombstones && len == TOMBSTONE {
+        return Ok(());
+    }
+    Err(Misread {
+        cause: Cause::Text,
+        left,
+    })
 }

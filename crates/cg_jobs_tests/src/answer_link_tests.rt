@@ -9,7 +9,7 @@ use std::test::Fail;
 
 const INPUT: &[u8] = b"10.0.0.2:7000 5 c1\n000000080101026331010000\n";
 
-const ANSWER: &[u8] = b"000000190202000000010a0000021b5800000005000000000000000100\n";
+const ANSWER: &[u8] = b"000000190302000000010a0000021b5800000005000000000000000100\n";
 
 // Answers a byte a call, while the read of a number fails, or the write of a number: the text, the status, and the
 // failures that were counted at both links.
@@ -103,7 +103,7 @@ fn answered_256(alloc: Global) -> Result<(bool, u8, u64), AllocError> {
         "\n",
     )?;
     let own = "00010a0000021b5800000005000000000000000100\n";
-    let due = text_of_256(alloc, "00000e1902020100", 0, own)?;
+    let due = text_of_256(alloc, "00000e1903020100", 0, own)?;
     Ok(answered(alloc, input.as_bytes(), due.as_bytes()))
 }
 

@@ -77,10 +77,12 @@ fn other_words_are_faults_or_ask_for_texts(rt: HostRuntime) -> Result<(), Fail> 
         ("--help", 0, "", "Play a script"),
         ("--help", 0, "", "Exit status"),
         ("sim --help", 0, "", "deliver N EP NOW"),
+        ("sim --help", 0, "", "remove EP KEY"),
         ("answer --help", 0, "", "ENDPOINT GENERATION CLUSTER"),
         ("--help", 0, "", "Run a node"),
         ("serve --help", 0, "", "generation_file"),
         ("serve --help", 0, "", "replicas RF TEXT"),
+        ("serve --help", 0, "", "remove KEY"),
         ("--help", 0, "", "one run of the gossip"),
         ("audit --help", 0, "", "stuck EP GENERATION ITEM"),
     ] {

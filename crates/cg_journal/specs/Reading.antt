@@ -5,7 +5,7 @@ use Rattle.cg_types.specs.declared.fault.Fault.{Fault}
 use Rattle.cg_types.specs.declared.limits.TheConstants.{PARTITIONER}
 use Rattle.cg_types.specs.OptionSteps.{◌>>=◌}
 use Rattle.cg_types.specs.Text.{cluster_of}
-use Rattle.cg_types.specs.Words.{cut_at, number_of, generation_in}
+use Rattle.cg_types.specs.Words.{cut_at, number_of, generation_in, key_in}
 use Rattle.cg_messages.specs.declared.message.Message.{Message}
 use Rattle.cg_silence.specs.Values.{SilenceValue, silence_of}
 use Rattle.cg_silence.specs.Settings.{settings_or_fault as silence_or_fault}
@@ -107,6 +107,12 @@ set_in words = do
   text ← readable (state_text_in bytes)
   Some (event.Set key.0 text)
 
+-- `remove KEY`
+unfoldable pub remove_in : List ℕ → Option Event
+remove_in words = do
+  key ← key_in words
+  Some (event.Remove key)
+
 -- `tick NOW W1 W2 W3 W4`
 unfoldable pub tick_in : List ℕ → Option Event
 tick_in words = do
@@ -148,6 +154,7 @@ bare_event word =
 unfoldable pub event_behind : List ℕ → List ℕ → Option Event
 event_behind word words =
     if bytes_eq word (codes "set") then set_in words
+    else if bytes_eq word (codes "remove") then remove_in words
     else if bytes_eq word (codes "tick") then tick_in words
     else if bytes_eq word (codes "syn") then syn_in words
     else if bytes_eq word (codes "ack") then ack_in words

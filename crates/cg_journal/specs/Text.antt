@@ -63,6 +63,10 @@ further_word word = codes " " ++ decimal word
 unfoldable pub set_line : ℕ → List ℕ → List ℕ
 set_line key text = codes "set " ++ (decimal key ++ (codes " " ++ (text_digits text ++ codes "\n")))
 
+-- `remove KEY`
+unfoldable pub remove_line : ℕ → List ℕ
+remove_line key = codes "remove " ++ (decimal key ++ codes "\n")
+
 -- `tick NOW W1 W2 W3 W4`
 unfoldable pub tick_line : ℕ → List ℕ → List ℕ
 tick_line now words = codes "tick " ++ (decimal now ++ (flat_map further_word words ++ codes "\n"))
@@ -82,6 +86,7 @@ ack2_line now m = codes "ack2 " ++ (decimal now ++ (codes " " ++ (frame_digits m
 abbrev pub event_line : Event → List ℕ
 event_line event.Beat = codes "beat\n"
 event_line (event.Set key text) = set_line key text
+event_line (event.Remove key) = remove_line key
 event_line (event.Tick now words) = tick_line now words
 event_line event.Opening = codes "open\n"
 event_line (event.Syn m) = syn_line (messages.Syn m)

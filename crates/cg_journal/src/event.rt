@@ -10,7 +10,7 @@ ghost use Rattle.cg_journal.specs.Reading as spec;
 use cg_events::Event;
 use cg_frames::{Message, decode};
 use cg_script::{bytes_in, count_before, four_in, is_word, key_before, state_text_in};
-use cg_types::{Fault, StateText, cut};
+use cg_types::{Fault, StateKey, StateText, cut};
 use cg_wire::{ack_due, ack2_due, syn_due};
 use std::alloc::Global;
 
@@ -76,6 +76,16 @@ fn set_in(alloc: Global, words: &[u8]) -> Result<Event, Fault>
     let bytes = text_bytes_in(alloc, digits)?;
     let text = state_text(alloc, &bytes)?;
     Ok(Event::Set { key, text })
+}
+
+#[tactic(auto, unfolding(crate::specs::Reading::remove_in))]
+fn remove_in(words: &[u8]) -> Result<Event, Fault>
+    ensures { Finds (λ e. e) result (spec.remove_in words.now) }
+{
+    let Some(key) = StateKey::from_bytes(words) else {
+        return Err(Fault::BadText);
+    };
+    Ok(Event::Remove { key })
 }
 
 #[tactic(auto, unfolding(crate::specs::Reading::tick_in))]
@@ -151,6 +161,9 @@ fn event_behind(alloc: Global, word: &[u8], words: &[u8]) -> Result<Event, Fault
 {
     if is_word(word, "set") {
         return set_in(alloc, words);
+    }
+    if is_word(word, "remove") {
+        return remove_in(words);
     }
     if is_word(word, "tick") {
         return tick_in(words);

@@ -5,7 +5,7 @@ ghost use Rattle.std.specs.List.{flat_map};
 ghost use Rattle.hex.specs.Hex.{encode_lower};
 ghost use Rattle.cg_table.specs.Own.{own_entry};
 ghost use Rattle.cg_messages.specs.Lent.{lent_message};
-ghost use Rattle.cg_journal.specs.Text.{silence_text, further_seed, seeds_text, settings_text, life_line, text_digits, frame_digits, further_word, set_line, tick_line, syn_line, ack_line, ack2_line, event_line};
+ghost use Rattle.cg_journal.specs.Text.{silence_text, further_seed, seeds_text, settings_text, life_line, text_digits, frame_digits, further_word, set_line, remove_line, tick_line, syn_line, ack_line, ack2_line, event_line};
 
 use cg_core::Node;
 use cg_events::Event;
@@ -132,6 +132,14 @@ fn add_set(
     text.push_str("\n")
 }
 
+#[tactic(auto, unfolding(crate::specs::Text::remove_line))]
+fn add_remove(text: &mut String, key: StateKey) -> Result<(), AllocError>
+    ensures { OnOk result (string_bytes text.new ≡ string_bytes text.old ++ remove_line key) }
+{
+    let key = key.get();
+    writeln!(text, "remove {key}")
+}
+
 #[tactic(auto, unfolding(crate::specs::Text::further_word))]
 fn add_further_word(text: &mut String, word: u64) -> Result<(), AllocError>
     ensures { OnOk result (string_bytes text.new ≡ string_bytes text.old ++ further_word word) }
@@ -192,6 +200,7 @@ fn add_event(alloc: Global, text: &mut String, event: &Event) -> Result<(), Allo
     match event {
         Event::Beat => text.push_str("beat\n"),
         Event::Set { key, text: value } => add_set(alloc, text, *key, value),
+        Event::Remove { key } => add_remove(text, *key),
         Event::Tick { now, words } => add_tick(text, *now, words),
         Event::Opening => text.push_str("open\n"),
         Event::Syn { m } => add_syn(alloc, text, Lent::Syn(m)),

@@ -1,5 +1,5 @@
 -- A frame is bytes, so its hexadecimal digits are read as it.
-use Rattle.std.proofs.Common.{◌≡◌, ℕ, ◌<◌, zero, suc, Bool, true, false, List, [], ◌∷◌, ◌++◌, length, inl, inr, refl, subst, arith, nat_lt}
+use Rattle.std.proofs.Common.{◌≡◌, ℕ, ◌<◌, zero, suc, Bool, true, false, List, [], ◌∷◌, ◌++◌, length, Option, Some, None, inl, inr, refl, subst, arith, nat_lt}
 use Rattle.std.specs.List.{flat_map, AllByRecursion}
 use Rattle.std.specs.FinMap.{entries, entries_sorted}
 use Rattle.std.specs.Str.{is_utf8}
@@ -17,9 +17,10 @@ use Rattle.cg_messages.specs.declared.message.Message.TheVariants.{Syn, Ack, Ack
 use Rattle.cg_messages.specs.Contents.{IsDigest, IsRequest}
 use Rattle.cg_messages.specs.Values.{RequestValue}
 use Rattle.cg_frames.specs.declared.layout.Layout.{Layout}
-use Rattle.cg_frames.specs.Spelling.{two_bytes, four_bytes, endpoint, digest, request, text, state, delta, members, cluster, kind, body, inside, frame}
+use Rattle.cg_frames.specs.declared.layout.TheConstants.{TOMBSTONE}
+use Rattle.cg_frames.specs.Spelling.{two_bytes, four_bytes, endpoint, digest, request, text, value, state, delta, members, cluster, kind, body, inside, frame}
 use Rattle.cg_frames.specs.Fits.{Fits}
-use Rattle.cg_frames.proofs.FitsFields.{FitsState, FitsDelta, FitsFields}
+use Rattle.cg_frames.proofs.FitsFields.{FitsValue, FitsState, FitsDelta, FitsFields}
 use Rattle.cg_frames.proofs.FitsLemmas.{fields_of}
 use Rattle.cg_entry.proofs.FewLemmas.{states_few}
 
@@ -93,9 +94,13 @@ request_small r is =
     both_small (endpoint r.endpoint ++ four_bytes r.generation) (four_bytes r.version)
     (both_small (endpoint r.endpoint) (four_bytes r.generation) (endpoint_small r.endpoint) (four_small r.generation)) (four_small r.version)
 
+value_small : (layout : Layout) (o : Option (List ℕ)) → FitsValue layout o → AreSmall (value o)
+value_small layout (Some t) fits = text_small t fits.0
+value_small layout None fits = two_small TOMBSTONE
+
 state_small : (layout : Layout) (above : ℕ) (s : ℕ × Versioned) → FitsState layout above s → AreSmall (state s)
 state_small layout above s fits =
-    (omega (arith, fits.key.1), both_small (four_bytes s.1.version) (text s.1.text) (four_small s.1.version) (text_small s.1.text fits.is_plain))
+    (omega (arith, fits.key.1), both_small (four_bytes s.1.version) (value s.1.text) (four_small s.1.version) (value_small layout s.1.text fits.value))
 
 delta_small : (layout : Layout) (d : OwnerDelta) → FitsDelta layout d → AreSmall (delta d)
 delta_small layout d fits =

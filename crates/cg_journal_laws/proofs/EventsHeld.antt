@@ -26,7 +26,7 @@ use Rattle.cg_wire.specs.Due.{syn_due, ack_due, ack2_due}
 use Rattle.cg_script.specs.Gives.{readable}
 use Rattle.cg_script.specs.Words.{count_in, count_before, key_before, state_text_in, text_in, state_text_of_utf8}
 use Rattle.cg_script.specs.Script.{four_in}
-use Rattle.cg_journal.specs.Reading.{whole_message, message_in, text_bytes_in, set_in, tick_in, syn_in, ack_in, ack2_in, bare_event, event_behind, event_of_parts, event_in}
+use Rattle.cg_journal.specs.Reading.{whole_message, message_in, text_bytes_in, set_in, remove_in, tick_in, syn_in, ack_in, ack2_in, bare_event, event_behind, event_of_parts, event_in}
 use Rattle.cg_journal_laws.specs.Contents.{IsCount, AreWords, IsEvent}
 
 -- ---- a property of each value of a step holds of the step's result
@@ -144,6 +144,10 @@ set_held words =
     (λ key p. held_bind (λ (_ : List ℕ). Unit) IsEvent (text_bytes_in key.1) (λ bytes. readable (state_text_in bytes) >>= λ text. Some (event.Set key.0 text)) (held_any (text_bytes_in key.1))
     (λ bytes _. held_bind IsStateText IsEvent (readable (state_text_in bytes)) (λ text. Some (event.Set key.0 text)) (state_text-held bytes) (λ text q. (p, q))))
 
+remove_held : (words : List ℕ) → IfSome (remove_in words) IsEvent
+unfolding remove_in
+remove_held words = held_bind IsKey IsEvent (key_in words) (λ key. Some (event.Remove key)) (key_held words) (λ key p. p)
+
 tick_held : (words : List ℕ) → IfSome (tick_in words) IsEvent
 unfolding tick_in
 tick_held words =
@@ -176,10 +180,11 @@ behind_held : (word words : List ℕ) → IfSome (event_behind word words) IsEve
 unfolding event_behind
 behind_held word words =
     held_cond IsEvent (bytes_eq word (codes "set")) (set_in words) _ (set_held words)
+    (held_cond IsEvent (bytes_eq word (codes "remove")) (remove_in words) _ (remove_held words)
     (held_cond IsEvent (bytes_eq word (codes "tick")) (tick_in words) _ (tick_held words)
     (held_cond IsEvent (bytes_eq word (codes "syn")) (syn_in words) _ (syn_held words)
     (held_cond IsEvent (bytes_eq word (codes "ack")) (ack_in words) _ (ack_held words)
-    (held_cond IsEvent (bytes_eq word (codes "ack2")) (ack2_in words) None (ack2_held words) tt))))
+    (held_cond IsEvent (bytes_eq word (codes "ack2")) (ack2_in words) None (ack2_held words) tt)))))
 
 parts_held : (line : List ℕ) (parts : Option Parts) → IfSome (event_of_parts line parts) IsEvent
 parts_held line None = bare_held line

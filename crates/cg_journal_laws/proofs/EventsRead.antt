@@ -30,8 +30,8 @@ use Rattle.cg_frames.proofs.LawLemmas.{frame_is_read_among, layouts_are}
 use Rattle.cg_script.specs.Gives.{readable}
 use Rattle.cg_script.specs.Words.{count_in, count_before, key_before, state_text_in, text_in, state_text_of_utf8}
 use Rattle.cg_script.specs.Script.{four_in}
-use Rattle.cg_journal.specs.Text.{text_digits, frame_digits, further_word, set_line, tick_line, syn_line, ack_line, ack2_line, event_line}
-use Rattle.cg_journal.specs.Reading.{whole_message, message_in, text_bytes_in, set_in, tick_in, syn_in, ack_in, ack2_in, bare_event, event_behind, event_of_parts, event_in}
+use Rattle.cg_journal.specs.Text.{text_digits, frame_digits, further_word, set_line, remove_line, tick_line, syn_line, ack_line, ack2_line, event_line}
+use Rattle.cg_journal.specs.Reading.{whole_message, message_in, text_bytes_in, set_in, remove_in, tick_in, syn_in, ack_in, ack2_in, bare_event, event_behind, event_of_parts, event_in}
 use Rattle.cg_journal_laws.specs.Contents.{IsCount, AreWords, IsEvent}
 use Rattle.cg_journal_laws.proofs.WordsRead.{lacks, lacks-append, lacks-number, lacks-decimal, lacks-hex, cut_at-word, is_no_dash, key_in-decimal}
 use Rattle.cg_journal_laws.proofs.BytesRead.{bytes_of_small, plain_small, frame_bytes}
@@ -42,6 +42,7 @@ use Rattle.cg_journal_laws.proofs.LinesRead.{ended}
 abbrev pub event_words : Event → List ℕ
 event_words event.Beat = codes "beat"
 event_words (event.Set key text) = codes "set" ++ 32 ∷ (decimal key ++ 32 ∷ text_digits text)
+event_words (event.Remove key) = codes "remove" ++ 32 ∷ decimal key
 event_words (event.Tick now words) = codes "tick" ++ 32 ∷ (decimal now ++ flat_map further_word words)
 event_words event.Opening = codes "open"
 event_words (event.Syn m) = codes "syn" ++ 32 ∷ frame_digits (messages.Syn m)
@@ -49,9 +50,10 @@ event_words (event.Ack now m) = codes "ack" ++ 32 ∷ (decimal now ++ 32 ∷ fra
 event_words (event.Ack2 now m) = codes "ack2" ++ 32 ∷ (decimal now ++ 32 ∷ frame_digits (messages.Ack2 m))
 
 pub event_line-ended : (e : Event) → event_line e ≡ ended (event_words e)
-unfolding set_line tick_line syn_line ack_line ack2_line
+unfolding set_line remove_line tick_line syn_line ack_line ack2_line
 event_line-ended event.Beat = refl
 event_line-ended (event.Set key text) = ap (λ (l : List ℕ). codes "set " ++ l) (sym (append_assoc (decimal key) (32 ∷ text_digits text) (10 ∷ [])))
+event_line-ended (event.Remove key) = refl
 event_line-ended (event.Tick now words) = ap (λ (l : List ℕ). codes "tick " ++ l) (sym (append_assoc (decimal now) (flat_map further_word words) (10 ∷ [])))
 event_line-ended event.Opening = refl
 event_line-ended (event.Syn m) = refl
@@ -111,6 +113,10 @@ set_again key text number is =
     ap (λ (o : Option (ℕ × List ℕ)). o >>= λ key. text_bytes_in key.1 >>= λ bytes. readable (state_text_in bytes) >>= λ text. Some (event.Set key.0 text)) (key_before-word key (text_digits text) number)
     ∙ ap (λ (o : Option (List ℕ)). o >>= λ bytes. readable (state_text_in bytes) >>= λ text. Some (event.Set key text)) (text_again text is.is_plain)
     ∙ ap (λ (r : Result (List ℕ) Fault). readable r >>= λ text. Some (event.Set key text)) (state_text_again text is)
+
+remove_again : (key : ℕ) → IsKey key → remove_in (decimal key) ≡ Some (event.Remove key)
+unfolding remove_in
+remove_again key number = ap (λ (o : Option ℕ). o >>= λ key. Some (event.Remove key)) (key_in-decimal key number)
 
 -- ---- ticks
 
@@ -172,6 +178,7 @@ pub event_again : (e : Event) → IsEvent e → event_in (event_words e) ≡ Som
 unfolding event_in bare_event event_behind syn_in ack_in ack2_in
 event_again event.Beat is = refl
 event_again (event.Set key text) is = behind_word (codes "set") (decimal key ++ 32 ∷ text_digits text) refl ∙ set_again key text is.0 is.1
+event_again (event.Remove key) is = behind_word (codes "remove") (decimal key) refl ∙ remove_again key is
 event_again (event.Tick now words) is = behind_word (codes "tick") (decimal now ++ flat_map further_word words) refl ∙ tick_again now words is.0 is.1
 event_again event.Opening is = refl
 event_again (event.Syn m) is = behind_word (codes "syn") (frame_digits (messages.Syn m)) refl ∙ rw (message_again (messages.Syn m) is) refl
@@ -192,6 +199,7 @@ words-lack (w ∷ words) all = lacks-append 10 (decimal w) (flat_map further_wor
 pub event_words-lack : (e : Event) → IsEvent e → lacks 10 (event_words e) ≡ true
 event_words-lack event.Beat is = refl
 event_words-lack (event.Set key text) is = lacks-number 10 key 32 (text_digits text) refl refl (omega (arith, is.0.1)) (text_digits-lack 10 refl refl refl text)
+event_words-lack (event.Remove key) is = lacks-decimal 10 key refl (omega (arith, is.1))
 event_words-lack (event.Tick now words) is = lacks-append 10 (decimal now) (flat_map further_word words) (lacks-decimal 10 now refl is.0) (words-lack words is.1.counts)
 event_words-lack event.Opening is = refl
 event_words-lack (event.Syn m) is = frame_digits-lack 10 refl refl (messages.Syn m)

@@ -23,6 +23,7 @@ pub record AreWords (words : List ℕ) : Type 0 where
 abbrev pub IsEvent : Event → Type 0
 IsEvent event.Beat = Unit
 IsEvent (event.Set key text) = IsKey key × IsStateText text
+IsEvent (event.Remove key) = IsKey key
 IsEvent (event.Tick now words) = IsCount now × AreWords words
 IsEvent event.Opening = Unit
 IsEvent (event.Syn m) = IsSyn m

@@ -30,6 +30,9 @@ pub fn every_event_fits(event: &Event)
             let _key = key.get();
             let _text = text.as_str();
         }
+        Event::Remove { key } => {
+            let _key = key.get();
+        }
         Event::Tick { now, words } => {
             show_count(*now);
             show_words(words);

@@ -24,6 +24,7 @@ fn begun(alloc: Global) -> Result<History, Fail> {
 #[derive(Clone, Copy)]
 enum Of {
     Set,
+    Remove,
     Beat,
     Opening,
     ForeignSyn,
@@ -36,6 +37,7 @@ fn event(alloc: Global, of: Of) -> Result<Event, Fail> {
             key: key(1),
             text: StateText::new(alloc, "NORMAL")?,
         }),
+        Of::Remove => Ok(Event::Remove { key: key(1) }),
         Of::Beat => Ok(Event::Beat),
         Of::Opening => Ok(Event::Opening),
         Of::ForeignSyn => foreign_syn(alloc),
@@ -117,17 +119,27 @@ fn told(alloc: Global, before: &[(Of, u32)], last: (Of, u32)) -> Result<Told, Fa
 const TWO: &[(Of, u32)] = &[(Of::Set, 1), (Of::Beat, 2)];
 
 // The events before the last one, the last one, and its outcome.
-const TOLD: [(&[(Of, u32)], (Of, u32), Told); 7] = [
+const TOLD: [(&[(Of, u32)], (Of, u32), Told); 9] = [
     (&[], (Of::Set, 1), (Ok((1, 1, Some(2))), 1, (1, false))),
     (
         &[(Of::Set, 1)],
         (Of::Beat, 2),
         (Ok((2, 2, Some(3))), 2, (1, false)),
     ),
+    (
+        &[(Of::Set, 1)],
+        (Of::Remove, 2),
+        (Ok((2, 2, Some(3))), 2, (1, false)),
+    ),
     (&[], (Of::Beat, 1), (Ok((1, 1, Some(2))), 1, (1, false))),
     (&[], (Of::Opening, 1), (Ok((1, 1, None)), 1, (0, false))),
     (&[], (Of::Ack2(1), 1), (Ok((1, 1, None)), 1, (1, true))),
     // refused events make no record
+    (
+        &[(Of::Set, 1), (Of::Remove, 1)],
+        (Of::Remove, 1),
+        (Err(Fault::NoSuchKey), 2, (1, false)),
+    ),
     (
         TWO,
         (Of::ForeignSyn, 1),
@@ -187,7 +199,7 @@ const SET: Row = (Of::Set, 2, 1, 1);
 
 const BEAT: Row = (Of::Beat, 3, 2, 2);
 
-const STRAYS: [(&[Row], Option<(usize, u8)>); 9] = [
+const STRAYS: [(&[Row], Option<(usize, u8)>); 10] = [
     // callers are confirmed apart, the numbers of each have to rise
     (&[SET, BEAT], None),
     (&[BEAT, SET], None),
@@ -199,6 +211,7 @@ const STRAYS: [(&[Row], Option<(usize, u8)>); 9] = [
     (&[SET, (Of::Beat, 3, 2, 3)], Some((1, 16))),
     (&[SET, (Of::Beat, 2, 2, 2)], Some((1, 16))),
     (&[SET, (Of::Opening, 3, 2, 2)], Some((1, 16))),
+    (&[(Of::Remove, 2, 1, 1)], Some((0, 16))),
 ];
 
 // Of `count` beats by two callers in turn: the number of records, and the first unconfirmed receipt of all receipts,

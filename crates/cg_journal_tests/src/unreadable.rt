@@ -57,7 +57,7 @@ const OPEN_AND_ACK: &str =
 const ACK: &str = "\nack 1000 00000027010200010a0000011b58000000090000000000010a0000021b5800000005\
 000000000000000100\n";
 
-const LINES: [&str; 26] = [
+const LINES: [&str; 35] = [
     "",
     "beat ",
     "Beat",
@@ -73,6 +73,16 @@ const LINES: [&str; 26] = [
     "set 1 ff",
     "set 1 07",
     "set 1 41 ",
+    "remove",
+    "remove ",
+    "remove 0",
+    "remove 17",
+    "remove 01",
+    "remove 1 ",
+    "remove 1 41",
+    "Remove 1",
+    // no text is there
+    "remove 1",
     "tick 1 2 3 4",
     "tick 1 2 3 4 5 6",
     "tick 1 2 3 4 18446744073709551616",

@@ -17,7 +17,7 @@ use Rattle.cg_events.specs.declared.reply.Reply.TheVariants as reply
 use Rattle.cg_core.specs.Values.{NodeValue, IsSmall}
 use Rattle.cg_core.specs.Step.{node_step}
 use Rattle.cg_core_laws.specs.Laws.{PutsIts}
-use Rattle.cg_core_laws.proofs.NodeLaws.{sets_put_their_text}
+use Rattle.cg_core_laws.proofs.NodeLaws.{sets_put_their_text, removals_put_their_tombstone}
 use Rattle.cg_records.specs.declared.item.Item.{Item}
 use Rattle.cg_records.specs.declared.item.Receipt.{Receipt}
 use Rattle.cg_records.specs.Items.{puts_of}
@@ -27,10 +27,10 @@ use Rattle.cg_history.proofs.Replaying.{replays_more}
 use Rattle.cg_history_laws.proofs.OneMore.{each_event_makes_one_record}
 use Rattle.cg_history_laws.proofs.PutsOfRecords.{puts_of-append, front_fits, own_stays, node_small}
 use Rattle.cg_views.specs.Lists.{MayFollow}
-use Rattle.cg_views.specs.Reading.{Has, HasText}
+use Rattle.cg_views.specs.Reading.{Has, HasState}
 use Rattle.cg_views.proofs.Reading.{told_sets_are_read}
 use Rattle.cg_locked.specs.Seat.{SeatState}
-use Rattle.cg_locked.specs.Entry.{Answer, ShowsSet, ShownSetsAreRead, IsEntry}
+use Rattle.cg_locked.specs.Entry.{Answer, ShowsChange, ShownChangesAreRead, IsEntry}
 
 -- ---- puts that may be appended
 
@@ -75,42 +75,45 @@ module _ (start : NodeValue) (all more : List Item) (h : HistoryValue) (caller :
         led = subst (λ (n : NodeValue). Replays start more n) (sym all_one.led) (subst (λ (l : List Item). Replays start l all_one.node) (sym all_one.records) on);
       }
 
--- ---- the puts that are published of a Set
+-- ---- the puts that are published of a Set or a Remove
 
 -- the puts of the last record are among those of all
 last_stands : (rs : List Item) (r : Item) (p : Put) → r.puts ≡ p ∷ [] → Has (puts_of (rs ++ r ∷ [])) p
 last_stands rs r p is = (puts_of rs, [], puts_of-append rs (r ∷ []) ∙ ap (λ ps. puts_of rs ++ ps) (append-nil r.puts ∙ is))
 
--- if the last record is of a Set, all puts show it
-set_shown : (n : NodeValue) (e : Event) (x : NodeValue × Reply) (rs : List Item) (r : Item) → IsSmall n → node_step n e ≡ Ok x → r.puts ≡ puts n.table x.0.table → ShowsSet (puts_of (rs ++ r ∷ [])) n.table.own e x.1
-set_shown n (event.Set key text) x rs r small step is =
-    let its : PutsIts key text n x.0 x.1 = sets_put_their_text n key text x.0 x.1 small step in
+-- if the last record is of a Set or a Remove, all puts show it
+change_shown : (n : NodeValue) (e : Event) (x : NodeValue × Reply) (rs : List Item) (r : Item) → IsSmall n → node_step n e ≡ Ok x → r.puts ≡ puts n.table x.0.table → ShowsChange (puts_of (rs ++ r ∷ [])) n.table.own e x.1
+change_shown n (event.Set key text) x rs r small step is =
+    let its : PutsIts key (Some text) n x.0 x.1 = sets_put_their_text n key text x.0 x.1 small step in
     (its.version, its.told, record { entry = _; stands = last_stands rs r _ (is ∙ its.only); given = its.given })
-set_shown n event.Beat x rs r small step is = tt
-set_shown n (event.Tick now words) x rs r small step is = tt
-set_shown n event.Opening x rs r small step is = tt
-set_shown n (event.Syn m) x rs r small step is = tt
-set_shown n (event.Ack now m) x rs r small step is = tt
-set_shown n (event.Ack2 now m) x rs r small step is = tt
+change_shown n (event.Remove key) x rs r small step is =
+    let its : PutsIts key None n x.0 x.1 = removals_put_their_tombstone n key x.0 x.1 small step in
+    (its.version, its.told, record { entry = _; stands = last_stands rs r _ (is ∙ its.only); given = its.given })
+change_shown n event.Beat x rs r small step is = tt
+change_shown n (event.Tick now words) x rs r small step is = tt
+change_shown n event.Opening x rs r small step is = tt
+change_shown n (event.Syn m) x rs r small step is = tt
+change_shown n (event.Ack now m) x rs r small step is = tt
+change_shown n (event.Ack2 now m) x rs r small step is = tt
 
--- the puts of all records show the Set of the last one
-puts_show : (h : HistoryValue) (caller : ℕ) (e : Event) (after : HistoryValue) (q : Receipt) → IsReplayed h → apply h caller e ≡ Ok (after, q) → ShowsSet (puts_of after.records) h.base.table.own e q.reply
+-- the puts of all records show the change of the last one
+puts_show : (h : HistoryValue) (caller : ℕ) (e : Event) (after : HistoryValue) (q : Receipt) → IsReplayed h → apply h caller e ≡ Ok (after, q) → ShowsChange (puts_of after.records) h.base.table.own e q.reply
 puts_show h caller e after q i is =
     let one = each_event_makes_one_record h caller e after q is in
     let r : Item = record { caller = caller; event = e; reply = one.answer; puts = puts h.node.table one.node.table } in
-    let shown = set_shown h.node e (one.node, one.answer) h.records r (node_small h i) one.step refl in
-    let at_base : ShowsSet (puts_of (h.records ++ r ∷ [])) h.base.table.own e one.answer = subst (λ own. ShowsSet (puts_of (h.records ++ r ∷ [])) own e one.answer) (own_stays h i) shown in
+    let shown = change_shown h.node e (one.node, one.answer) h.records r (node_small h i) one.step refl in
+    let at_base : ShowsChange (puts_of (h.records ++ r ∷ [])) h.base.table.own e one.answer = subst (λ own. ShowsChange (puts_of (h.records ++ r ∷ [])) own e one.answer) (own_stays h i) shown in
     let replied : one.answer ≡ q.reply = sym (ap (λ (p : Receipt). p.reply) one.receipt) in
-    subst (λ a. ShowsSet (puts_of after.records) h.base.table.own e a) replied (subst (λ rs. ShowsSet (puts_of rs) h.base.table.own e one.answer) (sym one.records) at_base)
+    subst (λ a. ShowsChange (puts_of after.records) h.base.table.own e a) replied (subst (λ rs. ShowsChange (puts_of rs) h.base.table.own e one.answer) (sym one.records) at_base)
 
 same_done : (v w : ℕ) → reply.Done v ≡ reply.Done w → v ≡ w
 same_done v w e = cc
 
--- a Set that was told is read
-pub shown_sets_are_read : ShownSetsAreRead
-shown_sets_are_read opening told read key version text shows begins order =
+-- a change that was told is read
+pub shown_changes_are_read : ShownChangesAreRead
+shown_changes_are_read opening told read key version text shows begins order =
     let same : shows.0 ≡ version = sym (same_done version shows.0 shows.1) in
-    let has : HasText told opening.own key text version = subst (λ (v : ℕ). HasText told opening.own key text v) same shows.2 in
+    let has : HasState told opening.own key text version = subst (λ (v : ℕ). HasState told opening.own key text v) same shows.2 in
     told_sets_are_read opening told read key text version order begins has
 
 -- ---- entries
@@ -124,11 +127,11 @@ module _ (start : NodeValue) (seat : SeatState) (e : Event) (seen : List Item) (
   pub entry_refused : (fault : Fault) → IsRefusal fault (apply h seat.caller e) → seen ≡ h.records → IsEntry start seat e seen (Err fault)
   entry_refused fault is are = record { before = h; after = h; whole = whole; starts = starts; replayed = replayed; begins = begins; long = long; entered = is; seen_are = are; told = tt }
 
--- the puts published with an entry show its Set
-pub entry_shows : (start : NodeValue) (seat : SeatState) (e : Event) (seen : List Item) (result : Result Answer Fault) → IsEntry start seat e seen result → (opening : TableValue) → start.table ≡ opening → IfOk result (λ r. IfSome r.1 (λ t. ShowsSet t opening.own e r.0.reply))
+-- the puts published with an entry show its change
+pub entry_shows : (start : NodeValue) (seat : SeatState) (e : Event) (seen : List Item) (result : Result Answer Fault) → IsEntry start seat e seen result → (opening : TableValue) → start.table ≡ opening → IfOk result (λ r. IfSome r.1 (λ t. ShowsChange t opening.own e r.0.reply))
 entry_shows start seat e seen (Err fault) entry opening at = tt
 entry_shows start seat e seen (Ok (q, None)) entry opening at = tt
 entry_shows start seat e seen (Ok (q, Some t)) entry opening at =
     let shown = puts_show entry.before seat.caller e entry.after q entry.replayed entry.entered in
-    let at_start : ShowsSet (puts_of entry.after.records) start.table.own e q.reply = subst (λ (n : NodeValue). ShowsSet (puts_of entry.after.records) n.table.own e q.reply) entry.starts shown in
-    subst (λ ps. ShowsSet ps opening.own e q.reply) (sym entry.told) (subst (λ (x : TableValue). ShowsSet (puts_of entry.after.records) x.own e q.reply) at at_start)
+    let at_start : ShowsChange (puts_of entry.after.records) start.table.own e q.reply = subst (λ (n : NodeValue). ShowsChange (puts_of entry.after.records) n.table.own e q.reply) entry.starts shown in
+    subst (λ ps. ShowsChange ps opening.own e q.reply) (sym entry.told) (subst (λ (x : TableValue). ShowsChange (puts_of entry.after.records) x.own e q.reply) at at_start)

@@ -1,5 +1,5 @@
 -- The answer of a board to an event: a receipt, and the puts that it published.
-use Rattle.std.specs.Prelude.{ℕ, ◌≡◌, ◌≤◌, true, List, [], ◌∷◌, ◌++◌, length, Option, Result, Ok, IfOk, IfSome, MatchResult}
+use Rattle.std.specs.Prelude.{ℕ, ◌≡◌, ◌≤◌, true, List, [], ◌∷◌, ◌++◌, length, Option, Some, None, Result, Ok, IfOk, IfSome, MatchResult}
 use mathlib.Core.List.{IsPrefix}
 use Rattle.cg_types.specs.Answer.{Answers}
 use Rattle.cg_types.specs.declared.fault.Fault.{Fault}
@@ -18,7 +18,7 @@ use Rattle.cg_records.specs.Confirming.{AreConfirmed}
 use Rattle.cg_records.specs.Items.{puts_of}
 use Rattle.cg_history.specs.History.{HistoryValue, IsReplayed, apply}
 use Rattle.cg_views.specs.Lists.{StartsWith}
-use Rattle.cg_views.specs.Reading.{HasText, OwnHasFrom}
+use Rattle.cg_views.specs.Reading.{HasState, OwnHasFrom}
 use Rattle.cg_locked.specs.Seat.{SeatState}
 
 -- a start, chosen arbitrarily, for a name that gives none
@@ -28,18 +28,23 @@ any_start =
     (settings_of (record { name = []; partitioner = 1 }) []
     (record { window = 0; initial_gap = 0; max_gap = 0; threshold = 0 }))
 
--- If the event is a Set, the puts have an own one with its key and text at the reply's version.
-abbrev pub ShowsSet : List Put → ℕ → Event → Reply → Type 0
-ShowsSet puts own (event.Set key text) answer =
-    (version : ℕ) × (answer ≡ reply.Done version) × HasText puts own key text version
-ShowsSet puts own e answer = Unit {0}
+-- The puts have an own one with the key's text, or its tombstone, at the version that the reply has.
+abbrev pub ShowsState : List Put → ℕ → ℕ → Option (List ℕ) → Reply → Type 0
+ShowsState puts own key text answer =
+    (version : ℕ) × (answer ≡ reply.Done version) × HasState puts own key text version
 
--- If the puts show a Set of the opening table's owner, a read that begins with them has the key at that version or a
--- later one.
-abbrev pub ShownSetsAreRead : Type 0
-ShownSetsAreRead =
-    (opening : TableValue) (told read : List Put) (key version : ℕ) (text : List ℕ)
-    → ShowsSet told opening.own (event.Set key text) (reply.Done version)
+-- If the event is a Set or a Remove, the puts show the key's text or its tombstone.
+abbrev pub ShowsChange : List Put → ℕ → Event → Reply → Type 0
+ShowsChange puts own (event.Set key text) answer = ShowsState puts own key (Some text) answer
+ShowsChange puts own (event.Remove key) answer = ShowsState puts own key None answer
+ShowsChange puts own e answer = Unit {0}
+
+-- If the puts show a Set or a Remove of the opening table's owner, a read that begins with them has the key at that
+-- version or a later one, as a text or a tombstone.
+abbrev pub ShownChangesAreRead : Type 0
+ShownChangesAreRead =
+    (opening : TableValue) (told read : List Put) (key version : ℕ) (text : Option (List ℕ))
+    → ShowsState told opening.own key text (reply.Done version)
     → StartsWith read told → keep_order opening read ≡ true → OwnHasFrom (with_puts opening read) key version
 
 -- a receipt, and the puts published with it

@@ -1,13 +1,13 @@
 //! Laws of told Sets, of receipts and of the limit: contracts of functions that do nothing.
 
 ghost use Rattle.cg_locked.specs.Board.{NoneIsFolded};
-ghost use Rattle.cg_locked.specs.Entry.{ConfirmedStay, EntriesAreConfirmed, ShownSetsAreRead};
+ghost use Rattle.cg_locked.specs.Entry.{ConfirmedStay, EntriesAreConfirmed, ShownChangesAreRead};
 ghost use Rattle.cg_locked.specs.Limits.{SeatLimitValue};
 
 /// A Set that `submit` or a gate over a seat told is read: a pass that learnt the `Told` reads the key at the reply's
 /// version or a later one.
-pub fn shown_sets_are_read()
-    ensures { ShownSetsAreRead }
+pub fn shown_changes_are_read()
+    ensures { ShownChangesAreRead }
 {}
 
 /// The receipts of a seat's events are confirmed by the records that it has seen, and rise.

@@ -8,7 +8,7 @@ ghost use Rattle.cg_records.specs.declared.item.Item.{Item};
 ghost use Rattle.cg_records.specs.Confirming.{AreConfirmed, IsFirstStray};
 ghost use Rattle.cg_history.specs.History.{IsFoldOf, count_of};
 ghost use Rattle.cg_views.specs.Lists.{opened_with};
-ghost use Rattle.cg_locked.specs.Entry.{IsEntry, ShowsSet};
+ghost use Rattle.cg_locked.specs.Entry.{IsEntry, ShowsChange};
 ghost use Rattle.cg_locked.specs.Shared.{callers_up_to, history_of, stray_of};
 
 use crate::board::Board;
@@ -141,7 +141,7 @@ impl<N: Name> Shared<N> {
         event: Event,
     ) -> Result<(Receipt, Option<Told<N>>), Fault>
         ensures entry { IsEntry N.start seat.old event seat.new.seen result }
-        ensures shown { IfOk result (λ r. IfSome r.1 (λ t. ShowsSet t N.opening.own event r.0.reply)) }
+        ensures shown { IfOk result (λ r. IfSome r.1 (λ t. ShowsChange t N.opening.own event r.0.reply)) }
         ensures amount { OnOk result (seat.new.amount ≡ seat.old.amount + 1) }
         ensures err { OnErr result (seat.new.amount ≡ seat.old.amount) }
         ensures seat { (seat.new.caller ≡ seat.old.caller) × (seat.new.parts ≡ seat.old.parts) }

@@ -42,7 +42,7 @@ fn states(alloc: Global, counts: Counts) -> Result<Vec<State>> {
         states.push(State {
             key: key(number),
             version: version(u32::from(number) + 1),
-            text: text(alloc, counts)?,
+            text: Some(text(alloc, counts)?),
         })?;
     }
     Ok(states)

@@ -5,7 +5,7 @@ ghost use Rattle.std.specs.Prelude.{◌≡◌, ◌<◌, ◌≤◌, true, [], vec
 ghost use Rattle.std.specs.List.{sum_by};
 
 use crate::history::{counted, new_history};
-use crate::reading::{Read, set_and_read};
+use crate::reading::{Read, change_and_read};
 use cg_events::Event;
 use cg_expect::expect_eq;
 use cg_history::History;
@@ -27,6 +27,8 @@ enum Work {
     Set,
     // The same, and the receipt's number is raised by one.
     SetAndForge,
+    // Sets key 3 to `x`, removes that, reads back what took its place, and is refused the same removal.
+    Remove,
     // Reads while the board is locked.
     ReadLent,
     // Enters two Sets, reads, catches up and reads again.
@@ -131,10 +133,44 @@ fn set<N: Name, R: Wait>(
     let Ok(text) = StateText::new(alloc, "x") else {
         return notes.refused(Fault::OutOfMemory);
     };
-    match set_and_read(rt, alloc, shared, seat, pass, key(3), text) {
+    match change_and_read(rt, alloc, shared, seat, pass, key(3), Some(text)) {
         Ok(Some(told)) => note_set(told, notes, forged),
         Ok(None) => notes.refused(Fault::OutOfMemory),
         Err(fault) => notes.refused(fault),
+    }
+}
+
+// Notes the version of the tombstone that was read, or 0 if a text was.
+fn note_removal(told: Read, notes: &mut Notes) {
+    let Read {
+        receipt,
+        version: _,
+        snapshot,
+    } = told;
+    if let Some((text, version)) = snapshot.table().own_entry().state(key(3)) {
+        notes.note(match text {
+            Some(_) => 0,
+            None => u64::from(version.get()),
+        });
+    }
+    notes.keep(receipt);
+}
+
+// Removes key 3, and notes what is read then, or the number of the fault.
+fn remove<N: Name, R: Wait>(
+    rt: &R,
+    alloc: Global,
+    shared: &Shared<N>,
+    seat: &mut Seat<N>,
+    pass: &mut Pass<N>,
+    notes: &mut Notes,
+)
+    ensures { seat.new.parts ≡ seat.old.parts }
+{
+    match change_and_read(rt, alloc, shared, seat, pass, key(3), None) {
+        Ok(Some(told)) => note_removal(told, notes),
+        Ok(None) => notes.refused(Fault::OutOfMemory),
+        Err(fault) => notes.note(u64::from(fault.number())),
     }
 }
 
@@ -290,6 +326,11 @@ fn work_on<N: Name, R: Wait>(
     match work {
         Work::Set => set(rt, alloc, shared, seat, pass, notes, 0),
         Work::SetAndForge => set(rt, alloc, shared, seat, pass, notes, 1),
+        Work::Remove => {
+            set(rt, alloc, shared, seat, pass, notes, 0);
+            remove(rt, alloc, shared, seat, pass, notes);
+            remove(rt, alloc, shared, seat, pass, notes);
+        }
         Work::ReadLent => {
             let board = shared.lend(rt);
             note_read(pass, notes);
@@ -442,6 +483,13 @@ fn a_set_is_told_read_and_confirmed(rt: HostRuntime) -> Result<(), Fail> {
     let (numbers, records, stray) = left(&rt, rt.alloc(), 1, Work::Set)?;
     expect_eq!(numbers.as_slice(), [1, 2, 2].as_slice())?;
     expect_eq!((records, stray), (1, None))
+}
+
+#[test]
+fn a_removal_is_told_and_read_as_a_tombstone(rt: HostRuntime) -> Result<(), Fail> {
+    let (numbers, records, stray) = left(&rt, rt.alloc(), 1, Work::Remove)?;
+    expect_eq!(numbers.as_slice(), [1, 2, 2, 3, 20].as_slice())?;
+    expect_eq!((records, stray), (2, None))
 }
 
 #[test]

@@ -3,7 +3,7 @@
 ghost use Rattle.std.specs.Prelude.{◌≡◌, []};
 
 use crate::history::new_history;
-use crate::reading::set_and_read;
+use crate::reading::change_and_read;
 use cg_expect::expect_eq;
 use cg_history::History;
 use cg_locked::{Fresh, Name, Seat, Shared, Unconfirmed};
@@ -43,8 +43,15 @@ fn set_all<N: Name, R: Wait>(
         let Ok(text) = StateText::new(alloc, "x") else {
             break;
         };
-        let Ok(Some(read)) = set_and_read(rt, alloc, shared, &mut seat, &mut pass, key(3), text)
-        else {
+        let Ok(Some(read)) = change_and_read(
+            rt,
+            alloc,
+            shared,
+            &mut seat,
+            &mut pass,
+            key(3),
+            Some(text),
+        ) else {
             break;
         };
         if let Some((_text, version)) = read.snapshot.table().own_entry().get(key(3)) {

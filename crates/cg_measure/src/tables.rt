@@ -97,7 +97,7 @@ fn states(alloc: Global, number: u16, held: Held, shape: Shape) -> Result<Vec<St
         states.push(State {
             key: key(state),
             version: version(held.version(state)),
-            text: text(alloc, &mut chance, shape.text)?,
+            text: Some(text(alloc, &mut chance, shape.text)?),
         })?;
     }
     Ok(states)

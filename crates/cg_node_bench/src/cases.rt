@@ -11,6 +11,8 @@ pub(crate) enum Task {
     Beat,
     /// A node sets one key.
     Set,
+    /// A node removes the text that it set.
+    Remove,
     /// A node that holds itself alone takes all others, who claim tokens.
     Joins,
     /// A node sets its own `STATUS`, where all claim tokens.
@@ -84,16 +86,19 @@ const CALLER_BY_CALLER: Task = Task::Confirms {
 
 /// All cases: steps of nodes at tables of each shape, at claims of tokens and at full windows, exchanges over links,
 /// histories, and scripts of 8 nodes with a hundred thousand lines and of 256 nodes.
-pub(crate) const ALL: [Case; 26] = [
+pub(crate) const ALL: [Case; 29] = [
     ("node", "heartbeat", "1x200", Task::Heartbeat, SMALLEST),
     ("node", "beat", "1x200", Task::Beat, SMALLEST),
     ("node", "set", "1x200", Task::Set, SMALLEST),
+    ("node", "remove", "1x200", Task::Remove, SMALLEST),
     ("node", "heartbeat", "16x64", Task::Heartbeat, MIDDLE),
     ("node", "beat", "16x64", Task::Beat, MIDDLE),
     ("node", "set", "16x64", Task::Set, MIDDLE),
+    ("node", "remove", "16x64", Task::Remove, MIDDLE),
     ("node", "heartbeat", "16x1024", Task::Heartbeat, LARGEST),
     ("node", "beat", "16x1024", Task::Beat, LARGEST),
     ("node", "set", "16x1024", Task::Set, LARGEST),
+    ("node", "remove", "16x1024", Task::Remove, LARGEST),
     ("node", "joins", "256x16", Task::Joins, SMALLEST),
     ("node", "set_status", "256x16", Task::SetStatus, SMALLEST),
     (

@@ -144,3 +144,8 @@ pub(crate) fn set(alloc: Global, number: u8, text: &str) -> Result<Event, Fault>
 pub(crate) fn load(alloc: Global) -> Result<Event, Fault> {
     set(alloc, 3, "1048576")
 }
+
+/// The event that removes the load.
+pub(crate) fn unload() -> Event {
+    Event::Remove { key: key(3) }
+}

@@ -5,7 +5,7 @@ use crate::claims::{claimed, joins, leaves, left};
 use crate::histories::{beats, events, folded, receipts, recorded, stepped, stray};
 use crate::links::{Side, answerer_part, equal_sides, opener_part, received};
 use crate::nodes::{
-    after, after_all, heard, heartbeat, joined, load, rounds_of_beats, started, whole,
+    after, after_all, heard, heartbeat, joined, load, rounds_of_beats, started, unload, whole,
 };
 use crate::scripts::{acted, actions_of, played, script_of};
 use bytes::Bytes;
@@ -137,6 +137,12 @@ fn step(alloc: Global, event: Event, shape: Shape) -> Result<Work, Failure> {
     Ok(Work::Step(joined(alloc, shape)?, event))
 }
 
+// A node that set a load, and the removal of it.
+fn removal(alloc: Global, shape: Shape) -> Result<Work, Failure> {
+    let node = after(alloc, &joined(alloc, shape)?, &load(alloc)?)?;
+    Ok(Work::Step(node, unload()))
+}
+
 fn beats_of_all(alloc: Global, count: u32, shape: Shape) -> Result<Work, Failure> {
     let beats = rounds_of_beats(alloc, shape.owners, 1001, count)?;
     Ok(Work::Further(heard(alloc, shape)?, beats))
@@ -163,6 +169,7 @@ fn work_of(alloc: Global, task: Task, shape: Shape) -> Result<Work, Failure> {
         Task::Heartbeat => step(alloc, heartbeat(alloc, 7, 18, 21)?, shape),
         Task::Beat => step(alloc, Event::Beat, shape),
         Task::Set => step(alloc, load(alloc)?, shape),
+        Task::Remove => removal(alloc, shape),
         Task::Joins => Ok(Work::Claim(started(alloc, 0, 5)?, joins(alloc)?)),
         Task::SetStatus => Ok(Work::Claim(claimed(alloc)?, leaves(alloc)?)),
         Task::TakesStatus => Ok(Work::Claim(claimed(alloc)?, left(alloc)?)),

@@ -3,6 +3,8 @@ use Rattle.std.proofs.Common.{◌≡◌, ℕ, inl, inr, List, [], ◌∷◌, ◌
 use Rattle.cg_types.specs.declared.fault.Fault.{Fault}
 use Rattle.cg_table.specs.Values.{TableValue}
 use Rattle.cg_table.specs.Puts.{Put}
+use Rattle.cg_events.specs.declared.event.Event.{Event}
+use Rattle.cg_events.specs.declared.event.Event.TheVariants as event
 use Rattle.cg_core.specs.Values.{NodeValue}
 use Rattle.cg_records.specs.declared.item.Receipt.{Receipt}
 use Rattle.cg_views.specs.Lists.{StartsWith}
@@ -12,9 +14,9 @@ use Rattle.cg_lines.specs.Taken.{Takes, Refuses, Lacks, Stops, IsUnread, Fails}
 use Rattle.cg_lines.specs.Lines.{ended_lines, lines_of}
 use Rattle.cg_links.specs.declared.counted.Counted.{Counted}
 use Rattle.cg_orders.specs.declared.command.OperatorCommand.{OperatorCommand}
-use Rattle.cg_orders.specs.declared.command.OperatorCommand.TheVariants.{Show, Set, Quit}
+use Rattle.cg_orders.specs.declared.command.OperatorCommand.TheVariants.{Show, Set, Remove, Quit}
 use Rattle.cg_orders.specs.Commands.{command_in}
-use Rattle.cg_operator.specs.Doing.{Does, SetsKey, Sets, RunsOut}
+use Rattle.cg_operator.specs.Doing.{Does, ChangesKey, Changes, ChangeRunsOut, RunsOut}
 use Rattle.cg_operator.specs.Operating.{At, DoesLine, EndsAt, LacksMemory, ReadsNothing, WritesFront, ReachesTheEnd, Operates}
 
 pub goes_nowhere : (g : SeatValue) → GoesOn g g
@@ -46,36 +48,41 @@ pub on_same : (g : SeatValue) (p : List Put) (h : SeatValue) (q : List Put) → 
 on_same g p h q e f = record { gate = goes_same g h e; later = starts_same p q f }
 
 module _ (start : NodeValue) where
-  key_goes : (own key : ℕ) (value : List ℕ) (g : SeatValue) (p : List Put) (text : List ℕ) (h : SeatValue) (q : List Put)
-      → SetsKey start own key value g p text h q → On g p h q
-  key_goes own key value g p text h q k = record {
+  key_goes : (own : ℕ) (e : Event) (g : SeatValue) (p : List Put) (text : List ℕ) (h : SeatValue) (q : List Put)
+      → ChangesKey start own e g p text h q → On g p h q
+  key_goes own e g p text h q k = record {
     gate = record { seat = k.entered.seat; more = k.entered.receipt ∷ []; receipts = k.entered.receipts };
     later = k.later;
   }
 
-  set_goes : (own key : ℕ) (value : List ℕ) (g : SeatValue) (p : List Put) (text : List ℕ) (h : SeatValue) (q : List Put)
-      → Sets start own key value g p text h q → On g p h q
-  set_goes own key value g p text h q s =
+  change_goes : (own : ℕ) (e : Event) (g : SeatValue) (p : List Put) (text : List ℕ) (h : SeatValue) (q : List Put)
+      → Changes start own e g p text h q → On g p h q
+  change_goes own e g p text h q s =
       elim s as (λ _. On g p h q) [
-        | inl k ↦ key_goes own key value g p text h q k
+        | inl k ↦ key_goes own e g p text h q k
         | inr k ↦ on_same g p h q k.gate k.pass
+      ]
+
+  short_change_goes : (own : ℕ) (e : Event) (g : SeatValue) (p : List Put) (h : SeatValue) (q : List Put) → ChangeRunsOut start own e g p h q → On g p h q
+  short_change_goes own e g p h q d =
+      elim d as (λ _. On g p h q) [
+        | inl n ↦ on_same g p h q n.0 n.1
+        | inr k ↦ key_goes own e g p k.0 h q k.1
       ]
 
   pub line_goes : (opening : TableValue) (command : Result OperatorCommand Fault) (g : SeatValue) (p : List Put) (text : List ℕ) (h : SeatValue) (q : List Put)
       → Does start opening command g p text h q → On g p h q
   line_goes opening (Ok (Show view)) g p text h q d = record { gate = goes_same g h d.0; later = d.1 }
-  line_goes opening (Ok (Set key value)) g p text h q d = set_goes opening.own key value g p text h q d
+  line_goes opening (Ok (Set key value)) g p text h q d = change_goes opening.own (event.Set key value) g p text h q d
+  line_goes opening (Ok (Remove key)) g p text h q d = change_goes opening.own (event.Remove key) g p text h q d
   line_goes opening (Ok Quit) g p text h q d = absurd d
   line_goes opening (Err f) g p text h q d = on_same g p h q d.0 d.1
 
   out_goes : (opening : TableValue) (command : Result OperatorCommand Fault) (g : SeatValue) (p : List Put) (h : SeatValue) (q : List Put)
       → RunsOut start opening command g p h q → On g p h q
   out_goes opening (Ok (Show view)) g p h q d = record { gate = goes_same g h d.0; later = d.1 }
-  out_goes opening (Ok (Set key value)) g p h q d =
-      elim d as (λ _. On g p h q) [
-        | inl n ↦ on_same g p h q n.0 n.1
-        | inr k ↦ key_goes opening.own key value g p k.0 h q k.1
-      ]
+  out_goes opening (Ok (Set key value)) g p h q d = short_change_goes opening.own (event.Set key value) g p h q d
+  out_goes opening (Ok (Remove key)) g p h q d = short_change_goes opening.own (event.Remove key) g p h q d
   out_goes opening (Ok Quit) g p h q d = on_same g p h q d.0 d.1
   out_goes opening (Err f) g p h q d = on_same g p h q d.0 d.1
 

@@ -1,14 +1,17 @@
--- The answer to a key that was set, also where no memory is found for it.
+-- The answer to a change of a key, also where no memory is found for it.
 use Rattle.std.proofs.Common.{◌≡◌, ℕ, List, Option, Some, None, Result, Ok, Err, OnErr, refl, sym, subst}
 use Rattle.cg_table.specs.Puts.{Put}
+use Rattle.cg_events.specs.declared.reply.Reply.{Reply}
+use Rattle.cg_events.specs.declared.reply.Reply.TheVariants as reply
+use Rattle.cg_events.specs.Replies.{IsDone}
 use Rattle.cg_views.specs.Lists.{StartsWith}
 use Rattle.cg_printed.specs.Printed.{version_line}
 use Rattle.cg_orders.specs.Shown.{unpublished_line}
-use Rattle.cg_operator.specs.Doing.{TellsSet}
+use Rattle.cg_operator.specs.Doing.{TellsChange}
 
--- some text tells of the set
+-- some text tells of the change
 abbrev pub Told : ℕ → Option (List Put) → List Put → List Put → Type 0
-Told version told p q = (text : List ℕ) × TellsSet version told p q text
+Told version told p q = (text : List ℕ) × TellsChange version told p q text
 
 on_err : {T E : Type 0} (r : Result T E) (P : Type 0) → P → OnErr r P
 on_err (Ok x) P p = tt
@@ -25,3 +28,11 @@ pub told_none : {T E : Type 0} (r : Result T E) (version : ℕ) (told : Option (
 told_none r version told p q is same =
     on_err r (Told version told p q)
     (subst (λ (o : Option (List Put)). Told version o p q) (sym is) (unpublished_line version, (same, refl)))
+
+-- the version of a reply that has one
+pub has_version : (last : Option Reply) (answer : Reply) → last ≡ Some answer → IsDone answer → (version : ℕ) × (last ≡ Some (reply.Done version))
+has_version last (reply.Done version) is done = (version, is)
+has_version last (reply.Round peers syn) is done = absurd done
+has_version last (reply.Sent m) is done = absurd done
+has_version last (reply.Both outcomes ack2) is done = absurd done
+has_version last (reply.Took outcomes) is done = absurd done

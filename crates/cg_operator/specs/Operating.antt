@@ -35,7 +35,7 @@ module _ {W : Type 0} (holds : W → Option (List ℕ)) (start : NodeValue) (ope
     pub kept : KeepsCounts s.writer t.writer
     pub flushed : IsFlushed t.writer
 
-  -- Memory ran out in the line: it did nothing but its one set, and nothing was written of it.
+  -- Memory ran out in the line: it did nothing but its one change, and nothing was written of it.
   pub record LacksMemory (s : At W) (line : List ℕ) (t : At W) (f : Fault) : Type 0 where
     pub fault : f ≡ OutOfMemory
     pub done : RunsOut start opening (command_in line) s.gate s.pass t.gate t.pass

@@ -3,13 +3,14 @@
 ghost use Rattle.std.specs.Prelude.{ℕ, ◌≡◌, ◌⊎◌, List, Some, None, Ok, Err, IfOk, IfErr, OnErr, MatchResult, option_map, string_bytes};
 ghost use Rattle.cg_types.specs.declared.fault.Fault.TheVariants as faults;
 ghost use Rattle.cg_table.specs.Puts.{with_puts};
+ghost use Rattle.cg_events.specs.declared.reply.Reply.{Reply as ReplyValue};
 ghost use Rattle.cg_events.specs.declared.reply.Reply.TheVariants as replies;
+ghost use Rattle.cg_events.specs.Replies.{IsDone, IsReplyTo};
 ghost use Rattle.cg_views.specs.Lists.{StartsWith};
 ghost use Rattle.cg_seats.specs.Seats.{last_reply};
-ghost use Rattle.cg_orders.specs.declared.command.OperatorCommand.TheVariants as commands;
 ghost use Rattle.cg_orders.specs.Shown.{table_lines};
 ghost use Rattle.cg_orders.specs.Commands.{command_in};
-ghost use Rattle.cg_operator.specs.Doing.{TellsSet, Sets, AnswersLine, Unanswered};
+ghost use Rattle.cg_operator.specs.Doing.{TellsChange, Changes, ChangeRunsOut, AnswersLine, Unanswered};
 
 use cg_engine::Gate;
 use cg_events::{Event, Reply};
@@ -18,7 +19,7 @@ use cg_orders::{OperatorCommand, add_unpublished, read_command, table_text};
 use cg_printed::add_version;
 use cg_script::View;
 use cg_seats::SeatGate;
-use cg_types::{Fault, StateKey, StateText, Version};
+use cg_types::{Fault, Version};
 use cg_views::{Pass, Told};
 use std::alloc::{AllocError, Global};
 use std::sync::Wait;
@@ -40,16 +41,16 @@ fn show<N: Name>(alloc: Global, pass: &mut Pass<N>, view: View) -> Result<String
     }
 }
 
-// Returns the answer to a key that was set, once the pass has learnt the `Told` of the change.
-fn tell_set<N: Name>(
+// Returns the answer to a change of a key, once the pass has learnt the `Told` of the change.
+fn tell_change<N: Name>(
     alloc: Global,
     pass: &mut Pass<N>,
     told: Option<Told<N>>,
     version: Version,
 ) -> Result<String, AllocError>
     ensures later { StartsWith pass.new pass.old }
-    ensures text { IfOk result (λ text. TellsSet version told pass.old pass.new (string_bytes text)) }
-    ensures err { OnErr result ((text : List ℕ) × TellsSet version told pass.old pass.new text) }
+    ensures text { IfOk result (λ text. TellsChange version told pass.old pass.new (string_bytes text)) }
+    ensures err { OnErr result ((text : List ℕ) × TellsChange version told pass.old pass.new text) }
 {
     let mut text = String::new(alloc);
     match told {
@@ -76,23 +77,24 @@ fn version_of<N: Name, R: Wait>(gate: &SeatGate<'_, N, R>) -> Version
     }
 }
 
-// Sets a key, and returns the answer.
-fn set<N: Name, R: Wait>(
+// Changes a key by an event, a Set or a Remove, and returns the answer.
+fn change<N: Name, R: Wait>(
     alloc: Global,
     gate: &mut SeatGate<'_, N, R>,
     pass: &mut Pass<N>,
-    key: StateKey,
-    text: StateText,
+    event: Event,
 ) -> Result<String, Fault>
+    requires { (reply : ReplyValue) → IsReplyTo event reply → IsDone reply }
     ensures { MatchResult result
-        (λ shown. Sets N.start N.opening.own key text gate.old pass.old (string_bytes shown) gate.new pass.new)
-        (λ f. Unanswered N.start N.opening (Ok (commands.Set key text)) gate.old pass.old gate.new pass.new f) }
+        (λ shown. Changes N.start N.opening.own event gate.old pass.old (string_bytes shown) gate.new pass.new)
+        (λ f. (f ≡ faults.OutOfMemory)
+        × ChangeRunsOut N.start N.opening.own event gate.old pass.old gate.new pass.new) }
 {
-    match gate.event(alloc, Event::Set { key, text }) {
+    match gate.event(alloc, event) {
         Ok(()) => {
             let version = version_of(gate);
             let told = gate.told();
-            match tell_set(alloc, pass, told, version) {
+            match tell_change(alloc, pass, told, version) {
                 Ok(shown) => Ok(shown),
                 Err(_) => Err(Fault::OutOfMemory),
             }
@@ -119,10 +121,18 @@ fn obey<N: Name, R: Wait>(
             Ok(text) => Ok(Some(text)),
             Err(fault) => Err(fault),
         },
-        OperatorCommand::Set { key, text } => match set(alloc, gate, pass, key, text) {
-            Ok(text) => Ok(Some(text)),
-            Err(fault) => Err(fault),
-        },
+        OperatorCommand::Set { key, text } => {
+            match change(alloc, gate, pass, Event::Set { key, text }) {
+                Ok(text) => Ok(Some(text)),
+                Err(fault) => Err(fault),
+            }
+        }
+        OperatorCommand::Remove { key } => {
+            match change(alloc, gate, pass, Event::Remove { key }) {
+                Ok(text) => Ok(Some(text)),
+                Err(fault) => Err(fault),
+            }
+        }
         OperatorCommand::Quit => Ok(None),
     }
 }

@@ -1,4 +1,4 @@
-//! The operator of a running node: lines that show what the node holds, and that set its keys.
+//! The operator of a running node: lines that show what the node holds, and that set or remove its keys.
 //!
 //! The operator reads the table without a lock. Each line is answered at once: its text is written and flushed before
 //! the next line is done. A `Console` is this operator at the standard streams.

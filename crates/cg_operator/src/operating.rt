@@ -101,13 +101,13 @@ fn operate_lines<N: Name, R: Wait, W: Write, I: Read>(
 /// line shows is written and flushed before the next line is done.
 ///
 /// `gossipinfo`, `ring`, `digests` and `replicas RF TEXT` show what the pass reads, with no lock. `set KEY TEXT` sets a
-/// key of the node. It shows `version N` once the pass has learnt the `Told` of the change, or `version N unpublished`
-/// if no memory was found to publish it. A line that can't be read shows `fault 2 BadText` or `fault 3 TooLong`, and a
-/// refused set `fault 4 VersionsSpent`.
+/// key of the node, and `remove KEY` removes its text. Each shows `version N` once the pass has learnt the `Told` of the
+/// change, or `version N unpublished` if no memory was found to publish it. A line that can't be read shows
+/// `fault 2 BadText` or `fault 3 TooLong`, and a refused change `fault 4 VersionsSpent` or `fault 20 NoSuchKey`.
 ///
 /// `OutOfMemory` if memory runs out; `ReadFault` if a read fails or 4,294,967,295 reads were made; `WriteFault` if the
 /// writer fails or takes no byte; `NoSuchNode` if there is nothing to read any more. With `OutOfMemory` and
-/// `WriteFault` the set of that line may have been done, and nothing else.
+/// `WriteFault` the change of that line may have been done, and nothing else.
 pub fn operate<N: Name, R: Wait, I: Read, W: Write>(
     alloc: Global,
     reader: &mut Counted<I>,

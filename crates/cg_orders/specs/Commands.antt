@@ -3,12 +3,12 @@ use Rattle.std.specs.Prelude.{ℕ, List, Option, Some, None, Result, Ok, Err, co
 use Rattle.cg_types.specs.declared.fault.Fault.{Fault}
 use Rattle.cg_types.specs.declared.fault.Fault.TheVariants.{BadText}
 use Rattle.cg_types.specs.OptionSteps.{◌>>=◌}
-use Rattle.cg_types.specs.Words.{cut_at}
+use Rattle.cg_types.specs.Words.{cut_at, key_in}
 use Rattle.cg_tokens.specs.Tokens.{token_of}
 use Rattle.cg_script.specs.declared.line.View.TheVariants as view
 use Rattle.cg_script.specs.Words.{count_before, key_before, text_in, state_text_in}
 use Rattle.cg_orders.specs.declared.command.OperatorCommand.{OperatorCommand}
-use Rattle.cg_orders.specs.declared.command.OperatorCommand.TheVariants.{Show, Set, Quit}
+use Rattle.cg_orders.specs.declared.command.OperatorCommand.TheVariants.{Show, Set, Remove, Quit}
 
 abbrev pub or_unreadable : Option OperatorCommand → Result OperatorCommand Fault
 or_unreadable None = Err BadText
@@ -34,6 +34,12 @@ key_set (Some key) = setting key.0 (state_text_in key.1)
 unfoldable pub set_line : List ℕ → Result OperatorCommand Fault
 set_line words = key_set (key_before words)
 
+-- `remove KEY`
+unfoldable pub remove_line : List ℕ → Option OperatorCommand
+remove_line words = do
+  key ← key_in words
+  Some (Remove key)
+
 -- a line of one word
 unfoldable pub bare_command : List ℕ → Option OperatorCommand
 bare_command word =
@@ -48,6 +54,7 @@ unfoldable pub command_behind : List ℕ → List ℕ → Result OperatorCommand
 command_behind word words =
     if bytes_eq word (codes "replicas") then or_unreadable (replicas_line words)
     else if bytes_eq word (codes "set") then set_line words
+    else if bytes_eq word (codes "remove") then or_unreadable (remove_line words)
     else Err BadText
 
 abbrev pub command_of_parts : List ℕ → Option (List ℕ × List ℕ) → Result OperatorCommand Fault

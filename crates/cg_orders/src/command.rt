@@ -10,6 +10,8 @@ pub enum OperatorCommand {
     Show(View),
     /// `set KEY TEXT`: sets a key of the node.
     Set { key: StateKey, text: StateText },
+    /// `remove KEY`: removes the text of a key of the node.
+    Remove { key: StateKey },
     /// `quit`: ends the reading of lines.
     Quit,
 }

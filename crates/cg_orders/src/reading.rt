@@ -8,7 +8,7 @@ ghost use Rattle.cg_orders.specs.Commands as spec;
 use crate::command::OperatorCommand;
 use cg_script::{View, count_before, is_word, key_before, state_text_in};
 use cg_tokens::token_of;
-use cg_types::{Fault, cut};
+use cg_types::{Fault, StateKey, cut};
 use std::alloc::Global;
 
 // A text that is UTF-8.
@@ -42,6 +42,14 @@ fn set_line(alloc: Global, words: &[u8]) -> Result<OperatorCommand, Fault>
         Ok(text) => Ok(OperatorCommand::Set { key, text }),
         Err(fault) => Err(fault),
     }
+}
+
+#[tactic(auto, unfolding(crate::specs::Commands::remove_line))]
+fn remove_line(words: &[u8]) -> Option<OperatorCommand>
+    ensures { result ≡ spec.remove_line words.now }
+{
+    let key = StateKey::from_bytes(words)?;
+    Some(OperatorCommand::Remove { key })
 }
 
 // Reads the command of a line of one word.
@@ -85,11 +93,14 @@ fn command_behind(alloc: Global, word: &[u8], words: &[u8]) -> Result<OperatorCo
     if is_word(word, "set") {
         return set_line(alloc, words);
     }
+    if is_word(word, "remove") {
+        return or_unreadable(remove_line(words));
+    }
     Err(Fault::BadText)
 }
 
 /// Reads a line of the operator, without its line feed: `gossipinfo`, `ring`, `digests`, `replicas RF TEXT`,
-/// `set KEY TEXT` or `quit`. RF is 0 to 2^64 - 1, KEY 1 to 16, TEXT the rest of the line, which may be empty.
+/// `set KEY TEXT`, `remove KEY` or `quit`. RF is 0 to 2^64 - 1, KEY 1 to 16, TEXT the rest of the line, which may be empty.
 ///
 /// `TooLong` and `BadText` if only the text of a `set` is refused: over 4,096 bytes, or with control characters.
 /// `BadText` if anything else can't be read, such as another word, a word too few or too many, or a text that is not

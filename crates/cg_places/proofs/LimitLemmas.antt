@@ -4,16 +4,16 @@ use Rattle.std.specs.Prelude.{cond, nat_lt, Result, Ok, Err}
 use Rattle.std.proofs.lemmas.Bool.Decides.{nat_tests}
 use Rattle.cg_types.specs.Answer.{fault_of}
 use Rattle.cg_types.specs.declared.fault.Fault.{Fault}
-use Rattle.cg_types.specs.declared.fault.Fault.TheVariants.{TableFull, NotRising, VersionsSpent}
+use Rattle.cg_types.specs.declared.fault.Fault.TheVariants.{TableFull, NotRising, NoSuchKey, VersionsSpent}
 use Rattle.cg_types.specs.declared.limits.TheConstants.{MEMBER_LIMIT, NUMBER_LIMIT}
 use Rattle.cg_entry.specs.Values.{EntryValue}
-use Rattle.cg_entry.specs.Entry.{starting_entry, entry_after_beat, with_state, newest}
+use Rattle.cg_entry.specs.Entry.{starting_entry, entry_after_beat, with_state, has_text, newest}
 use Rattle.cg_entry.specs.History.{at_place}
 use Rattle.cg_entry.specs.Place.{Span}
 use Rattle.cg_entry.proofs.HistoryLemmas.{newest_started, newest_beaten, newest_given}
 use Rattle.cg_exchange_laws.specs.PlaceMessages.{PlaceMessage}
-use Rattle.cg_places.specs.PlaceWorld.{PlaceWorld, PlaceAction, Start, Beat, Set, Opening, Tick, Deliver, grown, nobody, runs, with_start, with_entry, with_message, with_spans, may_start, last_entry, after_action, after_actions, world_after}
-use Rattle.cg_places.specs.Refusals.{change_refusal, start_refusal, refusal, AreDone}
+use Rattle.cg_places.specs.PlaceWorld.{PlaceWorld, PlaceAction, Start, Beat, Set, Remove, Opening, Tick, Deliver, grown, nobody, runs, with_start, with_entry, with_message, with_spans, may_start, last_entry, after_action, after_actions, world_after}
+use Rattle.cg_places.specs.Refusals.{change_refusal, removal_refusal, start_refusal, refusal, AreDone}
 use Rattle.cg_places.specs.Laws.{IsWithinLimits}
 use Rattle.cg_places.proofs.KeptLemmas.{IsKept, AfterChange, OwnPart, action_kept}
 use Rattle.cg_places.proofs.PutLemmas.{put_at-each, at_place_push}
@@ -75,13 +75,26 @@ change_limited : (w : PlaceWorld) (node : ℕ) (change : EntryValue → EntryVal
     → IsWithinLimits w → AfterChange IsWithinLimits w node change
 change_limited w node change one free l x e = entry_limited w node (change x) (omega (arith, one x, next_below x (ap change_refusal (sym e) ∙ free))) l
 
+-- a removal that is not refused takes a text away, and there is a next version
+removal_free : (key : ℕ) (x : EntryValue) → removal_refusal key (Some x) ≡ None → change_refusal (Some x) ≡ None
+removal_free key x free = go (has_text key x) free
+  where
+    go : (b : Bool) → cond b (change_refusal (Some x)) (Some NoSuchKey) ≡ None → change_refusal (Some x) ≡ None
+    go true f = f
+    go false f = absurd cc
+
+removal_limited : (w : PlaceWorld) (node key : ℕ) → removal_refusal key (last_entry (w.histories node)) ≡ None → IsWithinLimits w → AfterChange IsWithinLimits w node (with_state key None)
+removal_limited w node key free l x e =
+    entry_limited w node (with_state key None x) (omega (arith, newest_given key None x, next_below x (removal_free key x (ap (removal_refusal key) (sym e) ∙ free)))) l
+
 limits_kept : IsKept IsWithinLimits
 limits_kept = record { message = message_limited; spans = spans_limited }
 
 own_limited : (w : PlaceWorld) (action : PlaceAction) → refusal w action ≡ None → IsWithinLimits w → OwnPart IsWithinLimits w action
 own_limited w (Start node generation) free l = λ may. start_limited w node generation l free may
 own_limited w (Beat node) free l = change_limited w node entry_after_beat newest_beaten free l
-own_limited w (Set node key text) free l = change_limited w node (with_state key text) (newest_given key text) free l
+own_limited w (Set node key text) free l = change_limited w node (with_state key (Some text)) (newest_given key (Some text)) free l
+own_limited w (Remove node key) free l = removal_limited w node key free l
 own_limited w (Opening node) free l = tt
 own_limited w (Tick node) free l = change_limited w node entry_after_beat newest_beaten free l
 own_limited w (Deliver number to) free l = tt

@@ -1,5 +1,5 @@
 -- Places held by a running node never fall back, and sent messages stay sent.
-use Rattle.std.proofs.Common.{◌≡◌, ◌≢◌, ℕ, ◌+◌, ◌≤◌, List, [], ◌∷◌, length, sym, ap, arith, true, Option, Some}
+use Rattle.std.proofs.Common.{◌≡◌, ◌≢◌, ℕ, ◌+◌, ◌≤◌, List, [], ◌∷◌, length, sym, ap, arith, true, Option, Some, None}
 use Rattle.std.specs.Prelude.{◌==◌}
 use Rattle.std.proofs.lemmas.Bool.Decides.{nat_tests}
 use Rattle.cg_entry.specs.Values.{EntryValue}
@@ -7,7 +7,7 @@ use Rattle.cg_entry.specs.Entry.{starting_entry, entry_after_beat, with_state}
 use Rattle.cg_entry.specs.History.{at_place}
 use Rattle.cg_entry.specs.Place.{Span}
 use Rattle.cg_exchange_laws.specs.PlaceMessages.{PlaceMessage}
-use Rattle.cg_places.specs.PlaceWorld.{PlaceWorld, PlaceAction, Start, Beat, Set, Opening, Tick, Deliver, put_at, runs, with_start, with_entry, with_message, with_spans, after_action, after_actions}
+use Rattle.cg_places.specs.PlaceWorld.{PlaceWorld, PlaceAction, Start, Beat, Set, Remove, Opening, Tick, Deliver, put_at, runs, with_start, with_entry, with_message, with_spans, after_action, after_actions}
 use Rattle.cg_places.specs.Exchange.{IsNoStartOf, NoStartsOf}
 use Rattle.cg_places.proofs.KeptLemmas.{IsKept, OwnPart, IsAfterOwn, own_part, action_kept}
 use Rattle.cg_places.proofs.PutLemmas.{put_at-each, put_at_other, at_place_longer}
@@ -102,7 +102,8 @@ places_kept n u = record {
 own_holds : (n : ℕ) (w : PlaceWorld) (action : PlaceAction) → IsSound w → IsNoStartOf n action → OwnPart (HoldsOn n w) w action
 own_holds n w (Start node generation) s apart = λ may. start_holds n w node generation apart
 own_holds n w (Beat node) s apart = λ x e. entry_holds n w node (entry_after_beat x) s
-own_holds n w (Set node key text) s apart = λ x e. entry_holds n w node (with_state key text x) s
+own_holds n w (Set node key text) s apart = λ x e. entry_holds n w node (with_state key (Some text) x) s
+own_holds n w (Remove node key) s apart = λ x e. entry_holds n w node (with_state key None x) s
 own_holds n w (Opening node) s apart = tt
 own_holds n w (Tick node) s apart = λ x e. entry_holds n w node (entry_after_beat x) s
 own_holds n w (Deliver number to) s apart = tt

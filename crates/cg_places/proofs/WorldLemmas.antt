@@ -4,13 +4,14 @@ use Rattle.std.specs.Prelude.{◌==◌, cond, if◌then◌else◌}
 use Rattle.std.proofs.lemmas.Bool.Decides.{nat_tests}
 use Rattle.cg_entry.specs.Values.{EntryValue}
 use Rattle.cg_entry.specs.Entry.{starting_entry, entry_after_beat, with_state}
-use Rattle.cg_entry.specs.History.{IsHistory, Follows, Beats, Sets, at_place}
+use Rattle.cg_entry.specs.History.{IsHistory, Follows, Beats, Sets, Removes, at_place}
 use Rattle.cg_entry.specs.Place.{Span, IsSpan}
 use Rattle.cg_exchange_laws.specs.Places.{Ask, span_asked}
 use Rattle.cg_exchange_laws.specs.PlaceMessages.{PlaceMessage, Syn, Ack, Ack2, grants_at, IsPlaceMessage, AreAsks, AreSpans}
 use Rattle.cg_exchange_laws.proofs.PlaceRules.{rules_stand}
 use Rattle.std.specs.Option.{option_and_then}
-use Rattle.cg_places.specs.PlaceWorld.{PlaceWorld, PlaceAction, Start, Beat, Set, Opening, Tick, Deliver, grown, nobody, runs, with_start, with_entry, with_message, with_spans, may_start, last_entry, after_change, after_opening, after_answer, after_receipt, after_delivery, after_action, after_actions, world_after}
+use Rattle.cg_places.proofs.KeptLemmas.{removable_is}
+use Rattle.cg_places.specs.PlaceWorld.{PlaceWorld, PlaceAction, Start, Beat, Set, Remove, Opening, Tick, Deliver, grown, nobody, runs, with_start, with_entry, with_message, with_spans, may_start, last_entry, after_change, removable, after_opening, after_answer, after_receipt, after_delivery, after_action, after_actions, world_after}
 use Rattle.cg_places.specs.Join.{furthest, targets, sources}
 use Rattle.cg_places.proofs.PutLemmas.{put_at-each, put_at_here, put_at_other, at_place_push, test_same, test_other, same_number}
 use Rattle.cg_places.proofs.GrowthLemmas.{AllContinue, grown_continue, grown_length, history_follows, history_starts, message_stays}
@@ -206,6 +207,12 @@ pub changed_sound : (w : PlaceWorld) (node : ℕ) (change : EntryValue → Entry
 changed_sound w node change follows s None e = s
 changed_sound w node change follows s (Some x) e = entry_sound w node (change x) s (history_follows (w.histories node) x (change x) (s.histories node) e (follows x))
 
+removed_sound : (w : PlaceWorld) (node key : ℕ) → IsSound w → (o : Option EntryValue) → removable key (last_entry (w.histories node)) ≡ o → IsSound (after_change w node (with_state key None) o)
+removed_sound w node key s None e = s
+removed_sound w node key s (Some x) e =
+    let is = removable_is key (last_entry (w.histories node)) x e in
+    entry_sound w node (with_state key None x) s (history_follows (w.histories node) x (with_state key None x) (s.histories node) is.0 (Removes key is.1 refl))
+
 opened_sound : (w : PlaceWorld) (node : ℕ) → IsSound w → IsSound (after_opening w node)
 opened_sound w node s = go (runs w node)
   where
@@ -252,7 +259,8 @@ action_sound w (Start node generation) s = go (may_start w node generation) refl
     go true e = start_sound w node generation s (history_starts (w.histories node) generation (s.histories node) (grind (arith, nat_tests)))
     go false e = s
 action_sound w (Beat node) s = changed_sound w node entry_after_beat (λ x. Beats refl) s _ refl
-action_sound w (Set node key text) s = changed_sound w node (with_state key text) (λ x. Sets key text refl) s _ refl
+action_sound w (Set node key text) s = changed_sound w node (with_state key (Some text)) (λ x. Sets key text refl) s _ refl
+action_sound w (Remove node key) s = removed_sound w node key s _ refl
 action_sound w (Opening node) s = opened_sound w node s
 action_sound w (Tick node) s = opened_sound _ node (changed_sound w node entry_after_beat (λ x. Beats refl) s _ refl)
 action_sound w (Deliver number to) s = delivered_sound w to (at_place w.sent number) s (λ message e. s.messages number message e)

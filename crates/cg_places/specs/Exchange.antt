@@ -1,6 +1,6 @@
 -- A whole exchange between two nodes, with other actions between its messages: in worlds of any kind, and by places.
 use Rattle.std.specs.Prelude.{ℕ, ◌≢◌, ⊤, List, [], ◌∷◌, ◌++◌, length}
-use Rattle.cg_places.specs.PlaceWorld.{PlaceAction, Start, Beat, Set, Opening, Tick, Deliver, PlaceWorld, after_action, after_actions}
+use Rattle.cg_places.specs.PlaceWorld.{PlaceAction, Start, Beat, Set, Remove, Opening, Tick, Deliver, PlaceWorld, after_action, after_actions}
 
 -- the opener, the answerer, the actions before each of the three messages is handed to its addressee, and the time of
 -- each delivery
@@ -104,6 +104,7 @@ abbrev pub IsNoStartOf : ℕ → PlaceAction → Type 0
 IsNoStartOf node (Start other generation) = other ≢ node
 IsNoStartOf node (Beat other) = ⊤
 IsNoStartOf node (Set other key text) = ⊤
+IsNoStartOf node (Remove other key) = ⊤
 IsNoStartOf node (Opening other) = ⊤
 IsNoStartOf node (Tick other) = ⊤
 IsNoStartOf node (Deliver number to) = ⊤

@@ -1,7 +1,7 @@
 -- All nodes, by the places that each holds, after a list of actions.
 use Rattle.std.specs.Prelude.{ℕ, ◌+◌, Bool, List, [], ◌∷◌, ◌++◌, length, Option, Some, None, ◌==◌, nat_lt, if◌then◌else◌}
 use Rattle.cg_entry.specs.Values.{EntryValue}
-use Rattle.cg_entry.specs.Entry.{starting_entry, entry_after_beat, with_state}
+use Rattle.cg_entry.specs.Entry.{starting_entry, entry_after_beat, with_state, has_text}
 use Rattle.cg_entry.specs.History.{at_place, generation_at}
 use Rattle.cg_entry.specs.Place.{Span}
 use Rattle.cg_entry.specs.declared.took.Took.{Took}
@@ -14,6 +14,7 @@ pub data PlaceAction : Type 0 where
   Start : (node generation : ℕ) → PlaceAction
   Beat : (node : ℕ) → PlaceAction
   Set : (node key : ℕ) (text : List ℕ) → PlaceAction
+  Remove : (node key : ℕ) → PlaceAction
   -- the node sends a SYN
   Opening : (node : ℕ) → PlaceAction
   -- a beat, and then an opening
@@ -119,6 +120,11 @@ abbrev pub after_change : PlaceWorld → ℕ → (EntryValue → EntryValue) →
 after_change w node change None = w
 after_change w node change (Some entry) = with_entry w node (change entry)
 
+-- the entry, if the key has a text there
+abbrev pub removable : ℕ → Option EntryValue → Option EntryValue
+removable key None = None
+removable key (Some entry) = if has_text key entry then Some entry else None
+
 -- the node sends a SYN of its places
 abbrev pub after_opening : PlaceWorld → ℕ → PlaceWorld
 after_opening w node = if runs w node then with_message w (Syn (w.places node)) else w
@@ -139,11 +145,12 @@ after_delivery w node None = w
 after_delivery w node (Some message) = if runs w node then after_receipt w node message else w
 
 -- The world after an action. An action of a node that does not run changes nothing. Neither does a start whose
--- generation does not rise, or the delivery of a message that was never sent.
+-- generation does not rise, the removal of a key without a text, or the delivery of a message that was never sent.
 unfoldable pub after_action : PlaceWorld → PlaceAction → PlaceWorld
 after_action w (Start node generation) = if may_start w node generation then with_start w node generation else w
 after_action w (Beat node) = after_change w node entry_after_beat (last_entry (w.histories node))
-after_action w (Set node key text) = after_change w node (with_state key text) (last_entry (w.histories node))
+after_action w (Set node key text) = after_change w node (with_state key (Some text)) (last_entry (w.histories node))
+after_action w (Remove node key) = after_change w node (with_state key None) (removable key (last_entry (w.histories node)))
 after_action w (Opening node) = after_opening w node
 after_action w (Tick node) = after_opening (after_change w node entry_after_beat (last_entry (w.histories node))) node
 after_action w (Deliver number to) = after_delivery w to (at_place w.sent number)

@@ -2,15 +2,15 @@
 -- actions are left out of the list.
 use Rattle.std.specs.Prelude.{◌≡◌, ⊤, ℕ, List, [], ◌∷◌, length, Option, Some, None, nat_lt, if◌then◌else◌}
 use Rattle.cg_types.specs.declared.fault.Fault.{Fault}
-use Rattle.cg_types.specs.declared.fault.Fault.TheVariants.{TableFull, NotRising, NoSuchMessage, NoSuchNode}
+use Rattle.cg_types.specs.declared.fault.Fault.TheVariants.{TableFull, NotRising, NoSuchMessage, NoSuchNode, NoSuchKey}
 use Rattle.cg_types.specs.declared.limits.TheConstants.{MEMBER_LIMIT}
 use Rattle.cg_types.specs.Answer.{fault_of}
 use Rattle.cg_version.specs.Version.{next_version}
 use Rattle.cg_entry.specs.Values.{EntryValue}
-use Rattle.cg_entry.specs.Entry.{newest}
+use Rattle.cg_entry.specs.Entry.{newest, has_text}
 use Rattle.cg_entry.specs.History.{at_place}
 use Rattle.cg_exchange_laws.specs.PlaceMessages.{PlaceMessage}
-use Rattle.cg_places.specs.PlaceWorld.{PlaceAction, Start, Beat, Set, Opening, Tick, Deliver, PlaceWorld, runs, may_start, last_entry, after_action}
+use Rattle.cg_places.specs.PlaceWorld.{PlaceAction, Start, Beat, Set, Remove, Opening, Tick, Deliver, PlaceWorld, runs, may_start, last_entry, after_action}
 use Rattle.cg_places.specs.Exchange.{PlaceExchange, by_places, after_opening, after_syn, after_ack}
 
 -- a generation that does not rise; or one owner more than there can be
@@ -25,6 +25,11 @@ abbrev pub change_refusal : Option EntryValue → Option Fault
 change_refusal None = Some NoSuchNode
 change_refusal (Some entry) = fault_of (next_version (newest entry))
 
+-- no entry; or one where the key has no text; or one with no next version
+abbrev pub removal_refusal : ℕ → Option EntryValue → Option Fault
+removal_refusal key None = Some NoSuchNode
+removal_refusal key (Some entry) = if has_text key entry then change_refusal (Some entry) else Some NoSuchKey
+
 -- no fault if the node runs
 abbrev pub node_refusal : PlaceWorld → ℕ → Option Fault
 node_refusal w node = if runs w node then None else Some NoSuchNode
@@ -38,6 +43,7 @@ abbrev pub refusal : PlaceWorld → PlaceAction → Option Fault
 refusal w (Start node generation) = start_refusal w node generation
 refusal w (Beat node) = change_refusal (last_entry (w.histories node))
 refusal w (Set node key text) = change_refusal (last_entry (w.histories node))
+refusal w (Remove node key) = removal_refusal key (last_entry (w.histories node))
 refusal w (Opening node) = node_refusal w node
 refusal w (Tick node) = change_refusal (last_entry (w.histories node))
 refusal w (Deliver number to) = deliver_refusal w to (at_place w.sent number)

@@ -1,5 +1,5 @@
 -- Texts by which a program shows what nodes hold and what they did. Each line ends with one line feed.
-use Rattle.std.specs.Prelude.{ℕ, List, ◌++◌, codes, decimal}
+use Rattle.std.specs.Prelude.{ℕ, List, [], ◌++◌, Option, Some, None, codes, decimal}
 use Rattle.std.specs.List.{flat_map}
 use Rattle.std.specs.FinMap as map
 use Rattle.cg_types.specs.EndpointText.{endpoint_text}
@@ -56,10 +56,14 @@ stuck_line node generation number = codes "stuck " ++ item_line node generation 
 
 -- ---- tables and rings
 
--- a key's name, its version and its text
+-- a key's name, its version and its text; nothing of a tombstone
+abbrev pub text_line : ℕ → ℕ → Option (List ℕ) → List ℕ
+text_line key version None = []
+text_line key version (Some text) =
+    codes "  " ++ (key_name key ++ (codes ":" ++ (decimal version ++ (codes ":" ++ (text ++ codes "\n")))))
+
 unfoldable pub state_line : ℕ × Versioned → List ℕ
-state_line s =
-    codes "  " ++ (key_name s.0 ++ (codes ":" ++ (decimal s.1.version ++ (codes ":" ++ (s.1.text ++ codes "\n")))))
+state_line s = text_line s.0 s.1.version s.1.text
 
 unfoldable pub owner_line : ℕ → List ℕ
 owner_line owner = codes "/" ++ (endpoint_text owner ++ codes "\n")

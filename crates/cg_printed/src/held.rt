@@ -1,29 +1,37 @@
 //! Texts of a node's table and of its ring.
 
-ghost use Rattle.std.specs.Prelude.{◌≡◌, ◌++◌, OnOk, string_bytes};
+ghost use Rattle.std.specs.Prelude.{◌≡◌, ◌++◌, OnOk, string_bytes, option_copied};
 ghost use Rattle.std.specs.List.{flat_map};
 ghost use Rattle.std.specs.FinMap as map;
 ghost use Rattle.cg_printed.specs.Printed.{state_line, owner_line, generation_line, heartbeat_line, entry_lines, gossipinfo, digest_line, digest_lines, position_line, ring_lines, endpoint_line, replica_lines};
 
 use crate::numbers::add_numbers;
-use cg_entry::{Entry, State};
+use cg_entry::Entry;
 use cg_map::Row;
 use cg_ring::Ring;
 use cg_table::Table;
 use cg_tokens::Token;
-use cg_types::{Endpoint, Generation, Version};
+use cg_types::{Endpoint, Generation, StateKey, StateText, Version};
 use std::alloc::{AllocError, Global};
 use std::fmt::Write;
 
-// Adds a key's name, its version and its text.
+// Adds a key's name, its version and its text; nothing of a tombstone.
 #[tactic(auto, unfolding(crate::specs::Printed::state_line))]
-fn add_state(text: &mut String, state: &State) -> Result<(), AllocError>
+fn add_state(
+    text: &mut String,
+    key: StateKey,
+    value: Option<&StateText>,
+    version: Version,
+) -> Result<(), AllocError>
     ensures { OnOk result (string_bytes text.new ≡ string_bytes text.old
-        ++ state_line (state.now.key, record { text = state.now.text; version = state.now.version })) }
+        ++ state_line (key, record { text = option_copied value.entry; version = version })) }
 {
-    let name = state.key.name();
-    let version = state.version.get();
-    let value = state.text.as_str();
+    let Some(value) = value else {
+        return Ok(());
+    };
+    let name = key.name();
+    let version = version.get();
+    let value = value.as_str();
     writeln!(text, "  {name}:{version}:{value}")
 }
 
@@ -50,14 +58,15 @@ fn add_heartbeat(text: &mut String, heartbeat: Version) -> Result<(), AllocError
     writeln!(text, "  heartbeat:{heartbeat}")
 }
 
-// Adds the states of an entry.
+// Adds the texts of an entry.
 fn add_states(text: &mut String, entry: &Entry) -> Result<(), AllocError>
     ensures { OnOk result (string_bytes text.new
         ≡ string_bytes text.old ++ flat_map state_line (map.entries entry.now.states)) }
 {
     let states = entry.by_key();
     for place in 0..states.len() {
-        add_state(text, states.at(place))?;
+        let (key, value, version) = states.at(place);
+        add_state(text, key, value, version)?;
     }
     Ok(())
 }
@@ -76,7 +85,8 @@ fn add_entry(text: &mut String, row: &Row<Entry>) -> Result<(), AllocError>
 
 /// Adds the lines of a table, as Cassandra's `nodetool gossipinfo` does. For each owner, rising by endpoint, these are
 /// a line with `/` and the endpoint, `  generation:` with its number, and `  heartbeat:` with its version. Then comes a
-/// line for each state, rising by key: the key's name, the version and the text, as `  STATUS:2:NORMAL`.
+/// line for each text, rising by key: the key's name, the version and the text, as `  STATUS:2:NORMAL`. A key whose text
+/// was removed has no line.
 pub fn add_gossipinfo(text: &mut String, table: &Table) -> Result<(), AllocError>
     ensures { OnOk result (string_bytes text.new ≡ string_bytes text.old ++ gossipinfo table.now.entries) }
 {

@@ -4,7 +4,7 @@ ghost use Rattle.std.specs.Prelude.{◌≡◌, true, []};
 
 use crate::answers::Answer;
 use crate::operators::told_of_lines;
-use crate::samples::{new_history, set};
+use crate::samples::{Change, changing, new_history, set};
 use crate::texts::{add_history, add_table};
 use crate::trials::{Outcome, Seen, Trial, compared, compared_or_kept, tried};
 use cg_engine::Gate;
@@ -21,15 +21,24 @@ use std::fmt::Write;
 use std::marker::Brand;
 use std::sync::{MutexGuard, Wait};
 
-/// The work at a board: a call of it, an event at the gate of its seat, or lines of an operator there.
+/// The work at a board: a call of it, an event at the gate of its seat, or lines of an operator there. Where it is a
+/// Remove, a Set of the key is told before it.
 #[derive(Clone, Copy)]
 pub(crate) enum Work {
-    Enter,
+    Enter(Change),
     CatchUp,
-    Submit,
+    Submit(Change),
     Fold,
-    Gate,
-    Lines,
+    Gate(Change),
+    Lines(Change),
+}
+
+// The work that enters the same event, and publishes nothing.
+fn alone(work: Work) -> Work {
+    match work {
+        Work::Submit(change) | Work::Gate(change) => Work::Enter(change),
+        _ => work,
+    }
 }
 
 // Adds the history of a board, the number of its unpublished records, and what a pass reads.
@@ -75,9 +84,19 @@ fn answered(told: Result<bool, Fault>) -> Result<Answer, Fault> {
     }
 }
 
+// The outcome of an event that has to be told before a call.
+fn prepared(told: Result<bool, Fault>) -> Result<(), Fault> {
+    match told {
+        Ok(true) => Ok(()),
+        // (entered, but its publication was refused)
+        Ok(false) => Err(Fault::OutOfMemory),
+        Err(fault) => Err(fault),
+    }
+}
+
 // ---- calls of a board
 
-// The room for the receipts of a trial: of its call, and of the next one.
+// The room for the receipts of a trial: of the Set before a Remove, of its call, and of the next one.
 const RECEIPTS: usize = 4;
 
 // A seat at a board, its receipts, a pass of the views, and a call.
@@ -141,11 +160,11 @@ impl<'a, N: Name, R: Wait> Seated<'a, N, R> {
         }
     }
 
-    // Enters a Set of key 3, and publishes nothing.
-    fn enter(&mut self, alloc: Global) -> Result<Answer, Fault>
+    // Enters a change of key 3, and publishes nothing.
+    fn enter(&mut self, alloc: Global, change: Change) -> Result<Answer, Fault>
         ensures { self.new.seat.parts ≡ self.old.seat.parts }
     {
-        let event = match set(alloc, 3, "x") {
+        let event = match changing(alloc, change, "x") {
             Ok(event) => event,
             Err(fault) => return Err(fault),
         };
@@ -158,11 +177,11 @@ impl<'a, N: Name, R: Wait> Seated<'a, N, R> {
         }
     }
 
-    // Submits a Set of key 3, and answers whether it was told.
-    fn submit(&mut self, alloc: Global, text: &str) -> Result<bool, Fault>
+    // Submits a change of key 3, and answers whether it was told.
+    fn submit(&mut self, alloc: Global, change: Change, text: &str) -> Result<bool, Fault>
         ensures { self.new.seat.parts ≡ self.old.seat.parts }
     {
-        let event = match set(alloc, 3, text) {
+        let event = match changing(alloc, change, text) {
             Ok(event) => event,
             Err(fault) => return Err(fault),
         };
@@ -179,12 +198,23 @@ impl<'a, N: Name, R: Wait> Seated<'a, N, R> {
 impl<'a, N: Name, R: Wait> Trial for Seated<'a, N, R> {
     ghost parts = { λ s. s.seat.parts };
 
+    fn begin(&mut self, alloc: Global) -> Result<(), Fault> {
+        match self.work {
+            Work::Enter(Change::Remove) | Work::Submit(Change::Remove) => {
+                prepared(self.submit(alloc, Change::Set, "a"))
+            }
+            _ => Ok(()),
+        }
+    }
+
     fn call(&mut self, alloc: Global) -> Result<Answer, Fault> {
         match self.work {
-            Work::Enter => self.enter(alloc),
+            Work::Enter(change) => self.enter(alloc, change),
             Work::CatchUp => catch_up(self.rt, alloc, self.shared, self.pass),
             Work::Fold => fold(self.rt, alloc, self.shared),
-            Work::Submit | Work::Gate | Work::Lines => answered(self.submit(alloc, "x")),
+            Work::Submit(change) | Work::Gate(change) | Work::Lines(change) => {
+                answered(self.submit(alloc, change, "x"))
+            }
         }
     }
 
@@ -197,7 +227,7 @@ impl<'a, N: Name, R: Wait> Trial for Seated<'a, N, R> {
 
     // The next event tells the one before it too. If its own publication is refused, the board catches up.
     fn go_on(&mut self, alloc: Global) -> Result<Answer, Fault> {
-        match self.submit(alloc, "y") {
+        match self.submit(alloc, Change::Set, "y") {
             Ok(false) => catch_up(self.rt, alloc, self.shared, self.pass),
             told => answered(told),
         }
@@ -206,21 +236,22 @@ impl<'a, N: Name, R: Wait> Trial for Seated<'a, N, R> {
 
 // ---- the gate of a seat
 
-// The gate of a seat at a board, and a pass of its views.
+// The gate of a seat at a board, a pass of its views, and the change that the gate is to enter.
 #[derive(Drop)]
 struct Gated<'a, N: Name, R: Wait> {
     rt: &'a R,
     shared: &'a Shared<N>,
     gate: SeatGate<'a, N, R>,
     pass: &'a mut Pass<N>,
+    change: Change,
 }
 
 impl<'a, N: Name, R: Wait> Gated<'a, N, R> {
-    // Enters a Set of key 3, and answers whether it was told.
-    fn event(&mut self, alloc: Global, text: &str) -> Result<bool, Fault>
+    // Enters a change of key 3, and answers whether it was told.
+    fn event(&mut self, alloc: Global, change: Change, text: &str) -> Result<bool, Fault>
         ensures { self.new.gate.parts ≡ self.old.gate.parts }
     {
-        let event = match set(alloc, 3, text) {
+        let event = match changing(alloc, change, text) {
             Ok(event) => event,
             Err(fault) => return Err(fault),
         };
@@ -237,8 +268,15 @@ impl<'a, N: Name, R: Wait> Gated<'a, N, R> {
 impl<'a, N: Name, R: Wait> Trial for Gated<'a, N, R> {
     ghost parts = { λ g. g.gate.parts };
 
+    fn begin(&mut self, alloc: Global) -> Result<(), Fault> {
+        match self.change {
+            Change::Set => Ok(()),
+            Change::Remove => prepared(self.event(alloc, Change::Set, "a")),
+        }
+    }
+
     fn call(&mut self, alloc: Global) -> Result<Answer, Fault> {
-        answered(self.event(alloc, "x"))
+        answered(self.event(alloc, self.change, "x"))
     }
 
     fn show(&mut self, _alloc: Global, text: &mut String) -> Result<(), Fault> {
@@ -249,7 +287,7 @@ impl<'a, N: Name, R: Wait> Trial for Gated<'a, N, R> {
     }
 
     fn go_on(&mut self, alloc: Global) -> Result<Answer, Fault> {
-        match self.event(alloc, "y") {
+        match self.event(alloc, Change::Set, "y") {
             Ok(false) => catch_up(self.rt, alloc, self.shared, self.pass),
             told => answered(told),
         }
@@ -258,11 +296,12 @@ impl<'a, N: Name, R: Wait> Trial for Gated<'a, N, R> {
 
 // ---- a board for each
 
-// The events before a call, in turn: of these a Set has puts that are told, and an Opening has none.
+// The events before a call, in turn: of these all have puts that are told, but an Opening has none.
 fn earlier(alloc: Global, place: usize) -> Result<Event, Fault> {
-    match place % 3 {
+    match place % 4 {
         0 => set(alloc, 3, "a"),
-        1 => Ok(Event::Beat),
+        1 => changing(alloc, Change::Remove, ""),
+        2 => Ok(Event::Beat),
         _ => Ok(Event::Opening),
     }
 }
@@ -292,7 +331,7 @@ fn enter_earlier<N: Name, R: Wait>(
     }
 }
 
-// Enters what a board holds before the call: three records for a publication, five published ones for a fold.
+// Enters what a board holds before the call: four records for a publication, five published ones for a fold.
 fn prepare<N: Name, R: Wait>(
     rt: &R,
     alloc: Global,
@@ -303,7 +342,7 @@ fn prepare<N: Name, R: Wait>(
     ensures { seat.new.parts ≡ seat.old.parts }
 {
     let count: usize = match work {
-        Work::CatchUp => 3,
+        Work::CatchUp => 4,
         Work::Fold => 5,
         _ => 0,
     };
@@ -381,6 +420,7 @@ fn left_at_gate<N: Name, R: Wait>(
     shared: &Shared<N>,
     seat: Seat<N>,
     pass: &mut Pass<N>,
+    change: Change,
 ) -> Left<N>
     requires { seat.amount ≡ 0 }
     ensures { result.seat.parts ≡ seat.parts }
@@ -390,6 +430,7 @@ fn left_at_gate<N: Name, R: Wait>(
         shared,
         gate: SeatGate::new(rt, alloc, shared, seat),
         pass,
+        change,
     };
     let seen = tried(alloc, &mut gated);
     let Gated { gate, .. } = gated;
@@ -407,12 +448,13 @@ fn left_by_lines<N: Name, R: Wait>(
     shared: &Shared<N>,
     seat: Seat<N>,
     pass: &mut Pass<N>,
+    change: Change,
 ) -> Left<N>
     requires { seat.amount ≡ 0 }
     ensures { result.seat.parts ≡ seat.parts }
 {
     let mut gate = SeatGate::new(rt, alloc, shared, seat);
-    let told = told_of_lines(rt, alloc, shared, &mut gate, pass);
+    let told = told_of_lines(rt, alloc, shared, &mut gate, pass, change);
     let (seat, receipts) = gate.into_parts();
     let seen = match told {
         Ok(text) => Ok(Seen::of_text(alloc, text)),
@@ -438,8 +480,8 @@ fn left_at<N: Name, R: Wait>(
     ensures { result.seat.parts ≡ seat.parts }
 {
     match work {
-        Work::Gate => left_at_gate(rt, alloc, shared, seat, pass),
-        Work::Lines => left_by_lines(rt, alloc, shared, seat, pass),
+        Work::Gate(change) => left_at_gate(rt, alloc, shared, seat, pass, change),
+        Work::Lines(change) => left_by_lines(rt, alloc, shared, seat, pass, change),
         _ => left_at_seat(rt, alloc, shared, seat, pass, work),
     }
 }
@@ -500,6 +542,6 @@ pub(crate) fn call<R: Wait>(rt: &R, alloc: Global, work: Work) -> Result<Outcome
 /// Has an event entered and told. If its publication is refused, the record stands as if it were entered alone.
 pub(crate) fn enter_and_tell<R: Wait>(rt: &R, alloc: Global, work: Work) -> Result<Outcome, Fault> {
     let due = seen(rt, alloc, work)?.of_twin()?;
-    let kept = seen(rt, alloc, Work::Enter)?.of_twin()?;
+    let kept = seen(rt, alloc, alone(work))?.of_twin()?;
     compared_or_kept(alloc, &due, &kept, seen(rt, alloc, work)?)
 }

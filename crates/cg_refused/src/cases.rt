@@ -4,7 +4,7 @@ use crate::boards::{Work, call, enter_and_tell};
 use crate::histories::{apply, fold_front};
 use crate::nodes::{step, step_full};
 use crate::operators::lines;
-use crate::samples::Kind;
+use crate::samples::{Change, Kind};
 use crate::trials::Outcome;
 use crate::views::{Call, view};
 use crate::worlds::{act, run};
@@ -34,13 +34,14 @@ pub(crate) enum Case {
     /// A call that enters an event and tells it.
     Tell(Work),
     /// An operator's lines.
-    Lines,
+    Lines(Change),
 }
 
 /// The cases by their names.
-pub(crate) const CASES: [(&str, Case); 36] = [
+pub(crate) const CASES: [(&str, Case); 43] = [
     ("step_beat", Case::Step(Kind::Beat)),
     ("step_set", Case::Step(Kind::Set)),
+    ("step_remove", Case::Step(Kind::Remove)),
     ("step_tick", Case::Step(Kind::Tick)),
     ("step_opening", Case::Step(Kind::Opening)),
     ("step_syn", Case::Step(Kind::Syn)),
@@ -54,6 +55,7 @@ pub(crate) const CASES: [(&str, Case); 36] = [
         "act_set",
         Case::Act("set 10.0.0.1:7000 2 00000000000000000000000000000040"),
     ),
+    ("act_remove", Case::Act("remove 10.0.0.1:7000 2")),
     ("act_tick", Case::Act("tick 10.0.0.1:7000 3000 7 3 5 9")),
     ("act_opening", Case::Act("open 10.0.0.1:7000")),
     (
@@ -71,6 +73,7 @@ pub(crate) const CASES: [(&str, Case); 36] = [
     ("run", Case::Run),
     ("apply_beat", Case::Apply(Kind::Beat)),
     ("apply_set", Case::Apply(Kind::Set)),
+    ("apply_remove", Case::Apply(Kind::Remove)),
     ("apply_tick", Case::Apply(Kind::Tick)),
     ("apply_opening", Case::Apply(Kind::Opening)),
     ("apply_syn", Case::Apply(Kind::Syn)),
@@ -81,12 +84,16 @@ pub(crate) const CASES: [(&str, Case); 36] = [
     ("publish", Case::View(Call::Publish)),
     ("first_read_takes_none", Case::View(Call::FirstRead)),
     ("second_read_takes_none", Case::View(Call::SecondRead)),
-    ("enter", Case::Board(Work::Enter)),
+    ("enter", Case::Board(Work::Enter(Change::Set))),
+    ("enter_remove", Case::Board(Work::Enter(Change::Remove))),
     ("catch_up", Case::Board(Work::CatchUp)),
     ("fold", Case::Board(Work::Fold)),
-    ("submit", Case::Tell(Work::Submit)),
-    ("gate_event", Case::Tell(Work::Gate)),
-    ("operate", Case::Lines),
+    ("submit", Case::Tell(Work::Submit(Change::Set))),
+    ("submit_remove", Case::Tell(Work::Submit(Change::Remove))),
+    ("gate_event", Case::Tell(Work::Gate(Change::Set))),
+    ("gate_remove", Case::Tell(Work::Gate(Change::Remove))),
+    ("operate", Case::Lines(Change::Set)),
+    ("operate_remove", Case::Lines(Change::Remove)),
 ];
 
 impl Case {
@@ -102,7 +109,7 @@ impl Case {
             Case::View(call) => view(rt, alloc, call),
             Case::Board(work) => call(rt, alloc, work),
             Case::Tell(work) => enter_and_tell(rt, alloc, work),
-            Case::Lines => lines(rt, alloc),
+            Case::Lines(change) => lines(rt, alloc, change),
         }
     }
 }

@@ -37,12 +37,16 @@ impl Trial for Applying {
 
 fn seen_applying(alloc: Global, kind: Kind) -> Result<Seen, Fault> {
     let world = world(alloc)?;
-    let history = history(alloc, &world)?;
+    let mut history = history(alloc, &world)?;
+    // only a key with a text can be removed
+    if let Kind::Remove = kind {
+        history.apply(alloc, CALLER, event(alloc, &world, Kind::Set)?)?;
+    }
     let event = event(alloc, &world, kind)?;
     tried(alloc, &mut Applying { history, event })
 }
 
-/// Applies an event of a kind to a history of two records.
+/// Applies an event of a kind to a history of two records, or of three: a Set comes before a Remove.
 pub(crate) fn apply(alloc: Global, kind: Kind) -> Result<Outcome, Fault> {
     let due = seen_applying(alloc, kind)?.of_twin()?;
     compared(alloc, &due, seen_applying(alloc, kind)?)

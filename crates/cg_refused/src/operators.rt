@@ -1,8 +1,9 @@
-//! Two lines of an operator that set a key, each a call of its own, and what its pass reads behind them.
+//! Lines of an operator that set a key or remove it, each a call of its own, and what its pass reads behind them.
 
 ghost use Rattle.cg_seats.specs.Seats.{GoesOn};
 
 use crate::boards::{Work, seen};
+use crate::samples::Change;
 use crate::trials::Outcome;
 use cg_links::Counted;
 use cg_locked::{Name, Shared};
@@ -15,23 +16,54 @@ use std::alloc::Global;
 use std::fmt::Write;
 use std::sync::{MutexGuard, Wait};
 
-const LINES: [&str; 2] = ["set 3 x", "set 3 y"];
+// Lines, and the texts that may come of them: what each line shows, with the number of unpublished records behind it, and
+// what is read then.
+#[derive(Clone, Copy)]
+struct Due {
+    lines: &'static [&'static str],
+    // The text that is due.
+    told: &'static str,
+    // The text if the first publication is refused: the second one has both.
+    told_later: &'static str,
+    // The texts of the other refusals: before a record or, for want of room for a text alone, behind it; and of the second
+    // publication.
+    refused: &'static [&'static str],
+}
 
-// The text that is due: what each line shows, with the number of unpublished records behind it, and what is read then.
-const TOLD: &str = "version 2, 0 unpublished; version 3, 0 unpublished; y at 3";
+const SETS: Due = Due {
+    lines: &["set 3 x", "set 3 y"],
+    told: "version 2, 0 unpublished; version 3, 0 unpublished; y at 3",
+    told_later: "version 2 unpublished, 1 unpublished; version 3, 0 unpublished; y at 3",
+    refused: &[
+        "fault 1 OutOfMemory, 0 unpublished; version 2, 0 unpublished; y at 2",
+        "fault 1 OutOfMemory, 0 unpublished; version 3, 0 unpublished; y at 3",
+        "version 2, 0 unpublished; version 3 unpublished, 1 unpublished; x at 2",
+        "version 2, 0 unpublished; fault 1 OutOfMemory, 0 unpublished; x at 2",
+        "version 2, 0 unpublished; fault 1 OutOfMemory, 0 unpublished; y at 3",
+    ],
+};
 
-// The text if the first publication is refused: the second one has both.
-const TOLD_LATER: &str = "version 2 unpublished, 1 unpublished; version 3, 0 unpublished; y at 3";
+// The second removal is refused, unless the first one was not done.
+const REMOVALS: Due = Due {
+    lines: &["set 3 x", "remove 3", "remove 3"],
+    told: "version 2, 0 unpublished; version 3, 0 unpublished; fault 20 NoSuchKey, 0 unpublished; removed at 3",
+    told_later: "version 2 unpublished, 1 unpublished; version 3, 0 unpublished; fault 20 NoSuchKey, 0 unpublished; removed at 3",
+    refused: &[
+        "fault 1 OutOfMemory, 0 unpublished; fault 20 NoSuchKey, 0 unpublished; fault 20 NoSuchKey, 0 unpublished; nothing",
+        "fault 1 OutOfMemory, 0 unpublished; version 3, 0 unpublished; fault 20 NoSuchKey, 0 unpublished; removed at 3",
+        "version 2, 0 unpublished; version 3 unpublished, 1 unpublished; fault 20 NoSuchKey, 1 unpublished; x at 2",
+        "version 2, 0 unpublished; fault 1 OutOfMemory, 0 unpublished; version 3, 0 unpublished; removed at 3",
+        "version 2, 0 unpublished; fault 1 OutOfMemory, 0 unpublished; fault 20 NoSuchKey, 0 unpublished; removed at 3",
+        "version 2, 0 unpublished; version 3, 0 unpublished; fault 1 OutOfMemory, 0 unpublished; removed at 3",
+    ],
+};
 
-// The texts of the other refusals: before the record or, for want of room for the text alone, behind it; and of the
-// second publication.
-const REFUSED: [&str; 5] = [
-    "fault 1 OutOfMemory, 0 unpublished; version 2, 0 unpublished; y at 2",
-    "fault 1 OutOfMemory, 0 unpublished; version 3, 0 unpublished; y at 3",
-    "version 2, 0 unpublished; version 3 unpublished, 1 unpublished; x at 2",
-    "version 2, 0 unpublished; fault 1 OutOfMemory, 0 unpublished; x at 2",
-    "version 2, 0 unpublished; fault 1 OutOfMemory, 0 unpublished; y at 3",
-];
+fn due_of(change: Change) -> Due {
+    match change {
+        Change::Set => SETS,
+        Change::Remove => REMOVALS,
+    }
+}
 
 // The room for what a line shows, so that the writer requests none.
 const ROOM: usize = 200;
@@ -84,13 +116,16 @@ fn add_unpublished<N: Name, R: Wait>(
     Ok(write!(text, ", {unpublished} unpublished; ")?)
 }
 
-// Adds the text and the version that a pass reads of the key.
+// Adds the text or the tombstone that a pass reads of the key, and its version; or that there is neither.
 fn add_read<N: Name>(text: &mut String, pass: &mut Pass<N>) -> Result<(), Fault> {
     let snapshot = pass.read()?;
-    let Some((read, version)) = snapshot.table().own_entry().get(key(3)) else {
-        return Err(Fault::NoSuchNode);
+    let Some((read, version)) = snapshot.table().own_entry().state(key(3)) else {
+        return Ok(text.push_str("nothing")?);
     };
-    let read = read.as_str();
+    let read = match read {
+        Some(read) => read.as_str(),
+        None => "removed",
+    };
     let version = version.get();
     Ok(write!(text, "{read} at {version}")?)
 }
@@ -103,11 +138,12 @@ pub(crate) fn told_of_lines<N: Name, R: Wait>(
     shared: &Shared<N>,
     gate: &mut SeatGate<'_, N, R>,
     pass: &mut Pass<N>,
+    change: Change,
 ) -> Result<String, Fault>
     ensures { GoesOn gate.old gate.new }
 {
     let mut text = String::new(alloc);
-    for line in LINES {
+    for line in due_of(change).lines {
         match do_line(alloc, &mut text, gate, pass, line) {
             Ok(()) => {}
             Err(fault) => return Err(fault),
@@ -123,18 +159,19 @@ pub(crate) fn told_of_lines<N: Name, R: Wait>(
     }
 }
 
-fn is_refusal(text: &str) -> bool {
-    for refused in REFUSED {
-        if text == refused {
+// Tests whether a text is one of these.
+fn is_among(text: &str, others: &[&str]) -> bool {
+    for other in others {
+        if text == *other {
             return true;
         }
     }
     false
 }
 
-/// Has an operator set a key twice. If the first publication is refused, the second one tells both.
-pub(crate) fn lines<R: Wait>(rt: &R, alloc: Global) -> Result<Outcome, Fault> {
-    let seen = seen(rt, alloc, Work::Lines)?;
+/// Has an operator set a key and change it again. If the first publication is refused, the second one tells both.
+pub(crate) fn lines<R: Wait>(rt: &R, alloc: Global, change: Change) -> Result<Outcome, Fault> {
+    let seen = seen(rt, alloc, Work::Lines(change))?;
     let is_confirmed = seen.is_confirmed();
     let seen = seen.into_answer();
     if !is_confirmed {
@@ -143,17 +180,18 @@ pub(crate) fn lines<R: Wait>(rt: &R, alloc: Global) -> Result<Outcome, Fault> {
             seen,
         });
     }
-    if seen.as_str() == TOLD {
+    let due = due_of(change);
+    if seen.as_str() == due.told {
         return Ok(Outcome::Answered(seen));
     }
-    if seen.as_str() == TOLD_LATER {
+    if seen.as_str() == due.told_later {
         return Ok(Outcome::Kept);
     }
-    if is_refusal(seen.as_str()) {
+    if is_among(seen.as_str(), due.refused) {
         return Ok(Outcome::Refused);
     }
     Ok(Outcome::Third {
-        due: String::from_str(alloc, TOLD)?,
+        due: String::from_str(alloc, due.told)?,
         seen,
     })
 }

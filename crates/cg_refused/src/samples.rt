@@ -18,6 +18,7 @@ use std::alloc::Global;
 pub(crate) enum Kind {
     Beat,
     Set,
+    Remove,
     Tick,
     Opening,
     Syn,
@@ -121,11 +122,28 @@ pub(crate) fn set(alloc: Global, number: u8, text: &str) -> Result<Event, Fault>
     })
 }
 
-/// Returns the event of a kind. The Set is of the tokens, and the messages are those of a world that are still to come.
+/// A change of a key.
+#[derive(Clone, Copy)]
+pub(crate) enum Change {
+    Set,
+    Remove,
+}
+
+/// Returns a change of key 3: a Set to a text, or a Remove.
+pub(crate) fn changing(alloc: Global, change: Change, text: &str) -> Result<Event, Fault> {
+    match change {
+        Change::Set => set(alloc, 3, text),
+        Change::Remove => Ok(Event::Remove { key: key(3) }),
+    }
+}
+
+/// Returns the event of a kind. The Set and the Remove are of the tokens, and the messages are those of a world that are
+/// still to come.
 pub(crate) fn event(alloc: Global, world: &World, kind: Kind) -> Result<Event, Fault> {
     match kind {
         Kind::Beat => Ok(Event::Beat),
         Kind::Set => set(alloc, 2, "00000000000000000000000000000040"),
+        Kind::Remove => Ok(Event::Remove { key: key(2) }),
         Kind::Tick => Ok(Event::Tick {
             now: NOW,
             words: WORDS,

@@ -12,6 +12,13 @@ pub(crate) trait Trial {
     // the parts of a ledger that its seat has, which no call changes; 0 where there is no seat
     ghost parts: { Self → ℕ };
 
+    /// Does what has to be done before the call, if anything has.
+    fn begin(&mut self, _alloc: Global) -> Result<(), Fault>
+        ensures { parts self.new ≡ parts self.old }
+    {
+        Ok(())
+    }
+
     /// Makes the call.
     fn call(&mut self, alloc: Global) -> Result<Answer, Fault>
         ensures { parts self.new ≡ parts self.old };
@@ -202,6 +209,10 @@ fn again<T: Trial>(alloc: Global, trial: &mut T, before: String) -> Result<Seen,
 pub(crate) fn tried<T: Trial>(alloc: Global, trial: &mut T) -> Result<Seen, Fault>
     ensures { T.parts trial.new ≡ T.parts trial.old }
 {
+    match trial.begin(alloc) {
+        Ok(()) => {}
+        Err(fault) => return Err(fault),
+    }
     let before = match shown(alloc, trial) {
         Ok(text) => text,
         Err(fault) => return Err(fault),

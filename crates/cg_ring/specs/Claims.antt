@@ -13,10 +13,10 @@ use Rattle.cg_table.specs.Values.{Entries}
 use Rattle.cg_ring.specs.declared.claims.Claim.{Claim}
 use Rattle.cg_tokens.specs.Text.{is_comma, tokens_of}
 
--- the text that is held, empty if there is none
+-- the text that is held, empty if there is none or its tombstone
 abbrev pub text_of : Option Versioned → List ℕ
 text_of None = []
-text_of (Some v) = v.text
+text_of (Some v) = unwrap_or v.text []
 
 -- the text at a key
 abbrev pub text_at : States → ℕ → List ℕ

@@ -1,6 +1,6 @@
 //! Sample states, deltas and entries.
 
-ghost use Rattle.std.specs.Prelude.{◌≡◌, IfOk};
+ghost use Rattle.std.specs.Prelude.{◌≡◌, Some, IfOk};
 ghost use Rattle.std.specs.FinMap as map;
 ghost use Rattle.cg_entry.specs.Entry.{starting_entry};
 ghost use Rattle.cg_entry.specs.State.{pairs};
@@ -14,12 +14,12 @@ use std::test::Fail;
 
 /// Makes the state of a key at a version with this text. Refusals are those of `StateText::new`.
 pub fn state(alloc: Global, number: u8, at: u32, text: &str) -> Result<State, Fault>
-    ensures { IfOk result (λ s. s ≡ record { key = nearest_key number; version = nearest_number at; text = text.now }) }
+    ensures { IfOk result (λ s. s ≡ record { key = nearest_key number; version = nearest_number at; text = Some text.now }) }
 {
     Ok(State {
         key: key(number),
         version: version(at),
-        text: StateText::new(alloc, text)?,
+        text: Some(StateText::new(alloc, text)?),
     })
 }
 

@@ -5,12 +5,12 @@ use Rattle.cg_types.specs.declared.fault.Fault.TheVariants.{BadText}
 use Rattle.cg_types.specs.declared.limits.TheConstants.{PARTITIONER}
 use Rattle.cg_types.specs.OptionSteps.{◌>>=◌}
 use Rattle.cg_types.specs.EndpointText.{endpoint_in}
-use Rattle.cg_types.specs.Words.{cut_at, generation_in}
+use Rattle.cg_types.specs.Words.{cut_at, generation_in, key_in}
 use Rattle.cg_silence.specs.Values.{default_silence}
 use Rattle.cg_tokens.specs.Tokens.{token_of}
 use Rattle.cg_settings.specs.Values.{SettingsValue}
 use Rattle.cg_world.specs.declared.action.Action.TheVariants.{Start, Local, Deliver}
-use Rattle.cg_world.specs.declared.action.LocalEvent.TheVariants.{Beat, Set, Opening, Tick}
+use Rattle.cg_world.specs.declared.action.LocalEvent.TheVariants.{Beat, Set, Remove, Opening, Tick}
 use Rattle.cg_script.specs.declared.line.Line.{Line}
 use Rattle.cg_script.specs.declared.line.Line.TheVariants.{Seeds, Act, Show}
 use Rattle.cg_script.specs.declared.line.View.TheVariants.{Gossipinfo, Ring, Digests, Replicas}
@@ -45,6 +45,13 @@ unfoldable pub beat_line : List ℕ → Option Line
 beat_line words = do
   node ← endpoint_in words
   Some (Act (Local node Beat))
+
+-- `remove EP KEY`
+unfoldable pub remove_line : List ℕ → Option Line
+remove_line words = do
+  node ← endpoint_before words
+  key ← key_in node.1
+  Some (Act (Local node.0 (Remove key)))
 
 -- `open EP`
 unfoldable pub open_line : List ℕ → Option Line
@@ -131,6 +138,7 @@ line_of_word word.Seeds words = or_unreadable (seeds_line words)
 line_of_word word.Start words = or_unreadable (start_line words)
 line_of_word word.Beat words = or_unreadable (beat_line words)
 line_of_word word.Set words = set_line words
+line_of_word word.Remove words = or_unreadable (remove_line words)
 line_of_word word.Open words = or_unreadable (open_line words)
 line_of_word word.Tick words = or_unreadable (tick_line words)
 line_of_word word.Deliver words = or_unreadable (deliver_line words)

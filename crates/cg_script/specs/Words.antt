@@ -23,6 +23,7 @@ word_named name =
     else if bytes_eq name (codes "seeds") then Some word.Seeds
     else if bytes_eq name (codes "start") then Some word.Start
     else if bytes_eq name (codes "set") then Some word.Set
+    else if bytes_eq name (codes "remove") then Some word.Remove
     else if bytes_eq name (codes "tick") then Some word.Tick
     else if bytes_eq name (codes "gossipinfo") then Some word.Gossipinfo
     else if bytes_eq name (codes "ring") then Some word.Ring

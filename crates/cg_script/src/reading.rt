@@ -5,7 +5,7 @@ ghost use Rattle.cg_script.specs.Words.{count_in as text_count_in};
 ghost use Rattle.cg_script.specs.Words.{endpoint_before as text_endpoint_before, count_before as text_count_before, key_before as text_key_before};
 ghost use Rattle.cg_script.specs.Words.{text_in as text_of_bytes, state_text_in as text_state_text_in};
 ghost use Rattle.cg_script.specs.Script.{seeds_line as seeds_of, start_line as start_of, beat_line as beat_of, set_line as set_of};
-ghost use Rattle.cg_script.specs.Script.{open_line as open_of, tick_line as tick_of, four_in as four_of, deliver_line as deliver_of};
+ghost use Rattle.cg_script.specs.Script.{remove_line as remove_of, open_line as open_of, tick_line as tick_of, four_in as four_of, deliver_line as deliver_of};
 ghost use Rattle.cg_script.specs.Script.{gossipinfo_line as gossipinfo_of, ring_line as ring_of, digests_line as digests_of};
 ghost use Rattle.cg_script.specs.Script.{replicas_line as replicas_of, line_of_word as line_of_word_of, line_in, or_unreadable as read_or_refused};
 ghost use Rattle.cg_script.specs.Gives.{Gives};
@@ -101,6 +101,17 @@ fn beat_line(words: &[u8]) -> Option<Line>
 {
     let node = Endpoint::from_bytes(words)?;
     Some(Line::Act(Action::Local(node, LocalEvent::Beat)))
+}
+
+#[tactic(auto, unfolding(crate::specs::Script::remove_line))]
+fn remove_line(words: &[u8]) -> Option<Line>
+    ensures { result ≡ remove_of words.now }
+{
+    let Some((node, rest)) = endpoint_before(words) else {
+        return None;
+    };
+    let key = StateKey::from_bytes(rest)?;
+    Some(Line::Act(Action::Local(node, LocalEvent::Remove(key))))
 }
 
 #[tactic(auto, unfolding(crate::specs::Script::open_line))]
@@ -231,6 +242,7 @@ fn line_of_word(alloc: Global, word: Word, words: &[u8]) -> Result<Line, Fault>
         Word::Start => or_unreadable(start_line(words)),
         Word::Beat => or_unreadable(beat_line(words)),
         Word::Set => set_line(alloc, words),
+        Word::Remove => or_unreadable(remove_line(words)),
         Word::Open => or_unreadable(open_line(words)),
         Word::Tick => or_unreadable(tick_line(words)),
         Word::Deliver => or_unreadable(deliver_line(words)),

@@ -10,6 +10,7 @@ pub(crate) enum Word {
     Start,
     Beat,
     Set,
+    Remove,
     Open,
     Tick,
     Deliver,
@@ -51,6 +52,9 @@ pub(crate) fn word_named(name: &[u8]) -> Option<Word>
     }
     if is_word(name, "set") {
         return Some(Word::Set);
+    }
+    if is_word(name, "remove") {
+        return Some(Word::Remove);
     }
     if is_word(name, "tick") {
         return Some(Word::Tick);

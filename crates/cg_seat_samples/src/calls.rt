@@ -30,6 +30,16 @@ pub fn set_three<N: Name, R: Wait>(
     }
 }
 
+/// Removes key 3, and returns the number of the fault by which it is refused, or 0 if it is not.
+pub fn remove_three<N: Name, R: Wait>(alloc: Global, gate: &mut SeatGate<'_, N, R>) -> u8
+    ensures { GoesOn gate.old gate.new }
+{
+    match gate.event(alloc, Event::Remove { key: key(3) }) {
+        Ok(()) => 0,
+        Err(fault) => fault.number(),
+    }
+}
+
 /// Returns the version of the last reply.
 pub fn last_version<N: Name, R: Wait>(gate: &SeatGate<'_, N, R>) -> Option<Version> {
     match gate.reply() {
@@ -58,6 +68,17 @@ pub fn read_three<N: Name>(pass: &mut Pass<N>) -> Result<Option<Version>, Fault>
     let shown = pass.read()?;
     Ok(match shown.table().own_entry().get(key(3)) {
         Some((text, version)) if text.as_str() == "x" => Some(version),
+        _ => None,
+    })
+}
+
+/// Reads the version of key 3, if it has a tombstone.
+pub fn read_removed<N: Name>(pass: &mut Pass<N>) -> Result<Option<Version>, Fault>
+    ensures { IfErr result IsOperatorFault }
+{
+    let shown = pass.read()?;
+    Ok(match shown.table().own_entry().state(key(3)) {
+        Some((None, version)) => Some(version),
         _ => None,
     })
 }

@@ -3,4 +3,4 @@
 
 mod calls;
 
-pub use calls::{last_version, learn, read_three, set_three};
+pub use calls::{last_version, learn, read_removed, read_three, remove_three, set_three};

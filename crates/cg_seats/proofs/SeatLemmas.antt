@@ -15,7 +15,7 @@ use Rattle.cg_history_laws.proofs.OneMore.{each_event_makes_one_record}
 use Rattle.cg_records.specs.declared.item.Item.{Item}
 use Rattle.cg_records.specs.Confirming.{AreConfirmed}
 use Rattle.cg_locked.specs.Seat.{SeatState}
-use Rattle.cg_locked.specs.Entry.{IsEntry, ShowsSet}
+use Rattle.cg_locked.specs.Entry.{IsEntry, ShowsChange}
 use mathlib.Core.List.{IsPrefix}
 use Rattle.cg_locked.proofs.Confirming.{confirmed_stay, entries_are_confirmed}
 use Rattle.cg_events.specs.Replies.{IsReplyTo}
@@ -59,19 +59,19 @@ entry_done start seat e seen q told entry =
 -- ---- an entry that was refused
 
 fault_by : (h : HistoryValue) (caller : ℕ) (e : Event) (spent : Bool) (due : Step) (f : Fault) → node_step h.node e ≡ due
-    → cond {A = Result (HistoryValue × Receipt) Fault} spent (Err fault.VersionsSpent) (with_step h caller e due) ≡ Err f → IsGateFault f
+    → cond {A = Result (HistoryValue × Receipt) Fault} spent (Err fault.VersionsSpent) (with_step h caller e due) ≡ Err f → IsGateFault e f
 fault_by h caller e true due f step is =
     let same : fault.VersionsSpent ≡ f = cc in
-    subst IsGateFault same tt
+    subst (IsGateFault e) same tt
 fault_by h caller e false (Ok x) f step is = absurd cc
 fault_by h caller e false (Err g) f step is =
     let same : g ≡ f = cc in
-    subst IsGateFault same (step_fault h.node e g step)
+    subst (IsGateFault e) same (step_fault h.node e g step)
 
-apply_fault : (h : HistoryValue) (caller : ℕ) (e : Event) (f : Fault) → apply h caller e ≡ Err f → IsGateFault f
+apply_fault : (h : HistoryValue) (caller : ℕ) (e : Event) (f : Fault) → apply h caller e ≡ Err f → IsGateFault e f
 apply_fault h caller e f is = fault_by h caller e (count_of h == LAST_NUMBER) (node_step h.node e) f refl is
 
-pub entry_fault : (start : NodeValue) (seat : SeatState) (e : Event) (seen : List Item) (f : Fault) → IsEntry start seat e seen (Err f) → IsGateFault f
+pub entry_fault : (start : NodeValue) (seat : SeatState) (e : Event) (seen : List Item) (f : Fault) → IsEntry start seat e seen (Err f) → IsGateFault e f
 entry_fault start seat e seen fault.OutOfMemory entry = tt
 entry_fault start seat e seen f entry = apply_fault entry.before seat.caller e f entry.entered
 
@@ -92,7 +92,7 @@ module _ (start : NodeValue) (seat : SeatState) (qs : List Receipt) (e : Event) 
       )
 
   pub entered : (own parts : ℕ) (was : Option (List Put)) (g : SeatValue) (others parts_left : ℕ) (room items : List Receipt) → (let inside : SeatValue = record { caller = seat.caller; parts = parts; receipts = qs; told = was } in inside) ≡ g
-      → IfSome told (λ t. ShowsSet t own e q.reply) → others ≡ seat.caller → parts_left ≡ parts → room ≡ qs → items ≡ room ++ q ∷ []
+      → IfSome told (λ t. ShowsChange t own e q.reply) → others ≡ seat.caller → parts_left ≡ parts → room ≡ qs → items ≡ room ++ q ∷ []
       → (answer : Reply) × (last_reply items ≡ Some answer) × Enters start own g e answer (record { caller = others; parts = parts_left; receipts = items; told = told }) × IsReplyTo e answer
   entered own parts was g others parts_left room items is shown same_caller same_parts same all =
       let done = entry_done start seat e seen q told entry in

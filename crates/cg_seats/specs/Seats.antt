@@ -13,7 +13,7 @@ use Rattle.cg_records.specs.declared.item.Item.{Item}
 use Rattle.cg_records.specs.Items.{receipt_code}
 use Rattle.cg_records.specs.Confirming.{AreConfirmed}
 use Rattle.cg_locked.specs.Seat.{SeatState}
-use Rattle.cg_locked.specs.Entry.{Answer, IsEntry, ShowsSet}
+use Rattle.cg_locked.specs.Entry.{Answer, IsEntry, ShowsChange}
 
 -- the seat's caller and parts, the receipts, and the told of the last event
 pub record SeatValue : Type 0 where
@@ -72,7 +72,7 @@ pub record Enters (start : NodeValue) (own : ℕ) (g : SeatValue) (e : Event) (a
     pub entry : HasEntered start g e (Ok (receipt, h.told))
     pub receipts : h.receipts ≡ g.receipts ++ receipt ∷ []
     pub seat : (h.caller ≡ g.caller) × (h.parts ≡ g.parts)
-    pub shown : IfSome h.told (λ t. ShowsSet t own e answer)
+    pub shown : IfSome h.told (λ t. ShowsChange t own e answer)
 
 -- The event is refused as an entry of it is, or for want of room for its receipt.
 abbrev pub Refuses : NodeValue → SeatValue → Event → Fault → Type 0

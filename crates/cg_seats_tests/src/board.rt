@@ -1,8 +1,8 @@
-//! An operator at the one seat of a board: a set, a refused event, the last receipt, a console with no line.
+//! An operator at the one seat of a board: a set, a removal, a refused event, the last receipt, a console with no line.
 
 ghost use Rattle.std.specs.Prelude.{◌≡◌, []};
 
-use crate::board_operators::{Enters, IsRefused, LearnsTwice};
+use crate::board_operators::{Enters, IsRefused, LearnsTwice, RemovesTwice};
 use crate::history::new_history;
 use cg_expect::expect_eq;
 use cg_history::History;
@@ -110,6 +110,20 @@ fn a_set_is_told_once_and_read(rt: HostRuntime) -> Result<(), Fail> {
     let left = left_after(&rt, rt.alloc(), &mut work)?;
     expect_eq!(left, (None, 1, 1))?;
     expect_eq!((work.told, work.version), ((true, false), Some(version(2))))
+}
+
+#[test]
+fn a_removal_is_told_and_read_as_a_tombstone(rt: HostRuntime) -> Result<(), Fail> {
+    let mut work = RemovesTwice {
+        faults: (0, 0),
+        told: false,
+        version: None,
+        left: (0, None),
+    };
+    let left = left_after(&rt, rt.alloc(), &mut work)?;
+    expect_eq!(left, (None, 2, 2))?;
+    expect_eq!((work.told, work.version), (true, Some(version(3))))?;
+    expect_eq!((work.faults, work.left), ((0, 20), (2, Some(version(3)))))
 }
 
 #[test]

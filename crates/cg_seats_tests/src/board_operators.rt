@@ -10,7 +10,7 @@ use cg_messages::Syn;
 use cg_operator::operate;
 use cg_records::Enter;
 use cg_samples::key;
-use cg_seat_samples::{last_version, learn, read_three, set_three};
+use cg_seat_samples::{last_version, learn, read_removed, read_three, remove_three, set_three};
 use cg_seats::{Operate, SeatGate};
 use cg_types::{Cluster, Fault, StateText, Version};
 use cg_views::Pass;
@@ -59,6 +59,37 @@ impl Operate for LearnsTwice {
         let again = learn(gate, pass);
         self.told = (first, again);
         self.version = read_three(pass)?;
+        Ok(())
+    }
+}
+
+/// An operator that sets key 3, removes it, learns the `Told`, reads, and tries to remove it again.
+#[derive(Drop)]
+pub(crate) struct RemovesTwice {
+    /// The numbers of the faults by which both removals were refused, 0 for none.
+    pub(crate) faults: (u8, u8),
+    /// `true` if there was a `Told` of the first one.
+    pub(crate) told: bool,
+    /// The version of the tombstone of key 3 that it read.
+    pub(crate) version: Option<Version>,
+    /// The number of receipts at the end, and the version of the last reply.
+    pub(crate) left: (usize, Option<Version>),
+}
+
+impl Operate for RemovesTwice {
+    fn run<N: Name, R: Wait>(
+        &mut self,
+        alloc: Global,
+        gate: &mut SeatGate<'_, N, R>,
+        pass: &mut Pass<N>,
+    ) -> Result<(), Fault> {
+        set_three(alloc, gate)?;
+        let first = remove_three(alloc, gate);
+        self.told = learn(gate, pass);
+        self.version = read_removed(pass)?;
+        let again = remove_three(alloc, gate);
+        self.faults = (first, again);
+        self.left = (gate.receipts().len(), last_version(gate));
         Ok(())
     }
 }

@@ -44,6 +44,18 @@ fn a_key_that_is_set_is_shown(rt: HostRuntime) -> Result<(), Fail> {
 }
 
 #[test]
+fn a_key_that_is_removed_is_shown_no_more(rt: HostRuntime) -> Result<(), Fail> {
+    let is_told = tells(
+        &rt,
+        rt.alloc(),
+        b"set 3 x\nremove 3\nremove 3\nremove 4\ngossipinfo\ndigests\nset 3 y\n",
+        b"version 2\nversion 3\nfault 20 NoSuchKey\nfault 20 NoSuchKey\n/10.0.0.1:7000\n  generation:9\n  heartbeat:1\n10.0.0.1:7000 9 3\nversion 4\n",
+        3,
+    )?;
+    expect!(is_told)
+}
+
+#[test]
 fn each_view(rt: HostRuntime) -> Result<(), Fail> {
     let is_told = tells(
         &rt,
@@ -98,6 +110,13 @@ fn an_unreadable_line_shows_its_fault(rt: HostRuntime) -> Result<(), Fail> {
         b"set 03 x\n",
         b"set 3 \xff\n",
         b"set 3 a\x01b\n",
+        b"remove\n",
+        b"remove \n",
+        b"remove 0\n",
+        b"remove 17\n",
+        b"remove 03\n",
+        b"remove 3 \n",
+        b"remove 3 x\n",
     ] {
         let is_told = tells(&rt, rt.alloc(), line, b"fault 2 BadText\n", 0)?;
         expect!(is_told, "{line:?}")?;

@@ -1,13 +1,12 @@
 -- Each step of a node is the step by places.
-use Rattle.std.proofs.Common.{◌≡◌, ℕ, List, [], ◌∷◌, ◌++◌, length, refl, sym, ◌∙◌, ap, subst, arith, true, false, Bool, Option, Some, None, Result, Ok, Err}
-use Rattle.std.specs.Prelude.{◌==◌, cond, nat_lt, unwrap_or}
+use Rattle.std.proofs.Common.{◌≡◌, ℕ, List, [], length, refl, sym, ◌∙◌, ap, subst, arith, true, false, Bool, Option, Some, None, Result, Ok, Err}
+use Rattle.std.specs.Prelude.{◌==◌, unwrap_or}
 use Rattle.std.specs.Option.{option_map, option_and_then}
 use Rattle.std.specs.FinMap as map
 use Rattle.std.proofs.lemmas.Bool.Decides.{nat_tests}
 use Rattle.cg_types.specs.declared.fault.Fault.{Fault}
-use Rattle.cg_types.specs.declared.fault.Fault.TheVariants.{OtherCluster}
 use Rattle.cg_entry.specs.Values.{EntryValue}
-use Rattle.cg_entry.specs.Entry.{starting_entry, entry_after_beat, with_state}
+use Rattle.cg_entry.specs.Entry.{starting_entry, entry_after_beat, with_state, removal_of}
 use Rattle.cg_entry.specs.History.{at_place}
 use Rattle.cg_entry.specs.Place.{Span}
 use Rattle.cg_entry.proofs.PlaceLemmas.{at_place_none}
@@ -18,26 +17,26 @@ use Rattle.cg_messages.specs.declared.message.Message.{Message}
 use Rattle.cg_messages.specs.declared.message.Message.TheVariants as message
 use Rattle.cg_messages.specs.declared.outcome.Outcome.{Outcome}
 use Rattle.cg_messages.specs.Values.{SynValue, AckValue, Ack2Value}
-use Rattle.cg_exchange.specs.Answering.{same_cluster, answer_to_syn}
+use Rattle.cg_exchange.specs.Answering.{same_cluster}
 use Rattle.cg_exchange.specs.Taking.{taking_ack, taking_ack2}
 use Rattle.cg_exchange_laws.specs.Places.{Ask, took_for}
 use Rattle.cg_exchange_laws.specs.PlaceMessages.{PlaceMessage, Syn, Ack, Ack2, answer_at, places_after, grants_at}
 use Rattle.cg_exchange_laws.specs.Spelling.{outcome_about}
 use Rattle.cg_exchange_laws.specs.Laws.{Says, IsMoved, AckMoves, IsAnswered}
 use Rattle.cg_exchange_laws.proofs.MessageLaws.{syn_says_places, syn_is_answered, ack_is_taken, ack2_is_taken}
-use Rattle.cg_events.specs.declared.event.Event.{Event}
 use Rattle.cg_events.specs.declared.event.Event.TheVariants as event
 use Rattle.cg_events.specs.declared.reply.Reply.{Reply}
 use Rattle.cg_events.specs.declared.reply.Reply.TheVariants as reply
 use Rattle.cg_core.specs.Values.{NodeValue}
 use Rattle.cg_events.specs.Replies.{outcomes_in}
-use Rattle.cg_core.specs.Step.{Step, then, with_table, next_of, beating, setting, opening, round_of, after_taking, arrival_of, node_step}
-use Rattle.cg_places.specs.PlaceWorld.{PlaceWorld, Deliver, runs, with_entry, with_message, with_spans, last_entry, after_change, after_opening, after_receipt, after_delivery, after_action}
+use Rattle.cg_core.specs.Step.{then, with_table, next_of, beating, setting, removing, opening, round_of, after_taking, arrival_of, node_step}
+use Rattle.cg_core.proofs.StepLemmas.{removal_given}
+use Rattle.cg_places.specs.PlaceWorld.{PlaceWorld, Deliver, runs, with_entry, with_message, with_spans, last_entry, after_change, removable, after_opening, after_receipt, after_delivery, after_action}
 use Rattle.cg_places.specs.Laws.{IsWorld}
-use Rattle.cg_places.specs.Spelling.{SpellsNode, IsChangedAt}
+use Rattle.cg_places.specs.Spelling.{IsChangedAt}
 use Rattle.cg_places.proofs.PutLemmas.{put_at_here}
 use Rattle.cg_places.proofs.FollowLemmas.{running_here, entry_changes, message_changes, spans_change}
-use Rattle.cg_steps.specs.Step.{message_in, message_of, action_at, IsPlaced, SaysSent, IsSentBefore, IsSent, SendsOne, Sends, spans_in, span_handed, IsStepAt, StepsAreByPlaces}
+use Rattle.cg_steps.specs.Step.{message_of, IsPlaced, SaysSent, IsSent, spans_in, span_handed, IsStepAt, StepsAreByPlaces}
 
 -- the empty handover: no span about any owner
 abbrev no_spans : ℕ → Option Span
@@ -78,9 +77,13 @@ module _ (w : PlaceWorld) (is : IsWorld w) (node : ℕ) (n : NodeValue) (p : IsP
   beat_step x e = rw own_held (done_then (next_of n) (λ v. (beating n, reply.Done v)) x (IsStepAt w (with_entry w node (entry_after_beat (own_entry n.table))) no_spans node n)
       (λ v due. entry_step (entry_after_beat (own_entry n.table)) (reply.Done v) refl refl) e)
 
-  set_step : (key : ℕ) (text : List ℕ) (x : NodeValue × Reply) → node_step n (event.Set key text) ≡ Ok x → IsStepAt w (after_change w node (with_state key text) (last_entry (w.histories node))) no_spans node n x
-  set_step key text x e = rw own_held (done_then (next_of n) (λ v. (setting key text n, reply.Done v)) x (IsStepAt w (with_entry w node (with_state key text (own_entry n.table))) no_spans node n)
-      (λ v due. entry_step (with_state key text (own_entry n.table)) (reply.Done v) refl refl) e)
+  set_step : (key : ℕ) (text : List ℕ) (x : NodeValue × Reply) → node_step n (event.Set key text) ≡ Ok x → IsStepAt w (after_change w node (with_state key (Some text)) (last_entry (w.histories node))) no_spans node n x
+  set_step key text x e = rw own_held (done_then (next_of n) (λ v. (setting key text n, reply.Done v)) x (IsStepAt w (with_entry w node (with_state key (Some text) (own_entry n.table))) no_spans node n)
+      (λ v due. entry_step (with_state key (Some text) (own_entry n.table)) (reply.Done v) refl refl) e)
+
+  remove_step : (key : ℕ) (x : NodeValue × Reply) → node_step n (event.Remove key) ≡ Ok x → IsStepAt w (after_change w node (with_state key None) (removable key (last_entry (w.histories node)))) no_spans node n x
+  remove_step key x e = rw own_held (done_then (removal_of key (own_entry n.table)) (λ v. (removing key n, reply.Done v)) x (IsStepAt w (after_change w node (with_state key None) (removable key (Some (own_entry n.table)))) no_spans node n)
+      (λ v due. rw ((removal_given key (own_entry n.table) v due).0) (entry_step (with_state key None (own_entry n.table)) (reply.Done v) refl refl)) e)
 
   -- ---- messages
 
@@ -217,6 +220,7 @@ pub steps_are_by_places : StepsAreByPlaces
 unfolding after_action
 steps_are_by_places w node number n event.Beat x is p s e = beat_step w is node n p x e
 steps_are_by_places w node number n (event.Set key text) x is p s e = set_step w is node n p key text x e
+steps_are_by_places w node number n (event.Remove key) x is p s e = remove_step w is node n p key x e
 steps_are_by_places w node number n event.Opening x is p s e = opening_step w is node n p x e
 steps_are_by_places w node number n (event.Tick now words) x is p s e = tick_step w is node n p now words x e
 steps_are_by_places w node number n (event.Syn syn) x is p s e = delivered_step w is node n p number 0 (message.Syn syn) s x e

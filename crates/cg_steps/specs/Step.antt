@@ -18,7 +18,7 @@ use Rattle.cg_core.specs.Values.{NodeValue}
 use Rattle.cg_events.specs.Replies.{outcomes_in}
 pub use Rattle.cg_events.specs.Sending.{message_of}
 use Rattle.cg_core.specs.Step.{node_step}
-use Rattle.cg_places.specs.PlaceWorld.{PlaceWorld, PlaceAction, Start, Beat, Set, Opening, Tick, Deliver, runs, after_action}
+use Rattle.cg_places.specs.PlaceWorld.{PlaceWorld, PlaceAction, Start, Beat, Set, Remove, Opening, Tick, Deliver, runs, after_action}
 use Rattle.cg_places.specs.Laws.{IsWorld}
 use Rattle.cg_places.specs.Spelling.{SpellsNode, IsChangedAt}
 
@@ -27,6 +27,7 @@ abbrev pub message_in : Event → Option Message
 message_in event.Beat = None
 message_in (event.Set key text) = None
 message_in (event.Tick now words) = None
+message_in (event.Remove key) = None
 message_in event.Opening = None
 message_in (event.Syn syn) = Some (message.Syn syn)
 message_in (event.Ack now ack) = Some (message.Ack ack)
@@ -37,6 +38,7 @@ abbrev pub action_at : ℕ → ℕ → Event → PlaceAction
 action_at node number event.Beat = Beat node
 action_at node number (event.Set key text) = Set node key text
 action_at node number (event.Tick now words) = Tick node
+action_at node number (event.Remove key) = Remove node key
 action_at node number event.Opening = Opening node
 action_at node number (event.Syn syn) = Deliver number node
 action_at node number (event.Ack now ack) = Deliver number node
@@ -53,6 +55,7 @@ abbrev pub span_handed : PlaceWorld → PlaceAction → ℕ → Option Span
 span_handed w (Start node generation) owner = None
 span_handed w (Beat node) owner = None
 span_handed w (Set node key text) owner = None
+span_handed w (Remove node key) owner = None
 span_handed w (Opening node) owner = None
 span_handed w (Tick node) owner = None
 span_handed w (Deliver number to) owner = option_and_then (λ said. spans_in said owner) (at_place w.sent number)

@@ -1,7 +1,7 @@
 //! Worked rings, and entries that keep their owner's claims or do not.
 
 use crate::tokens::token;
-use cg_entry::{Delta, Entry};
+use cg_entry::{Delta, Entry, State};
 use cg_expect::{expect, expect_eq};
 use cg_ring::{Ring, keeps_claims};
 use cg_samples::{endpoint, entry_at_start, state};
@@ -155,6 +155,44 @@ fn tokens_that_cannot_be_read_are_not_claimed(rt: HostRuntime) -> Result<(), Fai
     Ok(())
 }
 
+// A state at version 1, with a text or a tombstone.
+fn state_of(alloc: Global, number: u8, text: Option<&'static str>) -> Result<State, Fail> {
+    let mut one = state(alloc, number, 1, text.unwrap_or(""))?;
+    if text.is_none() {
+        one.text = None;
+    }
+    Ok(one)
+}
+
+// A table in which endpoint 1 has this status and these tokens, each a text or a tombstone.
+fn holding_any(
+    alloc: Global,
+    status: Option<&'static str>,
+    tokens: Option<&'static str>,
+) -> Result<Table, Fail> {
+    let states = vec![in alloc; state_of(alloc, 1, status)?, state_of(alloc, 2, tokens)?]?;
+    let delta = cg_samples::delta((5, 0, 1), states)?;
+    Ok(table(alloc, &[])?.put_delta(alloc, endpoint(1), &delta)?.0)
+}
+
+// The number of tokens that endpoint 1 claims in such a table.
+fn count_any(
+    alloc: Global,
+    status: Option<&'static str>,
+    tokens: Option<&'static str>,
+) -> Result<usize, Fail> {
+    let ring = Ring::of_table(alloc, &holding_any(alloc, status, tokens)?)?;
+    Ok(ring.positions().len())
+}
+
+#[test]
+fn a_tombstone_claims_nothing(rt: HostRuntime) -> Result<(), Fail> {
+    let (normal, tokens) = (Some("NORMAL"), Some(AT_16_AND_64));
+    expect_eq!(count_any(rt.alloc(), normal, tokens)?, 2)?;
+    expect_eq!(count_any(rt.alloc(), None, tokens)?, 0)?;
+    expect_eq!(count_any(rt.alloc(), normal, None)?, 0)
+}
+
 // Tests whether endpoint 1 keeps its claims if this was held before, and the table's entry is held now.
 fn keeps_by(before: Option<&Entry>, table: &Table) -> bool {
     table
@@ -188,6 +226,26 @@ fn claims_are_kept_by_the_same_texts(rt: HostRuntime) -> Result<(), Fail> {
     let left = keeps(rt.alloc(), held, (9, "LEFT", AT_32))?;
     let moved = keeps(rt.alloc(), held, (9, "NORMAL", AT_48))?;
     expect_eq!((same, newer, left, moved), (true, false, false, false))
+}
+
+// Tests whether endpoint 1, with tokens, keeps its claims from one status to the next, each a text or a tombstone.
+fn keeps_any(
+    alloc: Global,
+    before: Option<&'static str>,
+    after: Option<&'static str>,
+) -> Result<bool, Fail> {
+    let first = holding_any(alloc, before, Some(AT_32))?;
+    let second = holding_any(alloc, after, Some(AT_32))?;
+    Ok(keeps_by(first.get(endpoint(1)), &second))
+}
+
+// A tombstone claims as the empty text does.
+#[test]
+fn a_removal_keeps_no_claims(rt: HostRuntime) -> Result<(), Fail> {
+    let removed = keeps_any(rt.alloc(), Some("NORMAL"), None)?;
+    let set_again = keeps_any(rt.alloc(), None, Some("NORMAL"))?;
+    let emptied = keeps_any(rt.alloc(), None, Some(""))?;
+    expect_eq!((removed, set_again, emptied), (false, false, true))
 }
 
 #[test]

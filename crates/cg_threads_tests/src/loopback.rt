@@ -4,7 +4,7 @@
 
 use crate::links::{Dialing, Listening, Nobody, bound};
 use crate::nodes::{Side, kinds, ran, rounds, were_one_run};
-use crate::operators::{ReadsOnce, SetsAndReads};
+use crate::operators::{ChangesAndReads, ReadsOnce};
 use cg_expect::expect_eq;
 use cg_samples::{A, endpoint};
 use cg_threads::Ran;
@@ -16,7 +16,7 @@ use std::sync::atomic::Ordering;
 use std::test::Fail;
 use std::thread::{Threads, join};
 
-// A sets a key, and begins rounds, whose one peer is its seed.
+// A sets a key and removes it, and begins rounds, whose one peer is its seed.
 fn opener<R: Threads + Wait + Clock + Sync + Net<Listener = TcpListener, Stream = TcpStream>>(
     rt: &R,
     alloc: Global,
@@ -28,7 +28,7 @@ fn opener<R: Threads + Wait + Clock + Sync + Net<Listener = TcpListener, Stream 
         side,
         Nobody,
         Dialing { rt },
-        SetsAndReads { side },
+        ChangesAndReads { side },
     )
 }
 
@@ -60,13 +60,13 @@ fn both<R: Threads + Wait + Clock + Sync + Net<Listener = TcpListener, Stream = 
 }
 
 // The number of A's rounds with the one peer B, and `true` if A's sender took just these. `true` if A's operator read
-// the text that it had set, and if B's read before a connection was accepted. `true` if B holds an entry of A, and the
+// the text that it had set and the tombstone that it put there, and if B's read before a connection was accepted. `true` if B holds an entry of A, and the
 // kinds of B's records. `true` if both were one run.
 #[derive(Clone, Copy, Debug, PartialEq, Eq)]
 struct Left {
     begun: usize,
     taken: bool,
-    set: bool,
+    changed: bool,
     read: bool,
     held: bool,
     of_b: (u32, u32, u32),
@@ -81,7 +81,7 @@ fn left_of(alloc: Global, a: &Side, b: &Side, of_a: Ran, of_b: Ran) -> Result<Le
     Ok(Left {
         begun: begun.len(),
         taken: of_a.rounds == begun,
-        set: a.read.load(Ordering::SeqCst),
+        changed: a.read.load(Ordering::SeqCst),
         read: b.read.load(Ordering::SeqCst),
         held,
         of_b: kinds,
@@ -110,7 +110,7 @@ fn due(count: u32) -> Left {
     Left {
         begun: count as usize,
         taken: true,
-        set: true,
+        changed: true,
         read: true,
         held: true,
         of_b: (count, count, 0),

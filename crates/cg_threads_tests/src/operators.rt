@@ -1,11 +1,14 @@
 //! Sample operators of nodes that run.
 
+ghost use Rattle.std.specs.Prelude.{IfErr};
+ghost use Rattle.cg_seats.specs.Seats.{GoesOn, IsOperatorFault};
+
 use crate::nodes::Side;
 use crate::waiting::is_raised;
 use cg_locked::Name;
-use cg_seat_samples::{last_version, learn, read_three, set_three};
+use cg_seat_samples::{last_version, learn, read_removed, read_three, remove_three, set_three};
 use cg_threads::{Operate, SeatGate};
-use cg_types::Fault;
+use cg_types::{Fault, Version};
 use cg_views::Pass;
 use std::alloc::Global;
 use std::rt::Clock;
@@ -64,30 +67,61 @@ impl Operate for Fails {
     }
 }
 
-// An operator that sets key 3, learns its `Told`, and reports a read of the text at that version or a later one.
+// Tests whether a change was told, and read at its version or a later one.
+fn is_read(told: bool, changed: Option<Version>, read: Option<Version>) -> bool {
+    match (changed, read) {
+        (Some(version), Some(at)) => told && at >= version,
+        _ => false,
+    }
+}
+
+// Sets key 3, learns the `Told`, and tests whether it reads the text then.
+fn sets_and_reads<N: Name, R: Wait>(
+    alloc: Global,
+    gate: &mut SeatGate<'_, N, R>,
+    pass: &mut Pass<N>,
+) -> Result<bool, Fault>
+    ensures gate { GoesOn gate.old gate.new }
+    ensures fault { IfErr result IsOperatorFault }
+{
+    set_three(alloc, gate)?;
+    let version = last_version(gate);
+    let told = learn(gate, pass);
+    Ok(is_read(told, version, read_three(pass)?))
+}
+
+// Removes key 3, learns the `Told`, and tests whether it reads the tombstone then.
+fn removes_and_reads<N: Name, R: Wait>(
+    alloc: Global,
+    gate: &mut SeatGate<'_, N, R>,
+    pass: &mut Pass<N>,
+) -> Result<bool, Fault>
+    ensures gate { GoesOn gate.old gate.new }
+    ensures fault { IfErr result IsOperatorFault }
+{
+    let fault = remove_three(alloc, gate);
+    let version = last_version(gate);
+    let told = learn(gate, pass);
+    Ok(fault == 0 && is_read(told, version, read_removed(pass)?))
+}
+
+// An operator that sets key 3 and then removes it, and reports that it read both the text and the tombstone.
 #[derive(Drop)]
-pub(crate) struct SetsAndReads<'a> {
+pub(crate) struct ChangesAndReads<'a> {
     pub(crate) side: &'a Side,
 }
 
-impl<'a> Operate for SetsAndReads<'a> {
+impl<'a> Operate for ChangesAndReads<'a> {
     fn run<N: Name, R: Wait>(
         &mut self,
         alloc: Global,
         gate: &mut SeatGate<'_, N, R>,
         pass: &mut Pass<N>,
     ) -> Result<(), Fault> {
-        set_three(alloc, gate)?;
-        let set = last_version(gate);
-        let told = learn(gate, pass);
-        if let Some(version) = set {
-            let reads = match read_three(pass)? {
-                Some(at) => at >= version,
-                None => false,
-            };
-            if told && reads {
-                self.side.read.store(true, Ordering::SeqCst);
-            }
+        let is_set = sets_and_reads(alloc, gate, pass)?;
+        let is_removed = removes_and_reads(alloc, gate, pass)?;
+        if is_set && is_removed {
+            self.side.read.store(true, Ordering::SeqCst);
         }
         Ok(())
     }

@@ -43,6 +43,7 @@ fault_number fault.Stranger = 16
 fault_number fault.Stuck = 17
 fault_number fault.Folded = 18
 fault_number fault.NoSuchNode = 19
+fault_number fault.NoSuchKey = 20
 
 -- the fault's name
 abbrev pub fault_name : Fault → List ℕ
@@ -62,6 +63,7 @@ fault_name fault.Stranger = codes "Stranger"
 fault_name fault.Stuck = codes "Stuck"
 fault_name fault.Folded = codes "Folded"
 fault_name fault.NoSuchNode = codes "NoSuchNode"
+fault_name fault.NoSuchKey = codes "NoSuchKey"
 
 -- the text of a fault: its number and name, and of a bad frame its offset and cause
 abbrev pub fault_shown : Fault → List ℕ

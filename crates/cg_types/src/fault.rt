@@ -84,6 +84,8 @@ pub enum Fault {
     Folded,
     /// No node runs at the endpoint.
     NoSuchNode,
+    /// The key has no text.
+    NoSuchKey,
 }
 
 impl fmt::Display for Cause {
@@ -149,7 +151,7 @@ impl Cause {
 }
 
 impl Fault {
-    /// The fault's number, 1 to 19.
+    /// The fault's number, 1 to 20.
     pub fn number(self) -> u8
         ensures { result ≡ fault_number self }
     {
@@ -170,6 +172,7 @@ impl Fault {
             Fault::Stuck => 17,
             Fault::Folded => 18,
             Fault::NoSuchNode => 19,
+            Fault::NoSuchKey => 20,
         }
     }
 
@@ -194,6 +197,7 @@ impl Fault {
             Fault::Stuck => "Stuck",
             Fault::Folded => "Folded",
             Fault::NoSuchNode => "NoSuchNode",
+            Fault::NoSuchKey => "NoSuchKey",
         }
     }
 

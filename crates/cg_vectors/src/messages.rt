@@ -30,8 +30,11 @@ fn add_request(text: &mut String, request: &Request) -> Result<(), AllocError> {
 fn add_state(alloc: Global, text: &mut String, state: &State) -> Result<(), AllocError> {
     let key = state.key.get();
     let version = state.version.get();
+    let Some(value) = &state.text else {
+        return write!(text, " removed {key} {version}");
+    };
     write!(text, " state {key} {version} ")?;
-    add_digits(alloc, text, state.text.as_str().as_bytes())
+    add_digits(alloc, text, value.as_str().as_bytes())
 }
 
 fn add_delta_head(text: &mut String, owned: &OwnerDelta) -> Result<(), AllocError> {

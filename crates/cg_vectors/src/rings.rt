@@ -31,7 +31,7 @@ fn state(alloc: Global, key: u8, text: &str) -> Result<State, Fault> {
     let Some(key) = StateKey::new(key) else {
         return Err(Fault::BadText);
     };
-    let text = StateText::new(alloc, text)?;
+    let text = Some(StateText::new(alloc, text)?);
     let version = Version::first();
     Ok(State { key, version, text })
 }

@@ -20,7 +20,7 @@ ReadsNeverFall =
     → StartsWith next first → map.get (with_puts opening first).entries owner ≡ Some e
     → is_reached (map.get (with_puts opening next).entries owner) e ≡ true
 
--- the text and version of an entry at a key
+-- the text, or its tombstone, and the version of an entry at a key
 abbrev pub state_in : ℕ → Option EntryValue → Option Versioned
 state_in key None = None
 state_in key (Some e) = map.get e.states key
@@ -33,8 +33,8 @@ OwnHasFrom t key version = is_held_from version (state_in key (map.get t.entries
 abbrev pub Has : List Put → Put → Type 0
 Has ps p = (before : List Put) × (after : List Put) × (ps ≡ before ++ p ∷ after)
 
--- A put of the owner has the key's text at the version.
-pub record HasText (puts : List Put) (own key : ℕ) (text : List ℕ) (version : ℕ) : Type 0 where
+-- A put of the owner has the key's text, or its tombstone, at the version.
+pub record HasState (puts : List Put) (own key : ℕ) (text : Option (List ℕ)) (version : ℕ) : Type 0 where
   pub entry : EntryValue
   pub stands : Has puts (own, entry)
   pub given : map.get entry.states key ≡ Some (record { text = text; version = version })
@@ -42,6 +42,6 @@ pub record HasText (puts : List Put) (own key : ℕ) (text : List ℕ) (version 
 -- If what was told begins what was read, each told key of the own entry is read at its version or a later one.
 abbrev pub ToldSetsAreRead : Type 0
 ToldSetsAreRead =
-    (opening : TableValue) (told read : List Put) (key : ℕ) (text : List ℕ) (version : ℕ)
-    → keep_order opening read ≡ true → StartsWith read told → HasText told opening.own key text version
+    (opening : TableValue) (told read : List Put) (key : ℕ) (text : Option (List ℕ)) (version : ℕ)
+    → keep_order opening read ≡ true → StartsWith read told → HasState told opening.own key text version
     → OwnHasFrom (with_puts opening read) key version

@@ -9,16 +9,17 @@ ghost use Rattle.cg_table.specs.Puts.{is_held_from, keeps_keys as keeps_keys_of}
 ghost use Rattle.cg_table.specs.Puts.{is_in_order as is_in_order_of, keep_order as keep_order_of};
 ghost use Rattle.cg_views.specs.Lists.{MayFollow};
 
-use cg_entry::{Entry, State};
+use cg_entry::Entry;
 use cg_map::Row;
 use cg_table::{Puts, Table};
+use cg_types::{StateKey, Version};
 
-// Returns `true` if an entry has the state's key, at no smaller version.
-fn keeps_key(entry: &Entry, state: &State) -> bool
-    ensures { result ≡ is_held_from state.now.version (map.get entry.now.states state.now.key) }
+// Returns `true` if an entry has a state of this key, or its tombstone, at no smaller version.
+fn keeps_key(entry: &Entry, key: StateKey, version: Version) -> bool
+    ensures { result ≡ is_held_from version (map.get entry.now.states key) }
 {
-    match entry.get(state.key) {
-        Some((_text, version)) => state.version.get() <= version.get(),
+    match entry.state(key) {
+        Some((_text, held)) => version.get() <= held.get(),
         None => false,
     }
 }
@@ -28,7 +29,8 @@ fn keeps_keys(before: &Entry, after: &Entry) -> bool
 {
     let states = before.by_key();
     for place in 0..states.len() {
-        if !keeps_key(after, states.at(place)) {
+        let (key, _text, version) = states.at(place);
+        if !keeps_key(after, key, version) {
             return false;
         }
     }

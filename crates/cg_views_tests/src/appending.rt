@@ -3,6 +3,7 @@
 ghost use Rattle.std.specs.Prelude.{◌≡◌, ◌∷◌, [], IfOk};
 
 use crate::entries::heartbeat;
+use crate::removals::{may_follow, told};
 use cg_entry::Entry;
 use cg_expect::expect_eq;
 use cg_samples::{A, B, C, bare_entry, delta, endpoint, state};
@@ -173,12 +174,14 @@ fn beat_on<N: Naming, R: Wait>(
 
 // Work that is done with a publisher and a pass.
 #[derive(Clone, Copy)]
-enum Work<'a> {
+pub(crate) enum Work<'a> {
     May(&'a [(u16, (u32, u32, u32))]),
     MayWithB(&'a [(u16, (u32, u32, u32))]),
     MayFilled(&'a [(u16, (u32, u32, u32))]),
     ReadTwo,
     BeatOn(u32),
+    Remove,
+    MayFollow(&'a [(u32, bool)]),
 }
 
 fn work_on<N: Naming, R: Wait>(
@@ -200,6 +203,8 @@ fn work_on<N: Naming, R: Wait>(
         }
         Work::ReadTwo => read_two(rt, alloc, publisher, pass),
         Work::BeatOn(count) => beat_on(rt, alloc, publisher, pass, count),
+        Work::Remove => told(rt, alloc, publisher, pass),
+        Work::MayFollow(entries) => may_follow(alloc, publisher, pass, entries),
     }
 }
 
@@ -223,7 +228,7 @@ fn answers_by<N: Naming, R: Wait>(
 }
 
 // The answers of this work if A is held at heartbeat 5, with key 3 at version 4.
-fn answers<R: Wait>(rt: &R, alloc: Global, work: Work) -> Result<Vec<u32>, Fail> {
+pub(crate) fn answers<R: Wait>(rt: &R, alloc: Global, work: Work) -> Result<Vec<u32>, Fail> {
     let table = Table::new(alloc, endpoint(A), entry(alloc, (9, 5, 4))?)?;
     answers_by::<Brand, R>(rt, alloc, Opened::new(), table, work)
 }

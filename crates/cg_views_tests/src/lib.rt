@@ -8,4 +8,6 @@ mod calls;
 #[cfg(test)]
 mod entries;
 #[cfg(test)]
+mod removals;
+#[cfg(test)]
 mod threads;

@@ -112,7 +112,7 @@ partial_in layout bytes partial = elim (cases_lt (length bytes) 4) [
 ]
 
 due_is_short : (bytes : List ℕ) → (due LAYOUTS bytes).length ≤ WRITTEN.length
-due_is_short bytes = due_all (λ l. l.length ≤ WRITTEN.length) LAYOUTS bytes (omega arith) (omega arith, (omega arith, tt))
+due_is_short bytes = due_all (λ l. l.length ≤ WRITTEN.length) LAYOUTS bytes (omega arith) (omega arith, (omega arith, (omega arith, tt)))
 
 pub partial_is_short : (bytes : List ℕ) → NeedsMore LAYOUTS bytes → length bytes < MOST_TURNS
 partial_is_short bytes partial = omega (arith, partial_in (due LAYOUTS bytes) bytes partial, due_is_short bytes)

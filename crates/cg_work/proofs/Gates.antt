@@ -83,6 +83,7 @@ syn_received now (event.Syn m) is = refl
 syn_received now event.Beat is = absurd is
 syn_received now (event.Set key text) is = absurd is
 syn_received now (event.Tick moment words) is = absurd is
+syn_received now (event.Remove key) is = absurd is
 syn_received now event.Opening is = absurd is
 syn_received now (event.Ack moment m) is = absurd is
 syn_received now (event.Ack2 moment m) is = absurd is
@@ -93,6 +94,7 @@ ack2_received now (event.Syn m) is = absurd is
 ack2_received now event.Beat is = absurd is
 ack2_received now (event.Set key text) is = absurd is
 ack2_received now (event.Tick moment words) is = absurd is
+ack2_received now (event.Remove key) is = absurd is
 ack2_received now event.Opening is = absurd is
 ack2_received now (event.Ack moment m) is = absurd is
 
@@ -103,6 +105,7 @@ ack_sent now (event.Syn m) is = absurd is
 ack_sent now event.Beat is = absurd is
 ack_sent now (event.Set key text) is = absurd is
 ack_sent now (event.Tick moment words) is = absurd is
+ack_sent now (event.Remove key) is = absurd is
 ack_sent now event.Opening is = absurd is
 
 module _ (start : NodeValue) (own : ℕ) {R W : Type 0} (remaining : R → Option (List ℕ)) (contents : W → Option (List ℕ)) (shows : ℕ → Type 0) where
@@ -136,6 +139,7 @@ module _ (shows : ℕ → Type 0) where
   tick_is (event.Tick now words) answer is = refl
   tick_is event.Beat answer is = absurd is
   tick_is (event.Set key text) answer is = absurd is
+  tick_is (event.Remove key) answer is = absurd is
   tick_is event.Opening answer is = absurd is
   tick_is (event.Syn m) answer is = absurd is
   tick_is (event.Ack now m) answer is = absurd is
@@ -149,6 +153,7 @@ module _ (shows : ℕ → Type 0) where
   one_round (event.Tick now words) (reply.Took outcomes) number caller is = absurd is
   one_round event.Beat answer number caller is = absurd is
   one_round (event.Set key text) answer number caller is = absurd is
+  one_round (event.Remove key) answer number caller is = absurd is
   one_round event.Opening answer number caller is = absurd is
   one_round (event.Syn m) answer number caller is = absurd is
   one_round (event.Ack now m) answer number caller is = absurd is

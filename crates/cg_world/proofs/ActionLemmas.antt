@@ -7,11 +7,11 @@ use Rattle.std.proofs.lemmas.Bool.Decides.{nat_tests}
 use Rattle.std.proofs.lemmas.Slice.Eq.{bytes_eq-Decides}
 use Rattle.cg_types.specs.Answer.{fault_of}
 use Rattle.cg_types.specs.declared.fault.Fault.{Fault}
-use Rattle.cg_types.specs.declared.fault.Fault.TheVariants.{TableFull, NotRising, NoSuchNode}
+use Rattle.cg_types.specs.declared.fault.Fault.TheVariants.{TableFull, NotRising, NoSuchNode, NoSuchKey}
 use Rattle.cg_types.specs.declared.limits.TheConstants.{MEMBER_LIMIT}
 use Rattle.cg_types.specs.Rising.{Rises}
 use Rattle.cg_types.specs.Text.{ClusterValue}
-use Rattle.cg_entry.specs.Entry.{starting_entry}
+use Rattle.cg_entry.specs.Entry.{starting_entry, has_text, removal_of}
 use Rattle.cg_entry.specs.History.{at_place, generation_of, generation_at}
 use Rattle.cg_entry.specs.Place.{Span}
 use Rattle.cg_table.specs.Values.{TableValue}
@@ -36,7 +36,7 @@ use Rattle.cg_core.specs.Values.{NodeValue}
 use Rattle.cg_core.specs.Step.{Step, then, starting_node, next_of, node_step}
 use Rattle.cg_places.specs.PlaceWorld.{PlaceWorld, runs, with_start, may_start, last_entry, after_delivery, after_action}
 use Rattle.cg_places.specs.PlaceWorld as places
-use Rattle.cg_places.specs.Refusals.{change_refusal, node_refusal, deliver_refusal, refusal}
+use Rattle.cg_places.specs.Refusals.{change_refusal, removal_refusal, node_refusal, deliver_refusal, refusal}
 use Rattle.cg_places.specs.Spelling.{SpellsNode, SpellsNodes}
 use Rattle.cg_places.proofs.PutLemmas.{test_same, same_number}
 use Rattle.cg_places.proofs.GrowthLemmas.{grown_continue}
@@ -44,7 +44,7 @@ use Rattle.cg_places.proofs.RoomLemmas.{room_for_deltas}
 use Rattle.cg_places.proofs.FollowLemmas.{follow, replaced_spells}
 use Rattle.cg_steps.specs.Step.{message_in, message_of, action_at, span_handed, IsPlaced, IsSentBefore, IsSent, Sends, IsStepAt}
 use Rattle.cg_steps.proofs.StepLaws.{own_held as own_is_held, steps_are_by_places}
-use Rattle.cg_world.specs.World.{LocalEvent, Beat, Set, Opening, Tick, Action, Start, Local, Deliver, WorldValue, tables_of, with_node, with_sent, after_step, step_of, step_at, generation_held, event_of, arrival_of, acting, plain_local, plain}
+use Rattle.cg_world.specs.World.{LocalEvent, Beat, Set, Remove, Opening, Tick, Action, Start, Local, Deliver, WorldValue, tables_of, with_node, with_sent, after_step, step_of, step_at, generation_held, event_of, arrival_of, acting, plain_local, plain}
 use Rattle.cg_world.specs.Terms.{own_at}
 use Rattle.cg_world.specs.WorldLaws.{AllSent, IsNodeAt, SpellsWorld}
 use Rattle.cg_world.proofs.SpellingLemmas.{Tied, Bounded, BothSent, both_at, all_stay, all_push, nodes_with, replaced, len_with, entries_in, node_spells}
@@ -199,6 +199,13 @@ module _ (c : WorldValue) (w : PlaceWorld) (t : Tied c w) (node : ℕ) (n : Node
   change_alike : (X : Type 0) (go : ℕ → X) → fault_of (then (next_of n) go) ≡ change_refusal (last_entry (w.histories node))
   change_alike X go = then_refused (next_of n) go ∙ ap change_refusal (sym (own_held c w t node n e))
 
+  -- a removal is refused if the key has no text, or if there is no next version
+  removal_alike : (key : ℕ) (X : Type 0) (go : ℕ → X) → fault_of (then (removal_of key (own_entry n.table)) go) ≡ removal_refusal key (last_entry (w.histories node))
+  removal_alike key X go =
+      then_refused (removal_of key (own_entry n.table)) go
+      ∙ (elim (has_text key (own_entry n.table)) as (λ b. fault_of (cond {A = Result ℕ Fault} b (next_of n) (Err NoSuchKey)) ≡ cond b (change_refusal (Some (own_entry n.table))) (Some NoSuchKey)) [ true ↦ refl | false ↦ refl ])
+      ∙ ap (removal_refusal key) (sym (own_held c w t node n e))
+
   node_alike : None ≡ node_refusal w node
   node_alike = ap (λ b. cond b None (Some NoSuchNode)) (sym (runs_here c w t node n e))
 
@@ -280,16 +287,21 @@ module _ (c : WorldValue) (w : PlaceWorld) (t : Tied c w) (b : Bounded w) where
   no_change : (node : ℕ) → map.get c.nodes node ≡ None → change_refusal (last_entry (w.histories node)) ≡ Some NoSuchNode
   no_change node none = ap change_refusal (no_entry c w t node none)
 
+  no_removal : (node key : ℕ) → map.get c.nodes node ≡ None → removal_refusal key (last_entry (w.histories node)) ≡ Some NoSuchNode
+  no_removal node key none = ap (removal_refusal key) (no_entry c w t node none)
+
   no_delivery : (node : ℕ) → map.get c.nodes node ≡ None → node_refusal w node ≡ Some NoSuchNode
   no_delivery node none = ap (λ b. cond b None (Some NoSuchNode)) (not_running c w t node none)
 
   local_agrees : (node : ℕ) (change : LocalEvent) (o : Option NodeValue) → map.get c.nodes node ≡ o → AgreesBy (refusal w (plain_local node change)) (after_action w (plain_local node change)) (after_step c node (step_of o (event_of change)))
   local_agrees node Beat None e = no_change node e
   local_agrees node (Set key text) None e = no_change node e
+  local_agrees node (Remove key) None e = no_removal node key e
   local_agrees node Opening None e = no_delivery node e
   local_agrees node (Tick now words) None e = no_change node e
   local_agrees node Beat (Some n) e = step_agrees c w t node n e 0 event.Beat tt (change_alike c w t node n e _ _)
   local_agrees node (Set key text) (Some n) e = step_agrees c w t node n e 0 (event.Set key text) tt (change_alike c w t node n e _ _)
+  local_agrees node (Remove key) (Some n) e = step_agrees c w t node n e 0 (event.Remove key) tt (removal_alike c w t node n e key _ _)
   local_agrees node Opening (Some n) e = step_agrees c w t node n e 0 event.Opening tt (node_alike c w t node n e)
   local_agrees node (Tick now words) (Some n) e = step_agrees c w t node n e 0 (event.Tick now words) tt (change_alike c w t node n e _ _)
 

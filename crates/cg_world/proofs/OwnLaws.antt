@@ -3,15 +3,16 @@ use Rattle.std.proofs.Common.{◌≡◌, ℕ, List, [], ◌∷◌, ◌++◌, ref
 use Rattle.std.specs.Prelude.{◌==◌, cond, IsOk}
 use Rattle.std.specs.Option.{option_map}
 use Rattle.cg_entry.specs.Values.{EntryValue}
-use Rattle.cg_entry.specs.Entry.{starting_entry, entry_after_beat, with_state}
+use Rattle.cg_types.specs.declared.fault.Fault.TheVariants.{NoSuchKey}
+use Rattle.cg_entry.specs.Entry.{starting_entry, entry_after_beat, with_state, has_text}
 use Rattle.cg_entry.specs.History.{at_place}
 use Rattle.cg_exchange_laws.specs.PlaceMessages.{PlaceMessage, Syn, Ack, Ack2}
 use Rattle.cg_settings.specs.Values.{SettingsValue}
-use Rattle.cg_places.specs.PlaceWorld.{PlaceWorld, runs, grown, with_start, with_entry, with_message, with_spans, may_start, last_entry, after_change, after_opening, after_receipt, after_delivery, after_action}
-use Rattle.cg_places.specs.Refusals.{refusal}
+use Rattle.cg_places.specs.PlaceWorld.{PlaceWorld, runs, grown, with_start, with_entry, with_message, with_spans, may_start, last_entry, after_change, removable, after_opening, after_receipt, after_delivery, after_action}
+use Rattle.cg_places.specs.Refusals.{change_refusal, removal_refusal, refusal}
 use Rattle.cg_places.proofs.PutLemmas.{same_number, test_same, test_other, put_at-each}
 use Rattle.cg_places.proofs.ExchangeLemmas.{sent_last}
-use Rattle.cg_world.specs.World.{Action, Start, Local, Deliver, Beat, Set, Opening, Tick, WorldValue, acting, act, run, plain, place_world}
+use Rattle.cg_world.specs.World.{Action, Start, Local, Deliver, Beat, Set, Remove, Opening, Tick, WorldValue, acting, act, run, plain, place_world}
 use Rattle.cg_world.specs.Terms.{own_at, after_local, own_after}
 use Rattle.cg_world.proofs.ActionLemmas.{own_last}
 use Rattle.cg_world.proofs.WorldLaws.{Joined, joined, actions_one_by_one, refusals_agree}
@@ -43,6 +44,19 @@ changed_last w other change (Some x) is node = entry_last w other (change x) nod
     go : (b : Bool) → (other == node) ≡ b → cond b (Some (change x)) (last_entry (w.histories node)) ≡ cond b (option_map change (last_entry (w.histories node))) (last_entry (w.histories node))
     go true same = subst (λ k. Some (change x) ≡ option_map change (last_entry (w.histories k))) (same_number other node same) (ap (option_map change) (sym is))
     go false apart = refl
+
+-- a removal that is not refused changes an own entry as any other change
+removal_done : (key : ℕ) (o : Option EntryValue) → removal_refusal key o ≡ None → removable key o ≡ o
+removal_done key None free = refl
+removal_done key (Some x) free = go (has_text key x) refl free
+  where
+    go : (b : Bool) → has_text key x ≡ b → cond b (change_refusal (Some x)) (Some NoSuchKey) ≡ None → cond b (Some x) None ≡ Some x
+    go true stands f = refl
+    go false stands f = absurd cc
+
+removed_last : (w : PlaceWorld) (other key : ℕ) → removal_refusal key (last_entry (w.histories other)) ≡ None → (node : ℕ)
+    → last_entry ((after_change w other (with_state key None) (removable key (last_entry (w.histories other)))).histories node) ≡ cond (other == node) (option_map (with_state key None) (last_entry (w.histories node))) (last_entry (w.histories node))
+removed_last w other key free node = changed_last w other (with_state key None) (removable key (last_entry (w.histories other))) (sym (removal_done key (last_entry (w.histories other)) free)) node
 
 -- an opening and a delivery leave all histories
 opened_same : (w : PlaceWorld) (node : ℕ) (there : Bool) → (cond there (with_message w (Syn (w.places node))) w).histories ≡ w.histories
@@ -80,7 +94,8 @@ action_last w (Start other generation) free node =
     let may : may_start w other generation ≡ true = started_by w other generation (may_start w other generation) refl free in
     rw may (started_last w other generation node)
 action_last w (Local other Beat) free node = changed_last w other entry_after_beat (last_entry (w.histories other)) refl node
-action_last w (Local other (Set key text)) free node = changed_last w other (with_state key text) (last_entry (w.histories other)) refl node
+action_last w (Local other (Set key text)) free node = changed_last w other (with_state key (Some text)) (last_entry (w.histories other)) refl node
+action_last w (Local other (Remove key)) free node = removed_last w other key free node
 action_last w (Local other Opening) free node =
     same_last w (after_opening w other) (opened_same w other (runs w other)) node ∙ left_as_it_is (other == node) (last_entry (w.histories node))
 action_last w (Local other (Tick now words)) free node =

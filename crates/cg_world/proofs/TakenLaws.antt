@@ -31,10 +31,10 @@ use Rattle.cg_core.specs.Step.{then, node_step}
 use Rattle.cg_settings.specs.Values.{SettingsValue}
 use Rattle.cg_core.specs.Values.{NodeValue}
 use Rattle.cg_exchange.specs.Answering.{answer_to_syn}
-use Rattle.cg_places.specs.PlaceWorld.{PlaceWorld, nobody, runs, with_start, with_entry, with_message, with_spans, taken_with, may_start, last_entry, after_change, after_receipt, after_delivery, after_action, after_actions}
+use Rattle.cg_places.specs.PlaceWorld.{PlaceWorld, nobody, runs, with_start, with_entry, with_message, with_spans, taken_with, may_start, last_entry, after_change, removable, after_receipt, after_delivery, after_action, after_actions}
 use Rattle.cg_places.specs.PlaceWorld as places
 use Rattle.cg_places.specs.Refusals.{start_refusal, refusal, unless_refused}
-use Rattle.cg_world.specs.World.{LocalEvent, Beat, Set, Opening, Tick, Action, Start, Local, Deliver, WorldValue, arrival_of, reply_of, step_of, step_at, reply_to, acting, run, plain, place_world}
+use Rattle.cg_world.specs.World.{LocalEvent, Beat, Set, Remove, Opening, Tick, Action, Start, Local, Deliver, WorldValue, arrival_of, reply_of, step_of, step_at, reply_to, acting, run, plain, place_world}
 use Rattle.cg_steps.specs.Step.{IsSent}
 use Rattle.cg_world.specs.SingleActions.{outcomes_in}
 use Rattle.cg_world.specs.Terms.{deltas_in}
@@ -167,7 +167,8 @@ opened_takes_nothing w node false = refl
 pub local_takes_nothing : (w : PlaceWorld) (node : ℕ) (change : LocalEvent) → (after_action w (plain (Local node change))).taken ≡ w.taken
 unfolding after_action
 local_takes_nothing w node Beat = changed_takes_nothing w node entry_after_beat (last_entry (w.histories node))
-local_takes_nothing w node (Set key text) = changed_takes_nothing w node (with_state key text) (last_entry (w.histories node))
+local_takes_nothing w node (Set key text) = changed_takes_nothing w node (with_state key (Some text)) (last_entry (w.histories node))
+local_takes_nothing w node (Remove key) = changed_takes_nothing w node (with_state key None) (removable key (last_entry (w.histories node)))
 local_takes_nothing w node Opening = opened_takes_nothing w node (runs w node)
 local_takes_nothing w node (Tick now words) =
     let v : PlaceWorld = after_change w node entry_after_beat (last_entry (w.histories node)) in

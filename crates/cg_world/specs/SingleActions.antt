@@ -2,7 +2,9 @@
 use Rattle.std.specs.Prelude.{ℕ, ◌≡◌, ◌≢◌, IsOk, is_ok, is_some, List, [], Some, None, Ok}
 use Rattle.std.specs.Option.{option_map_or}
 use Rattle.std.specs.FinMap as map
+use Rattle.cg_entry.specs.Entry.{removal_of}
 use Rattle.cg_entry.specs.History.{at_place}
+use Rattle.cg_table.specs.Own.{own_entry}
 use Rattle.cg_messages.specs.declared.message.Message.TheVariants as message
 use Rattle.cg_messages.specs.Values.{AckValue, Ack2Value}
 use Rattle.cg_exchange.specs.Taking.{outcomes_of}
@@ -13,7 +15,7 @@ use Rattle.cg_core.specs.Values.{NodeValue}
 pub use Rattle.cg_events.specs.Replies.{outcomes_in}
 use Rattle.cg_windows.specs.Windows.{arrivals}
 use Rattle.cg_core.specs.Step.{next_of, beating, opening, round_of}
-use Rattle.cg_world.specs.World.{Action, Start, Local, Deliver, LocalEvent, Beat, Set, Tick, WorldValue, reply_to, acting, act, run}
+use Rattle.cg_world.specs.World.{Action, Start, Local, Deliver, LocalEvent, Beat, Set, Remove, Tick, WorldValue, reply_to, acting, act, run}
 use Rattle.cg_world.specs.Terms.{Runs}
 
 -- Each node that runs has the settings that were given.
@@ -44,11 +46,14 @@ pub record AreReplies (c : WorldValue) : Type 0 where
       → is_some (reply_to c (Local node change)) ≡ is_ok (acting c (Local node change))
   pub delivery : (number to now : ℕ)
       → is_some (reply_to c (Deliver number to now)) ≡ is_ok (acting c (Deliver number to now))
-  -- a beat and a set return the version that they gave
+  -- a beat, a set and a removal return the version that they gave
   pub beat : (node : ℕ) (n : NodeValue) (version : ℕ) → Runs c node n → next_of n ≡ Ok version
       → reply_to c (Local node Beat) ≡ Some (reply.Done version)
   pub set : (node key : ℕ) (text : List ℕ) (n : NodeValue) (version : ℕ) → Runs c node n → next_of n ≡ Ok version
       → reply_to c (Local node (Set key text)) ≡ Some (reply.Done version)
+  pub remove : (node key : ℕ) (n : NodeValue) (version : ℕ) → Runs c node n
+      → removal_of key (own_entry n.table) ≡ Ok version
+      → reply_to c (Local node (Remove key)) ≡ Some (reply.Done version)
   -- the peers of a tick are chosen after its beat, at its time, with its words
   pub tick : (node now : ℕ) (words : List ℕ) (n : NodeValue) (version : ℕ) → Runs c node n → next_of n ≡ Ok version
       → reply_to c (Local node (Tick now words))

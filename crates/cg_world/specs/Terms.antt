@@ -18,7 +18,7 @@ use Rattle.cg_messages.specs.declared.outcome.Outcome.{Outcome}
 use Rattle.cg_messages.specs.declared.owner_delta.OwnerDelta.{OwnerDelta}
 use Rattle.cg_events.specs.Replies.{outcomes_in}
 use Rattle.cg_core.specs.Values.{NodeValue}
-use Rattle.cg_world.specs.World.{Action, Start, Local, Deliver, LocalEvent, Beat, Set, Opening, Tick, WorldValue, reply_to, run_from}
+use Rattle.cg_world.specs.World.{Action, Start, Local, Deliver, LocalEvent, Beat, Set, Remove, Opening, Tick, WorldValue, reply_to, run_from}
 
 -- ---- nodes and their own entries
 
@@ -33,7 +33,8 @@ own_at c node = option_map (λ n. own_entry n.table) (map.get c.nodes node)
 -- the own entry after its node does something by itself
 abbrev pub after_local : LocalEvent → EntryValue → EntryValue
 after_local Beat = entry_after_beat
-after_local (Set key text) = with_state key text
+after_local (Set key text) = with_state key (Some text)
+after_local (Remove key) = with_state key None
 after_local Opening = λ entry. entry
 after_local (Tick now words) = entry_after_beat
 

@@ -23,7 +23,7 @@ pub use Rattle.cg_steps.specs.Step.{message_of}
 pub use Rattle.cg_world.specs.declared.action.Action.{Action}
 pub use Rattle.cg_world.specs.declared.action.Action.TheVariants.{Start, Local, Deliver}
 pub use Rattle.cg_world.specs.declared.action.LocalEvent.{LocalEvent}
-pub use Rattle.cg_world.specs.declared.action.LocalEvent.TheVariants.{Beat, Set, Opening, Tick}
+pub use Rattle.cg_world.specs.declared.action.LocalEvent.TheVariants.{Beat, Set, Remove, Opening, Tick}
 use Rattle.cg_places.specs.PlaceWorld.{PlaceWorld, PlaceAction, nobody, world_after}
 use Rattle.cg_places.specs.PlaceWorld as places
 use Rattle.cg_places.specs.Refusals.{done_from}
@@ -98,6 +98,7 @@ starting c node generation =
 abbrev pub event_of : LocalEvent → Event
 event_of Beat = event.Beat
 event_of (Set key text) = event.Set key text
+event_of (Remove key) = event.Remove key
 event_of Opening = event.Opening
 event_of (Tick now words) = event.Tick now words
 
@@ -155,6 +156,7 @@ starts node (Deliver number to now) = false
 abbrev pub plain_local : ℕ → LocalEvent → PlaceAction
 plain_local node Beat = places.Beat node
 plain_local node (Set key text) = places.Set node key text
+plain_local node (Remove key) = places.Remove node key
 plain_local node Opening = places.Opening node
 plain_local node (Tick now words) = places.Tick node
 

@@ -15,6 +15,8 @@ pub enum LocalEvent {
     Beat,
     /// Sets one of the node's own keys to a text.
     Set { key: StateKey, text: StateText },
+    /// Removes the text of one of the node's own keys.
+    Remove(StateKey),
     /// Sends a SYN.
     Opening,
     /// Does a round at a time, in milliseconds: a beat, and a SYN for peers that are chosen with four random words.
@@ -32,6 +34,7 @@ impl LocalEvent {
                 key: *key,
                 text: text.copy()?,
             },
+            LocalEvent::Remove(key) => LocalEvent::Remove(*key),
             LocalEvent::Opening => LocalEvent::Opening,
             LocalEvent::Tick { now, words } => LocalEvent::Tick {
                 now: *now,
@@ -47,6 +50,7 @@ impl LocalEvent {
         match self {
             LocalEvent::Beat => LentEvent::Beat,
             LocalEvent::Set { key, text } => LentEvent::Set { key, text },
+            LocalEvent::Remove(key) => LentEvent::Remove { key },
             LocalEvent::Opening => LentEvent::Opening,
             LocalEvent::Tick { now, words } => LentEvent::Tick {
                 now: *now,

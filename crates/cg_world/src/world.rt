@@ -123,8 +123,9 @@ impl World {
     /// `NotRising` for a start in a generation that is not greater than that of the endpoint's last start. `TableFull`
     /// if a start would make one endpoint more than `MEMBER_LIMIT`. `NoSuchMessage`, and then `NoSuchNode`, for a
     /// delivery of a message that was not sent, or to an endpoint that runs no node. `NoSuchNode` for a local event of
-    /// an endpoint that runs no node. `VersionsSpent` for a beat, a set or a tick if the node's versions are spent. A
-    /// delivery has no other refusal (`laws::deliveries_find_room`). Else at most `OutOfMemory`.
+    /// an endpoint that runs no node, and then `NoSuchKey` for a removal if the key has no text. `VersionsSpent` for a
+    /// beat, a set, a removal or a tick if the node's versions are spent. A delivery has no other refusal
+    /// (`laws::deliveries_find_room`). Else at most `OutOfMemory`.
     pub fn act(&mut self, alloc: Global, action: &Action) -> Result<Shown, Fault>
         ensures shown { Answers (λ s. s) (showing self.old action.now) result }
         ensures done { OnOk result (self.new ≡ after_act self.old action.now) }

@@ -23,7 +23,7 @@ use Rattle.cg_places.specs.Refusals.{refusal, done_exchange}
 use Rattle.cg_places.specs.Spelling.{StaySpelled}
 use Rattle.cg_world.specs.declared.action.Action.{Action}
 use Rattle.cg_world.specs.declared.action.Action.TheVariants.{Start, Local, Deliver}
-use Rattle.cg_world.specs.declared.action.LocalEvent.TheVariants.{Beat, Set, Opening, Tick}
+use Rattle.cg_world.specs.declared.action.LocalEvent.TheVariants.{Beat, Set, Remove, Opening, Tick}
 use Rattle.cg_world.specs.World.{starts, WorldValue, acting, or_unchanged, act, run_from, run, new_world, plain, place_world}
 use Rattle.cg_world.specs.Terms.{Runs}
 use Rattle.cg_world.specs.WorldLaws.{IsBeatAndOpening}
@@ -76,6 +76,7 @@ no_start : (node : ℕ) (action : Action) → starts node action ≡ false → I
 no_start node (Start other generation) e = λ same. let t : (other == node) ≡ true = ap (λ k. k == node) same ∙ test_same node in cc
 no_start node (Local other Beat) e = tt
 no_start node (Local other (Set key text)) e = tt
+no_start node (Local other (Remove key)) e = tt
 no_start node (Local other Opening) e = tt
 no_start node (Local other (Tick now words)) e = tt
 no_start node (Deliver number to now) e = tt

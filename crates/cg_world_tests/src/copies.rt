@@ -4,7 +4,7 @@
 
 use crate::scripts::{deliver, local, set_status, start};
 use cg_expect::expect_eq;
-use cg_samples::{A, B, endpoint};
+use cg_samples::{A, B, endpoint, key};
 use cg_types::Fault;
 use cg_world::{Action, LocalEvent, is_out_of_memory};
 use std::alloc::Global;
@@ -28,9 +28,10 @@ fn actions_are_copied(rt: HostRuntime) -> Result<(), Fail> {
         is_copied(rt.alloc(), deliver(3, A, 5))?,
         is_copied(rt.alloc(), local(A, LocalEvent::Beat))?,
         is_copied(rt.alloc(), local(A, LocalEvent::Opening))?,
+        is_copied(rt.alloc(), local(A, LocalEvent::Remove(key(1))))?,
         is_copied(rt.alloc(), set_status(rt.alloc(), A)?)?,
     ];
-    expect_eq!(copied, [true; 6])
+    expect_eq!(copied, [true; 7])
 }
 
 #[test]

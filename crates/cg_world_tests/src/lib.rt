@@ -1,4 +1,5 @@
-//! Worlds, histories and audits: exchanges, views of a world, runs, folds, and lives that were not read from journals.
+//! Worlds, histories and audits: exchanges, views of a world, runs, removals, folds, and lives that were not read from
+//! journals.
 //!
 //! Each call is tried once, with ample memory.
 #![tactic(auto)]
@@ -11,6 +12,8 @@ mod copies;
 mod exchanges;
 #[cfg(test)]
 mod folds;
+#[cfg(test)]
+mod removals;
 #[cfg(test)]
 mod runs;
 #[cfg(test)]

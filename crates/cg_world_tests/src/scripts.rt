@@ -11,10 +11,18 @@ pub fn start(node: u16, number: u32) -> Action {
     Action::Start(endpoint(node), generation(number))
 }
 
-pub fn set_status(alloc: Global, node: u16) -> Result<Action, Fail> {
-    let text = StateText::new(alloc, "NORMAL")?;
-    let key = key(1);
+pub fn set(alloc: Global, node: u16, number: u8, text: &str) -> Result<Action, Fail> {
+    let text = StateText::new(alloc, text)?;
+    let key = key(number);
     Ok(Action::Local(endpoint(node), LocalEvent::Set { key, text }))
+}
+
+pub fn set_status(alloc: Global, node: u16) -> Result<Action, Fail> {
+    set(alloc, node, 1, "NORMAL")
+}
+
+pub fn remove(node: u16, number: u8) -> Action {
+    Action::Local(endpoint(node), LocalEvent::Remove(key(number)))
 }
 
 pub fn local(node: u16, event: LocalEvent) -> Action {

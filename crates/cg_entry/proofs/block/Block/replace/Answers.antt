@@ -1,5 +1,6 @@
 use Rattle.std.proofs.Common.{◌≡◌, ◌∙◌, length, get_or, sym, ap, arith, List, ℕ}
 use Rattle.cg_entry.specs.declared.state.State.{State}
+use Rattle.cg_entry.specs.Entry.{text_size}
 use Rattle.cg_entry.specs.Block.{state_at}
 use Rattle.cg_entry.proofs.BlockLemmas.{read_at}
 use Rattle.cg_entry.proofs.NewestLemmas.{replaced, replace_room, old_bytes}
@@ -33,7 +34,7 @@ pub overflow_sub-result : goal.overflow_sub-result
 overflow_sub-result c =
     let r = replace_room c.self.inside.items.items c.self.inside.places c.self.inside.text_bytes c.args.number c.args.state c.args.self c.self.invariant c.self.view_is c.show_state.ensures c.requires.newest c.requires.row in
     let here : state_at c.self.inside.items.items (get_or c.self.inside.places c.args.number 0) ≡ c.remove-old.result = read_at c.self.inside.items.items (get_or c.self.inside.places c.args.number 0) _ c.remove-old.result c.remove-old.ensures.value (ap (λ (ps : List ℕ). get_or ps c.args.number 0) c.as_slice-2.ensures.value) r.1 in
-    let size : c.text_size.result ≡ length (state_at c.self.inside.items.items (get_or c.self.inside.places c.args.number 0)).text = c.text_size.ensures ∙ ap (λ (s : State). length s.text) (sym here) in
+    let size : c.text_size.result ≡ text_size (state_at c.self.inside.items.items (get_or c.self.inside.places c.args.number 0)).text = c.text_size.ensures ∙ ap (λ (s : State). text_size s.text) (sym here) in
     omega (arith, size, old_bytes c.self.inside.items.items c.self.inside.places c.self.inside.text_bytes c.args.number c.args.state c.args.self c.self.invariant c.self.view_is c.show_state.ensures c.requires.newest c.requires.row)
 
 pub overflow_add-result : goal.overflow_add-result
@@ -41,7 +42,7 @@ overflow_add-result c =
     let r = replace_room c.self.inside.items.items c.self.inside.places c.self.inside.text_bytes c.args.number c.args.state c.args.self c.self.invariant c.self.view_is c.show_state.ensures c.requires.newest c.requires.row in
     let p = replaced c.self.inside.items.items c.self.inside.places c.self.inside.text_bytes c.args.number c.args.state c.args.self c.self.invariant c.self.view_is c.show_state.ensures c.requires.newest c.requires.row in
     let here : state_at c.self.inside.items.items (get_or c.self.inside.places c.args.number 0) ≡ c.remove-old.result = read_at c.self.inside.items.items (get_or c.self.inside.places c.args.number 0) _ c.remove-old.result c.remove-old.ensures.value (ap (λ (ps : List ℕ). get_or ps c.args.number 0) c.as_slice-2.ensures.value) r.1 in
-    let size : c.text_size.result ≡ length (state_at c.self.inside.items.items (get_or c.self.inside.places c.args.number 0)).text = c.text_size.ensures ∙ ap (λ (s : State). length s.text) (sym here) in
+    let size : c.text_size.result ≡ text_size (state_at c.self.inside.items.items (get_or c.self.inside.places c.args.number 0)).text = c.text_size.ensures ∙ ap (λ (s : State). text_size s.text) (sym here) in
     omega (arith, size, c.text_size-size.ensures, p.few_bytes)
 
 pub invariant_of-result : goal.invariant_of-result
@@ -49,7 +50,7 @@ invariant_of-result c =
     let r = replace_room c.self.inside.items.items c.self.inside.places c.self.inside.text_bytes c.args.number c.args.state c.args.self c.self.invariant c.self.view_is c.show_state.ensures c.requires.newest c.requires.row in
     let p = replaced c.self.inside.items.items c.self.inside.places c.self.inside.text_bytes c.args.number c.args.state c.args.self c.self.invariant c.self.view_is c.show_state.ensures c.requires.newest c.requires.row in
     let here : state_at c.self.inside.items.items (get_or c.self.inside.places c.args.number 0) ≡ c.remove-old.result = read_at c.self.inside.items.items (get_or c.self.inside.places c.args.number 0) _ c.remove-old.result c.remove-old.ensures.value (ap (λ (ps : List ℕ). get_or ps c.args.number 0) c.as_slice-2.ensures.value) r.1 in
-    let size : c.text_size.result ≡ length (state_at c.self.inside.items.items (get_or c.self.inside.places c.args.number 0)).text = c.text_size.ensures ∙ ap (λ (s : State). length s.text) (sym here) in
+    let size : c.text_size.result ≡ text_size (state_at c.self.inside.items.items (get_or c.self.inside.places c.args.number 0)).text = c.text_size.ensures ∙ ap (λ (s : State). text_size s.text) (sym here) in
     rw (c.in_ok-push.ensures.items, c.moved.ensures, c.as_slice.ensures.value, c.remove-old.ensures.items, c.as_slice-2.ensures.value, r.3, size, c.text_size-size.ensures) p.block
 
 pub returns : goal.returns

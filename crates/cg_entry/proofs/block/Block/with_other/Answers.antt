@@ -1,5 +1,6 @@
 use Rattle.std.proofs.Common.{◌≡◌, ◌∙◌, length, get_or, ap, arith, List}
 use Rattle.cg_entry.specs.declared.state.State.{State}
+use Rattle.cg_entry.specs.Entry.{text_size}
 use Rattle.cg_entry.specs.Block.{state_at}
 use Rattle.cg_entry.proofs.NewestLemmas.{replaced, replace_room, old_bytes}
 use Rattle.cg_entry.proofs.block.Block.with_other.Goals as goal
@@ -30,20 +31,20 @@ moved-requires c =
 
 pub overflow_sub-result : goal.overflow_sub-result
 overflow_sub-result c =
-    let size : c.size_at-old.result ≡ length (state_at c.self.inside.items.items (get_or c.self.inside.places c.args.number 0)).text = c.size_at-old.ensures ∙ (λ i. length (state_at (c.deref.ensures.value i) (get_or (c.as_slice-2.ensures.value i) c.args.number 0)).text) in
+    let size : c.size_at-old.result ≡ text_size (state_at c.self.inside.items.items (get_or c.self.inside.places c.args.number 0)).text = c.size_at-old.ensures ∙ (λ i. text_size (state_at (c.deref.ensures.value i) (get_or (c.as_slice-2.ensures.value i) c.args.number 0)).text) in
     omega (arith, size, old_bytes c.self.inside.items.items c.self.inside.places c.self.inside.text_bytes c.args.number c.args.state c.args.self.now c.self.invariant c.self.view_is c.show_state.ensures c.requires.newest c.requires.row)
 
 pub overflow_add-result : goal.overflow_add-result
 overflow_add-result c =
     let p = replaced c.self.inside.items.items c.self.inside.places c.self.inside.text_bytes c.args.number c.args.state c.args.self.now c.self.invariant c.self.view_is c.show_state.ensures c.requires.newest c.requires.row in
-    let size : c.size_at-old.result ≡ length (state_at c.self.inside.items.items (get_or c.self.inside.places c.args.number 0)).text = c.size_at-old.ensures ∙ (λ i. length (state_at (c.deref.ensures.value i) (get_or (c.as_slice-2.ensures.value i) c.args.number 0)).text) in
+    let size : c.size_at-old.result ≡ text_size (state_at c.self.inside.items.items (get_or c.self.inside.places c.args.number 0)).text = c.size_at-old.ensures ∙ (λ i. text_size (state_at (c.deref.ensures.value i) (get_or (c.as_slice-2.ensures.value i) c.args.number 0)).text) in
     omega (arith, size, c.text_size-size.ensures, p.few_bytes)
 
 pub invariant_of-result : goal.invariant_of-result
 invariant_of-result c =
     let r = replace_room c.self.inside.items.items c.self.inside.places c.self.inside.text_bytes c.args.number c.args.state c.args.self.now c.self.invariant c.self.view_is c.show_state.ensures c.requires.newest c.requires.row in
     let p = replaced c.self.inside.items.items c.self.inside.places c.self.inside.text_bytes c.args.number c.args.state c.args.self.now c.self.invariant c.self.view_is c.show_state.ensures c.requires.newest c.requires.row in
-    let size : c.size_at-old.result ≡ length (state_at c.self.inside.items.items (get_or c.self.inside.places c.args.number 0)).text = c.size_at-old.ensures ∙ (λ i. length (state_at (c.deref.ensures.value i) (get_or (c.as_slice-2.ensures.value i) c.args.number 0)).text) in
+    let size : c.size_at-old.result ≡ text_size (state_at c.self.inside.items.items (get_or c.self.inside.places c.args.number 0)).text = c.size_at-old.ensures ∙ (λ i. text_size (state_at (c.deref.ensures.value i) (get_or (c.as_slice-2.ensures.value i) c.args.number 0)).text) in
     rw (c.in_ok-push.ensures.items, c.moved.ensures, c.as_slice.ensures.value, c.in_ok-items.ensures, c.deref-2.ensures.value, c.as_slice-2.ensures.value, r.3, size, c.text_size-size.ensures) p.block
 
 pub returns : goal.returns

@@ -1,0 +1,156 @@
+//! An exchange that brings a tombstone, the same bytes in layouts that have none, and a removal that a gate refuses.
+
+use crate::samples::{joined, started};
+use cg_core::Node;
+use cg_engine::{Broken, Ended, Gate, NodeGate, initiate, respond};
+use cg_events::Event;
+use cg_exchange::syn;
+use cg_expect::expect_eq;
+use cg_links::Counted;
+use cg_messages::{Ack2, OwnerDelta};
+use cg_samples::{A, B, delta, endpoint, key, state};
+use cg_types::{Cause, Fault, StateText};
+use std::alloc::Global;
+use std::test::Fail;
+
+// The token of the key a.
+const TOKEN: &str = "0cc175b9c0f1b6a831c399e269772661";
+
+// A's SYN at version 4.
+const SYN_AT_4: &[u8] =
+    b"\0\0\0\x16\x03\x01\x02c1\x01\0\x01\x0a\0\0\x01\x1b\x58\0\0\0\x09\0\0\0\x04";
+
+// The ACK of an endpoint that holds A at version 3 and brings nothing, and that of B.
+const ACK_AT_3: &[u8] = b"\0\0\0\x14\x03\x02\0\x01\x0a\0\0\x01\x1b\x58\0\0\0\x09\0\0\0\x03\0\0";
+
+const ACK_OF_B: &[u8] =
+    b"\0\0\0\x27\x03\x02\0\x01\x0a\0\0\x01\x1b\x58\0\0\0\x09\0\0\0\x03\0\x01\x0a\0\0\x02\x1b\x58\0\0\0\x05\0\0\0\0\0\0\0\x01\0";
+
+// The ACK2 that brings the tombstone of A's key 1, in layout 3 and in the older layouts.
+const ACK2_OF_A: &[u8] =
+    b"\0\0\0\x1e\x03\x03\0\x01\x0a\0\0\x01\x1b\x58\0\0\0\x09\0\0\0\x03\0\0\0\x01\x01\x01\0\0\0\x04\xff\xff";
+
+const ACK2_IN_LAYOUT_1: &[u8] =
+    b"\0\0\0\x1e\x01\x03\0\x01\x0a\0\0\x01\x1b\x58\0\0\0\x09\0\0\0\x03\0\0\0\x01\x01\x01\0\0\0\x04\xff\xff";
+
+const ACK2_IN_LAYOUT_2: &[u8] =
+    b"\0\0\0\x1e\x02\x03\0\x01\x0a\0\0\x01\x1b\x58\0\0\0\x09\0\0\0\x03\0\0\0\x01\x01\x01\0\0\0\x04\xff\xff";
+
+fn set(alloc: Global, number: u8, text: &str) -> Result<Event, Fault> {
+    Ok(Event::Set {
+        key: key(number),
+        text: StateText::new(alloc, text)?,
+    })
+}
+
+// A in generation 9, which sets key 2 (version 2) and key 1 (3), and removes key 1 (4).
+fn with_key_1_removed(alloc: Global) -> Result<Node, Fail> {
+    let mut node = started(alloc, A, 9)?;
+    node.step(alloc, &set(alloc, 2, TOKEN)?)?;
+    node.step(alloc, &set(alloc, 1, "NORMAL")?)?;
+    node.step(alloc, &Event::Remove { key: key(1) })?;
+    Ok(node)
+}
+
+// The end of an exchange that A opens, and the bytes that it writes.
+fn opened(alloc: Global) -> Result<(Result<Ended, Broken>, Vec<u8>), Fail> {
+    let node = with_key_1_removed(alloc)?;
+    let first = syn(alloc, node.table(), node.settings().cluster())?;
+    let mut gate = NodeGate::new(node);
+    let mut reader = Counted::new(ACK_AT_3);
+    let mut writer = Counted::new(Vec::new(alloc));
+    let ended = initiate(alloc, &mut gate, 1000, &first, &mut reader, &mut writer);
+    Ok((ended, writer.into_link()))
+}
+
+#[test]
+fn a_tombstone_is_written(rt: HostRuntime) -> Result<(), Fail> {
+    let (ended, written) = opened(rt.alloc())?;
+    let due = joined(rt.alloc(), &[SYN_AT_4, ACK2_OF_A])?;
+    let same = written.as_slice() == due.as_slice();
+    expect_eq!((ended, same), (Ok(Ended::Whole), true))
+}
+
+// A as it was at version 3.
+fn before_the_removal(alloc: Global) -> Result<Ack2, Fail> {
+    let mut states = Vec::new(alloc);
+    states.push(state(alloc, 1, 3, "NORMAL")?)?;
+    states.push(state(alloc, 2, 2, TOKEN)?)?;
+    let mut deltas = Vec::new(alloc);
+    deltas.push(OwnerDelta {
+        endpoint: endpoint(A),
+        delta: delta((9, 0, 1), states)?,
+    })?;
+    Ok(Ack2::new(deltas).ok_or("an ACK2")?)
+}
+
+// B in generation 5, which holds A at version 3.
+fn holder(alloc: Global) -> Result<Node, Fail> {
+    let mut node = started(alloc, B, 5)?;
+    let m = before_the_removal(alloc)?;
+    node.step(alloc, &Event::Ack2 { now: 500, m })?;
+    Ok(node)
+}
+
+// What a node holds of A: the newest version, that of key 1 with a test that it has a text, and the number of tokens
+// in its ring.
+type Shown = (u32, Option<(u32, bool)>, usize);
+
+fn shown(node: &Node) -> Option<Shown> {
+    let entry = node.table().get(endpoint(A))?;
+    let first = match entry.state(key(1)) {
+        Some((text, version)) => Some((version.get(), text.is_some())),
+        None => None,
+    };
+    Some((entry.newest().get(), first, node.ring().positions().len()))
+}
+
+// The end of an exchange that B answers, in which A sends this ACK2, what B then holds, and a test that it wrote its
+// ACK.
+fn answered(
+    alloc: Global,
+    ack2: &[u8],
+) -> Result<(Result<Ended, Broken>, Option<Shown>, bool), Fail> {
+    let input = joined(alloc, &[SYN_AT_4, ack2])?;
+    let mut gate = NodeGate::new(holder(alloc)?);
+    let mut reader = Counted::new(input.as_slice());
+    let mut writer = Counted::new(Vec::new(alloc));
+    let ended = respond(alloc, &mut gate, 1000, &mut reader, &mut writer);
+    let written = writer.into_link();
+    Ok((ended, shown(gate.node()), written.as_slice() == ACK_OF_B))
+}
+
+#[test]
+fn a_tombstone_is_taken(rt: HostRuntime) -> Result<(), Fail> {
+    let seen = answered(rt.alloc(), ACK2_OF_A)?;
+    let held = Some((4, Some((4, false)), 0));
+    expect_eq!(seen, (Ok(Ended::Whole), held, true))
+}
+
+#[test]
+fn older_layouts_have_no_tombstone(rt: HostRuntime) -> Result<(), Fail> {
+    let fault = Fault::BadFrame {
+        place: 32,
+        cause: Cause::Text,
+    };
+    let held = Some((3, Some((3, true)), 1));
+    for frame in [ACK2_IN_LAYOUT_1, ACK2_IN_LAYOUT_2] {
+        let seen = answered(rt.alloc(), frame)?;
+        expect_eq!(seen, (Err(Broken { done: 1, fault }), held, true))?;
+    }
+    Ok(())
+}
+
+// The fault with which a gate refuses the same removal once more, and what its node then holds of A.
+fn removed_again(alloc: Global) -> Result<(Option<Fault>, Option<Shown>), Fail> {
+    let mut gate = NodeGate::new(with_key_1_removed(alloc)?);
+    let fault = gate.event(alloc, Event::Remove { key: key(1) }).err();
+    Ok((fault, shown(gate.node())))
+}
+
+#[test]
+fn a_gate_refuses_a_removal_of_no_text(rt: HostRuntime) -> Result<(), Fail> {
+    let again = removed_again(rt.alloc())?;
+    let held = Some((4, Some((4, false)), 0));
+    expect_eq!(again, (Some(Fault::NoSuchKey), held))
+}

@@ -1,5 +1,0 @@
-use Rattle.cg_locked.proofs.Showing.{shown_sets_are_read}
-use Rattle.cg_locked.proofs.laws.shown_sets_are_read.Goals as goal
-
-pub returns : goal.returns
-returns c = shown_sets_are_read
