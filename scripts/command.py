@@ -1,7 +1,10 @@
-"""Parts that the scripts share: the top of the repository, the crates that crates.txt lists, and the words of a command line."""
+"""Parts that the scripts share: the top of the repository, the crates that crates.txt lists, other scripts, and the words of a
+command line."""
 
 import argparse
 import difflib
+import importlib.machinery
+import importlib.util
 import os
 import shutil
 import sys
@@ -13,6 +16,14 @@ def text_of(path):
     """The text of a file."""
     with open(path, encoding="utf-8", errors="replace") as file:
         return file.read()
+
+
+def loaded(name):
+    """Loads a script without an ending as a module."""
+    loader = importlib.machinery.SourceFileLoader(name.replace("-", "_"), f"{TOP}/scripts/{name}")
+    module = importlib.util.module_from_spec(importlib.util.spec_from_loader(loader.name, loader))
+    loader.exec_module(module)
+    return module
 
 
 def crates_listed():
