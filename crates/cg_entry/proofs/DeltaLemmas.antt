@@ -1,13 +1,12 @@
 -- States newer than a version, and the deltas made of parts.
 use Rattle.std.proofs.Common.{◌≡◌, ℕ, suc, ◌<◌, ◌≤◌, Bool, true, false, cond, List, [], ◌∷◌, length, None, refl, sym, ap, subst, ◌∙◌, arith, nat_lt}
-use Rattle.std.specs.Prelude.{count_by, max, not, ◌||◌, ◌&&◌, ◌==◌, nat_le, Option, Result, Ok, Err, IfSome, is_some}
+use Rattle.std.specs.Prelude.{max, not, ◌||◌, ◌&&◌, ◌==◌, nat_le, Option, Result, Ok, Err, IfSome, is_some}
 use Rattle.std.specs.Result.{result_ok}
 use Rattle.std.specs.List.{filter}
 use Rattle.std.specs.Ordering.{nat_cmp}
-use Rattle.std.specs.FinMap.{entries, entries_sorted, from_sorted, empty, empty_of_len, len, len-entries, len-empty}
+use Rattle.std.specs.FinMap.{entries, entries_sorted, from_sorted, empty, empty_of_len, len, len-entries}
 use Rattle.std.proofs.lemmas.Bool.{ltb-true, ltb-false, lt-ltb, le-ltb, leb-true, leb-false}
 use Rattle.std.proofs.lemmas.Bool.Decides.{nat_tests}
-use Rattle.std.proofs.lemmas.List.Sums.{length-filter}
 use Rattle.cg_types.proofs.RisingLemmas.{entries_rising, rise_sorted, rise_filter, both, first_of, second_of}
 use Rattle.cg_entry.specs.declared.state.State.{State}
 use Rattle.cg_types.specs.declared.fault.Cause.{Cause}
@@ -16,7 +15,7 @@ use Rattle.cg_entry.specs.Values.{DeltaValue}
 use Rattle.cg_entry.specs.Versioned.{Versioned, States}
 use Rattle.cg_entry.specs.State.{KeysRise, pairs, all_newer, keys_rise, delta_of_parts, makes_delta, delta_from}
 use Rattle.cg_entry.specs.Entry.{greatest_of, greatest, newer_than, IsDelta}
-use Rattle.cg_entry.proofs.StateLemmas.{newer, newer_rise, entries-pairs, newer_than-pairs, greatest-pairs}
+use Rattle.cg_entry.proofs.StateLemmas.{newer, entries-pairs, newer_than-pairs, greatest-pairs}
 
 abbrev is_newer : ℕ → ℕ × Versioned → Bool
 is_newer v s = nat_lt v s.1.version
@@ -130,7 +129,7 @@ module _ (v heartbeat : ℕ) (items : List State) where
   delta_value g r o is ok =
       subst (λ (p : Option DeltaValue). IfSome p (λ d. d ≡ delta_of_parts g v heartbeat items)) (sym (ok ∙ ap result_ok is)) (value_by (all_newer v items) (keys_rise items) nothing (delta_of_parts g v heartbeat items))
 
--- ---- the number of states, and of newer ones
+-- ---- the number of states
 
 pub length-pairs : (items : List State) → length (pairs items) ≡ length items
 length-pairs [] = refl
@@ -148,15 +147,3 @@ pub bare_is_delta : (v heartbeat : ℕ) → v < heartbeat → IsDelta v heartbea
 bare_is_delta v heartbeat lt =
     let some : v < greatest heartbeat (from_sorted (pairs [])) = rw (sym (greatest-pairs heartbeat [] refl)) lt in
     subst (λ (s : States). IsDelta v heartbeat s) nothing_listed (listed_is_delta v heartbeat [] refl refl some)
-
-pub len-newer_than : (v : ℕ) (given items : List State) (states : States) → given ≡ items → KeysRise items → from_sorted {R = nat_cmp} (pairs items) ≡ states
-    → count_by (λ (s : State). nat_lt v s.version) given ≡ len (newer_than v states)
-len-newer_than v given items states same rise seen =
-    ap (count_by (λ (s : State). nat_lt v s.version)) same ∙ sym (length-filter (λ (s : State). nat_lt v s.version) items)
-    ∙ len-pairs (newer v items) (newer_than v states) (newer_rise v items rise) (newer_than-pairs v items rise ∙ ap (newer_than v) seen)
-
-pub none_newer_than : (v : ℕ) (states : States) → len (newer_than v states) ≡ 0 → newer_than v states ≡ empty
-none_newer_than v states e = empty_of_len (newer_than v states) e
-
-pub none_counted : (v : ℕ) (states : States) → newer_than v states ≡ empty → len (newer_than v states) ≡ 0
-none_counted v states e = ap len e ∙ len-empty nat_cmp Versioned

@@ -4,7 +4,7 @@ use Rattle.std.specs.Prelude.{slice_get}
 use Rattle.std.specs.List.{AllByRecursion, filter}
 use Rattle.std.specs.Ordering.{nat_cmp}
 use Rattle.std.specs.Cmp.{nat_cmp_total}
-use Rattle.std.specs.FinMap.{entries, entries_sorted, empty, insert, same_entries_map, entries-insert, entries-from_sorted}
+use Rattle.std.specs.FinMap.{entries, entries_sorted, empty, from_sorted, insert, same_entries_map, entries-insert, entries-from_sorted}
 use Rattle.std.proofs.lemmas.Bool.{ltb-true, lt-ltb}
 use Rattle.std.proofs.lemmas.List.{take_all}
 use Rattle.cg_types.specs.Rising.{is_past, rise_past}
@@ -26,6 +26,9 @@ HasNewer newer v i es = entries newer ≡ filter (is_newer v) (take i es)
 
 pub entries-empty : (states : States) → states ≡ empty → entries states ≡ []
 entries-empty states is = ap entries is ∙ ap entries (sym from_sorted-none) ∙ entries-from_sorted nat_cmp [] tt
+
+pub newer_of_none : (v : ℕ) (states : States) → states ≡ empty → newer_than v states ≡ empty
+newer_of_none v states is = ap (λ (es : List (ℕ × Versioned)). from_sorted {R = nat_cmp} (filter (λ s. nat_lt v s.1.version) es)) (entries-empty states is) ∙ from_sorted-none
 
 -- what is read twice has one version
 pub same_version : (a b : ℕ × Versioned) (o : Option (ℕ × Versioned)) → o ≡ Some a → o ≡ Some b → a.1.version ≡ b.1.version

@@ -192,6 +192,9 @@ older_than xs ps bytes v last s states b seen is here lt =
 pub is_less : (x y : ℕ) → is_lt (nat_cmp x y) ≡ true → x < y
 is_less x y e = grind (arith, nat_tests)
 
+pub not_less : (x y : ℕ) → is_lt (nat_cmp x y) ≡ false → y ≤ x
+not_less x y e = grind (arith, nat_tests)
+
 pub some_of : (given xs : List State) → given ≡ xs → (length given == 0) ≡ false → 0 < length xs
 some_of given xs same some =
     let long : length given ≡ length xs = ap (λ (ys : List State). length ys) same in

@@ -1,5 +1,5 @@
 -- The removals of an entry: what shows under them, and one more of them.
-use Rattle.std.proofs.Common.{◌≡◌, ℕ, zero, suc, ◌<◌, ◌==◌, true, false, cond, List, [], ◌∷◌, map, length, Option, Some, None, refl, sym, ap, subst, ◌∙◌, arith, eqb-true, eq-eqb}
+use Rattle.std.proofs.Common.{◌≡◌, ℕ, zero, suc, ◌-◌, ◌<◌, ◌==◌, true, false, cond, List, [], ◌∷◌, map, length, Option, Some, None, refl, sym, ap, subst, ◌∙◌, arith, eqb-true, eq-eqb}
 use Rattle.std.specs.Prelude.{slice_set, replicate}
 use Rattle.std.specs.List.{AllByRecursion}
 use Rattle.std.specs.Option.{option_map}
@@ -27,12 +27,23 @@ none_at (suc n) (suc k) = none_at n k
 unlike : (k key : ℕ) → (k == key) ≡ false → k ≡ key → ⊥
 unlike k key e same = let yes : (k == key) ≡ true = eq-eqb k key same in cc
 
-pub put_at : (given old : List ℕ) (key version k : ℕ) → key < length given → removal_at given k ≡ removal_at old k → removal_at (slice_set given key version) k ≡ cond (k == key) version (removal_at old k)
+put_at : (given old : List ℕ) (key version k : ℕ) → key < length given → removal_at given k ≡ removal_at old k → removal_at (slice_set given key version) k ≡ cond (k == key) version (removal_at old k)
 put_at given old key version k lt same =
     elim (k == key) as (λ b. (k == key) ≡ b → removal_at (slice_set given key version) k ≡ cond b version (removal_at old k)) [
       | true ↦ λ e. ap (removal_at (slice_set given key version)) (eqb-true k key e) ∙ get_or-set_same given key version 0 lt
       | false ↦ λ e. get_or-set_other given key k version 0 (unlike k key e) ∙ same
     ] refl
+
+set_behind : (r : ℕ) (rs : List ℕ) (key version : ℕ) → 0 < key → slice_set (r ∷ rs) key version ≡ r ∷ slice_set rs (key - 1) version
+set_behind r rs zero version positive = absurd (omega arith)
+set_behind r rs (suc n) version positive = let before : suc n - 1 ≡ n = omega arith in rw before refl
+
+-- the same, where the versions begin behind 0, which is no key
+pub put_behind : (given old : List ℕ) (i n key version k : ℕ) → i ≡ key → n ≡ version → 0 < key → key < suc (length given) → removal_at (0 ∷ given) k ≡ removal_at old k
+    → removal_at (0 ∷ slice_set given (i - 1) n) k ≡ cond (k == key) version (removal_at old k)
+put_behind given old i n key version k is_key is_version positive lt same =
+    ap (λ (m : ℕ). removal_at (0 ∷ slice_set given (m - 1) n) k) is_key ∙ ap (λ (m : ℕ). removal_at (0 ∷ slice_set given (key - 1) m) k) is_version
+    ∙ ap (λ (rs : List ℕ). removal_at rs k) (sym (set_behind 0 given key version positive)) ∙ put_at (0 ∷ given) old key version k lt same
 
 held_at : (rs : List ℕ) (k : ℕ) → AllByRecursion IsVersionHeld rs → IsVersionHeld (removal_at rs k)
 held_at [] k all = omega arith

@@ -1,10 +1,11 @@
 -- The entry that a delta leads to if it is taken, key by key.
-use Rattle.std.proofs.Common.{◌≡◌, Bool, true, false, cond, Option, Some, None, refl, sym, subst, arith, nat_lt, ◌==◌, IfOk}
-use Rattle.std.specs.Prelude.{nat_le, Result, Ok, Err}
+use Rattle.std.proofs.Common.{◌≡◌, ◌<◌, Bool, true, false, cond, Option, Some, None, refl, sym, subst, arith, nat_lt, ◌==◌, IfOk}
+use Rattle.std.specs.Prelude.{nat_le, Result}
 use Rattle.std.specs.Option.{option_or}
 use Rattle.std.specs.Ordering.{nat_cmp}
 use Rattle.std.specs.FinMap.{get, empty, get-empty}
-use Rattle.std.proofs.lemmas.Bool.{ltb-true, ltb-false, ne_eqb, eq-eqb}
+use Rattle.std.proofs.lemmas.Bool.{lt-ltb, ltb-true, ltb-false, ne_eqb, eq-eqb}
+use Rattle.std.proofs.lemmas.Result.{IfOk-weaker}
 use Rattle.cg_entry.specs.declared.entry.Absorbed.{Absorbed}
 use Rattle.cg_entry.specs.declared.entry.Absorbed.TheVariants.{Taken, Old, Gap}
 use Rattle.cg_entry.specs.Values.{EntryValue, DeltaValue}
@@ -64,6 +65,25 @@ taken_at None d = whole_taken None d refl
 taken_at (Some e) d = by_generation e d (nat_lt d.generation e.generation) (nat_lt e.generation d.generation) refl refl
 
 -- a caller's view of the outcome of a delta
+if_is : {E : Type 0} (held : Option EntryValue) (d : DeltaValue) (r : Result Absorbed E) (x : Absorbed) → IfTaken x (IsTakenEntry held d) → IfOk r (λ a. a ≡ x) → IfOk r (λ a. IfTaken a (IsTakenEntry held d))
+if_is held d r x fact = IfOk-weaker r (λ a. a ≡ x) (λ a. IfTaken a (IsTakenEntry held d)) (λ a is. subst (λ (y : Absorbed). IfTaken y (IsTakenEntry held d)) (sym is) fact)
+
 pub taken_each : {E : Type 0} (held : Option EntryValue) (d : DeltaValue) (r : Result Absorbed E) → IfOk r (λ a. a ≡ meeting held d) → IfOk r (λ a. IfTaken a (IsTakenEntry held d))
-taken_each held d (Ok a) e = subst (λ (x : Absorbed). IfTaken x (IsTakenEntry held d)) (sym e) (taken_at held d)
-taken_each held d (Err x) e = tt
+taken_each held d r = if_is held d r (meeting held d) (taken_at held d)
+
+-- nothing is held
+pub unheld_taken : {E : Type 0} (held : Option EntryValue) (d : DeltaValue) (r : Result Absorbed E) → held ≡ None → IfOk r (λ a. a ≡ taken_or_gap (whole_entry d)) → IfOk r (λ a. IfTaken a (IsTakenEntry held d))
+unheld_taken held d r none =
+    if_is held d r (taken_or_gap (whole_entry d)) (subst (λ (h : Option EntryValue). IfTaken (taken_or_gap (whole_entry d)) (IsTakenEntry h d)) (sym none) (whole_taken None d refl))
+
+module _ (held : Option EntryValue) (e : EntryValue) (d : DeltaValue) (some : held ≡ Some e) where
+  -- an earlier generation is held
+  pub later_taken : {E : Type 0} (r : Result Absorbed E) → e.generation < d.generation → IfOk r (λ a. a ≡ taken_or_gap (whole_entry d)) → IfOk r (λ a. IfTaken a (IsTakenEntry held d))
+  later_taken r lt =
+      if_is held d r (taken_or_gap (whole_entry d))
+      (subst (λ (h : Option EntryValue). IfTaken (taken_or_gap (whole_entry d)) (IsTakenEntry h d)) (sym some) (later e d (lt-ltb e.generation d.generation lt)))
+
+  -- its generation is held
+  pub advanced_taken : (after : EntryValue) → e.generation ≡ d.generation → after ≡ advanced_entry e d → IsTakenEntry held d after
+  advanced_taken after same is =
+      subst (λ (x : EntryValue). IsTakenEntry held d x) (sym is) (subst (λ (h : Option EntryValue). IsTakenEntry h d (advanced_entry e d)) (sym some) (part_taken e d same))

@@ -1,6 +1,7 @@
 -- States newer than a version at a key, and the greatest version.
 use Rattle.std.proofs.Common.{◌≡◌, ℕ, ◌≤◌, ◌⊎◌, inl, inr, ◌<◌, Bool, true, false, cond, List, [], ◌∷◌, Option, Some, None, refl, sym, ap, ◌∙◌, arith, nat_lt}
 use Rattle.std.specs.Prelude.{max}
+use Rattle.std.specs.Option.{option_or}
 use Rattle.std.proofs.lemmas.Map.Entries.{option_filter}
 use Rattle.std.specs.Ordering.{nat_cmp, eq_by_cmp}
 use Rattle.std.specs.Cmp.{nat_cmp_total, eq_by_cmp_equiv}
@@ -9,8 +10,9 @@ use Rattle.std.specs.FinMap.Entries.{find}
 use Rattle.cg_types.specs.Rising.{is_past, rise_past}
 use Rattle.cg_types.proofs.RisingLemmas.{keys_of, rise_sorted, find_past, second_of}
 use Rattle.cg_entry.specs.Versioned.{Versioned, States}
-use Rattle.cg_entry.specs.Entry.{greatest_of, greatest, newer_than}
+use Rattle.cg_entry.specs.Entry.{greatest_of, greatest, newer_than, overlay}
 use Rattle.cg_entry.proofs.KeyLemmas.{find-filter}
+use Rattle.cg_entry.proofs.PutLemmas.{get-overlay}
 use Rattle.cg_entry.proofs.DeltaLemmas.{entries-newer_than, greatest_over}
 
 pub get-newer_than : (v : ℕ) (states : States) (q : ℕ) → get (newer_than v states) q ≡ option_filter (λ s. nat_lt v s.version) (get states q)
@@ -71,3 +73,21 @@ greatest_stands n states = go (greatest_reached n None (entries states) (rise_so
     go : IsReached n (entries states) (greatest n states) → Stands n states
     go (inl is) = inl is
     go (inr is) = inr (is.0, is.1, get-entries states is.0 ∙ is.2, is.3)
+
+-- ---- states over others, which bring a version newer than all
+
+module _ (m n : ℕ) (old new : States) (later : greatest m old < greatest n new) where
+  brought_at : (k : ℕ) (s : Versioned) (o : Option Versioned) → get new k ≡ o → option_or o (get old k) ≡ Some s → s.version ≤ greatest n new
+  brought_at k s None at_new e = omega (arith, version_within m old k s e, later)
+  brought_at k s (Some t) at_new e = version_within n new k s (at_new ∙ e)
+
+  no_more : Stands n (overlay old new) → greatest n (overlay old new) ≤ greatest n new
+  no_more (inl e) = omega (arith, e, at_least n new)
+  no_more (inr e) = omega (arith, e.3, brought_at e.0 e.1 (get new e.0) refl (sym (get-overlay old new e.0) ∙ e.2))
+
+  no_less : Stands n new → greatest n new ≤ greatest n (overlay old new)
+  no_less (inl e) = omega (arith, e, at_least n (overlay old new))
+  no_less (inr e) = omega (arith, e.3, version_within n (overlay old new) e.0 e.1 (get-overlay old new e.0 ∙ ap (λ (o : Option Versioned). option_or o (get old e.0)) e.2))
+
+  pub newest_brought : greatest n new ≡ greatest n (overlay old new)
+  newest_brought = omega (arith, no_more (greatest_stands n (overlay old new)), no_less (greatest_stands n new))

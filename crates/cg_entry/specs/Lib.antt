@@ -5,6 +5,7 @@ pub mod Took
 pub mod Entry
 pub mod Contents
 pub mod Held
+pub mod Standing
 pub mod Block
 pub mod Newer
 pub mod Removals

@@ -491,20 +491,16 @@ impl Block {
         }
     }
 
-    // Copies of the states of a list, which rises by key, with room for more.
-    pub(crate) fn of(alloc: Global, items: &[State], more: usize) -> Result<Block, AllocError>
+    // Copies of the states of a list, which rises by key.
+    pub(crate) fn of(alloc: Global, items: &[State]) -> Result<Block, AllocError>
         requires { KeysRise items.now }
         ensures { IfOk result (λ b. b ≡ map.from_sorted (pairs items.now)) }
     {
-        let mut block = Block::with_room(alloc, room_for(items.len(), more))?;
+        let mut block = Block::with_room(alloc, items.len())?;
         for state in items {
             block.push(state.copy()?)?;
         }
         Ok(block)
-    }
-
-    pub(crate) fn allocator(&self) -> Result<Global, AllocError> {
-        self.items.allocator().clone()
     }
 
     // The number of bytes of the texts.

@@ -1,12 +1,12 @@
 //! Entries: all that is held of one endpoint.
 
-ghost use Rattle.std.specs.Prelude.{◌≡◌, ◌↔◌, true, IsTrue, IfOk, IfErr, OnOk, OnErr, IsOk, Some, None, Ok, option_copied, is_some, length};
+ghost use Rattle.std.specs.Prelude.{◌≡◌, ◌<◌, ◌↔◌, true, IsTrue, IfOk, IfErr, OnOk, OnErr, IsOk, Some, None, Ok, option_copied, is_some, length};
 ghost use Rattle.std.specs.FinMap as map;
 ghost use Rattle.std.specs.Option.{option_map};
 ghost use Rattle.cg_types.specs.Answer.{Answers, AnswersExactly};
 ghost use Rattle.cg_version.specs.Version.{next_version};
 ghost use Rattle.cg_entry.specs.Contents.{IsEntry};
-ghost use Rattle.cg_entry.specs.Entry.{newest, newer_than, overlay, delta_above, starting_entry, entry_after_beat, with_state, has_text as has_text_of, text_standing, removal_of, is_later as is_later_of};
+ghost use Rattle.cg_entry.specs.Entry.{greatest, newest, newer_than, overlay, delta_above, starting_entry, entry_after_beat, with_state, has_text as has_text_of, text_standing, removal_of, is_later as is_later_of};
 ghost use Rattle.cg_entry.specs.State.{value_at_key};
 ghost use Rattle.cg_entry.specs.Taking.{whole_entry, taken_or_gap, advanced_entry, absorption, is_taken, meeting as met_of, IsTakenEntry, IfTaken};
 
@@ -15,6 +15,7 @@ use crate::delta::Delta;
 use crate::held::Held;
 use crate::lent::LentStates;
 use crate::removals::Removals;
+use crate::standing::Standing;
 use crate::state::State;
 use cg_types::{Fault, Generation, StateKey, StateText, Version};
 use cg_version::Versions;
@@ -25,14 +26,17 @@ use std::marker::Model;
 /// generator of versions serves the heartbeat and the states.
 #[derive(Debug, Drop)]
 pub struct Entry {
+    states: Standing,
     generation: Generation,
     heartbeat: Version,
     // The greatest version of all, so that a digest costs no walk over the states.
     newest: Version,
-    states: Held,
     // The removals since the block of states was made, beside it.
     removals: Removals,
 }
+
+// Whoever takes a delta moves an entry a few times.
+const _: () = prove!(size_of::<Entry>() <= 96);
 
 impl Model for Entry {
     ghost use Rattle.cg_entry.specs.Values.{EntryValue, entry_code};
@@ -74,16 +78,6 @@ fn whole(alloc: Global, delta: &Delta) -> Result<Absorbed, AllocError>
     }
 }
 
-fn outcome_of(alloc: Global, held: Option<&Entry>, delta: &Delta) -> Result<Absorbed, AllocError>
-    ensures value { IfOk result (λ a. a ≡ met_of (option_copied held.entry) delta.now) }
-    ensures refused { IfErr result (λ _. is_taken (met_of (option_copied held.entry) delta.now) ≡ true) }
-{
-    match held {
-        Some(entry) => entry.outcome(alloc, delta),
-        None => whole(alloc, delta),
-    }
-}
-
 /// Meets a delta with what is held of its endpoint, if anything is, and returns the outcome. Texts are shared. The
 /// block of states is the entry's if the delta brings no state and the entry has no removal beside its block. It is the
 /// delta's if the delta brings each key that the entry has. `AllocError` only if the delta is to be taken and a new block
@@ -93,7 +87,23 @@ pub fn meet(alloc: Global, held: Option<&Entry>, delta: &Delta) -> Result<Absorb
     ensures each { IfOk result (λ a. IfTaken a (IsTakenEntry (option_copied held.entry) delta.now)) }
     ensures refused { IfErr result (λ _. is_taken (met_of (option_copied held.entry) delta.now) ≡ true) }
 {
-    outcome_of(alloc, held, delta)
+    let Some(entry) = held else {
+        return whole(alloc, delta);
+    };
+    if delta.generation() < entry.generation {
+        return Ok(Absorbed::Old);
+    }
+    if entry.generation < delta.generation() {
+        return whole(alloc, delta);
+    }
+    let brought = delta.newest();
+    if brought <= entry.newest() {
+        return Ok(Absorbed::Old);
+    }
+    if entry.newest().get() < delta.above() {
+        return Ok(Absorbed::Gap);
+    }
+    Ok(Absorbed::Taken(entry.advance(alloc, delta, brought)?))
 }
 
 impl Entry {
@@ -101,18 +111,18 @@ impl Entry {
     pub fn start(alloc: Global, generation: Generation) -> Entry
         ensures { result ≡ starting_entry generation }
     {
-        Entry::of_parts(generation, Version::first(), Held::none(alloc))
+        Entry::of_parts(generation, Version::first(), Standing::none(alloc))
     }
 
-    fn of_parts(generation: Generation, heartbeat: Version, states: Held) -> Entry
+    fn of_parts(generation: Generation, heartbeat: Version, states: Standing) -> Entry
         ensures { result ≡ record { generation = generation; heartbeat = heartbeat; states = states } }
     {
         let newest = states.greatest(heartbeat);
         Entry {
+            states,
             generation,
             heartbeat,
             newest,
-            states,
             removals: Removals::none(),
         }
     }
@@ -126,7 +136,7 @@ impl Entry {
         if delta.above() != 0 {
             return Ok(None);
         }
-        let states = delta.held().copy(alloc)?;
+        let states = delta.held().standing(alloc)?;
         Ok(Some(Entry::of_parts(delta.generation(), delta.heartbeat(), states)))
     }
 
@@ -275,28 +285,28 @@ impl Entry {
     }
 
     // All states, the removals among them, in a block of their own.
-    fn settled(&self, alloc: Global) -> Result<Held, AllocError>
-        ensures { IfOk result (λ h. h ≡ self.now.states) }
+    fn settled(&self, alloc: Global) -> Result<Standing, AllocError>
+        ensures { IfOk result (λ s. s ≡ self.now.states) }
     {
         let _count = self.count();
         let block = self.newer_block(alloc, 0)?;
-        Held::of(alloc, block)
+        Standing::of(alloc, block)
     }
 
     // The states with another one put, in place of one with its key, in a block of their own.
-    fn with(&self, state: State) -> Result<Held, AllocError>
-        ensures { IfOk result (λ h. h ≡ map.insert self.now.states state.key (value_at_key state)) }
+    fn with(&self, state: State) -> Result<Standing, AllocError>
+        ensures { IfOk result (λ s. s ≡ map.insert self.now.states state.key (value_at_key state)) }
     {
-        let alloc = self.states.allocator()?;
+        let alloc = self.states.allocator();
         if self.removals.is_none() {
-            return Held::of(alloc, self.states.with(alloc, state)?);
+            return Standing::of(alloc, self.states.with(alloc, state)?);
         }
-        Held::of(alloc, self.settled(alloc)?.with(alloc, state)?)
+        Standing::of(alloc, self.settled(alloc)?.with(alloc, state)?)
     }
 
     // The states with those of a delta over them.
-    fn overlaid(&self, alloc: Global, newer: &Held) -> Result<Held, AllocError>
-        ensures { IfOk result (λ h. h ≡ overlay self.now.states newer.now) }
+    fn overlaid(&self, alloc: Global, newer: &Held) -> Result<Standing, AllocError>
+        ensures { IfOk result (λ s. s ≡ overlay self.now.states newer.now) }
     {
         if self.removals.is_none() {
             return self.states.overlay(alloc, newer);
@@ -307,37 +317,23 @@ impl Entry {
     fn has_same_states(&self, other: &Entry) -> bool
         ensures { IsTrue result ↔ (self.now.states ≡ other.now.states) }
     {
-        if self.removals.is_none() && other.removals.is_none() {
-            return self.states.is_same(&other.states);
-        }
         self.by_key().are_same(&other.by_key())
     }
 
-    // The entry with a delta of its generation.
-    fn advance(&self, alloc: Global, delta: &Delta) -> Result<Entry, AllocError>
+    // The entry with a delta of its generation, which brings a version newer than all of the entry's.
+    fn advance(&self, alloc: Global, delta: &Delta, brought: Version) -> Result<Entry, AllocError>
+        requires newest { brought ≡ greatest delta.now.heartbeat delta.now.states }
+        requires newer { newest self.now < brought }
         ensures { IfOk result (λ e. e ≡ advanced_entry self.now delta.now) }
     {
         let states = self.overlaid(alloc, delta.held())?;
-        Ok(Entry::of_parts(self.generation, delta.heartbeat(), states))
-    }
-
-    fn outcome(&self, alloc: Global, delta: &Delta) -> Result<Absorbed, AllocError>
-        ensures value { IfOk result (λ a. a ≡ absorption self.now delta.now) }
-        ensures refused { IfErr result (λ _. is_taken (absorption self.now delta.now) ≡ true) }
-    {
-        if delta.generation() < self.generation {
-            return Ok(Absorbed::Old);
-        }
-        if self.generation < delta.generation() {
-            return whole(alloc, delta);
-        }
-        if delta.newest() <= self.newest() {
-            return Ok(Absorbed::Old);
-        }
-        if self.newest().get() < delta.above() {
-            return Ok(Absorbed::Gap);
-        }
-        Ok(Absorbed::Taken(self.advance(alloc, delta)?))
+        Ok(Entry {
+            states,
+            generation: self.generation,
+            heartbeat: delta.heartbeat(),
+            newest: brought,
+            removals: Removals::none(),
+        })
     }
 
     /// Meets a delta about this endpoint with the entry, which stays unchanged, and returns the outcome. It shares and
@@ -410,10 +406,10 @@ impl Entry {
         ensures { IfOk result (λ e. e ≡ self.now) }
     {
         Ok(Entry {
+            states: self.states.copy(alloc)?,
             generation: self.generation,
             heartbeat: self.heartbeat,
             newest: self.newest,
-            states: self.states.copy(alloc)?,
             removals: self.removals.copy(),
         })
     }

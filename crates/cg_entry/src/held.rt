@@ -1,20 +1,21 @@
-//! The states of an entry or a delta: in a block that copies share, or in the list that a delta was made of.
+//! The states of a delta: in a block that copies share, or in the list that a delta was made of.
 
-ghost use Rattle.std.specs.Prelude.{◌≡◌, ◌<◌, ◌↔◌, IsTrue, IfOk, IfSome, IsOk, OnOk, OnErr, Some, option_copied, slice_get};
+ghost use Rattle.std.specs.Prelude.{◌≡◌, ◌↔◌, IsTrue, IfOk, IfSome, IsOk, option_copied};
 ghost use Rattle.std.specs.FinMap as map;
-ghost use Rattle.cg_entry.specs.Entry.{greatest, newer_than, overlay, text_bytes as text_bytes_of};
-ghost use Rattle.cg_entry.specs.State.{pair, value_at_key};
+ghost use Rattle.cg_entry.specs.Entry.{greatest, overlay, text_bytes as text_bytes_of};
+ghost use Rattle.cg_entry.specs.State.{value_at_key};
 ghost use Rattle.cg_entry.specs.Block.{put_all};
 ghost use Rattle.cg_entry.specs.Versioned.{States as Map};
 ghost use Rattle.cg_entry.specs.Contents.{AreStates};
 ghost use Rattle.std.specs.Option.{option_map};
 ghost use Rattle.std.specs.Arc.{arc_value};
 
-use crate::block::{Block, Newer};
+use crate::block::Block;
 use crate::by_key::ByKey;
+use crate::standing::Standing;
 use crate::state::State;
 use crate::states::States;
-use cg_types::{STATE_LIMIT, StateKey, Version};
+use cg_types::{StateKey, Version};
 use std::alloc::{AllocError, Global};
 use std::marker::Model;
 use std::ops::Deref;
@@ -66,12 +67,19 @@ impl Held {
         Held::own(States::empty(alloc))
     }
 
+    // The states of a block, which is shared.
+    pub(crate) fn sharing(block: Arc<Block, Global>) -> Held
+        ensures { result ≡ arc_value block }
+    {
+        Held {
+            kept: Kept::Shared(block),
+        }
+    }
+
     pub(crate) fn of(alloc: Global, block: Block) -> Result<Held, AllocError>
         ensures { IfOk result (λ h. h ≡ block) }
     {
-        Ok(Held {
-            kept: Kept::Shared(Arc::new(alloc, block)?),
-        })
+        Ok(Held::sharing(Arc::new(alloc, block)?))
     }
 
     // The same, but a block without states takes no memory.
@@ -83,13 +91,6 @@ impl Held {
             return Ok(Held::none(alloc));
         }
         Held::of(alloc, block)
-    }
-
-    pub(crate) fn allocator(&self) -> Result<Global, AllocError> {
-        match &self.kept {
-            Kept::Own(states) => states.allocator(),
-            Kept::Shared(block) => block.deref().allocator(),
-        }
     }
 
     // The number of states.
@@ -154,7 +155,7 @@ impl Held {
     }
 
     // Tests whether there is no state.
-    fn is_empty(&self) -> bool
+    pub(crate) fn is_empty(&self) -> bool
         ensures { IsTrue result ↔ (self.now ≡ map.empty) }
     {
         self.len() == 0
@@ -176,19 +177,25 @@ impl Held {
         true
     }
 
+    // The same states as those of an entry: the block is shared if there is one, and a list is copied into a block. One
+    // that is empty takes no memory.
+    pub(crate) fn standing(&self, alloc: Global) -> Result<Standing, AllocError>
+        ensures { IfOk result (λ s. s ≡ self.now) }
+    {
+        if self.is_empty() {
+            return Ok(Standing::none(alloc));
+        }
+        match &self.kept {
+            Kept::Own(states) => Standing::of(alloc, states.block(alloc)?),
+            Kept::Shared(block) => Ok(Standing::sharing(alloc, Arc::try_clone(block)?)),
+        }
+    }
+
     // Shares the block if there is one; an own list that is empty takes no memory.
     pub(crate) fn copy(&self, alloc: Global) -> Result<Held, AllocError>
         ensures { IfOk result (λ h. h ≡ self.now) }
     {
-        if self.is_empty() {
-            return Ok(Held::none(alloc));
-        }
-        match &self.kept {
-            Kept::Own(states) => Held::of(alloc, states.block(alloc, 0)?),
-            Kept::Shared(block) => Ok(Held {
-                kept: Kept::Shared(Arc::try_clone(block)?),
-            }),
-        }
+        Ok(self.standing(alloc)?.into_held())
     }
 
     // The same states in a block that copies share; one that is empty takes no memory.
@@ -201,166 +208,17 @@ impl Held {
         }
         match self.kept {
             Kept::Own(states) => Held::of(alloc, states.into_block(alloc)?),
-            Kept::Shared(block) => Ok(Held {
-                kept: Kept::Shared(block),
-            }),
+            Kept::Shared(block) => Ok(Held::sharing(block)),
         }
-    }
-
-    // The state of a key in `newer`, or else in these.
-    fn shown<'a>(&'a self, newer: &'a Held, key: StateKey) -> Option<&'a State>
-        ensures value { option_map value_at_key (option_copied result) ≡ map.get (overlay self.now newer.now) key }
-        ensures key { IfSome result (λ s. s.now.key ≡ key) }
-    {
-        match newer.get(key) {
-            Some(state) => Some(state),
-            None => self.get(key),
-        }
-    }
-
-    // A new block of `newer`, and at every other key of these, by a walk over the keys: for states in any order.
-    fn laid_under(&self, alloc: Global, newer: &Held) -> Result<Block, AllocError>
-        ensures { IfOk result (λ b. b ≡ overlay self.now newer.now) }
-    {
-        self.show();
-        newer.show();
-        let mut block = Block::with_room(
-            alloc,
-            self.len()
-                .saturating_add(newer.len())
-                .min(usize::from(STATE_LIMIT)),
-        )?;
-        for number in 0..17 {
-            match StateKey::new(number) {
-                Some(key) => match self.shown(newer, key) {
-                    Some(state) => block.push(state.copy()?)?,
-                    None => {}
-                },
-                None => {}
-            }
-        }
-        Ok(block)
     }
 
     // The states, in the order that they are kept in. Put one after the other, they are laid over others.
-    fn as_slice(&self) -> &[State]
+    pub(crate) fn as_slice(&self) -> &[State]
         ensures { (old : Map) → put_all result.now old ≡ overlay old self.now }
     {
         match &self.kept {
             Kept::Own(states) => states.as_slice(),
             Kept::Shared(block) => block.deref().as_slice(),
         }
-    }
-
-    // A block of these with a state put: copied, if the state is newer than each.
-    pub(crate) fn with(&self, alloc: Global, state: State) -> Result<Block, AllocError>
-        ensures { IfOk result (λ b. b ≡ map.insert self.now state.key (value_at_key state)) }
-    {
-        match &self.kept {
-            Kept::Own(states) => {
-                let block = states.block(alloc, 1)?;
-                if block.is_older(state.version) {
-                    return block.put_newest(state);
-                }
-            }
-            Kept::Shared(block) => {
-                if block.deref().is_older(state.version) {
-                    return block.deref().with_newest(alloc, state, 1);
-                }
-            }
-        }
-        let one = Held::own(States::one(alloc, state)?);
-        self.laid_under(alloc, &one)
-    }
-
-    // A copied block of these with each of `newer` put. `None` if one is not newer than all before it, or if these
-    // are no block.
-    fn with_all(
-        &self,
-        alloc: Global,
-        newer: &Held,
-    ) -> Result<Option<Arc<Block, Global>>, AllocError>
-        ensures { IfOk result (λ o. IfSome o (λ b. arc_value b ≡ overlay self.now newer.now)) }
-    {
-        match &self.kept {
-            Kept::Own(_) => Ok(None),
-            Kept::Shared(block) => block.deref().with_all(alloc, newer.as_slice()),
-        }
-    }
-
-    // The same in a new block. If it can, it copies these and puts what is newer.
-    fn laid(&self, alloc: Global, newer: &Held) -> Result<Held, AllocError>
-        ensures { IfOk result (λ h. h ≡ overlay self.now newer.now) }
-    {
-        match self.with_all(alloc, newer)? {
-            Some(block) => Ok(Held {
-                kept: Kept::Shared(block),
-            }),
-            None => Held::of(alloc, self.laid_under(alloc, newer)?),
-        }
-    }
-
-    // The states with a version greater than `above`. If none is, it takes no memory; if each is, a block is shared.
-    pub(crate) fn newer_than(&self, alloc: Global, above: u32) -> Result<Held, AllocError>
-        ensures value { IfOk result (λ h. h ≡ newer_than above self.now) }
-        ensures bare { newer_than above self.now ≡ map.empty → IsOk result }
-    {
-        match &self.kept {
-            Kept::Own(states) => newer_of_list(alloc, states, above),
-            Kept::Shared(block) => newer_of_block(alloc, block, above),
-        }
-    }
-
-    // Tests whether each key is in `newer`, so that none of these shows beside it.
-    fn is_covered(&self, newer: &Held) -> bool
-        ensures { IsTrue result → overlay self.now newer.now ≡ newer.now }
-    {
-        if newer.len() < self.len() {
-            return false;
-        }
-        let states = self.by_key();
-        for place in 0..states.len() {
-            if newer.get(states.at(place).key).is_none() {
-                return false;
-            }
-        }
-        true
-    }
-
-    // Those of `newer`, and at every other key these. If one list shows all of that, it is shared.
-    pub(crate) fn overlay(&self, alloc: Global, newer: &Held) -> Result<Held, AllocError>
-        ensures { IfOk result (λ h. h ≡ overlay self.now newer.now) }
-    {
-        if newer.is_empty() {
-            return self.copy(alloc);
-        }
-        if self.is_covered(newer) {
-            return newer.copy(alloc);
-        }
-        self.laid(alloc, newer)
-    }
-}
-
-fn newer_of_list(alloc: Global, states: &States, above: u32) -> Result<Held, AllocError>
-    ensures value { IfOk result (λ h. h ≡ newer_than above states.now) }
-    ensures bare { newer_than above states.now ≡ map.empty → IsOk result }
-{
-    if states.count_newer(above) == 0 {
-        return Ok(Held::none(alloc));
-    }
-    let newer = states.block(alloc, 0)?.newer_than(alloc, above)?;
-    Held::of(alloc, newer)
-}
-
-fn newer_of_block(alloc: Global, block: &Arc<Block, Global>, above: u32) -> Result<Held, AllocError>
-    ensures value { IfOk result (λ h. h ≡ newer_than above (arc_value block.now)) }
-    ensures bare { newer_than above (arc_value block.now) ≡ map.empty → IsOk result }
-{
-    match block.deref().newer(alloc, above)? {
-        Newer::Nothing => Ok(Held::none(alloc)),
-        Newer::Each => Ok(Held {
-            kept: Kept::Shared(Arc::try_clone(block)?),
-        }),
-        Newer::Part(newer) => Held::of(alloc, newer),
     }
 }

@@ -17,6 +17,7 @@ pub mod laws;
 mod lent;
 mod places;
 mod removals;
+mod standing;
 mod state;
 mod states;
 mod took;

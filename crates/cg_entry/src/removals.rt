@@ -1,6 +1,6 @@
 //! Removals that an entry keeps beside its block of states, without memory of their own.
 
-ghost use Rattle.std.specs.Prelude.{◌≡◌, ◌==◌, ℕ, [], IsTrue, length, if◌then◌else◌};
+ghost use Rattle.std.specs.Prelude.{◌≡◌, ◌==◌, ℕ, [], ◌∷◌, IsTrue, length, if◌then◌else◌};
 ghost use Rattle.std.specs.List.{AllByRecursion};
 ghost use Rattle.cg_types.specs.Numbers.{IsVersionHeld};
 ghost use Rattle.cg_entry.specs.Removals.{removal_at, version_if_any};
@@ -8,16 +8,16 @@ ghost use Rattle.cg_entry.specs.Removals.{removal_at, version_if_any};
 use cg_types::{StateKey, Version};
 use std::marker::Model;
 
-// The version of each key's removal; 0 at a key that was not removed, and at 0, which is no key.
+// The version of each key's removal, in the order of the keys; 0 at a key that was not removed.
 #[derive(Debug, Drop)]
 pub(crate) struct Removals {
-    versions: [u32; 17],
     // So that a test for none reads one word.
     any: bool,
+    versions: [u32; 16],
 }
 
 impl Model for Removals {
-    ghost use Rattle.std.specs.Prelude.{List, ℕ, [], if◌then◌else◌};
+    ghost use Rattle.std.specs.Prelude.{List, ℕ, [], ◌∷◌, if◌then◌else◌};
     ghost use Rattle.std.specs.List.{AllByRecursion};
     ghost use Rattle.std.specs.Coded.{coded_list, coded_ℕ};
     ghost use Rattle.cg_types.specs.Numbers.{IsVersionHeld};
@@ -26,7 +26,8 @@ impl Model for Removals {
 
     ghost coded = { coded_list coded_ℕ };
 
-    ghost view = { λ r. if r.any then r.versions else [] };
+    // (0 is no key)
+    ghost view = { λ r. if r.any then 0 ∷ r.versions else [] };
 
     ghost invariant = { λ r. AllByRecursion IsVersionHeld r.versions };
 }
@@ -36,8 +37,8 @@ impl Removals {
         ensures { result ≡ [] }
     {
         Removals {
-            versions: [0; 17],
             any: false,
+            versions: [0; 16],
         }
     }
 
@@ -52,8 +53,8 @@ impl Removals {
         ensures { result ≡ self.now }
     {
         Removals {
-            versions: self.versions,
             any: self.any,
+            versions: self.versions,
         }
     }
 
@@ -71,17 +72,17 @@ impl Removals {
         if !self.any {
             return None;
         }
-        Version::new(self.versions[key.get() as usize])
+        Version::new(self.versions[usize::from(key.get()) - 1])
     }
 
     // The version of each key's removal, or 0.
-    fn by_key(&self) -> [u32; 17]
-        ensures value { (k : ℕ) → removal_at result k ≡ removal_at self.now k }
+    fn by_key(&self) -> [u32; 16]
+        ensures value { (k : ℕ) → removal_at (0 ∷ result) k ≡ removal_at self.now k }
         ensures valid { AllByRecursion IsVersionHeld result }
-        ensures long { length result ≡ 17 }
+        ensures long { length result ≡ 16 }
     {
         if !self.any {
-            return [0; 17];
+            return [0; 16];
         }
         self.versions
     }
@@ -91,10 +92,10 @@ impl Removals {
         ensures { (k : ℕ) → removal_at self.new k ≡ if k == key then version else removal_at self.old k }
     {
         let mut versions = self.by_key();
-        versions[key.get() as usize] = version.get();
+        versions[usize::from(key.get()) - 1] = version.get();
         *self = Removals {
-            versions,
             any: true,
+            versions,
         };
     }
 }

@@ -1,12 +1,12 @@
 //! A finite map from keys to texts with their versions, kept in the order of the keys.
 
-ghost use Rattle.std.specs.Prelude.{◌≡◌, ◌<◌, ◌^◌, ◌==◌, true, IfOk, IfSome, Some, count_by, find, length, nat_lt, option_copied, slice_get};
+ghost use Rattle.std.specs.Prelude.{◌≡◌, ◌<◌, ◌^◌, ◌==◌, true, IfOk, IfSome, Some, find, length, option_copied, slice_get};
 ghost use Rattle.std.specs.FinMap as map;
 ghost use Rattle.std.specs.Option.{option_map};
 ghost use Rattle.std.specs.List.{AllByRecursion};
 ghost use Rattle.std.specs.List.Sorted.{IsNonDecreasingBy};
 ghost use Rattle.cg_entry.specs.Contents.{IsState, AreStates};
-ghost use Rattle.cg_entry.specs.Entry.{greatest, newer_than, overlay, text_bytes as text_bytes_of, text_size as text_size_of};
+ghost use Rattle.cg_entry.specs.Entry.{greatest, overlay, text_bytes as text_bytes_of, text_size as text_size_of};
 ghost use Rattle.cg_entry.specs.State.{KeysRise, keys_rise as keys_rise_of, pair, pairs, listed_bytes, value_at_key};
 ghost use Rattle.cg_entry.specs.Versioned.{States as Map};
 ghost use Rattle.cg_entry.specs.Block.{put_all};
@@ -102,19 +102,6 @@ fn size_of_texts(items: &[State]) -> usize
     bytes
 }
 
-// Counts the states with a version greater than `above`.
-fn count_newer(items: &[State], above: u32) -> usize
-    ensures { result ≡ count_by (λ s. nat_lt above s.version) items.now }
-{
-    let mut count = 0;
-    for state in items {
-        if above < state.version.get() {
-            count += 1;
-        }
-    }
-    count
-}
-
 impl States {
     pub(crate) fn empty(alloc: Global) -> States
         ensures { result ≡ map.empty }
@@ -169,13 +156,6 @@ impl States {
         self.text_bytes
     }
 
-    // Counts the states with a version greater than `above`.
-    pub(crate) fn count_newer(&self, above: u32) -> usize
-        ensures { result ≡ map.len (newer_than above self.now) }
-    {
-        count_newer(&self.items, above)
-    }
-
     // Reads the states; the read shows that they are in range.
     pub(crate) fn show(&self)
         ensures { AreStates self.now }
@@ -200,11 +180,11 @@ impl States {
         Ok(States::from_rising(items))
     }
 
-    // The same states in a block with room for more.
-    pub(crate) fn block(&self, alloc: Global, more: usize) -> Result<Block, AllocError>
+    // The same states in a block.
+    pub(crate) fn block(&self, alloc: Global) -> Result<Block, AllocError>
         ensures { IfOk result (λ b. b ≡ self.now) }
     {
-        Block::of(alloc, &self.items, more)
+        Block::of(alloc, &self.items)
     }
 
     // The same states in a block. If their versions do not fall, the list is its vector; else they are copied.
@@ -214,11 +194,7 @@ impl States {
         if versions_rise(&self.items) {
             return Ok(Block::in_order(self.items, self.text_bytes));
         }
-        self.block(alloc, 0)
-    }
-
-    pub(crate) fn allocator(&self) -> Result<Global, AllocError> {
-        self.items.allocator().clone()
+        self.block(alloc)
     }
 
     // The states in the order of the keys, as a block lends them.

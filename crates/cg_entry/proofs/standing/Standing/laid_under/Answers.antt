@@ -6,8 +6,8 @@ use Rattle.cg_entry.specs.Versioned.{States, Versioned}
 use Rattle.cg_entry.specs.State.{value_at_key}
 use Rattle.cg_entry.specs.Entry.{overlay}
 use Rattle.cg_entry.proofs.HeldLemmas.{Shows, over_in_range, shows_none, shows_next, shows_put, shows_whole}
-use Rattle.cg_entry.proofs.held.Held.laid_under.Goals.{in-Some+in-Some-shown+in_ok-copy-in-Some-shown+in_ok-push-in-Some-shown, in-Some+in-None-shown, in-None}
-use Rattle.cg_entry.proofs.held.Held.laid_under.Goals as goal
+use Rattle.cg_entry.proofs.standing.Standing.laid_under.Goals.{in-Some+in-Some-shown+in_ok-copy-in-Some-shown+in_ok-push-in-Some-shown, in-Some+in-None-shown, in-None}
+use Rattle.cg_entry.proofs.standing.Standing.laid_under.Goals as goal
 
 pub loop-number-init : goal.loop-number-init
 loop-number-init c = shows_none c.in_ok-block.block (overlay c.args.self.now c.args.newer.now) c.in_ok-block.ensures

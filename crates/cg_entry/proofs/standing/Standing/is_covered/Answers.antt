@@ -1,7 +1,7 @@
 use Rattle.std.proofs.Common.{arith, ap, length}
 use Rattle.std.specs.FinMap as map
 use Rattle.cg_entry.proofs.HeldLemmas.{covered_all}
-use Rattle.cg_entry.proofs.held.Held.is_covered.Goals as goal
+use Rattle.cg_entry.proofs.standing.Standing.is_covered.Goals as goal
 
 pub returns : goal.returns
 returns c = λ _.

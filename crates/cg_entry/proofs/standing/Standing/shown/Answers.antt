@@ -1,7 +1,7 @@
 use Rattle.std.proofs.Common.{◌∙◌, sym}
 use Rattle.cg_entry.specs.State.{value_at_key}
 use Rattle.cg_entry.proofs.HeldLemmas.{shown_new, shown_old}
-use Rattle.cg_entry.proofs.held.Held.shown.Goals as goal
+use Rattle.cg_entry.proofs.standing.Standing.shown.Goals as goal
 
 pub returns-in-Some-clause-value : goal.returns-in-Some-clause-value
 returns-in-Some-clause-value c = sym (shown_new c.args.self.now c.args.newer.now c.args.key (value_at_key c.in-Some.state.now) (sym c.in-Some.ensures.value))
