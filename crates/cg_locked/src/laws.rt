@@ -4,8 +4,8 @@ ghost use Rattle.cg_locked.specs.Board.{NoneIsFolded};
 ghost use Rattle.cg_locked.specs.Entry.{ConfirmedStay, EntriesAreConfirmed, ShownChangesAreRead};
 ghost use Rattle.cg_locked.specs.Limits.{SeatLimitValue};
 
-/// A Set that `submit` or a gate over a seat told is read: a pass that learnt the `Told` reads the key at the reply's
-/// version or a later one.
+/// A Set or a Remove that `submit` or a gate over a seat told is read: a pass that learnt the `Told` reads the key at the
+/// reply's version or a later one.
 pub fn shown_changes_are_read()
     ensures { ShownChangesAreRead }
 {}

@@ -50,7 +50,8 @@ module _ (settings : SettingsValue) (actions : List Action) where
       (owner : ℕ) (mark : Mark) → Contains (marks_of a one owner) mark ↔ Contains (marks_of b other owner) mark
 
   pub record Headline (c : WorldValue) : Type 0 where
-    -- an action that is done starts its node's own entry, beats it, sets it or leaves it, and leaves all others
+    -- an action that is done starts its node's own entry, beats it, sets or removes one of its keys, or leaves it, and
+    -- leaves all others
     pub own : (earlier later : List Action) (action : Action) → earlier ++ action ∷ later ≡ actions
         → IsOk (acting (run settings earlier) action) → (node : ℕ)
         → own_at (act (run settings earlier) action) node ≡ own_after action node (own_at (run settings earlier) node)

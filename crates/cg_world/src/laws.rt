@@ -31,7 +31,7 @@ ghost use Rattle.cg_world.specs.WorkedRuns.{WorkedRuns};
 /// The headline: after any actions each node's table is the join of its own entry and the deltas it took since its
 /// start. The join holds of each owner the furthest of these. Each entry was its owner's own, whole, at one past time.
 /// So equal sets give equal tables, and equal digests give equal tables and rings. A node's own entry changes by its
-/// starts, beats and sets alone, and each delta that it is handed has an outcome.
+/// starts, beats, sets and removals alone, and each delta that it is handed has an outcome.
 pub fn headline()
     ensures { HeadlineHolds }
 {}
@@ -90,9 +90,9 @@ pub fn outcomes_tell_what_is_taken()
     ensures { OutcomesTellWhatIsTaken }
 {}
 
-/// A local action or a delivery has a reply exactly if it is done, and a start has none. A beat and a set return the
-/// version that they gave. A tick returns the peers that are chosen after its beat, at its time and with its words, and
-/// a delivery the outcome of each delta.
+/// A local action or a delivery has a reply exactly if it is done, and a start has none. A beat, a set and a removal
+/// return the version that they gave. A tick returns the peers that are chosen after its beat, at its time and with its
+/// words, and a delivery the outcome of each delta.
 pub fn replies_are_of_steps()
     ensures { RepliesAreOfSteps }
 {}
@@ -114,8 +114,8 @@ pub fn settings_stay()
 {}
 
 /// The nodes refuse what the places refuse, by the same fault. They refuse changes by a node whose versions are spent,
-/// and starts in a generation that does not rise or of one node too many. They refuse deliveries of messages that were
-/// never sent, and local events of a node that does not run, or deliveries to it.
+/// removals of a key without a text, and starts in a generation that does not rise or of one node too many. They refuse
+/// deliveries of messages that were never sent, and local events of a node that does not run, or deliveries to it.
 pub fn refusals_agree()
     ensures { RefusalsAgree }
 {}
