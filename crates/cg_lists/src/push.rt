@@ -7,6 +7,7 @@ use std::alloc::AllocError;
 
 /// Puts an item at the end of a list, if there is one. `AllocError` if the list finds no room for it; the list is then
 /// unchanged, and the item is dropped. No item needs no room.
+#[inline(always)]
 pub fn push_some<T: Drop>(items: &mut Vec<T>, item: Option<T>) -> Result<(), AllocError>
     ensures ok { OnOk result (items.new.items ≡ items.old.items ++ option_to_list item) }
     ensures none { IsNone item → IsOk result }
