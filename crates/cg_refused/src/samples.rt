@@ -159,7 +159,7 @@ pub(crate) fn event(alloc: Global, world: &World, kind: Kind) -> Result<Event, F
 const MANY: u16 = 34;
 
 // The rounds after which the tail of the last owner's window is full.
-const ROUNDS: u32 = 20;
+const ROUNDS: u32 = 16;
 
 // Returns the heartbeats of the owners from a number on in a round.
 fn heartbeats(alloc: Global, from: u16, round: u32) -> Result<Vec<OwnerDelta>, Fault> {

@@ -94,7 +94,7 @@ impl SharedWindow {
         ensures settings { IfOk result (λ w. w.silence ≡ silence) }
         ensures shows { IfOk result (λ w. Shows w []) }
     {
-        let gaps = joined(alloc, &[], &[], silence.window())?;
+        let gaps = Vec::new(alloc);
         Ok(SharedWindow {
             past: Arc::new(alloc, Past { silence, gaps })?,
             total: 0,

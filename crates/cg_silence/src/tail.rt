@@ -5,7 +5,7 @@ ghost use Rattle.std.specs.Prelude.{◌≡◌, ◌<◌, ◌≤◌, ◌++◌, [],
 use std::marker::Model;
 
 /// The most gaps in a tail.
-pub(crate) const TAIL_ROOM: usize = 20;
+pub(crate) const TAIL_ROOM: usize = 16;
 
 // At most `TAIL_ROOM` gaps, the oldest first.
 #[derive(Drop)]

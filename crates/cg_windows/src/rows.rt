@@ -122,7 +122,8 @@ fn around(rows: &[Held], endpoint: Endpoint) -> (&[Held], Option<&SharedWindow>,
     }
 }
 
-// Adds copies of windows, which share their gaps.
+// Adds copies of windows, which share their gaps. In a walk there are mostly none, and a call would cost more.
+#[inline(always)]
 fn copy_all(made: &mut Vec<Held>, rows: &[Held]) -> Result<(), AllocError>
     ensures { OnOk result (made.new.items ≡ made.old.items ++ rows.now) }
 {
