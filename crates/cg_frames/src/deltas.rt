@@ -14,7 +14,9 @@ use cg_messages::OwnerDelta;
 use cg_types::{Cause, Endpoint, StateKey, StateText};
 use std::alloc::Global;
 
-// Reads past a state of a delta above a version, and keeps its key.
+// Reads past a state of a delta above a version, and keeps its key. A call for each state would be a tenth of a check of
+// short ones.
+#[inline(always)]
 #[tactic(auto, unfolding(crate::specs::Lists::state_at))]
 fn check_state(
     layout: &Layout,
@@ -31,7 +33,7 @@ fn check_state(
     Ok(key)
 }
 
-// Reads past this number of states, rising by key. A call for each delta would be a seventh of a check of short ones.
+// Reads past this number of states, rising by key. A call for each delta would be a seventh of it.
 #[inline(always)]
 fn check_states(
     layout: &Layout,
