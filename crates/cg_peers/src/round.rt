@@ -5,7 +5,7 @@ ghost use Rattle.std.specs.List.{list_any};
 ghost use Rattle.cg_types.specs.Rising.{is_among};
 ghost use Rattle.cg_peers.specs.Round.{pick_by, silent_peer as silent_peer_of, seed_peer as seed_peer_of, peers_of};
 
-use cg_lists::push_some;
+use cg_table::push_some;
 use cg_types::Endpoint;
 use std::alloc::{AllocError, Global};
 

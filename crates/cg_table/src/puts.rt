@@ -5,9 +5,9 @@ ghost use Rattle.cg_types.specs.Rising.{Rises, rise_past};
 ghost use Rattle.cg_map.specs.Rows.{keys_of};
 ghost use Rattle.cg_table.specs.Puts.{rows_at, rising_puts};
 
+use crate::push::push_some;
 use crate::table::{Table, are_same_rows};
 use cg_entry::Entry;
-use cg_lists::push_some;
 use cg_map::Row;
 use cg_types::Endpoint;
 use std::alloc::{AllocError, Global};

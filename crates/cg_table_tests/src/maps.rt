@@ -1,9 +1,9 @@
 //! Maps from endpoints to shared values, their rows, and lists that are made item by item.
 
 use cg_expect::expect_eq;
-use cg_lists::push_some;
 use cg_map::{Row, SharedMap};
 use cg_samples::endpoint;
+use cg_table::push_some;
 use cg_types::owners_rise;
 use std::alloc::Global;
 use std::test::Fail;

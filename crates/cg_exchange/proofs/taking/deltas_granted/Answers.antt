@@ -1,7 +1,7 @@
 use Rattle.std.proofs.Common.{◌∙◌, ◌++◌, sym}
 use Rattle.std.specs.Option.{option_to_list}
 use Rattle.cg_exchange.specs.Taking.{delta_granted}
-use Rattle.cg_lists.proofs.ListLemmas.{filter_map_more}
+use Rattle.cg_table.proofs.ListLemmas.{filter_map_more}
 use Rattle.cg_exchange.proofs.taking.deltas_granted.Goals as goal
 
 pub loop-request-preserved : goal.loop-request-preserved

@@ -1,6 +1,6 @@
 use Rattle.std.proofs.Common.{◌∙◌, ◌++◌, sym, take_all}
 use Rattle.std.specs.Option.{option_to_list}
-use Rattle.cg_lists.proofs.ListLemmas.{filter_map_more}
+use Rattle.cg_table.proofs.ListLemmas.{filter_map_more}
 use Rattle.cg_table.specs.Puts.{row_at}
 use Rattle.cg_table.proofs.PutsLemmas.{rows_at-rise}
 use Rattle.cg_table.proofs.puts.Puts.of_owners.Goals as goal
