@@ -15,7 +15,7 @@ use Rattle.cg_entry.proofs.PlaceLemmas.{at_place_some}
 use Rattle.cg_table.specs.Own.{own_entry}
 use Rattle.cg_table.specs.Table.{digests_of}
 use Rattle.cg_table.proofs.DigestLemmas.{equal_digests_equal_entries}
-use Rattle.cg_ring.specs.Ring.{ring}
+use Rattle.cg_tokens.specs.Ring.{ring}
 use Rattle.cg_messages.specs.declared.message.Message.{Message}
 use Rattle.cg_places.specs.PlaceWorld.{PlaceWorld, nobody}
 use Rattle.cg_places.specs.Join.{targets, sources}

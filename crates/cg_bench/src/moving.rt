@@ -2,9 +2,9 @@
 
 use cg_entry::{Absorbed, Entry, meet};
 use cg_measure::{Failure, leaving};
-use cg_ring::Ring;
 use cg_samples::endpoint;
 use cg_table::Table;
+use cg_tokens::Ring;
 use std::alloc::{AllocError, Global};
 use std::marker::Model;
 
@@ -20,7 +20,7 @@ pub(crate) struct Moving {
 }
 
 impl Model for Moving {
-    ghost use Rattle.cg_ring.specs.Moving.{IsRingOf};
+    ghost use Rattle.cg_tokens.specs.Moving.{IsRingOf};
     ghost use Rattle.cg_table.specs.Values.{TableValue, table_code};
 
     ghost Value = { TableValue };

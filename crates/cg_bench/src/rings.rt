@@ -1,9 +1,8 @@
 //! Rings, replicas, and the tables that rings are made of.
 
 use cg_measure::{Failure, claiming, table_of};
-use cg_ring::Ring;
 use cg_table::Table;
-use cg_tokens::{Token, token_of};
+use cg_tokens::{Ring, Token, token_of};
 use cg_types::Endpoint;
 use md5::{Digest, Md5};
 use std::alloc::{AllocError, Global};

@@ -12,8 +12,8 @@ pub use Rattle.cg_entry.specs.Entry
 pub use Rattle.cg_table.specs.Own
 pub use Rattle.cg_silence.specs.Silence
 pub use Rattle.cg_silence.specs.Values as SilenceValues
-pub use Rattle.cg_ring.specs.Ring
-pub use Rattle.cg_ring.specs.Moving
+pub use Rattle.cg_tokens.specs.Ring
+pub use Rattle.cg_tokens.specs.Moving
 pub use Rattle.cg_exchange.specs.Changes as ExchangeChanges
 pub use Rattle.cg_messages.specs.Lent
 pub use Rattle.cg_events.specs.Borrowed

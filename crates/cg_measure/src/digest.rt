@@ -4,8 +4,8 @@ use crate::failure::Failure;
 use crate::messages::bringing;
 use cg_frames::encode;
 use cg_messages::Message;
-use cg_ring::Ring;
 use cg_table::Table;
+use cg_tokens::Ring;
 use md5::{Digest, Md5};
 use std::alloc::{AllocError, Global};
 

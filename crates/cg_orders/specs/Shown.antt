@@ -1,7 +1,7 @@
 -- The texts that show a table to an operator.
 use Rattle.std.specs.Prelude.{ℕ, List, ◌++◌, codes, decimal}
 use Rattle.cg_table.specs.Values.{TableValue}
-use Rattle.cg_ring.specs.Ring.{ring}
+use Rattle.cg_tokens.specs.Ring.{ring}
 use Rattle.cg_printed.specs.Printed.{gossipinfo, digest_lines, ring_lines, replica_lines}
 use Rattle.cg_script.specs.declared.line.View.{View}
 use Rattle.cg_script.specs.declared.line.View.TheVariants as view

@@ -4,10 +4,9 @@ ghost use Rattle.std.specs.Prelude.{◌≡◌, ◌++◌, IfOk, OnOk, string_byte
 ghost use Rattle.cg_orders.specs.Shown.{table_lines, unpublished_line};
 
 use cg_printed::{add_digests, add_gossipinfo, add_replicas, add_ring};
-use cg_ring::Ring;
 use cg_script::View;
 use cg_table::Table;
-use cg_tokens::Token;
+use cg_tokens::{Ring, Token};
 use cg_types::Version;
 use std::alloc::{AllocError, Global};
 use std::fmt::Write;

@@ -8,7 +8,7 @@ use Rattle.cg_table.specs.Merge.{merge_of}
 use Rattle.cg_table.specs.Spelling.{SpellsPlaces}
 use Rattle.cg_table.proofs.DigestLemmas.{equal_digests_equal_entries}
 use Rattle.cg_table.proofs.MergeLemmas.{merge_is_the_join}
-use Rattle.cg_ring.specs.Ring.{ring}
+use Rattle.cg_tokens.specs.Ring.{ring}
 use Rattle.cg_places.specs.PlaceWorld.{PlaceWorld, PlaceAction, world_after}
 use Rattle.cg_places.specs.Spelling.{SpellsNode}
 use Rattle.cg_places.specs.Join.{join}

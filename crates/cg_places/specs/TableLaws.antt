@@ -14,7 +14,7 @@ use Rattle.cg_messages.specs.Members.{endpoints_of_deltas}
 use Rattle.cg_exchange_laws.specs.PlaceMessages.{AreSpans}
 use Rattle.cg_exchange_laws.specs.Spelling.{SpellsSpans}
 use Rattle.cg_exchange.specs.Taking.{held_after}
-use Rattle.cg_ring.specs.Ring.{ring}
+use Rattle.cg_tokens.specs.Ring.{ring}
 use Rattle.cg_places.specs.PlaceWorld.{PlaceAction, PlaceWorld, world_after}
 use Rattle.cg_places.specs.Spelling.{SpellsNode}
 use Rattle.cg_places.specs.Join.{join, furthest, sources, SamePlaces}

@@ -10,7 +10,7 @@ use Rattle.cg_entry.specs.Entry.{newest}
 use Rattle.cg_entry.specs.Took.{took_name}
 use Rattle.cg_table.specs.Values.{Entries}
 use Rattle.cg_tokens.specs.Tokens.{token_text}
-use Rattle.cg_ring.specs.Ring.{Positions, replicas}
+use Rattle.cg_tokens.specs.Ring.{Positions, replicas}
 use Rattle.cg_messages.specs.declared.kind.Kind.{Kind}
 use Rattle.cg_messages.specs.Kind.{kind_name}
 use Rattle.cg_messages.specs.declared.outcome.Outcome.{Outcome}

@@ -4,7 +4,7 @@ use Rattle.std.specs.FinMap as map
 use Rattle.cg_types.specs.declared.fault.Fault.{Fault}
 use Rattle.cg_types.specs.declared.fault.Fault.TheVariants.{BadText, NoSuchNode}
 use Rattle.cg_types.specs.Fault.{fault_text}
-use Rattle.cg_ring.specs.Ring.{ring}
+use Rattle.cg_tokens.specs.Ring.{ring}
 use Rattle.cg_messages.specs.declared.message.Message.{Message}
 use Rattle.cg_messages.specs.Kind.{kind_of}
 use Rattle.cg_events.specs.declared.reply.Reply.{Reply}

@@ -2,9 +2,9 @@
 
 use crate::ring::{Claiming, table};
 use cg_expect::{expect, expect_eq};
-use cg_ring::Ring;
 use cg_samples::endpoint;
 use cg_table::{Puts, Table};
+use cg_tokens::Ring;
 use cg_types::{Endpoint, endpoints_rise};
 use std::alloc::Global;
 use std::test::Fail;

@@ -3,10 +3,9 @@
 use crate::tokens::token;
 use cg_entry::{Delta, Entry, State};
 use cg_expect::{expect, expect_eq};
-use cg_ring::{Ring, keeps_claims};
 use cg_samples::{endpoint, entry_at_start, state};
 use cg_table::Table;
-use cg_tokens::TOKEN_LIMIT;
+use cg_tokens::{Ring, TOKEN_LIMIT, keeps_claims};
 use cg_types::Endpoint;
 use std::alloc::Global;
 use std::test::Fail;

@@ -1,4 +1,12 @@
 pub mod Tokens
 pub mod Text
 pub mod Laws
+pub mod Claims
+pub mod Ring
+pub mod Values
+pub mod Moving
+pub mod RingLaws
 pub use Rattle.cg_types.specs.Answer
+pub use Rattle.cg_types.specs.Numbers
+pub use Rattle.cg_types.specs.Rising
+pub use Rattle.cg_map.specs.Rows

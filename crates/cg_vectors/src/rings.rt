@@ -4,9 +4,8 @@ ghost use Rattle.std.specs.Prelude.{◌<◌, IfSome, length};
 
 use crate::words::{add_word, number_in, place_of, words_in};
 use cg_entry::{Delta, Entry, State};
-use cg_ring::Ring;
 use cg_table::Table;
-use cg_tokens::{Token, read_tokens};
+use cg_tokens::{Ring, Token, read_tokens};
 use cg_types::{Endpoint, Fault, Generation, STATUS_KEY, StateKey, StateText, TOKENS_KEY, Version};
 use std::alloc::Global;
 

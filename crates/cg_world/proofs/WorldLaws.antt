@@ -11,7 +11,7 @@ use Rattle.cg_entry.specs.Values.{EntryValue}
 use Rattle.cg_entry.specs.History.{at_place}
 use Rattle.cg_entry.proofs.PlaceLemmas.{at_place_last}
 use Rattle.cg_table.specs.Values.{Entries}
-use Rattle.cg_ring.specs.Ring.{ring}
+use Rattle.cg_tokens.specs.Ring.{ring}
 use Rattle.cg_messages.specs.declared.message.Message.{Message}
 use Rattle.cg_messages.specs.declared.message.Message.TheVariants as message
 use Rattle.cg_exchange_laws.specs.PlaceMessages.{PlaceMessage}

@@ -11,7 +11,7 @@ use Rattle.cg_entry.specs.declared.took.Took.{Took}
 use Rattle.cg_entry.specs.declared.took.Took.TheVariants as took
 use Rattle.cg_table.specs.Values.{Entries}
 use Rattle.cg_table.specs.Own.{own_entry}
-use Rattle.cg_ring.specs.Ring.{ring}
+use Rattle.cg_tokens.specs.Ring.{ring}
 use Rattle.cg_messages.specs.declared.message.Message.{Message}
 use Rattle.cg_messages.specs.declared.message.Message.TheVariants as message
 use Rattle.cg_messages.specs.declared.outcome.Outcome.{Outcome}

@@ -11,7 +11,7 @@ use Rattle.cg_table.specs.Values.{Entries}
 use Rattle.cg_table.specs.Merge.{merge_of}
 use Rattle.cg_table.specs.Spelling.{SpellsPlaces}
 use Rattle.cg_table.proofs.MergeLemmas.{merge_is_the_join}
-use Rattle.cg_ring.specs.Ring.{ring}
+use Rattle.cg_tokens.specs.Ring.{ring}
 use Rattle.cg_types.specs.declared.fault.Fault.{Fault}
 use Rattle.cg_core.specs.Values.{NodeValue}
 use Rattle.cg_places.specs.PlaceWorld.{PlaceWorld, runs, after_action}

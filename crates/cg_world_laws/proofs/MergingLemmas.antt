@@ -9,7 +9,7 @@ use Rattle.cg_settings.specs.Values.{SettingsValue}
 use Rattle.cg_core.specs.Values.{NodeValue}
 use Rattle.cg_table.specs.Values.{TableValue}
 use Rattle.cg_table.specs.Table.{digests_of}
-use Rattle.cg_ring.specs.Ring.{ring}
+use Rattle.cg_tokens.specs.Ring.{ring}
 use Rattle.cg_table.specs.Merge.{merge_of, merging, owners_together}
 use Rattle.cg_places.specs.PlaceWorld.{PlaceAction, PlaceWorld, nobody, world_after}
 use Rattle.cg_places.specs.Refusals.{done_from}

@@ -6,7 +6,7 @@ use Rattle.cg_types.specs.declared.fault.Fault.TheVariants.{NoSuchNode}
 use Rattle.cg_core.specs.Values.{NodeValue}
 use Rattle.cg_table.specs.Values.{TableValue, Entries}
 use Rattle.cg_table.specs.Table.{digests_of}
-use Rattle.cg_ring.specs.Ring.{ring}
+use Rattle.cg_tokens.specs.Ring.{ring}
 use Rattle.cg_world.specs.Terms.{Runs}
 use Rattle.cg_world.specs.WorldLaws.{IsReached}
 use Rattle.cg_table.specs.Merge.{merge_of, owners_together}

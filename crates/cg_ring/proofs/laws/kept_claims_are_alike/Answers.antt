@@ -1,5 +1,0 @@
-use Rattle.cg_ring.proofs.RingLaws.{kept_claims_are_alike}
-use Rattle.cg_ring.proofs.laws.kept_claims_are_alike.Goals as goal
-
-pub returns : goal.returns
-returns c = kept_claims_are_alike

@@ -1,9 +1,0 @@
-pub mod Claims
-pub mod Ring
-pub mod Values
-pub mod Moving
-pub mod Laws
-pub use Rattle.cg_types.specs.Numbers
-pub use Rattle.cg_types.specs.Rising
-pub use Rattle.cg_map.specs.Rows
-pub use Rattle.cg_tokens.specs.Text
