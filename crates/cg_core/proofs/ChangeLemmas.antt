@@ -38,7 +38,7 @@ use Rattle.cg_events.specs.declared.event.Event.TheVariants as event
 use Rattle.cg_events.specs.declared.reply.Reply.{Reply}
 use Rattle.cg_events.specs.declared.reply.Reply.TheVariants as reply
 use Rattle.cg_core.specs.Values.{NodeValue}
-use Rattle.cg_windows.specs.Windows.{was_taken}
+use Rattle.cg_silence.specs.Windows.{was_taken}
 use Rattle.cg_core.specs.Step.{Leads, next_of, beating, setting, removing, opening, round_of, after_taking}
 use Rattle.cg_events.specs.Handed.{deltas_in}
 use Rattle.cg_core.specs.Changes.{taken_owners, changed_owners}

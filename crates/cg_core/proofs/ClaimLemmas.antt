@@ -31,7 +31,7 @@ use Rattle.cg_exchange.specs.Changes.{row_changed}
 use Rattle.cg_exchange.specs.Taking.{outcome_of}
 use Rattle.cg_exchange.proofs.TakingLemmas.{taken_at_once, rows_rise, outcomes_rise}
 use Rattle.cg_tokens.specs.Claims.{keeps_claims, text_at, text_of}
-use Rattle.cg_windows.specs.Windows.{was_taken}
+use Rattle.cg_silence.specs.Windows.{was_taken}
 use Rattle.cg_core.specs.Claims.{is_kept, leaves_states, owner_keeps}
 use Rattle.cg_core.proofs.StepLemmas.{AreLed}
 

@@ -8,7 +8,7 @@ use Rattle.cg_events.specs.declared.event.Event.{Event}
 use Rattle.cg_events.specs.declared.reply.Reply.{Reply}
 use Rattle.cg_events.specs.declared.reply.Reply.TheVariants as reply
 use Rattle.cg_core.specs.Values.{NodeValue}
-use Rattle.cg_windows.specs.Windows.{was_taken}
+use Rattle.cg_silence.specs.Windows.{was_taken}
 use Rattle.cg_core.specs.Step.{node_step, then}
 
 -- a step, with the puts that lead to its table

@@ -18,5 +18,5 @@ pub use Rattle.cg_exchange.specs.Changes as ExchangeChanges
 pub use Rattle.cg_messages.specs.Lent
 pub use Rattle.cg_events.specs.Borrowed
 pub use Rattle.cg_messages.specs.Members
-pub use Rattle.cg_windows.specs.Windows
+pub use Rattle.cg_silence.specs.Windows
 pub use Rattle.cg_settings.specs.Values as SettingsValues

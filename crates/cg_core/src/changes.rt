@@ -8,9 +8,9 @@ ghost use Rattle.cg_core.specs.Changes.{step_with_puts, taken_owners as taken_ow
 
 use crate::node::Node;
 use cg_events::{Event, Outcomes, Reply};
+use cg_silence::was_taken;
 use cg_table::{Puts, Table};
 use cg_types::{Endpoint, Fault};
-use cg_windows::was_taken;
 use std::alloc::{AllocError, Global};
 
 // The owners of the deltas that were taken.

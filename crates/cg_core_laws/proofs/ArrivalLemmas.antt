@@ -19,7 +19,7 @@ use Rattle.cg_events.specs.declared.reply.Reply.{Reply}
 use Rattle.cg_events.specs.declared.reply.Reply.TheVariants as reply
 use Rattle.cg_settings.specs.Values.{SettingsValue}
 use Rattle.cg_core.specs.Values.{NodeValue}
-use Rattle.cg_windows.specs.Windows.{Heard, was_taken, tells_taken, with_arrival, arrivals}
+use Rattle.cg_silence.specs.Windows.{Heard, was_taken, tells_taken, with_arrival, arrivals}
 use Rattle.cg_entry.specs.Entry.{removal_of}
 use Rattle.cg_table.specs.Own.{own_entry}
 use Rattle.cg_core.specs.Step.{starting_node, then, next_of, beating, setting, removing, opening, round_of, after_taking, node_step, node_left, after_event, after_events}

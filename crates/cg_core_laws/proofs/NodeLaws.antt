@@ -28,7 +28,7 @@ use Rattle.cg_events.specs.declared.event.Event.TheVariants as event
 use Rattle.cg_events.specs.declared.reply.Reply.{Reply}
 use Rattle.cg_events.specs.declared.reply.Reply.TheVariants as reply
 use Rattle.cg_core.specs.Values.{NodeValue, IsSmall, HearsOthersAlone}
-use Rattle.cg_windows.specs.Windows.{arrivals}
+use Rattle.cg_silence.specs.Windows.{arrivals}
 use Rattle.cg_core.specs.Step.{Step, Run, Leads, next_of, beating, setting, removing, opening, round_of, after_taking, with_table, node_step, node_left, after_event, after_events, replay, on_step, with_reply}
 use Rattle.cg_table.specs.Puts.{puts, goes_on}
 use Rattle.cg_core_laws.specs.Laws.{TableAfter, TablesGoByTheirRules, PutsKeepTheirOrder, PutsIts, SetsPutTheirText, RemovalsPutTheirTombstone, OnlyOwnEventsChangeTheOwnEntry, NodesStaySmall, NodesHearOthersAlone, RunsGoEventByEvent, is_own_change}

@@ -7,7 +7,7 @@ use Rattle.cg_events.specs.declared.event.Event.{Event}
 use Rattle.cg_events.specs.declared.event.Event.TheVariants as event
 use Rattle.cg_events.specs.Replies.{outcomes_in}
 use Rattle.cg_core.specs.Values.{NodeValue}
-use Rattle.cg_windows.specs.Windows.{tells_taken}
+use Rattle.cg_silence.specs.Windows.{tells_taken}
 use Rattle.cg_core.specs.Step.{Step, node_step, after_event}
 
 -- the outcomes of a step's deltas: none if the step is refused

@@ -5,8 +5,7 @@ use cg_expect::{expect, expect_eq};
 use cg_messages::Outcome;
 use cg_peers::choose_peers;
 use cg_samples::{B, C, endpoint};
-use cg_silence::{Silence, Verdict};
-use cg_windows::{Windows, any_taken, was_taken};
+use cg_silence::{Silence, Verdict, Windows, any_taken, was_taken};
 use std::alloc::Global;
 use std::test::Fail;
 

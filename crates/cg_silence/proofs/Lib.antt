@@ -1,1 +1,4 @@
 pub mod WindowLemmas
+pub mod HeardLemmas
+pub mod ChunkLemmas
+pub mod WalkLemmas

@@ -3,4 +3,8 @@ pub mod Settings
 pub mod Silence
 pub mod Verdict
 pub mod Laws
+pub mod Windows
+pub mod Walking
 pub use Rattle.circular_buffer.specs.Buffer
+pub use Rattle.cg_types.specs.Rising
+pub use Rattle.cg_messages.specs.Members

@@ -21,7 +21,7 @@ use Rattle.cg_events.specs.declared.event.Event.TheVariants as event
 use Rattle.cg_events.specs.declared.reply.Reply.{Reply}
 use Rattle.cg_events.specs.declared.reply.Reply.TheVariants as reply
 use Rattle.cg_core.specs.Values.{NodeValue}
-use Rattle.cg_windows.specs.Windows.{Heard, arrivals}
+use Rattle.cg_silence.specs.Windows.{Heard, arrivals}
 use Rattle.cg_core.specs.Step.{Step, then, starting_node, next_of, beating, setting, removing, opening, round_of, after_taking, node_step}
 use Rattle.cg_world.specs.World.{LocalEvent, Beat, Set, Remove, Opening, Tick, Action, Start, Deliver, WorldValue, new_world, with_node, with_sent, message_of, after_step, generation_held, has_room, event_of, arrival_of, reply_of, reply_to, acting, or_unchanged, act, run_from, step_of, step_at, message_to}
 use Rattle.cg_world.specs.Terms.{Runs}

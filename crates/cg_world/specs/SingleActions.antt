@@ -13,7 +13,7 @@ use Rattle.cg_events.specs.declared.reply.Reply.TheVariants as reply
 use Rattle.cg_settings.specs.Values.{SettingsValue}
 use Rattle.cg_core.specs.Values.{NodeValue}
 pub use Rattle.cg_events.specs.Replies.{outcomes_in}
-use Rattle.cg_windows.specs.Windows.{arrivals}
+use Rattle.cg_silence.specs.Windows.{arrivals}
 use Rattle.cg_core.specs.Step.{next_of, beating, opening, round_of}
 use Rattle.cg_world.specs.World.{Action, Start, Local, Deliver, LocalEvent, Beat, Set, Remove, Tick, WorldValue, reply_to, acting, act, run}
 use Rattle.cg_world.specs.Terms.{Runs}

@@ -1,5 +1,0 @@
-use Rattle.cg_types.proofs.RisingLemmas.{from_sorted-none}
-use Rattle.cg_windows.proofs.chunks.Chunks.none.Goals as goal
-
-pub returns : goal.returns
-returns c = rw c.new.ensures.items from_sorted-none
