@@ -8,11 +8,11 @@ use Rattle.cg_links.specs.declared.counted.Counted.{Counted}
 use Rattle.cg_links.specs.Counts.{one_more}
 use Rattle.cg_links.specs.Counted.{KeepsCounts}
 use Rattle.cg_history.specs.History.{HistoryValue}
-use Rattle.cg_lines.specs.declared.lines.TheConstants.{PIECE_LIMIT}
-use Rattle.cg_lines.specs.Lines.{ended_lines, open_line, last_line, lines_of}
-use Rattle.cg_lines.specs.Taken.{Takes, TakesAll, Stops, StopsLast, IsUnread, Fails}
-use Rattle.cg_lines.proofs.LineLemmas.{ended_lines-append}
-use Rattle.cg_lines.proofs.TakenLemmas.{takes_on}
+use Rattle.cg_links.specs.declared.lines.TheConstants.{PIECE_LIMIT}
+use Rattle.cg_links.specs.Lines.{ended_lines, open_line, last_line, lines_of}
+use Rattle.cg_links.specs.Taken.{Takes, TakesAll, Stops, StopsLast, IsUnread, Fails}
+use Rattle.cg_links.proofs.LineLemmas.{ended_lines-append}
+use Rattle.cg_links.proofs.TakenLemmas.{takes_on}
 use Rattle.cg_journal.specs.declared.reading.Progress.{Progress}
 use Rattle.cg_journal.specs.declared.unread.Unread.{Unread}
 use Rattle.cg_journal.specs.Reading.{event_in, history_after, begun_or, after_line, on_line, after_lines, journal_in, told_number}

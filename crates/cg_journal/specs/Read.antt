@@ -8,8 +8,8 @@ use Rattle.cg_links.specs.Counts.{one_more}
 use Rattle.cg_links.specs.Counted.{KeepsCounts, CountsCalls, CountsFailed}
 use Rattle.cg_links.specs.declared.transfer.TheConstants.{MOST_READS}
 use Rattle.cg_history.specs.History.{HistoryValue}
-use Rattle.cg_lines.specs.declared.lines.TheConstants.{PIECE_LIMIT}
-use Rattle.cg_lines.specs.Lines.{ended_lines, lines_of}
+use Rattle.cg_links.specs.declared.lines.TheConstants.{PIECE_LIMIT}
+use Rattle.cg_links.specs.Lines.{ended_lines, lines_of}
 use Rattle.cg_journal.specs.declared.reading.Progress.{Progress}
 use Rattle.cg_journal.specs.declared.unread.Unread.{Unread}
 use Rattle.cg_journal.specs.Reading.{after_line, journal_in, told_number}

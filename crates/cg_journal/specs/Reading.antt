@@ -21,7 +21,7 @@ use Rattle.cg_script.specs.Gives.{readable}
 use Rattle.cg_script.specs.Words.{endpoint_before, endpoints_in, count_before, key_before, state_text_in}
 use Rattle.cg_script.specs.Script.{four_in}
 use Rattle.cg_history.specs.History.{HistoryValue, new_history, apply}
-use Rattle.cg_lines.specs.Lines.{lines_of}
+use Rattle.cg_links.specs.Lines.{lines_of}
 use Rattle.cg_journal.specs.declared.life.TheConstants.{GREATEST_SETTING}
 
 -- ---- the first line

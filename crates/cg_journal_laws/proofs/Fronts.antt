@@ -1,8 +1,8 @@
 -- A journal that is cut after a line feed.
 use Rattle.std.proofs.Common.{◌≡◌, ℕ, suc, List, [], ◌∷◌, ◌++◌, Option, Some, None, Ok, refl, sym, ap, ◌∙◌, append_assoc, append-nil}
 use Rattle.cg_history.specs.History.{HistoryValue}
-use Rattle.cg_lines.specs.Lines.{ended_lines, open_line, last_line, lines_of}
-use Rattle.cg_lines.proofs.LineLemmas.{ended_lines-append, open_line-append}
+use Rattle.cg_links.specs.Lines.{ended_lines, open_line, last_line, lines_of}
+use Rattle.cg_links.proofs.LineLemmas.{ended_lines-append, open_line-append}
 use Rattle.cg_journal.specs.Reading.{life_in, after_line, on_line, after_lines, journal_in}
 use Rattle.cg_journal_laws.specs.Laws.{FrontsAreRead}
 use Rattle.cg_journal_laws.proofs.OfLines.{AreOf, of_lines}

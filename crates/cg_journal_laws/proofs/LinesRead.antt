@@ -1,7 +1,7 @@
 -- Lines written one after the other are read as those lines.
 use Rattle.std.proofs.Common.{◌≡◌, ℕ, true, List, [], ◌∷◌, ◌++◌, ap, ◌∙◌, append_assoc}
-use Rattle.cg_lines.specs.Lines.{ended_lines, open_line, last_line, lines_of}
-use Rattle.cg_lines.proofs.LineLemmas.{ended_some, open_some}
+use Rattle.cg_links.specs.Lines.{ended_lines, open_line, last_line, lines_of}
+use Rattle.cg_links.proofs.LineLemmas.{ended_some, open_some}
 use Rattle.cg_journal_laws.proofs.WordsRead.{lacks, cut_at-word}
 
 -- a line with its line feed

@@ -6,7 +6,7 @@ use Rattle.cg_events.specs.declared.event.Event.{Event}
 use Rattle.cg_records.specs.declared.item.Item.{Item}
 use Rattle.cg_records.specs.declared.item.Receipt.{Receipt}
 use Rattle.cg_history.specs.History.{HistoryValue, apply}
-use Rattle.cg_lines.specs.Lines.{lines_of}
+use Rattle.cg_links.specs.Lines.{lines_of}
 use Rattle.cg_script.specs.Gives.{readable}
 use Rattle.cg_journal.specs.Reading.{life_in, event_in, history_after, on_line, after_lines, journal_in}
 use Rattle.cg_journal_laws.specs.Contents.{IsEvent, IsWritable}

@@ -8,7 +8,7 @@ use Rattle.cg_events.specs.declared.event.Event.{Event}
 use Rattle.cg_settings.specs.Values.{SettingsValue}
 use Rattle.cg_records.specs.declared.item.Receipt.{Receipt}
 use Rattle.cg_history.specs.History.{HistoryValue, new_history, apply}
-use Rattle.cg_lines.specs.Lines.{lines_of}
+use Rattle.cg_links.specs.Lines.{lines_of}
 use Rattle.cg_journal.specs.Text.{event_line, journal_of}
 use Rattle.cg_journal.specs.Reading.{life_in, event_in, journal_in}
 use Rattle.cg_journal_laws.specs.Contents.{IsEvent, MayStart, IsWritable}

@@ -9,9 +9,9 @@ use Rattle.cg_core.specs.Values.{NodeValue}
 use Rattle.cg_records.specs.declared.item.Receipt.{Receipt}
 use Rattle.cg_views.specs.Lists.{StartsWith}
 use Rattle.cg_seats.specs.Seats.{SeatValue, GoesOn, IsOperatorFault}
-use Rattle.cg_lines.proofs.ReadingLemmas.{stops_in_text, stops_in_lines}
-use Rattle.cg_lines.specs.Taken.{Takes, Refuses, Lacks, Stops, IsUnread, Fails}
-use Rattle.cg_lines.specs.Lines.{ended_lines, lines_of}
+use Rattle.cg_links.proofs.ReadingLemmas.{stops_in_text, stops_in_lines}
+use Rattle.cg_links.specs.Taken.{Takes, Refuses, Lacks, Stops, IsUnread, Fails}
+use Rattle.cg_links.specs.Lines.{ended_lines, lines_of}
 use Rattle.cg_links.specs.declared.counted.Counted.{Counted}
 use Rattle.cg_orders.specs.declared.command.OperatorCommand.{OperatorCommand}
 use Rattle.cg_orders.specs.declared.command.OperatorCommand.TheVariants.{Show, Set, Remove, Quit}

@@ -6,9 +6,9 @@ use Rattle.cg_table.specs.Values.{TableValue}
 use Rattle.cg_core.specs.Values.{NodeValue}
 use Rattle.cg_links.specs.declared.counted.Counted.{Counted}
 use Rattle.cg_links.specs.Counted.{KeepsCounts}
-use Rattle.cg_lines.specs.Lines.{ended_lines, open_line, last_line, lines_of}
-use Rattle.cg_lines.proofs.ReadingLemmas.{stops_in_text, stops_in_lines}
-use Rattle.cg_lines.specs.Taken.{Takes, Refuses, Lacks, StopsAmong, Stops, StopsLast, IsUnread, Fails, TakesAll, TakesLines}
+use Rattle.cg_links.specs.Lines.{ended_lines, open_line, last_line, lines_of}
+use Rattle.cg_links.proofs.ReadingLemmas.{stops_in_text, stops_in_lines}
+use Rattle.cg_links.specs.Taken.{Takes, Refuses, Lacks, StopsAmong, Stops, StopsLast, IsUnread, Fails, TakesAll, TakesLines}
 use Rattle.cg_orders.specs.declared.command.OperatorCommand.TheVariants.{Quit}
 use Rattle.cg_operator.specs.declared.operating.Operating.{Operating}
 use Rattle.cg_orders.specs.Commands.{command_in}

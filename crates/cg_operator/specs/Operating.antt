@@ -8,8 +8,8 @@ use Rattle.cg_table.specs.Puts.{Put}
 use Rattle.cg_core.specs.Values.{NodeValue}
 use Rattle.cg_links.specs.declared.counted.Counted.{Counted}
 use Rattle.cg_links.specs.Counted.{link_of, KeepsCounts, CountsFailed, CountsIdle, IsFlushed}
-use Rattle.cg_lines.specs.Lines.{ended_lines, lines_of}
-use Rattle.cg_lines.specs.Taken.{Takes, TakesAll, Fails}
+use Rattle.cg_links.specs.Lines.{ended_lines, lines_of}
+use Rattle.cg_links.specs.Taken.{Takes, TakesAll, Fails}
 use Rattle.cg_script.specs.declared.line.View.{View}
 use Rattle.cg_seats.specs.Seats.{SeatValue}
 use Rattle.cg_orders.specs.declared.command.OperatorCommand.TheVariants.{Show, Quit}

@@ -9,8 +9,7 @@ ghost use Rattle.cg_operator.specs.Operating.{Operates, TellsLine};
 ghost use Rattle.cg_operator.specs.Steps.{at_of};
 
 use crate::answering::answer;
-use cg_lines::{TakeLine, take_lines};
-use cg_links::{Counted, write_and_flush};
+use cg_links::{Counted, TakeLine, take_lines, write_and_flush};
 use cg_locked::Name;
 use cg_seats::SeatGate;
 use cg_types::Fault;

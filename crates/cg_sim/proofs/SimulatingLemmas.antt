@@ -9,7 +9,7 @@ use Rattle.cg_types.specs.Fault.{fault_text}
 use Rattle.cg_links.specs.declared.counted.Counted.{Counted}
 use Rattle.cg_links.specs.Counted.{KeepsCounts}
 use Rattle.cg_links.proofs.Counts.{KeepsCounts-trans}
-use Rattle.cg_lines.specs.Lines.{ended_lines, lines_of}
+use Rattle.cg_links.specs.Lines.{ended_lines, lines_of}
 use Rattle.cg_sim.specs.Script.{first_play, lines_text, script_text}
 use Rattle.cg_sim.specs.Told.{BreaksOff}
 use Rattle.cg_printed.specs.Written.{WroteFront, Wrote}

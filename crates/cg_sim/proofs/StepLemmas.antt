@@ -7,9 +7,9 @@ use Rattle.std.proofs.Math.Seq.{take-append_seam}
 use Rattle.cg_types.specs.declared.fault.Fault.{Fault}
 use Rattle.cg_types.specs.declared.fault.Fault.TheVariants.{OutOfMemory}
 use Rattle.cg_links.specs.declared.counted.Counted.{Counted}
-use Rattle.cg_lines.specs.Lines.{ended_lines, open_line, last_line, lines_of}
-use Rattle.cg_lines.proofs.ReadingLemmas.{stops_in_text, stops_in_lines}
-use Rattle.cg_lines.specs.Taken.{Takes, Refuses, Lacks, Stops, StopsLast, IsUnread, Fails, TakesAll, TakesLines}
+use Rattle.cg_links.specs.Lines.{ended_lines, open_line, last_line, lines_of}
+use Rattle.cg_links.proofs.ReadingLemmas.{stops_in_text, stops_in_lines}
+use Rattle.cg_links.specs.Taken.{Takes, Refuses, Lacks, Stops, StopsLast, IsUnread, Fails, TakesAll, TakesLines}
 use Rattle.cg_sim.specs.declared.play.Play.{Play}
 use Rattle.cg_sim.specs.declared.telling.Telling.{Telling}
 use Rattle.cg_sim.specs.Script.{first_play, lines_text, script_text}

@@ -9,4 +9,4 @@ pub use Rattle.cg_steps.specs.Step
 pub use Rattle.cg_world.specs.Acting
 pub use Rattle.cg_world.specs.World
 pub use Rattle.cg_links.specs.Counted
-pub use Rattle.cg_lines.specs.Lines
+pub use Rattle.cg_links.specs.Lines

@@ -23,7 +23,7 @@ use Rattle.cg_script.specs.declared.line.View.{View}
 use Rattle.cg_script.specs.declared.line.View.TheVariants.{Gossipinfo, Ring, Digests, Replicas}
 use Rattle.cg_script.specs.Script.{line_in, settings_with}
 use Rattle.cg_sim.specs.declared.play.Play.{Play}
-use Rattle.cg_lines.specs.Lines.{lines_of}
+use Rattle.cg_links.specs.Lines.{lines_of}
 
 -- ---- the text of an action
 

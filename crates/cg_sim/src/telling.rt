@@ -8,8 +8,7 @@ ghost use Rattle.cg_sim.specs.Told.{AreTold, IsUntold, BreaksOff};
 ghost use Rattle.cg_sim.specs.Simulated.{IsPlayed, Fails};
 
 use crate::play::Play;
-use cg_lines::{TakeLine, take_lines};
-use cg_links::{Counted, write_and_flush};
+use cg_links::{Counted, TakeLine, take_lines, write_and_flush};
 use cg_types::Fault;
 use std::alloc::Global;
 use std::io::{Read, Write};

@@ -1,5 +1,5 @@
 use Rattle.std.proofs.Common.{[], ap, sym, append-nil, ◌∙◌}
-use Rattle.cg_lines.specs.Lines.{lines_of}
+use Rattle.cg_links.specs.Lines.{lines_of}
 use Rattle.cg_journal_laws.proofs.LinesRead.{ended, lines_of-ended}
 use Rattle.cg_journal_laws.proofs.EventsRead.{event_words, event_line-ended, event_again, event_words-lack}
 use Rattle.cg_journal_laws.proofs.written_events_are_read.Goals as goal

@@ -1,5 +1,5 @@
-use Rattle.cg_lines.proofs.ReadingLemmas.{Reading}
-use Rattle.cg_lines.proofs.lines.take_pieces.Given as goal
+use Rattle.cg_links.proofs.ReadingLemmas.{Reading}
+use Rattle.cg_links.proofs.lines.take_pieces.Given as goal
 
 abbrev pub invariant-loop : goal.invariant-loop
 invariant-loop g l =

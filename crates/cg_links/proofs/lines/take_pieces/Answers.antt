@@ -1,6 +1,6 @@
 use Rattle.std.proofs.Common.{take, length-take, refl, inl, inr, arith}
-use Rattle.cg_lines.proofs.ReadingLemmas.{reading_none, reading_more, reading_stops, reading_ends, reading_fails}
-use Rattle.cg_lines.proofs.lines.take_pieces.Goals as goal
+use Rattle.cg_links.proofs.ReadingLemmas.{reading_none, reading_more, reading_stops, reading_ends, reading_fails}
+use Rattle.cg_links.proofs.lines.take_pieces.Goals as goal
 
 pub loop-init : goal.loop-init
 loop-init g c = reading_none _ _ _ _ _ _ c.requires.none

@@ -6,8 +6,8 @@ use Rattle.cg_types.specs.declared.fault.Fault.TheVariants.{OutOfMemory, ReadFau
 use Rattle.cg_links.specs.declared.counted.Counted.{Counted}
 use Rattle.cg_links.specs.Counted.{KeepsCounts, CountsCalls, CountsFailed}
 use Rattle.cg_links.specs.declared.transfer.TheConstants.{MOST_READS}
-use Rattle.cg_lines.specs.declared.lines.TheConstants.{PIECE_LIMIT}
-use Rattle.cg_lines.specs.Lines.{ended_lines, open_line, last_line, lines_of}
+use Rattle.cg_links.specs.declared.lines.TheConstants.{PIECE_LIMIT}
+use Rattle.cg_links.specs.Lines.{ended_lines, open_line, last_line, lines_of}
 
 -- A taker of lines, by its ghost members: a state, a line and the state that it leads to; a state, a line that is
 -- refused, the state that is left, and the fault.

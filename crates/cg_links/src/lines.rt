@@ -4,10 +4,11 @@ ghost use Rattle.std.specs.Prelude.{◌≡◌, ◌≤◌, ◌+◌, ◌⊎◌, �
 ghost use Rattle.cg_types.specs.declared.fault.Fault.{Fault as FaultValue};
 ghost use Rattle.cg_types.specs.declared.fault.Fault.TheVariants as fault;
 ghost use Rattle.cg_links.specs.Counted.{link_of, calls_of};
-ghost use Rattle.cg_lines.specs.Lines.{ended_lines, open_line, last_line};
-ghost use Rattle.cg_lines.specs.Taken.{Takes, Refuses, StopsAmong, TakesLines};
+ghost use Rattle.cg_links.specs.Lines.{ended_lines, open_line, last_line};
+ghost use Rattle.cg_links.specs.Taken.{Takes, Refuses, StopsAmong, TakesLines};
 
-use cg_links::{Counted, MOST_READS};
+use crate::counted::Counted;
+use crate::transfer::MOST_READS;
 use cg_types::{Fault, cut};
 use std::alloc::Global;
 use std::io::Read;

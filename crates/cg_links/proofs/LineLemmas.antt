@@ -2,7 +2,7 @@
 use Rattle.std.proofs.Common.{◌≡◌, ℕ, ◌+◌, ◌≤◌, Bool, true, false, cond, List, [], ◌∷◌, ◌++◌, length, Option, Some, None, refl, sym, ap, ◌∙◌, append_assoc, append-nil, arith}
 use Rattle.std.specs.Prelude.{◌==◌}
 use Rattle.cg_types.specs.Words.{cut_at, with_first}
-use Rattle.cg_lines.specs.Lines.{ended_lines, open_line}
+use Rattle.cg_links.specs.Lines.{ended_lines, open_line}
 
 -- ---- a text in two chunks
 

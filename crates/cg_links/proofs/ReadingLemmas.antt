@@ -9,11 +9,11 @@ use Rattle.cg_links.specs.declared.counted.Counted.{Counted}
 use Rattle.cg_links.specs.Counts.{one_more}
 use Rattle.cg_links.specs.Counted.{calls_of, KeepsCounts, CountsCalls, CountsFailed}
 use Rattle.cg_links.proofs.Counts.{KeepsCounts-trans}
-use Rattle.cg_lines.specs.declared.lines.TheConstants.{PIECE_LIMIT}
-use Rattle.cg_lines.specs.Lines.{ended_lines, open_line, last_line, lines_of}
-use Rattle.cg_lines.specs.Taken.{Takes, Refuses, Lacks, StopsAmong, Stops, StopsLast, IsUnread, TakesLines}
-use Rattle.cg_lines.proofs.LineLemmas.{ended_lines-append, open_line-append}
-use Rattle.cg_lines.proofs.TakenLemmas.{takes_on, refuses_on, lacks_on}
+use Rattle.cg_links.specs.declared.lines.TheConstants.{PIECE_LIMIT}
+use Rattle.cg_links.specs.Lines.{ended_lines, open_line, last_line, lines_of}
+use Rattle.cg_links.specs.Taken.{Takes, Refuses, Lacks, StopsAmong, Stops, StopsLast, IsUnread, TakesLines}
+use Rattle.cg_links.proofs.LineLemmas.{ended_lines-append, open_line-append}
+use Rattle.cg_links.proofs.TakenLemmas.{takes_on, refuses_on, lacks_on}
 
 -- k calls were made
 abbrev pub Counts : {L : Type 0} → Counted L → Counted L → ℕ → Type 0

@@ -1,7 +1,7 @@
 use Rattle.std.proofs.Common.{sym, arith}
-use Rattle.cg_lines.proofs.LineLemmas.{cut_shorter}
-use Rattle.cg_lines.proofs.TakenLemmas.{taking_none, taking_more, taking_rest, taking_kept, taking_stops}
-use Rattle.cg_lines.proofs.lines.take_piece.Goals as goal
+use Rattle.cg_links.proofs.LineLemmas.{cut_shorter}
+use Rattle.cg_links.proofs.TakenLemmas.{taking_none, taking_more, taking_rest, taking_kept, taking_stops}
+use Rattle.cg_links.proofs.lines.take_piece.Goals as goal
 
 pub loop-part-init : goal.loop-part-init
 loop-part-init g c = taking_none _ _ _ _ _

@@ -1,6 +1,6 @@
 use Rattle.std.proofs.Common.{length}
-use Rattle.cg_lines.proofs.TakenLemmas.{Taking}
-use Rattle.cg_lines.proofs.lines.take_piece.Given as goal
+use Rattle.cg_links.proofs.TakenLemmas.{Taking}
+use Rattle.cg_links.proofs.lines.take_piece.Given as goal
 
 abbrev pub invariant-loop-part : goal.invariant-loop-part
 invariant-loop-part g l =

@@ -4,9 +4,9 @@ use Rattle.std.specs.Prelude.{OnOk, MatchResult, ◌==◌}
 use Rattle.cg_types.specs.declared.fault.Fault.{Fault}
 use Rattle.cg_types.specs.declared.fault.Fault.TheVariants.{OutOfMemory}
 use Rattle.cg_types.specs.Words.{cut_at}
-use Rattle.cg_lines.specs.Lines.{ended_lines, open_line, last_line}
-use Rattle.cg_lines.specs.Taken.{Takes, Refuses, Lacks}
-use Rattle.cg_lines.proofs.LineLemmas.{ended_some, open_some, ended_none, open_none}
+use Rattle.cg_links.specs.Lines.{ended_lines, open_line, last_line}
+use Rattle.cg_links.specs.Taken.{Takes, Refuses, Lacks}
+use Rattle.cg_links.proofs.LineLemmas.{ended_some, open_some, ended_none, open_none}
 
 -- a last line that is not empty
 pub last_some : (line : List ℕ) → (length line == 0) ≡ false → last_line line ≡ line ∷ []
