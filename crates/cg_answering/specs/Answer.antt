@@ -16,7 +16,7 @@ use Rattle.cg_exchange.specs.Answering.{answer_to_syn}
 use Rattle.cg_frames.specs.declared.layout.TheConstants.{WRITTEN, LAYOUTS}
 use Rattle.cg_frames.specs.Choosing.{frame_among}
 use Rattle.cg_frames.specs.Spelling.{frame}
-use Rattle.cg_wire.specs.Due.{syn_due}
+use Rattle.cg_engine.specs.Due.{syn_due}
 use Rattle.cg_answering.specs.declared.request.Header.{Header}
 use Rattle.cg_answering.specs.Request.{request_in}
 

@@ -11,6 +11,7 @@ ghost use Rattle.cg_answering.specs.Answered.{IsDue, AnswersAll, SaysOutOfMemory
 
 use crate::request::{Header, request};
 use bytes::Bytes;
+use cg_engine::syn_due;
 use cg_entry::Entry;
 use cg_exchange::answer_syn;
 use cg_frames::{decode, encode};
@@ -19,7 +20,6 @@ use cg_messages::{Message, Syn};
 use cg_printed::written;
 use cg_table::Table;
 use cg_types::{Cause, Fault};
-use cg_wire::syn_due;
 use std::alloc::{AllocError, Global};
 use std::io::{Read, Write};
 

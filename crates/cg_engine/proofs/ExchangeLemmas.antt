@@ -7,7 +7,7 @@ use Rattle.cg_events.specs.declared.event.Event.{Event}
 use Rattle.cg_events.specs.declared.reply.Reply.{Reply}
 use Rattle.cg_links.specs.declared.counted.Counted.{Counted}
 use Rattle.cg_links.proofs.Counts.{KeepsCounts-trans}
-use Rattle.cg_wire.specs.Sent.{SendsAll, FailsToSend}
+use Rattle.cg_engine.specs.Sent.{SendsAll, FailsToSend}
 use Rattle.cg_messages.specs.declared.kind.Kind.{Kind}
 use Rattle.cg_engine.specs.declared.exchange.Ended.{Ended}
 use Rattle.cg_engine.specs.declared.exchange.Ended.TheVariants as ended

@@ -10,8 +10,8 @@ use Rattle.cg_events.specs.declared.event.Event.{Event}
 use Rattle.cg_events.specs.declared.reply.Reply.{Reply}
 use Rattle.cg_links.specs.declared.counted.Counted.{Counted}
 use Rattle.cg_links.proofs.Counts.{KeepsCounts-trans}
-use Rattle.cg_wire.specs.Received.{MeetsEnd}
-use Rattle.cg_wire.specs.Sent.{LeavesFlushed, SendsAll}
+use Rattle.cg_engine.specs.Received.{MeetsEnd}
+use Rattle.cg_engine.specs.Sent.{LeavesFlushed, SendsAll}
 use Rattle.cg_messages.specs.declared.kind.Kind.{Kind}
 use Rattle.cg_engine.specs.Events.{written_for}
 use Rattle.cg_engine.specs.Turns.{DoesEvent}

@@ -11,7 +11,7 @@ use Rattle.cg_events.specs.declared.event.Event.{Event}
 use Rattle.cg_events.specs.declared.event.Event.TheVariants as event
 use Rattle.cg_events.specs.declared.reply.Reply.{Reply}
 use Rattle.cg_events.specs.declared.reply.Reply.TheVariants as reply
-use Rattle.cg_wire.specs.Due.{syn_due, ack_due, ack2_due}
+use Rattle.cg_engine.specs.Due.{syn_due, ack_due, ack2_due}
 use Rattle.cg_messages.specs.declared.kind.Kind.{Kind}
 use Rattle.cg_messages.specs.declared.kind.Kind.TheVariants as kind
 

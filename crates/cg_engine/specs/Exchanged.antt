@@ -8,8 +8,8 @@ use Rattle.cg_events.specs.declared.event.Event.{Event}
 use Rattle.cg_events.specs.declared.reply.Reply.{Reply}
 use Rattle.cg_links.specs.declared.counted.Counted.{Counted}
 use Rattle.cg_links.specs.Counted.{KeepsCounts}
-use Rattle.cg_wire.specs.Received.{IsSpelledBy, ReceivesMessage, FailsToReceive}
-use Rattle.cg_wire.specs.Sent.{LeavesFlushed, FailsToSend}
+use Rattle.cg_engine.specs.Received.{IsSpelledBy, ReceivesMessage, FailsToReceive}
+use Rattle.cg_engine.specs.Sent.{LeavesFlushed, FailsToSend}
 use Rattle.cg_events.specs.Replies.{IsReplyTo}
 use Rattle.cg_engine.specs.Events.{event_due, written_for, IsGateFault}
 use Rattle.cg_messages.specs.declared.kind.Kind.{Kind}

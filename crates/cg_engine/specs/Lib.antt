@@ -1,3 +1,7 @@
+pub mod Due
+pub mod Received
+pub mod Sent
+pub mod Laws
 pub mod Events
 pub mod Turns
 pub mod Exchanged
@@ -7,4 +11,7 @@ pub use Rattle.cg_events.specs.Replies
 pub use Rattle.cg_core.specs.Step
 pub use Rattle.cg_frames.specs.Spelling
 pub use Rattle.cg_links.specs.Counted
-pub use Rattle.cg_wire.specs.Sent
+pub use Rattle.cg_messages.specs.Lent
+pub use Rattle.cg_frames.specs.Choosing
+pub use Rattle.cg_frames.specs.Faults
+pub use Rattle.cg_frames.specs.Feeding

@@ -5,7 +5,7 @@ use Rattle.cg_messages.specs.declared.message.Message.{Message}
 use Rattle.cg_events.specs.declared.event.Event.{Event}
 use Rattle.cg_events.specs.declared.reply.Reply.{Reply}
 use Rattle.cg_links.specs.declared.counted.Counted.{Counted}
-use Rattle.cg_wire.specs.Received.{ReceivesMessage, MeetsEnd, FailsToReceive}
+use Rattle.cg_engine.specs.Received.{ReceivesMessage, MeetsEnd, FailsToReceive}
 use Rattle.cg_events.specs.Replies.{IsReplyTo}
 use Rattle.cg_engine.specs.Events.{event_due, IsGateFault}
 use Rattle.cg_messages.specs.declared.kind.Kind.{Kind}

@@ -9,11 +9,11 @@ ghost use Rattle.cg_messages.specs.declared.kind.Kind.TheVariants as message_kin
 ghost use Rattle.cg_engine.specs.Exchanged.{Exchanges};
 
 use crate::gate::Gate;
+use crate::sending::send;
 use crate::turn::{send_last, take_event};
 use cg_links::Counted;
 use cg_messages::{Kind, Lent, Syn};
 use cg_types::Fault;
-use cg_wire::send;
 use std::alloc::Global;
 use std::io::{Read, Write};
 use thiserror::Error;

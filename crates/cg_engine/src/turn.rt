@@ -2,16 +2,18 @@
 
 ghost use Rattle.std.specs.Prelude.{◌≡◌, IfSome};
 ghost use Rattle.cg_links.specs.Counted.{link_of};
-ghost use Rattle.cg_wire.specs.Sent.{Sends};
+ghost use Rattle.cg_engine.specs.Sent.{Sends};
 ghost use Rattle.cg_engine.specs.Events.{event_due as event_due_of, written_for};
 ghost use Rattle.cg_engine.specs.Turns.{TakesEvent};
 
+use crate::due::{ack_due, ack2_due, syn_due};
 use crate::gate::Gate;
+use crate::receiving::receive;
+use crate::sending::send;
 use cg_events::{Event, Reply};
 use cg_links::Counted;
 use cg_messages::{Kind, Lent, Message};
 use cg_types::Fault;
-use cg_wire::{ack_due, ack2_due, receive, send, syn_due};
 use std::alloc::Global;
 use std::io::{Read, Write};
 

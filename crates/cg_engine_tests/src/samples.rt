@@ -2,11 +2,10 @@
 //! the cluster is c1.
 
 use cg_core::Node;
-use cg_engine::NodeGate;
+use cg_engine::{NodeGate, syn_due};
 use cg_frames::decode;
 use cg_messages::Syn;
 use cg_samples::{A, B, endpoint, generation, settings};
-use cg_wire::syn_due;
 use std::alloc::Global;
 use std::test::Fail;
 

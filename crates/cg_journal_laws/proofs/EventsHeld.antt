@@ -22,7 +22,7 @@ use Rattle.cg_frames.specs.declared.layout.TheConstants.{LAYOUTS}
 use Rattle.cg_frames.specs.Choosing.{frame_among}
 use Rattle.cg_frames.proofs.LawLemmas.{layouts_are_read}
 use Rattle.cg_frames.proofs.ReadIsSpelledFrames.{all_found}
-use Rattle.cg_wire.specs.Due.{syn_due, ack_due, ack2_due}
+use Rattle.cg_engine.specs.Due.{syn_due, ack_due, ack2_due}
 use Rattle.cg_script.specs.Gives.{readable}
 use Rattle.cg_script.specs.Words.{count_in, count_before, key_before, state_text_in, text_in, state_text_of_utf8}
 use Rattle.cg_script.specs.Script.{four_in}

@@ -3,7 +3,7 @@
 use crate::nodes::{after, joined, started};
 use bytes::Bytes;
 use cg_core::Node;
-use cg_engine::{Ended, NodeGate, initiate, respond};
+use cg_engine::{Ended, NodeGate, initiate, receive, respond};
 use cg_events::{Event, Reply};
 use cg_exchange::{answer_syn, syn};
 use cg_frames::encode;
@@ -11,7 +11,6 @@ use cg_links::Counted;
 use cg_measure::{Failure, Shape};
 use cg_messages::{Ack, Ack2, Message, Syn};
 use cg_samples::cluster;
-use cg_wire::receive;
 use std::alloc::{AllocError, Global};
 
 /// One side of an exchange: its node, and the bytes that it reads.

@@ -7,7 +7,7 @@ ghost use Rattle.cg_frames.specs.Choosing.{frame_among, NeedsMore};
 ghost use Rattle.cg_frames.specs.Faults.{IsBadFrame};
 ghost use Rattle.cg_frames.specs.Feeding.{wants_of};
 ghost use Rattle.cg_links.specs.Counted.{calls_of, link_of};
-ghost use Rattle.cg_wire.specs.Received.{IsSpelledBy, Receives, held_of};
+ghost use Rattle.cg_engine.specs.Received.{IsSpelledBy, Receives, held_of};
 
 use cg_frames::{Feed, WRITTEN};
 use cg_links::Counted;

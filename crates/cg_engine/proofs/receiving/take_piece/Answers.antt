@@ -1,5 +1,5 @@
-use Rattle.cg_wire.proofs.Pieces.{popped}
-use Rattle.cg_wire.proofs.receiving.take_piece.Goals as goal
+use Rattle.cg_engine.proofs.Pieces.{popped}
+use Rattle.cg_engine.proofs.receiving.take_piece.Goals as goal
 
 pub returns-clause-whole : goal.returns-clause-whole
 returns-clause-whole c =

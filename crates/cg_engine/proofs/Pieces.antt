@@ -17,12 +17,12 @@ use Rattle.cg_frames.specs.Reading.{size_of, frame_at, with_size}
 use Rattle.cg_frames.specs.Feeding.{Standing, SplitsFrom, HasAtMostOne, IsSpellable, fault_standing, lack_of, spelling, wants_of}
 use Rattle.cg_frames.proofs.ChoosingLemmas.{due_all}
 use Rattle.cg_frames.proofs.FrontLemmas.{over_is, whole_is}
-use Rattle.cg_wire.specs.declared.receiving.TheConstants.{MOST_TURNS, PIECE_LIMIT}
+use Rattle.cg_engine.specs.declared.receiving.TheConstants.{MOST_TURNS, PIECE_LIMIT}
 use Rattle.cg_frames.specs.Faults.{IsBadFrame}
 use Rattle.cg_links.specs.declared.counted.Counted.{Counted}
 use Rattle.cg_links.specs.Counted.{KeepsCounts}
 use Rattle.cg_links.proofs.Counts.{KeepsCounts-trans}
-use Rattle.cg_wire.specs.Received.{IsSpelledBy, IsNextPiece, held_of, FailsToReceive}
+use Rattle.cg_engine.specs.Received.{IsSpelledBy, IsNextPiece, held_of, FailsToReceive}
 
 -- ---- the results of a chunk
 

@@ -1,7 +1,7 @@
 //! The expected kind of message.
 
 ghost use Rattle.std.specs.Prelude.{◌≡◌};
-ghost use Rattle.cg_wire.specs.Due as spec;
+ghost use Rattle.cg_engine.specs.Due as spec;
 
 use cg_messages::{Ack, Ack2, Message, Syn};
 use cg_types::{Cause, Fault};

@@ -4,8 +4,8 @@ use Rattle.std.specs.Io.KnownBytes.{Consumes}
 use Rattle.cg_frames.specs.declared.layout.TheConstants.{LAYOUTS}
 use Rattle.cg_frames.specs.Choosing.{NeedsMore}
 use Rattle.cg_links.specs.Counted.{calls_of, KeepsCounts}
-use Rattle.cg_wire.specs.Received.{held_of}
-use Rattle.cg_wire.proofs.receiving.receive.Given as goal
+use Rattle.cg_engine.specs.Received.{held_of}
+use Rattle.cg_engine.proofs.receiving.receive.Given as goal
 
 abbrev pub invariant-loop : goal.invariant-loop
 invariant-loop g l = record {

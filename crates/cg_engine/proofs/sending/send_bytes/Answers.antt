@@ -1,5 +1,5 @@
-use Rattle.cg_wire.proofs.Fronts.{sent_of}
-use Rattle.cg_wire.proofs.sending.send_bytes.Goals as goal
+use Rattle.cg_engine.proofs.Fronts.{sent_of}
+use Rattle.cg_engine.proofs.sending.send_bytes.Goals as goal
 
 pub returns : goal.returns
 returns g c =

@@ -5,7 +5,7 @@ ghost use Rattle.cg_messages.specs.Lent.{lent_message};
 ghost use Rattle.cg_frames.specs.declared.layout.TheConstants.{WRITTEN};
 ghost use Rattle.cg_frames.specs.Spelling.{frame};
 ghost use Rattle.cg_links.specs.Counted.{link_of};
-ghost use Rattle.cg_wire.specs.Sent.{Sends};
+ghost use Rattle.cg_engine.specs.Sent.{Sends};
 
 use cg_frames::encode_lent;
 use cg_links::{Counted, write_and_flush};

@@ -1,9 +1,9 @@
 use Rattle.std.proofs.Common.{◌++◌, take, drop, sym, subst, arith}
 use Rattle.std.specs.Io.KnownBytes.{Consumes}
 use Rattle.std.proofs.lemmas.List.{length-take, take-append-le}
-use Rattle.cg_wire.specs.Received.{held_of}
-use Rattle.cg_wire.proofs.Pieces.{partial_is_short, next_piece, piece_refused}
-use Rattle.cg_wire.proofs.receiving.receive.Goals as goal
+use Rattle.cg_engine.specs.Received.{held_of}
+use Rattle.cg_engine.proofs.Pieces.{partial_is_short, next_piece, piece_refused}
+use Rattle.cg_engine.proofs.receiving.receive.Goals as goal
 
 pub returns-in-Err-take_piece-clause-came : goal.returns-in-Err-take_piece-clause-came
 returns-in-Err-take_piece-clause-came g c =

@@ -4,7 +4,7 @@ use Rattle.cg_types.specs.declared.fault.Fault.{Fault}
 use Rattle.cg_messages.specs.declared.message.Message.{Message}
 use Rattle.cg_messages.specs.declared.message.Message.TheVariants.{Syn, Ack, Ack2}
 use Rattle.cg_messages.specs.Values.{SynValue, AckValue, Ack2Value}
-use Rattle.cg_wire.specs.declared.due.TheConstants.{UNEXPECTED}
+use Rattle.cg_engine.specs.declared.due.TheConstants.{UNEXPECTED}
 
 abbrev pub syn_due : Message → Result SynValue Fault
 syn_due (Syn m) = Ok m

@@ -12,7 +12,7 @@ use Rattle.cg_frames.specs.Feeding.{Standing, IsSpellable, lack_of}
 use Rattle.cg_frames.specs.Spelling.{frame}
 use Rattle.cg_links.specs.declared.counted.Counted.{Counted}
 use Rattle.cg_links.specs.Counted.{KeepsCounts, CountsFailed}
-use Rattle.cg_wire.specs.declared.receiving.TheConstants.{PIECE_LIMIT}
+use Rattle.cg_engine.specs.declared.receiving.TheConstants.{PIECE_LIMIT}
 
 -- The message is spelled by these bytes, in one of the layouts that frames are read in.
 pub record IsSpelledBy (bytes : List ℕ) (m : Message) : Type 0 where
