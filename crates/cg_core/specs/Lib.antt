@@ -1,3 +1,6 @@
+pub mod SettingsValues
+pub mod Settings
+pub mod SettingsLaws
 pub mod Values
 pub mod Claims
 pub mod Step
@@ -19,4 +22,4 @@ pub use Rattle.cg_messages.specs.Lent
 pub use Rattle.cg_events.specs.Borrowed
 pub use Rattle.cg_messages.specs.Members
 pub use Rattle.cg_silence.specs.Windows
-pub use Rattle.cg_settings.specs.Values as SettingsValues
+pub use Rattle.cg_types.specs.Text

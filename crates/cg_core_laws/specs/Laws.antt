@@ -16,7 +16,7 @@ use Rattle.cg_events.specs.declared.event.Event.TheVariants as event
 use Rattle.cg_events.specs.declared.reply.Reply.{Reply}
 use Rattle.cg_events.specs.declared.reply.Reply.TheVariants as reply
 use Rattle.cg_events.specs.Handed.{deltas_in}
-use Rattle.cg_settings.specs.Values.{SettingsValue}
+use Rattle.cg_core.specs.SettingsValues.{SettingsValue}
 use Rattle.cg_core.specs.Values.{NodeValue, IsSmall, HearsOthersAlone}
 use Rattle.cg_core.specs.Step.{Leads, starting_node, after_events, replay}
 use Rattle.cg_core.specs.Changes.{changed_owners}

@@ -11,7 +11,7 @@ use Rattle.cg_table.specs.Puts.{Put, puts}
 use Rattle.cg_table.proofs.TableLemmas.{alone_valid}
 use Rattle.cg_events.specs.declared.event.Event.{Event}
 use Rattle.cg_events.specs.declared.reply.Reply.{Reply}
-use Rattle.cg_settings.specs.Values.{SettingsValue}
+use Rattle.cg_core.specs.SettingsValues.{SettingsValue}
 use Rattle.cg_core.specs.Values.{NodeValue, IsSmall}
 use Rattle.cg_core.specs.Step.{Step, node_step, then}
 use Rattle.cg_core.specs.Changes.{step_with_puts}

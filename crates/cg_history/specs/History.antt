@@ -7,7 +7,7 @@ use Rattle.cg_types.specs.Numbers.{IsGeneration}
 use Rattle.cg_table.specs.Puts.{puts}
 use Rattle.cg_events.specs.declared.event.Event.{Event}
 use Rattle.cg_events.specs.declared.reply.Reply.{Reply}
-use Rattle.cg_settings.specs.Values.{SettingsValue}
+use Rattle.cg_core.specs.SettingsValues.{SettingsValue}
 use Rattle.cg_core.specs.Values.{NodeValue, node_code}
 use Rattle.cg_core.specs.Step.{Step, node_step, starting_node, after_event}
 use Rattle.cg_records.specs.declared.item.Item.{Item}

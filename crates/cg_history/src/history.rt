@@ -4,14 +4,12 @@ ghost use Rattle.std.specs.Prelude.{◌≡◌, ◌<◌, ◌≤◌, IfOk, IsOk, M
 ghost use Rattle.cg_types.specs.Answer.{Answers};
 ghost use Rattle.cg_core.specs.Step.{after_event};
 ghost use Rattle.cg_records.specs.Confirming.{AreConfirmed, IsFirstStray};
-ghost use Rattle.cg_history.specs.History.{IsReplayed, IsFoldOf, LAST_NUMBER, count_of, new_history, receipt_of};
-ghost use Rattle.cg_history.specs.History.{with_record, apply as apply_of, node_after, with_folded, unfolded};
+ghost use Rattle.cg_history.specs.History.{IsReplayed, IsFoldOf, LAST_NUMBER, count_of, new_history, receipt_of, with_record, apply as apply_of, node_after, with_folded, unfolded};
 
 use crate::log::Log;
-use cg_core::Node;
+use cg_core::{Node, Settings};
 use cg_events::{Event, Reply};
 use cg_records::{Item, Receipt, Stray, confirms};
-use cg_settings::Settings;
 use cg_types::{Endpoint, Fault, Generation};
 use std::alloc::{AllocError, Global};
 use std::marker::Model;

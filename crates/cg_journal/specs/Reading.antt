@@ -11,9 +11,9 @@ use Rattle.cg_silence.specs.Values.{SilenceValue, silence_of}
 use Rattle.cg_silence.specs.Settings.{settings_or_fault as silence_or_fault}
 use Rattle.cg_events.specs.declared.event.Event.{Event}
 use Rattle.cg_events.specs.declared.event.Event.TheVariants as event
-use Rattle.cg_settings.specs.declared.limits.TheConstants.{SEED_LIMIT}
-use Rattle.cg_settings.specs.Values.{SettingsValue, settings_of}
-use Rattle.cg_settings.specs.Settings.{settings_or_fault}
+use Rattle.cg_core.specs.declared.limits.TheConstants.{SEED_LIMIT}
+use Rattle.cg_core.specs.SettingsValues.{SettingsValue, settings_of}
+use Rattle.cg_core.specs.Settings.{settings_or_fault}
 use Rattle.cg_frames.specs.declared.layout.TheConstants.{LAYOUTS}
 use Rattle.cg_frames.specs.Choosing.{frame_among}
 use Rattle.cg_engine.specs.Due.{syn_due, ack_due, ack2_due}

@@ -4,9 +4,9 @@ ghost use Rattle.std.specs.Prelude.{◌≡◌, option_map};
 ghost use Rattle.cg_script.specs.Gives.{Finds};
 ghost use Rattle.cg_journal.specs.Reading as spec;
 
+use cg_core::Settings;
 use cg_history::History;
 use cg_script::{cluster_named, endpoint_before, endpoints_in, is_word};
-use cg_settings::Settings;
 use cg_silence::Silence;
 use cg_types::{Endpoint, Fault, Generation, cut, number};
 use std::alloc::Global;

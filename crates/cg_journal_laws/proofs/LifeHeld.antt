@@ -20,11 +20,11 @@ use Rattle.cg_silence.specs.declared.fault.SilenceFault.TheVariants as silence_f
 use Rattle.cg_silence.specs.declared.limits.TheConstants.{WINDOW_LIMIT, GAP_LIMIT, THRESHOLD_LIMIT}
 use Rattle.cg_silence.specs.Values.{SilenceValue, IsSilence, silence_of}
 use Rattle.cg_silence.specs.Settings.{settings_or_fault as silence_or_fault}
-use Rattle.cg_settings.specs.declared.fault.SettingsFault.{SettingsFault}
-use Rattle.cg_settings.specs.declared.fault.SettingsFault.TheVariants as settings_fault
-use Rattle.cg_settings.specs.declared.limits.TheConstants.{SEED_LIMIT}
-use Rattle.cg_settings.specs.Settings.{settings_or_fault}
-use Rattle.cg_settings.specs.Values.{SettingsValue, IsSettings, settings_of}
+use Rattle.cg_core.specs.declared.fault.SettingsFault.{SettingsFault}
+use Rattle.cg_core.specs.declared.fault.SettingsFault.TheVariants as settings_fault
+use Rattle.cg_core.specs.declared.limits.TheConstants.{SEED_LIMIT}
+use Rattle.cg_core.specs.Settings.{settings_or_fault}
+use Rattle.cg_core.specs.SettingsValues.{SettingsValue, IsSettings, settings_of}
 use Rattle.cg_history.specs.History.{new_history}
 use Rattle.cg_script.specs.Gives.{readable}
 use Rattle.cg_script.specs.Words.{endpoint_before, endpoints_by, endpoints_in}

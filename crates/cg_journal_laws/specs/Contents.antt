@@ -7,7 +7,7 @@ use Rattle.cg_messages.specs.Contents.{IsSyn, IsAck, IsAck2}
 use Rattle.cg_silence.specs.Values.{IsSilence}
 use Rattle.cg_events.specs.declared.event.Event.{Event}
 use Rattle.cg_events.specs.declared.event.Event.TheVariants as event
-use Rattle.cg_settings.specs.Values.{SettingsValue, IsSettings}
+use Rattle.cg_core.specs.SettingsValues.{SettingsValue, IsSettings}
 use Rattle.cg_history.specs.History.{HistoryValue, IsReplayed}
 
 -- a time in milliseconds or a random word

@@ -9,7 +9,7 @@ use Rattle.cg_events.specs.declared.event.Event.{Event}
 use Rattle.cg_events.specs.declared.event.Event.TheVariants as event
 use Rattle.cg_events.specs.declared.reply.Reply.{Reply}
 use Rattle.cg_events.specs.declared.reply.Reply.TheVariants as reply
-use Rattle.cg_settings.specs.Values.{settings_of}
+use Rattle.cg_core.specs.SettingsValues.{settings_of}
 use Rattle.cg_core.specs.Values.{NodeValue}
 use Rattle.cg_core.specs.Step.{starting_node}
 use Rattle.cg_records.specs.declared.item.Receipt.{Receipt}

@@ -5,4 +5,4 @@ pub use Rattle.cg_types.specs.Numbers
 pub use Rattle.cg_types.specs.Text
 pub use Rattle.cg_entry.specs.Entry
 pub use Rattle.cg_entry.specs.State
-pub use Rattle.cg_settings.specs.Values as SettingsValues
+pub use Rattle.cg_core.specs.SettingsValues

@@ -2,7 +2,7 @@
 use Rattle.std.specs.Prelude.{[], codes}
 use Rattle.cg_types.specs.declared.limits.TheConstants.{PARTITIONER}
 use Rattle.cg_silence.specs.Values.{default_silence}
-use Rattle.cg_settings.specs.Values.{SettingsValue, settings_of}
+use Rattle.cg_core.specs.SettingsValues.{SettingsValue, settings_of}
 
 -- the cluster c1, no seeds, and the default silence
 abbrev pub sample_settings : SettingsValue

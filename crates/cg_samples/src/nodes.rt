@@ -4,7 +4,7 @@ ghost use Rattle.std.specs.Prelude.{◌≡◌, IfOk};
 ghost use Rattle.cg_samples.specs.Settings.{sample_settings};
 
 use crate::texts::cluster;
-use cg_settings::Settings;
+use cg_core::Settings;
 use cg_silence::Silence;
 use cg_types::Fault;
 use std::alloc::Global;

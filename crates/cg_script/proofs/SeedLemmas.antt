@@ -4,8 +4,8 @@ use Rattle.cg_types.specs.Rising.{rise_past}
 use Rattle.cg_types.specs.Words.{cut_at}
 use Rattle.cg_types.specs.OptionSteps.{◌>>=◌}
 use Rattle.cg_types.specs.EndpointText.{endpoint_in}
-use Rattle.cg_settings.specs.declared.limits.TheConstants.{SEED_LIMIT}
-use Rattle.cg_settings.specs.Values.{IsSettings}
+use Rattle.cg_core.specs.declared.limits.TheConstants.{SEED_LIMIT}
+use Rattle.cg_core.specs.SettingsValues.{IsSettings}
 use Rattle.cg_script.specs.declared.line.Line.TheVariants.{Seeds}
 use Rattle.cg_script.specs.Words.{endpoints_by, endpoints_in, seeds_in}
 use Rattle.cg_script.specs.Script.{settings_with, seeds_line}

@@ -4,4 +4,4 @@ pub mod Script
 pub mod Limits
 pub use Rattle.hex.specs.Hex
 pub use Rattle.cg_types.specs.Text
-pub use Rattle.cg_settings.specs.Values
+pub use Rattle.cg_core.specs.SettingsValues as Values

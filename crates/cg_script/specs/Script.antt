@@ -8,7 +8,7 @@ use Rattle.cg_types.specs.EndpointText.{endpoint_in}
 use Rattle.cg_types.specs.Words.{cut_at, generation_in, key_in}
 use Rattle.cg_silence.specs.Values.{default_silence}
 use Rattle.cg_tokens.specs.Tokens.{token_of}
-use Rattle.cg_settings.specs.Values.{SettingsValue}
+use Rattle.cg_core.specs.SettingsValues.{SettingsValue}
 use Rattle.cg_world.specs.declared.action.Action.TheVariants.{Start, Local, Deliver}
 use Rattle.cg_world.specs.declared.action.LocalEvent.TheVariants.{Beat, Set, Remove, Opening, Tick}
 use Rattle.cg_script.specs.declared.line.Line.{Line}

@@ -8,7 +8,7 @@ use Rattle.cg_types.specs.EndpointText.{endpoint_in}
 use Rattle.cg_types.specs.Rising.{rise_past}
 use Rattle.cg_types.specs.Text.{state_text_of}
 use Rattle.cg_types.specs.Words.{cut_at, number_of, key_in}
-use Rattle.cg_settings.specs.declared.limits.TheConstants.{SEED_LIMIT}
+use Rattle.cg_core.specs.declared.limits.TheConstants.{SEED_LIMIT}
 use Rattle.cg_script.specs.declared.line.TheConstants.{GREATEST}
 use Rattle.cg_script.specs.declared.word.Word.{Word}
 use Rattle.cg_script.specs.declared.word.Word.TheVariants as word

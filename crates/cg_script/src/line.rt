@@ -1,6 +1,6 @@
 //! A line of a script, as a value: settings, an action or a view.
 
-use cg_settings::Settings;
+use cg_core::Settings;
 use cg_tokens::Token;
 use cg_types::Endpoint;
 use cg_world::Action;

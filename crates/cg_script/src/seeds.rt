@@ -1,10 +1,10 @@
 //! The endpoints of a line.
 
 ghost use Rattle.std.specs.Prelude.{◌≡◌, IfOk, option_map};
-ghost use Rattle.cg_settings.specs.declared.limits.TheConstants.{SEED_LIMIT};
+ghost use Rattle.cg_core.specs.declared.limits.TheConstants.{SEED_LIMIT};
 ghost use Rattle.cg_script.specs.Words.{endpoints_in as endpoints_of};
 
-use cg_settings::SEED_LIMIT;
+use cg_core::SEED_LIMIT;
 use cg_types::{Endpoint, cut};
 use std::alloc::{AllocError, Global};
 

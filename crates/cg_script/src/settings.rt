@@ -2,10 +2,10 @@
 
 ghost use Rattle.std.specs.Prelude.{◌≡◌, ◌↔◌, IfOk, IsSome, IfSome, codes};
 ghost use Rattle.cg_types.specs.declared.limits.TheConstants.{PARTITIONER};
-ghost use Rattle.cg_settings.specs.Values.{IsSettings};
+ghost use Rattle.cg_core.specs.SettingsValues.{IsSettings};
 ghost use Rattle.cg_script.specs.Script.{settings_with as settings_of_seeds};
 
-use cg_settings::Settings;
+use cg_core::Settings;
 use cg_silence::Silence;
 use cg_types::{Cluster, Endpoint, Fault};
 use std::alloc::{AllocError, Global};

@@ -4,10 +4,10 @@ ghost use Rattle.std.specs.Prelude.{◌≡◌, IfOk, IfErr};
 ghost use Rattle.cg_serve.specs.Lives.{node_of, left_after, IsLifeLeft, IsUnstarted};
 
 use cg_clock::HostClock;
+use cg_core::Settings;
 use cg_history::History;
 use cg_operator::Console;
 use cg_rounds::generator;
-use cg_settings::Settings;
 use cg_settings_file::Turns;
 use cg_sockets::{Dialer, Listener, answer_limit, limit_for};
 use cg_threads::{NotRun, Parts, Ran, run_node};

@@ -11,8 +11,8 @@ use Rattle.cg_silence.specs.declared.fault.SilenceFault.{SilenceFault}
 use Rattle.cg_silence.specs.declared.fault.SilenceFault.TheVariants as silence_fault
 use Rattle.cg_silence.specs.Values.{SilenceValue, silence_of}
 use Rattle.cg_silence.specs.Settings as silence
-use Rattle.cg_settings.specs.Values.{SettingsValue, settings_of}
-use Rattle.cg_settings.specs.Settings as node
+use Rattle.cg_core.specs.SettingsValues.{SettingsValue, settings_of}
+use Rattle.cg_core.specs.Settings as node
 use Rattle.cg_settings_file.specs.declared.limits.TheConstants.{TURN_LIMIT, INTERVAL_LIMIT, DEFAULT_INTERVAL, DEFAULT_RANDOM}
 use Rattle.cg_settings_file.specs.Values.{text_or_key, endpoint_at, cluster_from, number_in, number_or_key}
 use Rattle.cg_settings_file.specs.Seeds.{seeds_in}

@@ -12,7 +12,7 @@ ghost use Rattle.cg_settings_file.specs.Seen.{Finds, Reads, Names};
 use crate::seeds::{distinct, endpoints_in};
 use crate::stop::{Stop, stop_at};
 use crate::values::{number_or_key, text_at, value_at};
-use cg_settings::Settings;
+use cg_core::Settings;
 use cg_silence::{
     DEFAULT_INITIAL_GAP, DEFAULT_MAX_GAP, DEFAULT_THRESHOLD, DEFAULT_WINDOW, GAP_LIMIT, Silence,
     SilenceFault, THRESHOLD_LIMIT, WINDOW_LIMIT,

@@ -2,9 +2,7 @@
 
 ghost use Rattle.std.specs.Prelude.{◌≡◌, IfOk, Ok, Err, option_map, codes};
 ghost use Rattle.toml.specs.View.{table_view};
-ghost use Rattle.cg_settings_file.specs.Settings.{turns_from as told_turns, random_from as told_random, paths_from as told_paths, settings_from as told_settings};
-ghost use Rattle.cg_settings_file.specs.Settings.{settings_or_key as told_settings_or_key, settings_in, text_in as text_of_bytes};
-ghost use Rattle.cg_settings_file.specs.Settings.{settings_or_key_in_bytes, settings_in_bytes};
+ghost use Rattle.cg_settings_file.specs.Settings.{turns_from as told_turns, random_from as told_random, paths_from as told_paths, settings_from as told_settings, settings_or_key as told_settings_or_key, settings_in, text_in as text_of_bytes, settings_or_key_in_bytes, settings_in_bytes};
 ghost use Rattle.cg_settings_file.specs.Seen.{Finds, Reads, Names, Tells, IsUnsetBy, turns_view, settings_view};
 
 use crate::keys::unknown_in;
@@ -12,7 +10,7 @@ use crate::limits::{DEFAULT_INTERVAL, DEFAULT_RANDOM, INTERVAL_LIMIT, TURN_LIMIT
 use crate::node::node_in;
 use crate::stop::{Stop, Unset, without_key};
 use crate::values::{endpoint_at, number_in, number_or_key, text_or_key, value_at};
-use cg_settings::Settings;
+use cg_core::Settings;
 use cg_types::{Endpoint, Fault};
 use std::alloc::Global;
 use toml::Table;

@@ -1,7 +1,7 @@
 -- A script as the list of the actions that its lines request.
 use Rattle.std.specs.Prelude.{◌≡◌, ℕ, List, [], ◌∷◌, ◌++◌, Result, Ok, Err}
 use Rattle.cg_types.specs.declared.fault.Fault.{Fault}
-use Rattle.cg_settings.specs.Values.{SettingsValue}
+use Rattle.cg_core.specs.SettingsValues.{SettingsValue}
 use Rattle.cg_world.specs.declared.action.Action.{Action}
 use Rattle.cg_world.specs.World.{WorldValue, run}
 use Rattle.cg_world.specs.Headline.{Headline}

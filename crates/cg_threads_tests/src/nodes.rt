@@ -4,12 +4,12 @@ ghost use Rattle.std.specs.Prelude.{◌≡◌, [], IfSome};
 
 use crate::links::Standing;
 use cg_audit::{Lives, audit, endpoints_differ};
+use cg_core::Settings;
 use cg_events::{Event, Reply};
 use cg_history::History;
 use cg_rounds::generator;
 use cg_samples::{cluster, generation};
 use cg_seats::Operate;
-use cg_settings::Settings;
 use cg_silence::Silence;
 use cg_threads::{Parts, Ran, Turns, run_node};
 use cg_types::Endpoint;

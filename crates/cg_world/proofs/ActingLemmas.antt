@@ -7,7 +7,7 @@ use Rattle.cg_types.specs.declared.fault.Fault.TheVariants as faults
 use Rattle.cg_types.specs.Answer.{Answers}
 use Rattle.cg_types.proofs.AnswerLemmas.{refused}
 use Rattle.cg_core.specs.Step.{then}
-use Rattle.cg_settings.specs.Values.{SettingsValue}
+use Rattle.cg_core.specs.SettingsValues.{SettingsValue}
 use Rattle.cg_world.specs.declared.world.Shown.{Shown}
 use Rattle.cg_world.specs.Acting.{shown_by, showing, found_no_memory, Ran, done_of}
 use Rattle.cg_world.specs.World.{Action, WorldValue, acting, act, or_unchanged, new_world, run_from, run}

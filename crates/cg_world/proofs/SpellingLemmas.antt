@@ -15,7 +15,7 @@ use Rattle.cg_messages.specs.declared.message.Message.TheVariants as message
 use Rattle.cg_exchange_laws.specs.PlaceMessages.{PlaceMessage, Syn, Ack, Ack2}
 use Rattle.cg_exchange_laws.specs.Spelling.{SpellsMessage}
 use Rattle.cg_exchange_laws.specs.Laws.{Says}
-use Rattle.cg_settings.specs.Values.{SettingsValue}
+use Rattle.cg_core.specs.SettingsValues.{SettingsValue}
 use Rattle.cg_core.specs.Values.{NodeValue}
 use Rattle.cg_steps.specs.Step.{IsSent}
 use Rattle.cg_places.specs.PlaceWorld.{PlaceWorld, nobody}

@@ -28,7 +28,7 @@ use Rattle.cg_events.specs.declared.event.Event.TheVariants as event
 use Rattle.cg_events.specs.declared.reply.Reply.{Reply}
 use Rattle.cg_events.specs.declared.reply.Reply.TheVariants as reply
 use Rattle.cg_core.specs.Step.{then, node_step}
-use Rattle.cg_settings.specs.Values.{SettingsValue}
+use Rattle.cg_core.specs.SettingsValues.{SettingsValue}
 use Rattle.cg_core.specs.Values.{NodeValue}
 use Rattle.cg_exchange.specs.Answering.{answer_to_syn}
 use Rattle.cg_places.specs.PlaceWorld.{PlaceWorld, nobody, runs, with_start, with_entry, with_message, with_spans, taken_with, may_start, last_entry, after_change, removable, after_receipt, after_delivery, after_action, after_actions}

@@ -18,7 +18,7 @@ use Rattle.cg_exchange_laws.specs.PlaceMessages.{PlaceMessage}
 use Rattle.cg_events.specs.declared.event.Event.TheVariants as event
 use Rattle.cg_events.specs.declared.reply.Reply.TheVariants as reply
 use Rattle.cg_core.specs.Step.{Step, then, next_of, starting_node, beating, opening, round_of}
-use Rattle.cg_settings.specs.Values.{SettingsValue}
+use Rattle.cg_core.specs.SettingsValues.{SettingsValue}
 use Rattle.cg_core.specs.Values.{NodeValue}
 use Rattle.cg_places.specs.PlaceWorld.{PlaceWorld, PlaceAction, nobody, runs, after_action, after_actions}
 use Rattle.cg_places.specs.Refusals.{deliver_refusal, refusal, unless_refused, done_from}

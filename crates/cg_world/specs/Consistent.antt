@@ -1,6 +1,6 @@
 -- Properties of the nodes that run after a list of actions.
 use Rattle.std.specs.Prelude.{ℕ, ◌≡◌, ◌++◌, List}
-use Rattle.cg_settings.specs.Values.{SettingsValue}
+use Rattle.cg_core.specs.SettingsValues.{SettingsValue}
 use Rattle.cg_core.specs.Values.{NodeValue}
 use Rattle.cg_places.specs.Join.{sources, SamePlaces}
 use Rattle.cg_places.specs.TableLaws.{IsJoined}

@@ -8,7 +8,7 @@ use Rattle.cg_table.specs.Own.{own_entry}
 use Rattle.cg_table.specs.Table.{digests_of}
 use Rattle.cg_messages.specs.declared.outcome.Outcome.{Outcome}
 use Rattle.cg_messages.specs.declared.owner_delta.OwnerDelta.{OwnerDelta}
-use Rattle.cg_settings.specs.Values.{SettingsValue}
+use Rattle.cg_core.specs.SettingsValues.{SettingsValue}
 use Rattle.cg_core.specs.Values.{NodeValue}
 use Rattle.cg_world.specs.World.{Action, Start, Local, Deliver, WorldValue, new_world, acting, act, run}
 use Rattle.cg_world.specs.Terms.{Runs, own_at, own_after, WasOwn, AreEqual, delta_sent, outcome_told, is_gap, Mark, mark_of, HasGreatest, LiesPast, with_delta}

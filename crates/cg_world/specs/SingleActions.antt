@@ -10,7 +10,7 @@ use Rattle.cg_messages.specs.Values.{AckValue, Ack2Value}
 use Rattle.cg_exchange.specs.Taking.{outcomes_of}
 use Rattle.cg_events.specs.declared.reply.Reply.{Reply}
 use Rattle.cg_events.specs.declared.reply.Reply.TheVariants as reply
-use Rattle.cg_settings.specs.Values.{SettingsValue}
+use Rattle.cg_core.specs.SettingsValues.{SettingsValue}
 use Rattle.cg_core.specs.Values.{NodeValue}
 pub use Rattle.cg_events.specs.Replies.{outcomes_in}
 use Rattle.cg_silence.specs.Windows.{arrivals}

@@ -13,7 +13,7 @@ use Rattle.cg_exchange_laws.specs.PlaceMessages.{PlaceMessage}
 use Rattle.cg_exchange_laws.specs.Spelling.{SpellsSpans, outcome_about}
 use Rattle.cg_events.specs.declared.reply.Reply.{Reply}
 use Rattle.cg_events.specs.Replies.{outcomes_in}
-use Rattle.cg_settings.specs.Values.{SettingsValue}
+use Rattle.cg_core.specs.SettingsValues.{SettingsValue}
 pub use Rattle.cg_steps.specs.Step.{spans_in}
 use Rattle.cg_places.specs.PlaceWorld.{PlaceWorld, unless_gap}
 use Rattle.cg_world.specs.World.{Action, Start, Local, Deliver, WorldValue, reply_to, acting, run, place_world}

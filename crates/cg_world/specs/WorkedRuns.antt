@@ -4,7 +4,7 @@ use Rattle.std.specs.FinMap as map
 use Rattle.cg_types.specs.Answer.{fault_of}
 use Rattle.cg_types.specs.declared.fault.Fault.TheVariants.{OutOfMemory, NotRising, NoSuchMessage, NoSuchNode}
 use Rattle.cg_entry.specs.Entry.{starting_entry}
-use Rattle.cg_settings.specs.Values.{SettingsValue}
+use Rattle.cg_core.specs.SettingsValues.{SettingsValue}
 use Rattle.cg_core.specs.Values.{NodeValue}
 use Rattle.cg_places.specs.PlaceWorld.{world_after}
 use Rattle.cg_places.specs.WorkedPlaces.{first_exchange}

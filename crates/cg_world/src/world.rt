@@ -11,10 +11,9 @@ ghost use Rattle.cg_world.specs.Consistent.{IsConsistent, IsConsistentWorld};
 
 use crate::action::Action;
 use crate::nodes::Nodes;
-use cg_core::Node;
+use cg_core::{Node, Settings};
 use cg_events::Reply;
 use cg_messages::Message;
-use cg_settings::Settings;
 use cg_types::{Endpoint, Fault};
 use std::alloc::{AllocError, Global};
 use std::marker::Model;

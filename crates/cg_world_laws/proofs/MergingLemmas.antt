@@ -5,7 +5,7 @@ use Rattle.std.proofs.lemmas.Bool.{le-ltb}
 use Rattle.cg_types.specs.declared.fault.Fault.{Fault}
 use Rattle.cg_types.specs.Answer.{Answers}
 use Rattle.cg_types.specs.declared.limits.TheConstants.{MEMBER_LIMIT}
-use Rattle.cg_settings.specs.Values.{SettingsValue}
+use Rattle.cg_core.specs.SettingsValues.{SettingsValue}
 use Rattle.cg_core.specs.Values.{NodeValue}
 use Rattle.cg_table.specs.Values.{TableValue}
 use Rattle.cg_table.specs.Table.{digests_of}

@@ -6,7 +6,7 @@ use Rattle.cg_types.specs.declared.fault.Fault.{Fault}
 use Rattle.cg_types.specs.declared.fault.Fault.TheVariants.{NoSuchNode}
 use Rattle.cg_table.specs.Values.{Entries}
 use Rattle.cg_table.specs.Merge.{merge_of}
-use Rattle.cg_settings.specs.Values.{SettingsValue}
+use Rattle.cg_core.specs.SettingsValues.{SettingsValue}
 use Rattle.cg_core.specs.Values.{NodeValue}
 use Rattle.cg_places.specs.Exchange.{ExchangeOf, WorldKind, OfBothNodes, PlaceExchange, prompt_exchange, at_syn, after_exchange, following, actions_of}
 use Rattle.cg_world.specs.declared.action.Action.{Action}

@@ -1,5 +1,5 @@
 use Rattle.std.proofs.Common.{◌≡◌, ◌∙◌, true, false, Some, ap, sym, refl, inr}
-use Rattle.cg_settings.specs.Values.{SettingsValue}
+use Rattle.cg_core.specs.SettingsValues.{SettingsValue}
 use Rattle.cg_script.specs.declared.line.Line.TheVariants.{Seeds}
 use Rattle.cg_script.specs.Script.{or_unreadable}
 use Rattle.cg_script.proofs.SeedLemmas.{no_endpoints, no_seeds, some_seeds}

@@ -1,5 +1,5 @@
 use Rattle.std.proofs.Common.{◌≡◌}
-use Rattle.cg_settings.specs.declared.limits.TheConstants.{SEED_LIMIT}
+use Rattle.cg_core.specs.declared.limits.TheConstants.{SEED_LIMIT}
 use Rattle.cg_script.specs.Words.{endpoints_in}
 use Rattle.cg_script.proofs.SeedLemmas.{behind, left}
 use Rattle.cg_script.proofs.seeds.endpoints_in.Given as goal

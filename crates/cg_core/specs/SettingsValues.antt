@@ -5,7 +5,7 @@ use Rattle.cg_types.specs.declared.limits.TheConstants.{PARTITIONER}
 use Rattle.cg_types.specs.Rising.{Rises}
 use Rattle.cg_types.specs.Text.{ClusterValue, cluster_code}
 use Rattle.cg_silence.specs.Values.{SilenceValue, silence_code}
-use Rattle.cg_settings.specs.declared.limits.TheConstants.{SEED_LIMIT}
+use Rattle.cg_core.specs.declared.limits.TheConstants.{SEED_LIMIT}
 
 -- the cluster, the endpoints that a round falls back on, and the settings of silence
 pub record SettingsValue : Type 0 where

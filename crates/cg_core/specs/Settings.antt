@@ -2,10 +2,10 @@
 use Rattle.std.specs.Prelude.{◌==◌, not, nat_lt, length, None, Result, Ok, Err, if◌then◌else◌}
 use Rattle.cg_types.specs.declared.limits.TheConstants.{PARTITIONER}
 use Rattle.cg_types.specs.Rising.{rise_past}
-use Rattle.cg_settings.specs.declared.limits.TheConstants.{SEED_LIMIT}
-use Rattle.cg_settings.specs.declared.fault.SettingsFault.{SettingsFault}
-use Rattle.cg_settings.specs.declared.fault.SettingsFault.TheVariants as fault
-use Rattle.cg_settings.specs.Values.{SettingsValue}
+use Rattle.cg_core.specs.declared.limits.TheConstants.{SEED_LIMIT}
+use Rattle.cg_core.specs.declared.fault.SettingsFault.{SettingsFault}
+use Rattle.cg_core.specs.declared.fault.SettingsFault.TheVariants as fault
+use Rattle.cg_core.specs.SettingsValues.{SettingsValue}
 
 -- the settings if the partitioner is the one in use, and the seeds are few and rise; else the first fault
 abbrev pub settings_or_fault : SettingsValue → Result SettingsValue SettingsFault
