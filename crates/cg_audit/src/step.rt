@@ -9,7 +9,7 @@ ghost use Rattle.cg_audit.specs.Steps.{run_item};
 
 use crate::item::LifeItem;
 use crate::lives::generation;
-use cg_events::Event;
+use cg_core::Event;
 use cg_history::History;
 use cg_messages::Lent;
 use cg_records::Item;

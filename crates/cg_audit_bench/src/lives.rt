@@ -2,7 +2,7 @@
 
 use anyhow::{Context, Result};
 use cg_audit::Lives;
-use cg_events::Event;
+use cg_core::Event;
 use cg_history::History;
 use cg_messages::Lent;
 use cg_samples::{endpoint, generation, settings};

@@ -6,7 +6,7 @@ use Rattle.cg_types.specs.declared.fault.Fault.{Fault}
 use Rattle.cg_entry.specs.Values.{EntryValue}
 use Rattle.cg_table.specs.Own.{own_entry}
 use Rattle.cg_table.specs.Spelling.{SpellsPlaces}
-use Rattle.cg_events.specs.declared.reply.Reply.{Reply}
+use Rattle.cg_core.specs.declared.reply.Reply.{Reply}
 use Rattle.cg_core.specs.Values.{NodeValue}
 use Rattle.cg_core.specs.Step.{node_step}
 use Rattle.cg_places.specs.PlaceWorld.{PlaceWorld, runs, last_entry}

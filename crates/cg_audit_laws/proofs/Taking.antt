@@ -18,10 +18,10 @@ use Rattle.cg_exchange_laws.specs.Places.{took_for}
 use Rattle.cg_exchange_laws.specs.PlaceMessages.{PlaceMessage, Syn, Ack, Ack2, AreSpans}
 use Rattle.cg_exchange_laws.specs.Spelling.{SpellsSpans, delta_about, outcome_about}
 use Rattle.cg_exchange_laws.specs.Laws.{Says}
-use Rattle.cg_events.specs.declared.event.Event.{Event}
-use Rattle.cg_events.specs.declared.event.Event.TheVariants as event
-use Rattle.cg_events.specs.declared.reply.Reply.{Reply}
-use Rattle.cg_events.specs.Replies.{outcomes_in}
+use Rattle.cg_core.specs.declared.event.Event.{Event}
+use Rattle.cg_core.specs.declared.event.Event.TheVariants as event
+use Rattle.cg_core.specs.declared.reply.Reply.{Reply}
+use Rattle.cg_core.specs.Replies.{outcomes_in}
 use Rattle.cg_core.specs.Values.{NodeValue}
 use Rattle.cg_places.specs.PlaceWorld.{PlaceWorld, with_spans, after_receipt, after_action}
 use Rattle.cg_places.specs.Laws.{Continues}

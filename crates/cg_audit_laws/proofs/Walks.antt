@@ -17,10 +17,10 @@ use Rattle.cg_table.specs.Table.{lone_table}
 use Rattle.cg_messages.specs.declared.message.Message.{Message}
 use Rattle.cg_exchange_laws.specs.PlaceMessages.{PlaceMessage}
 use Rattle.cg_exchange_laws.specs.Spelling.{outcome_about}
-use Rattle.cg_events.specs.declared.event.Event.{Event}
-use Rattle.cg_events.specs.declared.event.Event.TheVariants as event
-use Rattle.cg_events.specs.declared.reply.Reply.{Reply}
-use Rattle.cg_events.specs.Replies.{outcomes_in}
+use Rattle.cg_core.specs.declared.event.Event.{Event}
+use Rattle.cg_core.specs.declared.event.Event.TheVariants as event
+use Rattle.cg_core.specs.declared.reply.Reply.{Reply}
+use Rattle.cg_core.specs.Replies.{outcomes_in}
 use Rattle.cg_core.specs.Values.{NodeValue}
 use Rattle.cg_core.specs.Step.{node_step, starting_node}
 use Rattle.cg_core_laws.specs.Laws.{TableAfter}

@@ -10,9 +10,9 @@ use Rattle.cg_table.specs.Table.{digests_of}
 use Rattle.cg_messages.specs.declared.outcome.Outcome.{Outcome}
 use Rattle.cg_messages.specs.declared.owner_delta.OwnerDelta.{OwnerDelta}
 use Rattle.cg_exchange_laws.specs.Spelling.{delta_about, outcome_about}
-use Rattle.cg_events.specs.declared.event.Event.{Event}
+use Rattle.cg_core.specs.declared.event.Event.{Event}
 use Rattle.cg_core.specs.Values.{NodeValue}
-use Rattle.cg_events.specs.Replies.{outcomes_in}
+use Rattle.cg_core.specs.Replies.{outcomes_in}
 use Rattle.cg_steps.specs.Step.{message_in}
 use Rattle.cg_world.specs.Terms.{AreEqual, deltas_in, is_gap, Mark, mark_of, HasGreatest, LiesPast, with_delta}
 use Rattle.cg_records.specs.declared.item.Item.{Item}

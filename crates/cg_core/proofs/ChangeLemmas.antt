@@ -33,14 +33,14 @@ use Rattle.cg_exchange.specs.Answering.{answer_to_syn}
 use Rattle.cg_exchange.specs.Changes.{row_changed}
 use Rattle.cg_exchange.specs.Taking.{outcome_of, taking_ack, taking_ack2}
 use Rattle.cg_exchange.proofs.TakingLemmas.{rows_rise, taken_at_once, outcomes_rise}
-use Rattle.cg_events.specs.declared.event.Event.{Event}
-use Rattle.cg_events.specs.declared.event.Event.TheVariants as event
-use Rattle.cg_events.specs.declared.reply.Reply.{Reply}
-use Rattle.cg_events.specs.declared.reply.Reply.TheVariants as reply
+use Rattle.cg_core.specs.declared.event.Event.{Event}
+use Rattle.cg_core.specs.declared.event.Event.TheVariants as event
+use Rattle.cg_core.specs.declared.reply.Reply.{Reply}
+use Rattle.cg_core.specs.declared.reply.Reply.TheVariants as reply
 use Rattle.cg_core.specs.Values.{NodeValue}
 use Rattle.cg_silence.specs.Windows.{was_taken}
 use Rattle.cg_core.specs.Step.{Leads, next_of, beating, setting, removing, opening, round_of, after_taking}
-use Rattle.cg_events.specs.Handed.{deltas_in}
+use Rattle.cg_core.specs.Handed.{deltas_in}
 use Rattle.cg_core.specs.Changes.{taken_owners, changed_owners}
 use Rattle.cg_core.proofs.OrderLemmas.{met_ahead, beaten_later, given_later}
 use Rattle.cg_core.proofs.PutLemmas.{only_put}

@@ -1,3 +1,9 @@
+pub mod OutcomeCodes
+pub mod EventCodes
+pub mod Handed
+pub mod Borrowed
+pub mod Sending
+pub mod Replies
 pub mod SettingsValues
 pub mod Settings
 pub mod SettingsLaws
@@ -19,7 +25,6 @@ pub use Rattle.cg_tokens.specs.Ring
 pub use Rattle.cg_tokens.specs.Moving
 pub use Rattle.cg_exchange.specs.Changes as ExchangeChanges
 pub use Rattle.cg_messages.specs.Lent
-pub use Rattle.cg_events.specs.Borrowed
 pub use Rattle.cg_messages.specs.Members
 pub use Rattle.cg_silence.specs.Windows
 pub use Rattle.cg_types.specs.Text

@@ -6,8 +6,10 @@ ghost use Rattle.cg_types.specs.Rising.{Rises};
 ghost use Rattle.cg_table.specs.Puts.{rows_at};
 ghost use Rattle.cg_core.specs.Changes.{step_with_puts, taken_owners as taken_owners_of, changed_owners as changed_owners_of};
 
+use crate::event::Event;
 use crate::node::Node;
-use cg_events::{Event, Outcomes, Reply};
+use crate::outcomes::Outcomes;
+use crate::reply::Reply;
 use cg_silence::was_taken;
 use cg_table::{Puts, Table};
 use cg_types::{Endpoint, Fault};

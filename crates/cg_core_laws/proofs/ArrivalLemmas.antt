@@ -13,17 +13,17 @@ use Rattle.cg_exchange.specs.Taking.{taking_ack, taking_ack2}
 use Rattle.cg_silence.specs.Values.{SilenceValue, Shown}
 use Rattle.cg_silence.specs.Silence.{after_arrival}
 use Rattle.cg_silence.proofs.WindowLemmas.{shown-push}
-use Rattle.cg_events.specs.declared.event.Event.{Event}
-use Rattle.cg_events.specs.declared.event.Event.TheVariants as event
-use Rattle.cg_events.specs.declared.reply.Reply.{Reply}
-use Rattle.cg_events.specs.declared.reply.Reply.TheVariants as reply
+use Rattle.cg_core.specs.declared.event.Event.{Event}
+use Rattle.cg_core.specs.declared.event.Event.TheVariants as event
+use Rattle.cg_core.specs.declared.reply.Reply.{Reply}
+use Rattle.cg_core.specs.declared.reply.Reply.TheVariants as reply
 use Rattle.cg_core.specs.SettingsValues.{SettingsValue}
 use Rattle.cg_core.specs.Values.{NodeValue}
 use Rattle.cg_silence.specs.Windows.{Heard, was_taken, tells_taken, with_arrival, arrivals}
 use Rattle.cg_entry.specs.Entry.{removal_of}
 use Rattle.cg_table.specs.Own.{own_entry}
 use Rattle.cg_core.specs.Step.{starting_node, then, next_of, beating, setting, removing, opening, round_of, after_taking, node_step, node_left, after_event, after_events}
-use Rattle.cg_events.specs.Replies.{outcomes_in}
+use Rattle.cg_core.specs.Replies.{outcomes_in}
 use Rattle.cg_core_laws.specs.Arrivals.{outcomes_told, moment_of, moments_told, moments_taken, window_of}
 use Rattle.cg_core_laws.specs.Laws.{WindowsShowAllTaken}
 use Rattle.cg_core.proofs.HearingLemmas.{other_arrival}

@@ -23,10 +23,10 @@ use Rattle.cg_messages.specs.Values.{Ack2Value}
 use Rattle.cg_exchange.specs.Answering.{answer_to_syn}
 use Rattle.cg_exchange.specs.Taking.{table_after, outcomes_of, held_after, taking_ack, taking_ack2, deltas_granted}
 use Rattle.cg_messages.specs.declared.message.Message.TheVariants as message
-use Rattle.cg_events.specs.declared.event.Event.{Event}
-use Rattle.cg_events.specs.declared.event.Event.TheVariants as event
-use Rattle.cg_events.specs.declared.reply.Reply.{Reply}
-use Rattle.cg_events.specs.declared.reply.Reply.TheVariants as reply
+use Rattle.cg_core.specs.declared.event.Event.{Event}
+use Rattle.cg_core.specs.declared.event.Event.TheVariants as event
+use Rattle.cg_core.specs.declared.reply.Reply.{Reply}
+use Rattle.cg_core.specs.declared.reply.Reply.TheVariants as reply
 use Rattle.cg_core.specs.Values.{NodeValue, IsSmall, HearsOthersAlone}
 use Rattle.cg_silence.specs.Windows.{arrivals}
 use Rattle.cg_core.specs.Step.{Step, Run, Leads, next_of, beating, setting, removing, opening, round_of, after_taking, with_table, node_step, node_left, after_event, after_events, replay, on_step, with_reply}

@@ -3,9 +3,9 @@ use Rattle.std.specs.Prelude.{ℕ, List, [], ◌∷◌, ◌++◌, map, filter, O
 use Rattle.cg_messages.specs.declared.outcome.Outcome.{Outcome}
 use Rattle.cg_silence.specs.Values.{SilenceValue, Shown}
 use Rattle.cg_silence.specs.Silence.{window_of_all}
-use Rattle.cg_events.specs.declared.event.Event.{Event}
-use Rattle.cg_events.specs.declared.event.Event.TheVariants as event
-use Rattle.cg_events.specs.Replies.{outcomes_in}
+use Rattle.cg_core.specs.declared.event.Event.{Event}
+use Rattle.cg_core.specs.declared.event.Event.TheVariants as event
+use Rattle.cg_core.specs.Replies.{outcomes_in}
 use Rattle.cg_core.specs.Values.{NodeValue}
 use Rattle.cg_silence.specs.Windows.{tells_taken}
 use Rattle.cg_core.specs.Step.{Step, node_step, after_event}

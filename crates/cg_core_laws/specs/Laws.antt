@@ -11,11 +11,11 @@ use Rattle.cg_table.specs.Puts.{puts, with_puts, keep_order, rows_at}
 use Rattle.cg_messages.specs.declared.owner_delta.OwnerDelta.{OwnerDelta}
 use Rattle.cg_messages.specs.Members.{endpoints_of_deltas}
 use Rattle.cg_exchange.specs.Taking.{table_after, held_after}
-use Rattle.cg_events.specs.declared.event.Event.{Event}
-use Rattle.cg_events.specs.declared.event.Event.TheVariants as event
-use Rattle.cg_events.specs.declared.reply.Reply.{Reply}
-use Rattle.cg_events.specs.declared.reply.Reply.TheVariants as reply
-use Rattle.cg_events.specs.Handed.{deltas_in}
+use Rattle.cg_core.specs.declared.event.Event.{Event}
+use Rattle.cg_core.specs.declared.event.Event.TheVariants as event
+use Rattle.cg_core.specs.declared.reply.Reply.{Reply}
+use Rattle.cg_core.specs.declared.reply.Reply.TheVariants as reply
+use Rattle.cg_core.specs.Handed.{deltas_in}
 use Rattle.cg_core.specs.SettingsValues.{SettingsValue}
 use Rattle.cg_core.specs.Values.{NodeValue, IsSmall, HearsOthersAlone}
 use Rattle.cg_core.specs.Step.{Leads, starting_node, after_events, replay}

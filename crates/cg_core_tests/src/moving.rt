@@ -1,8 +1,7 @@
 //! The ring of a node, after sets of its own keys and after messages.
 
 use crate::samples::{about, node, set_event};
-use cg_core::Node;
-use cg_events::Event;
+use cg_core::{Event, Node};
 use cg_expect::expect_eq;
 use cg_messages::{Ack2, OwnerDelta};
 use cg_samples::{A, B, C, delta, endpoint, state};

@@ -1,9 +1,8 @@
 //! A node's start, a gap after a restart, the node before a step, own deltas, other clusters, full tables.
 
 use crate::samples::{about, ack2_event, comes, held, node, refusal, set_event, syn_event};
-use cg_core::Node;
+use cg_core::{Event, Node, Reply};
 use cg_entry::Took;
-use cg_events::{Event, Reply};
 use cg_expect::expect_eq;
 use cg_messages::{Ack2, OwnerDelta};
 use cg_samples::{A, B, C, delta, endpoint, key, state};

@@ -1,8 +1,7 @@
 //! A node that removes the texts of its own keys.
 
 use crate::samples::{held, node, refusal, set_event};
-use cg_core::Node;
-use cg_events::{Event, Reply};
+use cg_core::{Event, Node, Reply};
 use cg_expect::expect_eq;
 use cg_samples::{A, key};
 use cg_types::Fault;

@@ -1,8 +1,7 @@
 //! Nodes and events that the tests share. The cluster is c1.
 
-use cg_core::Node;
+use cg_core::{Event, Node};
 use cg_entry::Digest;
-use cg_events::Event;
 use cg_messages::{Ack, Ack2, OwnerDelta, Request, Syn};
 use cg_samples::{A, B, bare_delta, endpoint, generation, key, settings, version};
 use cg_types::{Cluster, Endpoint, Fault, StateText};

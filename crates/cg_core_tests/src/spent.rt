@@ -1,9 +1,8 @@
 //! A node whose own entry has the last version: it refuses changes, and still opens exchanges.
 
 use crate::samples::{node, refusal, set_event};
-use cg_core::Node;
+use cg_core::{Event, Node, Reply};
 use cg_entry::Entry;
-use cg_events::{Event, Reply};
 use cg_expect::{expect, expect_eq};
 use cg_messages::Message;
 use cg_samples::{A, bare_entry, delta, key, state};

@@ -11,13 +11,13 @@ use Rattle.cg_table.specs.Own.{own_entry}
 use Rattle.cg_messages.specs.declared.message.Message.TheVariants as message
 use Rattle.cg_exchange.specs.Answering.{same_cluster, answer_to_syn}
 use Rattle.cg_exchange.specs.Taking.{held_after, taking_ack, taking_ack2}
-use Rattle.cg_events.specs.declared.event.Event.{Event}
-use Rattle.cg_events.specs.declared.event.Event.TheVariants as event
-use Rattle.cg_events.specs.declared.reply.Reply.{Reply}
-use Rattle.cg_events.specs.declared.reply.Reply.TheVariants as reply
+use Rattle.cg_core.specs.declared.event.Event.{Event}
+use Rattle.cg_core.specs.declared.event.Event.TheVariants as event
+use Rattle.cg_core.specs.declared.reply.Reply.{Reply}
+use Rattle.cg_core.specs.declared.reply.Reply.TheVariants as reply
 use Rattle.cg_core.specs.Values.{NodeValue}
 use Rattle.cg_core.specs.Step.{node_step, next_of, beating, setting, removing, opening, round_of, after_taking}
-use Rattle.cg_events.specs.Replies.{IsReplyTo, IsDone, IsRound, IsSyn, IsAck, IsBoth, IsTook}
+use Rattle.cg_core.specs.Replies.{IsReplyTo, IsDone, IsRound, IsSyn, IsAck, IsBoth, IsTook}
 use Rattle.cg_engine.specs.Events.{IsGateFault}
 
 kind_kept : {A : Type 0} (P : Reply → Type 0) (due : Result A Fault) (node : A → NodeValue) (said : A → Reply) (m : NodeValue) (r : Reply) → ((a : A) → P (said a))

@@ -7,10 +7,10 @@ use Rattle.cg_messages.specs.declared.message.Message.{Message}
 use Rattle.cg_messages.specs.declared.message.Message.TheVariants as messages
 use Rattle.cg_frames.specs.declared.layout.TheConstants.{WRITTEN}
 use Rattle.cg_frames.specs.Spelling.{frame}
-use Rattle.cg_events.specs.declared.event.Event.{Event}
-use Rattle.cg_events.specs.declared.event.Event.TheVariants as event
-use Rattle.cg_events.specs.declared.reply.Reply.{Reply}
-use Rattle.cg_events.specs.declared.reply.Reply.TheVariants as reply
+use Rattle.cg_core.specs.declared.event.Event.{Event}
+use Rattle.cg_core.specs.declared.event.Event.TheVariants as event
+use Rattle.cg_core.specs.declared.reply.Reply.{Reply}
+use Rattle.cg_core.specs.declared.reply.Reply.TheVariants as reply
 use Rattle.cg_engine.specs.Due.{syn_due, ack_due, ack2_due}
 use Rattle.cg_messages.specs.declared.kind.Kind.{Kind}
 use Rattle.cg_messages.specs.declared.kind.Kind.TheVariants as kind

@@ -4,13 +4,13 @@ use Rattle.std.specs.List.{flat_map}
 use Rattle.std.specs.Io.KnownBytes.{Appends, Consumes, IsAtEnd}
 use Rattle.cg_types.specs.declared.fault.Fault.{Fault}
 use Rattle.cg_messages.specs.declared.message.Message.{Message}
-use Rattle.cg_events.specs.declared.event.Event.{Event}
-use Rattle.cg_events.specs.declared.reply.Reply.{Reply}
+use Rattle.cg_core.specs.declared.event.Event.{Event}
+use Rattle.cg_core.specs.declared.reply.Reply.{Reply}
 use Rattle.cg_links.specs.declared.counted.Counted.{Counted}
 use Rattle.cg_links.specs.Counted.{KeepsCounts}
 use Rattle.cg_engine.specs.Received.{IsSpelledBy, ReceivesMessage, FailsToReceive}
 use Rattle.cg_engine.specs.Sent.{LeavesFlushed, FailsToSend}
-use Rattle.cg_events.specs.Replies.{IsReplyTo}
+use Rattle.cg_core.specs.Replies.{IsReplyTo}
 use Rattle.cg_engine.specs.Events.{event_due, written_for, IsGateFault}
 use Rattle.cg_messages.specs.declared.kind.Kind.{Kind}
 use Rattle.cg_engine.specs.declared.exchange.Ended.{Ended}

@@ -7,7 +7,7 @@ pub mod Turns
 pub mod Exchanged
 pub mod NodeGate
 pub use Rattle.cg_types.specs.Answer
-pub use Rattle.cg_events.specs.Replies
+pub use Rattle.cg_core.specs.Replies
 pub use Rattle.cg_core.specs.Step
 pub use Rattle.cg_frames.specs.Spelling
 pub use Rattle.cg_links.specs.Counted

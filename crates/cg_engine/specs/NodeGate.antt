@@ -1,7 +1,7 @@
 -- The gate over one node, as clauses see it.
 use Rattle.std.specs.Prelude.{Option}
 use Rattle.cg_core.specs.Values.{NodeValue}
-use Rattle.cg_events.specs.declared.reply.Reply.{Reply}
+use Rattle.cg_core.specs.declared.reply.Reply.{Reply}
 use Rattle.cg_engine.specs.declared.node_gate.NodeGate.{NodeGate}
 
 abbrev pub node_of : NodeGate → NodeValue

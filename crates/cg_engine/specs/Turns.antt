@@ -2,11 +2,11 @@
 use Rattle.std.specs.Prelude.{◌≡◌, ℕ, ◌⊎◌, List, Bool, true, false, Option, Some, Result, Ok, Err}
 use Rattle.cg_types.specs.declared.fault.Fault.{Fault}
 use Rattle.cg_messages.specs.declared.message.Message.{Message}
-use Rattle.cg_events.specs.declared.event.Event.{Event}
-use Rattle.cg_events.specs.declared.reply.Reply.{Reply}
+use Rattle.cg_core.specs.declared.event.Event.{Event}
+use Rattle.cg_core.specs.declared.reply.Reply.{Reply}
 use Rattle.cg_links.specs.declared.counted.Counted.{Counted}
 use Rattle.cg_engine.specs.Received.{ReceivesMessage, MeetsEnd, FailsToReceive}
-use Rattle.cg_events.specs.Replies.{IsReplyTo}
+use Rattle.cg_core.specs.Replies.{IsReplyTo}
 use Rattle.cg_engine.specs.Events.{event_due, IsGateFault}
 use Rattle.cg_messages.specs.declared.kind.Kind.{Kind}
 

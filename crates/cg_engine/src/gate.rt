@@ -2,12 +2,12 @@
 
 ghost use Rattle.std.specs.Prelude.{◌≡◌, Option, Some, IfErr, OnErr, OnOk, option_map};
 ghost use Rattle.cg_types.specs.declared.fault.Fault.{Fault as FaultValue};
-ghost use Rattle.cg_events.specs.declared.event.Event.{Event as EventValue};
-ghost use Rattle.cg_events.specs.declared.reply.Reply.{Reply as ReplyValue};
-ghost use Rattle.cg_events.specs.Replies.{IsReplyTo};
+ghost use Rattle.cg_core.specs.declared.event.Event.{Event as EventValue};
+ghost use Rattle.cg_core.specs.declared.reply.Reply.{Reply as ReplyValue};
+ghost use Rattle.cg_core.specs.Replies.{IsReplyTo};
 ghost use Rattle.cg_engine.specs.Events.{IsGateFault};
 
-use cg_events::{Event, Reply};
+use cg_core::{Event, Reply};
 use cg_types::Fault;
 use std::alloc::Global;
 

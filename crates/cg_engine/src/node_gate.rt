@@ -5,8 +5,7 @@ ghost use Rattle.cg_types.specs.Answer.{IsRefusal};
 ghost use Rattle.cg_core.specs.Step.{node_step};
 
 use crate::gate::Gate;
-use cg_core::Node;
-use cg_events::{Event, Reply};
+use cg_core::{Event, Node, Reply};
 use cg_types::Fault;
 use std::alloc::Global;
 

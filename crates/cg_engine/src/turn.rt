@@ -10,7 +10,7 @@ use crate::due::{ack_due, ack2_due, syn_due};
 use crate::gate::Gate;
 use crate::receiving::receive;
 use crate::sending::send;
-use cg_events::{Event, Reply};
+use cg_core::{Event, Reply};
 use cg_links::Counted;
 use cg_messages::{Kind, Lent, Message};
 use cg_types::Fault;

@@ -1,9 +1,8 @@
 //! Two nodes that hold 512 endpoints between them, each with 16 states of 4,096 bytes, exchange all that they hold.
 
 use crate::samples::started;
-use cg_core::Node;
+use cg_core::{Event, Node};
 use cg_engine::{Broken, Ended, NodeGate, initiate, respond};
-use cg_events::Event;
 use cg_exchange::syn;
 use cg_expect::expect_eq;
 use cg_links::{Counted, CountingLink};

@@ -1,9 +1,8 @@
 //! An exchange that brings a tombstone, the same bytes in layouts that have none, and a removal that a gate refuses.
 
 use crate::samples::{joined, started};
-use cg_core::Node;
+use cg_core::{Event, Node};
 use cg_engine::{Broken, Ended, Gate, NodeGate, initiate, respond};
-use cg_events::Event;
 use cg_exchange::syn;
 use cg_expect::expect_eq;
 use cg_links::Counted;

@@ -9,8 +9,8 @@ use Rattle.cg_types.specs.Numbers.{IsGeneration}
 use Rattle.cg_entry.specs.Entry.{starting_entry}
 use Rattle.cg_table.specs.Puts.{Put, puts}
 use Rattle.cg_table.proofs.TableLemmas.{alone_valid}
-use Rattle.cg_events.specs.declared.event.Event.{Event}
-use Rattle.cg_events.specs.declared.reply.Reply.{Reply}
+use Rattle.cg_core.specs.declared.event.Event.{Event}
+use Rattle.cg_core.specs.declared.reply.Reply.{Reply}
 use Rattle.cg_core.specs.SettingsValues.{SettingsValue}
 use Rattle.cg_core.specs.Values.{NodeValue, IsSmall}
 use Rattle.cg_core.specs.Step.{Step, node_step, then}

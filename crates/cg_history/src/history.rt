@@ -7,8 +7,7 @@ ghost use Rattle.cg_records.specs.Confirming.{AreConfirmed, IsFirstStray};
 ghost use Rattle.cg_history.specs.History.{IsReplayed, IsFoldOf, LAST_NUMBER, count_of, new_history, receipt_of, with_record, apply as apply_of, node_after, with_folded, unfolded};
 
 use crate::log::Log;
-use cg_core::{Node, Settings};
-use cg_events::{Event, Reply};
+use cg_core::{Event, Node, Reply, Settings};
 use cg_records::{Item, Receipt, Stray, confirms};
 use cg_types::{Endpoint, Fault, Generation};
 use std::alloc::{AllocError, Global};

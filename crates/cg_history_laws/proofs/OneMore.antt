@@ -3,8 +3,8 @@ use Rattle.std.proofs.Common.{◌≡◌, ℕ, Bool, true, false, cond, refl, sym
 use Rattle.std.specs.Prelude.{◌==◌, Result, Ok, Err}
 use Rattle.cg_types.specs.declared.fault.Fault.{Fault}
 use Rattle.cg_types.specs.declared.fault.Fault.TheVariants.{VersionsSpent}
-use Rattle.cg_events.specs.declared.event.Event.{Event}
-use Rattle.cg_events.specs.declared.reply.Reply.{Reply}
+use Rattle.cg_core.specs.declared.event.Event.{Event}
+use Rattle.cg_core.specs.declared.reply.Reply.{Reply}
 use Rattle.cg_core.specs.Values.{NodeValue}
 use Rattle.cg_core.specs.Step.{Step, node_step}
 use Rattle.cg_places.specs.PlaceWorld.{after_action}

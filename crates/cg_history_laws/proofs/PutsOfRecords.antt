@@ -7,8 +7,8 @@ use Rattle.cg_types.specs.declared.limits.TheConstants.{MEMBER_LIMIT}
 use Rattle.cg_table.specs.Values.{TableValue}
 use Rattle.cg_table.specs.Puts.{Put, puts, with_puts, keep_order}
 use Rattle.cg_table.proofs.PutsLemmas.{with_puts-append, keep_order-append}
-use Rattle.cg_events.specs.declared.event.Event.{Event}
-use Rattle.cg_events.specs.declared.reply.Reply.{Reply}
+use Rattle.cg_core.specs.declared.event.Event.{Event}
+use Rattle.cg_core.specs.declared.reply.Reply.{Reply}
 use Rattle.cg_core.specs.Values.{NodeValue, IsSmall}
 use Rattle.cg_core.specs.Step.{node_step, replay, on_step, with_reply}
 use Rattle.cg_core_laws.specs.Laws.{ArePuts}

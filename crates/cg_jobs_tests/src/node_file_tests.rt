@@ -1,7 +1,7 @@
 //! The files of a node: its settings, its generation and its journal, in the folder where the tests run.
 
 use crate::settings_tests::FEW;
-use cg_events::Event;
+use cg_core::Event;
 use cg_expect::{expect, expect_eq};
 use cg_history::History;
 use cg_life_samples::{generation_of, journal_of, remove_file, write_file};

@@ -9,8 +9,8 @@ use Rattle.cg_types.specs.Words.{cut_at, number_of, generation_in, key_in}
 use Rattle.cg_messages.specs.declared.message.Message.{Message}
 use Rattle.cg_silence.specs.Values.{SilenceValue, silence_of}
 use Rattle.cg_silence.specs.Settings.{settings_or_fault as silence_or_fault}
-use Rattle.cg_events.specs.declared.event.Event.{Event}
-use Rattle.cg_events.specs.declared.event.Event.TheVariants as event
+use Rattle.cg_core.specs.declared.event.Event.{Event}
+use Rattle.cg_core.specs.declared.event.Event.TheVariants as event
 use Rattle.cg_core.specs.declared.limits.TheConstants.{SEED_LIMIT}
 use Rattle.cg_core.specs.SettingsValues.{SettingsValue, settings_of}
 use Rattle.cg_core.specs.Settings.{settings_or_fault}

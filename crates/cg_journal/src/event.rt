@@ -7,8 +7,8 @@ ghost use Rattle.cg_script.specs.Gives.{readable, Finds};
 ghost use Rattle.cg_script.specs.Words.{state_text_in as text_state_text_in};
 ghost use Rattle.cg_journal.specs.Reading as spec;
 
+use cg_core::Event;
 use cg_engine::{ack_due, ack2_due, syn_due};
-use cg_events::Event;
 use cg_frames::{Message, decode};
 use cg_script::{bytes_in, count_before, four_in, is_word, key_before, state_text_in};
 use cg_types::{Fault, StateKey, StateText, cut};

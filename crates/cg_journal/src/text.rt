@@ -7,8 +7,7 @@ ghost use Rattle.cg_table.specs.Own.{own_entry};
 ghost use Rattle.cg_messages.specs.Lent.{lent_message};
 ghost use Rattle.cg_journal.specs.Text.{silence_text, further_seed, seeds_text, settings_text, life_line, text_digits, frame_digits, further_word, set_line, remove_line, tick_line, syn_line, ack_line, ack2_line, event_line};
 
-use cg_core::{Node, Settings};
-use cg_events::Event;
+use cg_core::{Event, Node, Settings};
 use cg_frames::{Lent, encode_lent};
 use cg_silence::Silence;
 use cg_types::{Endpoint, StateKey, StateText};

@@ -7,8 +7,7 @@ ghost use Rattle.cg_journal.specs.Text.{life_line, event_line, event_lines, jour
 ghost use Rattle.cg_journal.specs.Written.{Writes};
 
 use crate::text::{event_text, life_text};
-use cg_core::Node;
-use cg_events::Event;
+use cg_core::{Event, Node};
 use cg_history::History;
 use cg_links::{Counted, write_bytes};
 use cg_records::Item;

@@ -17,7 +17,7 @@ use Rattle.cg_types.proofs.WordLemmas.{numbers_found, between_found}
 use Rattle.cg_messages.specs.declared.message.Message.{Message}
 use Rattle.cg_messages.specs.declared.message.Message.TheVariants as messages
 use Rattle.cg_messages.specs.Messages.{IsMessage}
-use Rattle.cg_events.specs.declared.event.Event.TheVariants as event
+use Rattle.cg_core.specs.declared.event.Event.TheVariants as event
 use Rattle.cg_frames.specs.declared.layout.TheConstants.{LAYOUTS}
 use Rattle.cg_frames.specs.Choosing.{frame_among}
 use Rattle.cg_frames.proofs.LawLemmas.{layouts_are_read}

@@ -18,8 +18,8 @@ use Rattle.cg_types.proofs.WordLemmas.{number_of-decimal}
 use Rattle.cg_messages.specs.declared.message.Message.{Message}
 use Rattle.cg_messages.specs.declared.message.Message.TheVariants as messages
 use Rattle.cg_messages.specs.Messages.{IsMessage}
-use Rattle.cg_events.specs.declared.event.Event.{Event}
-use Rattle.cg_events.specs.declared.event.Event.TheVariants as event
+use Rattle.cg_core.specs.declared.event.Event.{Event}
+use Rattle.cg_core.specs.declared.event.Event.TheVariants as event
 use Rattle.cg_frames.specs.declared.layout.TheConstants.{WRITTEN, LAYOUTS}
 use Rattle.cg_frames.specs.Layouts.{IsWritten}
 use Rattle.cg_frames.specs.Spelling.{frame}

@@ -5,8 +5,8 @@ use Rattle.cg_types.specs.Numbers.{IsEndpoint, IsKey}
 use Rattle.cg_types.specs.Text.{IsStateText, IsCluster}
 use Rattle.cg_messages.specs.Contents.{IsSyn, IsAck, IsAck2}
 use Rattle.cg_silence.specs.Values.{IsSilence}
-use Rattle.cg_events.specs.declared.event.Event.{Event}
-use Rattle.cg_events.specs.declared.event.Event.TheVariants as event
+use Rattle.cg_core.specs.declared.event.Event.{Event}
+use Rattle.cg_core.specs.declared.event.Event.TheVariants as event
 use Rattle.cg_core.specs.SettingsValues.{SettingsValue, IsSettings}
 use Rattle.cg_history.specs.History.{HistoryValue, IsReplayed}
 

@@ -3,7 +3,7 @@
 ghost use Rattle.std.specs.List.{AllByRecursion};
 ghost use Rattle.cg_journal_laws.specs.Contents.{IsCount, AreWords, IsEvent};
 
-use cg_events::Event;
+use cg_core::Event;
 
 fn show_count(count: u64)
     ensures { IsCount count }

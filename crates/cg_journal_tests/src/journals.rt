@@ -4,7 +4,7 @@
 //! takes the ACK and B the ACK2.
 
 use crate::audited::{A, A_2, A_3, B, B_2, B_3};
-use cg_events::Event;
+use cg_core::Event;
 use cg_expect::expect_eq;
 use cg_history::History;
 use cg_journal::{read_journal, write_journal};

@@ -5,7 +5,7 @@
 //! A is 10.0.0.1:7000 and B 10.0.0.2:7000; the cluster is c1. A history is A's at generation 9. That of the examples has
 //! two records: caller 1 sets key 1 to NORMAL, and then caller 2 beats.
 
-use cg_events::{Event, Reply};
+use cg_core::{Event, Reply};
 use cg_exchange::syn;
 use cg_expect::expect_eq;
 use cg_history::{History, Item, Receipt};

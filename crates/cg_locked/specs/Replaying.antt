@@ -4,8 +4,8 @@ use Rattle.std.specs.Coded.{Coded-set, coded×, ×_prop}
 use mathlib.Core.Path.{sym, ap, ◌∙◌, subst⁻¹, subst⁻¹_refl, path_j'}
 use mathlib.Core.HLevel.{⊥_prop, Σ_prop_path}
 use Rattle.cg_types.specs.declared.fault.Fault.{Fault}
-use Rattle.cg_events.specs.declared.reply.Reply.{Reply}
-use Rattle.cg_events.specs.EventCodes.{reply_code}
+use Rattle.cg_core.specs.declared.reply.Reply.{Reply}
+use Rattle.cg_core.specs.EventCodes.{reply_code}
 use Rattle.cg_core.specs.Values.{NodeValue, node_code}
 use Rattle.cg_core.specs.Step.{node_step}
 use Rattle.cg_records.specs.declared.item.Item.{Item}

@@ -1,7 +1,6 @@
 //! The board: the data under the lock.
 
-ghost use Rattle.std.specs.Prelude.{◌≡◌, ◌+◌, ◌++◌, ◌<◌, ◌≤◌, true, false, [], length, take, IfOk, IfSome};
-ghost use Rattle.std.specs.Prelude.{IsOk, MatchOption, OnOk, OnErr};
+ghost use Rattle.std.specs.Prelude.{◌≡◌, ◌+◌, ◌++◌, ◌<◌, ◌≤◌, true, false, [], length, take, IfOk, IfSome, IsOk, MatchOption, OnOk, OnErr};
 ghost use Rattle.std.specs.Coded.{Coded-set, coded_ℕ, ×_prop, →_prop, le_prop};
 ghost use mathlib.Core.List.{IsPrefix};
 ghost use Rattle.cg_table.specs.Values.{table_code};
@@ -18,7 +17,7 @@ ghost use Rattle.cg_locked.specs.Entry.{IsEntry, ShowsChange};
 use crate::log::Log;
 use crate::name::Name;
 use crate::seat::Seat;
-use cg_events::Event;
+use cg_core::Event;
 use cg_history::History;
 use cg_records::Receipt;
 use cg_table::Puts;

@@ -1,7 +1,6 @@
 //! The board behind its lock.
 
-ghost use Rattle.std.specs.Prelude.{◌≡◌, ◌+◌, ◌<◌, ◌≤◌, false, List, [], map, vec_len, vec_capacity, IfOk, IfSome};
-ghost use Rattle.std.specs.Prelude.{OnOk, OnErr, MatchResult};
+ghost use Rattle.std.specs.Prelude.{◌≡◌, ◌+◌, ◌<◌, ◌≤◌, false, List, [], map, vec_len, vec_capacity, IfOk, IfSome, OnOk, OnErr, MatchResult};
 ghost use Rattle.std.specs.List.{All, sum_by};
 ghost use mathlib.Core.List.{IsPrefix};
 ghost use Rattle.cg_records.specs.declared.item.Item.{Item};
@@ -16,7 +15,7 @@ use crate::limits::SEAT_LIMIT;
 use crate::log::{Log, OpenedLog};
 use crate::name::Name;
 use crate::seat::Seat;
-use cg_events::Event;
+use cg_core::Event;
 use cg_history::History;
 use cg_records::Receipt;
 use cg_types::Fault;

@@ -4,8 +4,8 @@ ghost use Rattle.std.specs.Prelude.{◌≡◌, [], IfOk};
 
 use crate::counts::Counts;
 use anyhow::{Context, Result};
+use cg_core::Event;
 use cg_entry::{Delta, State};
-use cg_events::Event;
 use cg_history::History;
 use cg_messages::{Ack2, OwnerDelta};
 use cg_samples::{endpoint, generation, key, long_text, settings, version};

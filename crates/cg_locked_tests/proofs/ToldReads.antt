@@ -2,8 +2,8 @@
 use Rattle.std.proofs.Common.{◌≡◌, ℕ, true, Option, List, ◌++◌, ◌∙◌, sym, ap, subst, append_assoc}
 use Rattle.cg_table.specs.Values.{TableValue}
 use Rattle.cg_table.specs.Puts.{Put, with_puts, keep_order}
-use Rattle.cg_events.specs.declared.reply.Reply.{Reply}
-use Rattle.cg_events.specs.declared.reply.Reply.TheVariants as reply
+use Rattle.cg_core.specs.declared.reply.Reply.{Reply}
+use Rattle.cg_core.specs.declared.reply.Reply.TheVariants as reply
 use Rattle.cg_views.specs.Lists.{StartsWith}
 use Rattle.cg_views.specs.Reading.{OwnHasFrom}
 use Rattle.cg_locked.specs.Entry.{ShowsState}

@@ -3,7 +3,7 @@
 ghost use Rattle.std.specs.Prelude.{◌≡◌, true, []};
 
 use crate::history::{counted, new_history};
-use cg_events::Event;
+use cg_core::Event;
 use cg_expect::expect_eq;
 use cg_history::History;
 use cg_locked::{Board, Fresh, Name, Seat, Shared};

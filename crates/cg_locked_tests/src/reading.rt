@@ -2,11 +2,11 @@
 
 ghost use Rattle.std.specs.Prelude.{◌≡◌, ℕ, List, IfOk, IfSome};
 ghost use Rattle.cg_table.specs.Puts.{Put};
-ghost use Rattle.cg_events.specs.declared.reply.Reply.{Reply as ReplyValue};
+ghost use Rattle.cg_core.specs.declared.reply.Reply.{Reply as ReplyValue};
 ghost use Rattle.cg_views.specs.Reading.{OwnHasFrom};
 ghost use Rattle.cg_locked.specs.Entry.{ShowsChange, ShowsState};
 
-use cg_events::{Event, Reply};
+use cg_core::{Event, Reply};
 use cg_locked::{Name, Seat, Shared};
 use cg_records::Receipt;
 use cg_types::{Fault, StateKey, StateText, Version};

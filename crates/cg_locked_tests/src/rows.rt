@@ -6,7 +6,7 @@ ghost use Rattle.std.specs.List.{sum_by};
 
 use crate::history::{counted, new_history};
 use crate::reading::{Read, change_and_read};
-use cg_events::Event;
+use cg_core::Event;
 use cg_expect::expect_eq;
 use cg_history::History;
 use cg_locked::{Board, Fresh, Name, Seat, Shared, Unconfirmed};

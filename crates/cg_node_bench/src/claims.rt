@@ -1,8 +1,7 @@
 //! Nodes whose owners claim tokens, and the events that change the claims.
 
 use crate::nodes::{after, brings_one, set, started};
-use cg_core::Node;
-use cg_events::Event;
+use cg_core::{Event, Node};
 use cg_measure::{Failure, claiming, leaving, tokens_text};
 use cg_messages::{Ack, OwnerDelta};
 use cg_samples::endpoint;

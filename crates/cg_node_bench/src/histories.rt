@@ -1,8 +1,7 @@
 //! Stored histories: records made, beside the steps of the node alone, and receipts confirmed.
 
 use crate::nodes::{after, begun, heartbeat, others, started};
-use cg_core::Node;
-use cg_events::{Event, Reply};
+use cg_core::{Event, Node, Reply};
 use cg_history::History;
 use cg_measure::{Failure, Shape};
 use cg_records::Receipt;

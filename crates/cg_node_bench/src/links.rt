@@ -2,9 +2,8 @@
 
 use crate::nodes::{after, joined, started};
 use bytes::Bytes;
-use cg_core::Node;
+use cg_core::{Event, Node, Reply};
 use cg_engine::{Ended, NodeGate, initiate, receive, respond};
-use cg_events::{Event, Reply};
 use cg_exchange::{answer_syn, syn};
 use cg_frames::encode;
 use cg_links::Counted;

@@ -1,8 +1,7 @@
 //! Nodes, and the events that they are given.
 
-use cg_core::Node;
+use cg_core::{Event, Node};
 use cg_entry::Delta;
-use cg_events::Event;
 use cg_history::History;
 use cg_measure::{Failure, Held, Shape, bringing, table};
 use cg_messages::{Ack, Ack2, OwnerDelta};

@@ -9,8 +9,7 @@ use crate::nodes::{
 };
 use crate::scripts::{acted, actions_of, played, script_of};
 use bytes::Bytes;
-use cg_core::Node;
-use cg_events::Event;
+use cg_core::{Event, Node};
 use cg_frames::encode;
 use cg_history::History;
 use cg_measure::{Failure, Name, Shape, add_message, add_ring, add_table};

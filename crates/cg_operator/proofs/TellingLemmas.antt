@@ -1,9 +1,9 @@
 -- The answer to a change of a key, also where no memory is found for it.
 use Rattle.std.proofs.Common.{◌≡◌, ℕ, List, Option, Some, None, Result, Ok, Err, OnErr, refl, sym, subst}
 use Rattle.cg_table.specs.Puts.{Put}
-use Rattle.cg_events.specs.declared.reply.Reply.{Reply}
-use Rattle.cg_events.specs.declared.reply.Reply.TheVariants as reply
-use Rattle.cg_events.specs.Replies.{IsDone}
+use Rattle.cg_core.specs.declared.reply.Reply.{Reply}
+use Rattle.cg_core.specs.declared.reply.Reply.TheVariants as reply
+use Rattle.cg_core.specs.Replies.{IsDone}
 use Rattle.cg_views.specs.Lists.{StartsWith}
 use Rattle.cg_printed.specs.Printed.{version_line}
 use Rattle.cg_orders.specs.Shown.{unpublished_line}

@@ -3,17 +3,17 @@
 ghost use Rattle.std.specs.Prelude.{ℕ, ◌≡◌, ◌⊎◌, List, Some, None, Ok, Err, IfOk, IfErr, OnErr, MatchResult, option_map, string_bytes};
 ghost use Rattle.cg_types.specs.declared.fault.Fault.TheVariants as faults;
 ghost use Rattle.cg_table.specs.Puts.{with_puts};
-ghost use Rattle.cg_events.specs.declared.reply.Reply.{Reply as ReplyValue};
-ghost use Rattle.cg_events.specs.declared.reply.Reply.TheVariants as replies;
-ghost use Rattle.cg_events.specs.Replies.{IsDone, IsReplyTo};
+ghost use Rattle.cg_core.specs.declared.reply.Reply.{Reply as ReplyValue};
+ghost use Rattle.cg_core.specs.declared.reply.Reply.TheVariants as replies;
+ghost use Rattle.cg_core.specs.Replies.{IsDone, IsReplyTo};
 ghost use Rattle.cg_views.specs.Lists.{StartsWith};
 ghost use Rattle.cg_seats.specs.Seats.{last_reply};
 ghost use Rattle.cg_orders.specs.Shown.{table_lines};
 ghost use Rattle.cg_orders.specs.Commands.{command_in};
 ghost use Rattle.cg_operator.specs.Doing.{TellsChange, Changes, ChangeRunsOut, AnswersLine, Unanswered};
 
+use cg_core::{Event, Reply};
 use cg_engine::Gate;
-use cg_events::{Event, Reply};
 use cg_locked::Name;
 use cg_orders::{OperatorCommand, add_unpublished, read_command, table_text};
 use cg_printed::add_version;

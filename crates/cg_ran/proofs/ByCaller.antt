@@ -4,7 +4,7 @@ use Rattle.std.specs.Prelude.{◌&&◌, ◌==◌, slice_get}
 use Rattle.std.proofs.lemmas.Option.{same_Some, slice_get_within}
 use Rattle.cg_types.specs.ListPlace.{at_place}
 use Rattle.cg_types.proofs.RisingLemmas.{first_of}
-use Rattle.cg_events.specs.declared.event.Event.{Event}
+use Rattle.cg_core.specs.declared.event.Event.{Event}
 use Rattle.cg_records.specs.declared.item.Item.{Item}
 use Rattle.cg_records.specs.declared.item.Receipt.{Receipt}
 use Rattle.cg_records.specs.Confirming.{IsOf, Stands, AreConfirmed}

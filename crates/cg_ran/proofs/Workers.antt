@@ -5,7 +5,7 @@ use Rattle.std.specs.List.{All, filter}
 use Rattle.std.proofs.lemmas.Option.{same_Some, slice_get_within, get_or_from_slice_get, slice_get-get_or}
 use Rattle.std.proofs.lemmas.List.{append-nil, map-append}
 use Rattle.std.proofs.lemmas.List.Elements.{All-append, All-weaker, All-head, All-tail, filter-append}
-use Rattle.cg_events.specs.declared.event.Event.{Event}
+use Rattle.cg_core.specs.declared.event.Event.{Event}
 use Rattle.cg_records.specs.declared.item.Item.{Item}
 use Rattle.cg_records.specs.declared.item.Receipt.{Receipt}
 use Rattle.cg_records.specs.declared.item.Stray.{Stray}

@@ -1,6 +1,6 @@
 -- The law of confirmed receipts, as a statement.
 use Rattle.std.specs.Prelude.{ℕ, ◌≡◌, Bool, List, length}
-use Rattle.cg_events.specs.declared.event.Event.{Event}
+use Rattle.cg_core.specs.declared.event.Event.{Event}
 use Rattle.cg_records.specs.declared.item.Item.{Item}
 use Rattle.cg_records.specs.declared.item.Receipt.{Receipt}
 use Rattle.cg_records.specs.Confirming.{AreConfirmed}

@@ -1,7 +1,7 @@
 -- Numbers of records and of receipts.
 use Rattle.std.specs.Prelude.{ℕ, suc, ◌==◌, Bool, ◌&&◌, List, [], ◌∷◌, map, if◌then◌else◌}
 use Rattle.std.specs.List.{filter}
-use Rattle.cg_events.specs.declared.event.Event.{Event}
+use Rattle.cg_core.specs.declared.event.Event.{Event}
 use Rattle.cg_records.specs.declared.item.Item.{Item}
 use Rattle.cg_records.specs.declared.item.Receipt.{Receipt}
 

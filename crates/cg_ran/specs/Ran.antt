@@ -3,7 +3,7 @@ use Rattle.std.specs.Prelude.{ℕ, ◌+◌, ◌≡◌, ◌⊎◌, Bool, true, fa
 use Rattle.std.specs.List.{All}
 use mathlib.Core.List.{IsPrefix}
 use Rattle.cg_types.specs.declared.fault.Fault.TheVariants as fault
-use Rattle.cg_events.specs.declared.event.Event.{Event}
+use Rattle.cg_core.specs.declared.event.Event.{Event}
 use Rattle.cg_core.specs.Values.{NodeValue}
 use Rattle.cg_records.specs.declared.item.Item.{Item}
 use Rattle.cg_records.specs.declared.item.Receipt.{Receipt}

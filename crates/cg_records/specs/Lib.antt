@@ -1,4 +1,4 @@
 pub mod Items
 pub mod Greatest
 pub mod Confirming
-pub use Rattle.cg_events.specs.Replies
+pub use Rattle.cg_core.specs.Replies

@@ -2,13 +2,13 @@
 
 ghost use Rattle.std.specs.Prelude.{◌≡◌, ◌-◌, ◌++◌, ◌∷◌, [], ℕ, List, IfErr, OnErr, OnOk, length, option_map, slice_get};
 ghost use Rattle.cg_types.specs.declared.fault.Fault.{Fault as FaultValue};
-ghost use Rattle.cg_events.specs.declared.event.Event.{Event as EventValue};
-ghost use Rattle.cg_events.specs.declared.reply.Reply.{Reply as ReplyValue};
-ghost use Rattle.cg_events.specs.Replies.{IsReplyTo};
+ghost use Rattle.cg_core.specs.declared.event.Event.{Event as EventValue};
+ghost use Rattle.cg_core.specs.declared.reply.Reply.{Reply as ReplyValue};
+ghost use Rattle.cg_core.specs.Replies.{IsReplyTo};
 ghost use Rattle.cg_records.specs.declared.item.Receipt.{Receipt as ReceiptValue};
 
 use crate::item::Receipt;
-use cg_events::Event;
+use cg_core::Event;
 use cg_types::Fault;
 use std::alloc::Global;
 

@@ -1,6 +1,6 @@
 //! Records, and their receipts.
 
-use cg_events::{Event, Reply};
+use cg_core::{Event, Reply};
 use cg_table::Puts;
 use cg_types::Fault;
 use thiserror::Error;

@@ -1,6 +1,6 @@
 //! The answers of calls, and their short texts.
 
-use cg_events::Reply;
+use cg_core::Reply;
 use cg_messages::Outcome;
 use cg_records::Receipt;
 use cg_types::{Endpoint, Fault};

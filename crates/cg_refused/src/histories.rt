@@ -4,7 +4,7 @@ use crate::answers::Answer;
 use crate::samples::{Kind, event, history, set, world};
 use crate::texts::add_history;
 use crate::trials::{Outcome, Seen, Trial, compared, tried};
-use cg_events::Event;
+use cg_core::Event;
 use cg_history::History;
 use cg_types::Fault;
 use std::alloc::Global;

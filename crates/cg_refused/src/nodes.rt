@@ -4,8 +4,7 @@ use crate::answers::Answer;
 use crate::samples::{Kind, event, full_node, node_in, world};
 use crate::texts::add_node;
 use crate::trials::{Outcome, Seen, Trial, compared, tried};
-use cg_core::Node;
-use cg_events::Event;
+use cg_core::{Event, Node};
 use cg_types::Fault;
 use std::alloc::Global;
 

@@ -2,9 +2,8 @@
 
 ghost use Rattle.std.specs.Prelude.{◌≡◌, [], IfOk};
 
-use cg_core::Node;
+use cg_core::{Event, Node};
 use cg_entry::Delta;
-use cg_events::Event;
 use cg_history::History;
 use cg_messages::{Ack2, Message, OwnerDelta};
 use cg_samples::{A, endpoint, generation, key, settings, version};

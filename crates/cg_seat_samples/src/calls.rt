@@ -3,8 +3,8 @@
 ghost use Rattle.std.specs.Prelude.{IfErr};
 ghost use Rattle.cg_seats.specs.Seats.{GoesOn, IsOperatorFault};
 
+use cg_core::{Event, Reply};
 use cg_engine::Gate;
-use cg_events::{Event, Reply};
 use cg_locked::Name;
 use cg_samples::key;
 use cg_seats::SeatGate;

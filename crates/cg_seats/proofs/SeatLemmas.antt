@@ -5,8 +5,8 @@ use Rattle.std.proofs.lemmas.List.Elements.{All-push}
 use Rattle.cg_types.specs.declared.fault.Fault.{Fault}
 use Rattle.cg_types.specs.declared.fault.Fault.TheVariants as fault
 use Rattle.cg_table.specs.Puts.{Put}
-use Rattle.cg_events.specs.declared.event.Event.{Event}
-use Rattle.cg_events.specs.declared.reply.Reply.{Reply}
+use Rattle.cg_core.specs.declared.event.Event.{Event}
+use Rattle.cg_core.specs.declared.reply.Reply.{Reply}
 use Rattle.cg_core.specs.Values.{NodeValue}
 use Rattle.cg_core.specs.Step.{Step, node_step}
 use Rattle.cg_records.specs.declared.item.Receipt.{Receipt}
@@ -18,7 +18,7 @@ use Rattle.cg_locked.specs.Seat.{SeatState}
 use Rattle.cg_locked.specs.Entry.{IsEntry, ShowsChange}
 use mathlib.Core.List.{IsPrefix}
 use Rattle.cg_locked.proofs.Confirming.{confirmed_stay, entries_are_confirmed}
-use Rattle.cg_events.specs.Replies.{IsReplyTo}
+use Rattle.cg_core.specs.Replies.{IsReplyTo}
 use Rattle.cg_engine.specs.Events.{IsGateFault}
 use Rattle.cg_engine.proofs.ReplyLemmas.{reply_kind, step_fault}
 use Rattle.cg_seats.specs.Seats.{SeatValue, AreOf, last_reply, IsReceiptOf, IsSeatOf, HasEntered, Enters}

@@ -5,8 +5,8 @@ use Rattle.std.specs.List.{All}
 use Rattle.cg_types.specs.declared.fault.Fault.{Fault}
 use Rattle.cg_types.specs.declared.fault.Fault.TheVariants as fault
 use Rattle.cg_table.specs.Puts.{Put, puts_code}
-use Rattle.cg_events.specs.declared.event.Event.{Event}
-use Rattle.cg_events.specs.declared.reply.Reply.{Reply}
+use Rattle.cg_core.specs.declared.event.Event.{Event}
+use Rattle.cg_core.specs.declared.reply.Reply.{Reply}
 use Rattle.cg_core.specs.Values.{NodeValue}
 use Rattle.cg_records.specs.declared.item.Receipt.{Receipt}
 use Rattle.cg_records.specs.declared.item.Item.{Item}

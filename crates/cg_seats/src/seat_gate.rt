@@ -4,8 +4,8 @@ ghost use Rattle.std.specs.Prelude.{◌≡◌, ◌++◌, [], None, length};
 ghost use Rattle.cg_records.specs.Confirming.{AreConfirmed};
 ghost use Rattle.cg_seats.specs.Seats.{AreOf, new_gate, with_told};
 
+use cg_core::{Event, Reply};
 use cg_engine::Gate;
-use cg_events::{Event, Reply};
 use cg_locked::{Name, Seat, Shared};
 use cg_records::{Enter, Receipt};
 use cg_types::Fault;

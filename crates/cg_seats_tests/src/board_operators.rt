@@ -2,8 +2,8 @@
 
 ghost use Rattle.cg_seats.specs.Seats.{GoesOn};
 
+use cg_core::Event;
 use cg_engine::Gate;
-use cg_events::Event;
 use cg_links::Counted;
 use cg_locked::Name;
 use cg_messages::Syn;

@@ -5,7 +5,7 @@ ghost use Rattle.cg_rounds.specs.Ends.{PutsWhere, TakesWhere};
 
 use crate::history::new_history;
 use cg_clock::Milliseconds;
-use cg_events::Event;
+use cg_core::Event;
 use cg_expect::expect_eq;
 use cg_history::History;
 use cg_left::SeatLeft;

@@ -7,8 +7,8 @@ use Rattle.cg_types.specs.Fault.{fault_text}
 use Rattle.cg_tokens.specs.Ring.{ring}
 use Rattle.cg_messages.specs.declared.message.Message.{Message}
 use Rattle.cg_messages.specs.Kind.{kind_of}
-use Rattle.cg_events.specs.declared.reply.Reply.{Reply}
-use Rattle.cg_events.specs.declared.reply.Reply.TheVariants.{Done, Round, Sent, Both, Took}
+use Rattle.cg_core.specs.declared.reply.Reply.{Reply}
+use Rattle.cg_core.specs.declared.reply.Reply.TheVariants.{Done, Round, Sent, Both, Took}
 use Rattle.cg_core.specs.Values.{NodeValue}
 use Rattle.cg_world.specs.declared.action.Action.{Action}
 use Rattle.cg_world.specs.World.{WorldValue, new_world, act}

@@ -5,8 +5,7 @@ ghost use Rattle.cg_steps.specs.Step.{message_of};
 ghost use Rattle.cg_messages.specs.Kind.{kind_of};
 ghost use Rattle.cg_sim.specs.Script.{reply_lines, sent_lines, answer_lines, shown_lines, node_lines};
 
-use cg_core::Node;
-use cg_events::Reply;
+use cg_core::{Node, Reply};
 use cg_messages::Kind;
 use cg_printed::{
     add_digests, add_gossipinfo, add_message, add_outcomes, add_replicas, add_ring, add_round,

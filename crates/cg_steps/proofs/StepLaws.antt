@@ -24,11 +24,11 @@ use Rattle.cg_exchange_laws.specs.PlaceMessages.{PlaceMessage, Syn, Ack, Ack2, a
 use Rattle.cg_exchange_laws.specs.Spelling.{outcome_about}
 use Rattle.cg_exchange_laws.specs.Laws.{Says, IsMoved, AckMoves, IsAnswered}
 use Rattle.cg_exchange_laws.proofs.MessageLaws.{syn_says_places, syn_is_answered, ack_is_taken, ack2_is_taken}
-use Rattle.cg_events.specs.declared.event.Event.TheVariants as event
-use Rattle.cg_events.specs.declared.reply.Reply.{Reply}
-use Rattle.cg_events.specs.declared.reply.Reply.TheVariants as reply
+use Rattle.cg_core.specs.declared.event.Event.TheVariants as event
+use Rattle.cg_core.specs.declared.reply.Reply.{Reply}
+use Rattle.cg_core.specs.declared.reply.Reply.TheVariants as reply
 use Rattle.cg_core.specs.Values.{NodeValue}
-use Rattle.cg_events.specs.Replies.{outcomes_in}
+use Rattle.cg_core.specs.Replies.{outcomes_in}
 use Rattle.cg_core.specs.Step.{then, with_table, next_of, beating, setting, removing, opening, round_of, after_taking, arrival_of, node_step}
 use Rattle.cg_core.proofs.StepLemmas.{removal_given}
 use Rattle.cg_places.specs.PlaceWorld.{PlaceWorld, Deliver, runs, with_entry, with_message, with_spans, last_entry, after_change, removable, after_opening, after_receipt, after_delivery, after_action}

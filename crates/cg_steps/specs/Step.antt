@@ -11,12 +11,12 @@ use Rattle.cg_exchange_laws.specs.Places.{took_for}
 use Rattle.cg_exchange_laws.specs.PlaceMessages.{PlaceMessage, Syn, Ack, Ack2}
 use Rattle.cg_exchange_laws.specs.Spelling.{outcome_about}
 use Rattle.cg_exchange_laws.specs.Laws.{Says}
-use Rattle.cg_events.specs.declared.event.Event.{Event}
-use Rattle.cg_events.specs.declared.event.Event.TheVariants as event
-use Rattle.cg_events.specs.declared.reply.Reply.{Reply}
+use Rattle.cg_core.specs.declared.event.Event.{Event}
+use Rattle.cg_core.specs.declared.event.Event.TheVariants as event
+use Rattle.cg_core.specs.declared.reply.Reply.{Reply}
 use Rattle.cg_core.specs.Values.{NodeValue}
-use Rattle.cg_events.specs.Replies.{outcomes_in}
-pub use Rattle.cg_events.specs.Sending.{message_of}
+use Rattle.cg_core.specs.Replies.{outcomes_in}
+pub use Rattle.cg_core.specs.Sending.{message_of}
 use Rattle.cg_core.specs.Step.{node_step}
 use Rattle.cg_places.specs.PlaceWorld.{PlaceWorld, PlaceAction, Start, Beat, Set, Remove, Opening, Tick, Deliver, runs, after_action}
 use Rattle.cg_places.specs.Laws.{IsWorld}

@@ -4,8 +4,7 @@ ghost use Rattle.std.specs.Prelude.{◌≡◌, [], IfSome};
 
 use crate::links::Standing;
 use cg_audit::{Lives, audit, endpoints_differ};
-use cg_core::Settings;
-use cg_events::{Event, Reply};
+use cg_core::{Event, Reply, Settings};
 use cg_history::History;
 use cg_rounds::generator;
 use cg_samples::{cluster, generation};

@@ -6,8 +6,8 @@ use Rattle.std.specs.List.{All}
 use Rattle.std.proofs.lemmas.List.Elements.{All-nil, All-cons, All-push, All-head, All-tail}
 use Rattle.rand_core.specs.Stream.{Stream}
 use Rattle.cg_types.specs.declared.fault.Fault.{Fault}
-use Rattle.cg_events.specs.declared.event.Event.{Event}
-use Rattle.cg_events.specs.declared.reply.Reply.{Reply}
+use Rattle.cg_core.specs.declared.event.Event.{Event}
+use Rattle.cg_core.specs.declared.reply.Reply.{Reply}
 use Rattle.cg_records.specs.declared.item.Receipt.{Receipt}
 use Rattle.cg_rounds.specs.declared.ends.Putting.{Putting}
 use Rattle.cg_rounds.specs.Ends.{put_by}

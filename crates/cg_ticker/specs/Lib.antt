@@ -1,5 +1,5 @@
 pub mod Ticks
 pub mod Laws
-pub use Rattle.cg_events.specs.Replies
+pub use Rattle.cg_core.specs.Replies
 pub use Rattle.cg_rounds.specs.Ends
 pub use Rattle.cg_rounds.specs.Words

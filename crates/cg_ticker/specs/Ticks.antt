@@ -3,10 +3,10 @@ use Rattle.std.specs.Prelude.{ℕ, suc, ◌≡◌, ◌≤◌, List, [], ◌∷�
 use Rattle.std.specs.List.{All}
 use Rattle.rand_core.specs.Stream.{Stream}
 use Rattle.cg_types.specs.declared.fault.Fault.{Fault}
-use Rattle.cg_events.specs.declared.event.Event.{Event}
-use Rattle.cg_events.specs.declared.event.Event.TheVariants as event
-use Rattle.cg_events.specs.declared.reply.Reply.{Reply}
-use Rattle.cg_events.specs.declared.reply.Reply.TheVariants as reply
+use Rattle.cg_core.specs.declared.event.Event.{Event}
+use Rattle.cg_core.specs.declared.event.Event.TheVariants as event
+use Rattle.cg_core.specs.declared.reply.Reply.{Reply}
+use Rattle.cg_core.specs.declared.reply.Reply.TheVariants as reply
 use Rattle.cg_records.specs.declared.item.Receipt.{Receipt}
 use Rattle.cg_rounds.specs.declared.round.Round.{Round}
 use Rattle.cg_rounds.specs.declared.ends.Putting.{Putting}

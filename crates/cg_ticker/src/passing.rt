@@ -1,13 +1,13 @@
 //! The round of a tick, on its way into the channel.
 
 ghost use Rattle.std.specs.Prelude.{◌≡◌, ◌∷◌, [], IfOk};
-ghost use Rattle.cg_events.specs.Replies.{IsRound};
+ghost use Rattle.cg_core.specs.Replies.{IsRound};
 ghost use Rattle.cg_rounds.specs.Ends.{PutsWhere};
 ghost use Rattle.cg_ticker.specs.Ticks.{IsPassedOn, round_in};
 
 use crate::ticked::Stop;
 use crate::ticking::Turn;
-use cg_events::Reply;
+use cg_core::Reply;
 use cg_records::Receipt;
 use cg_rounds::{Putting, Round};
 use std::alloc::{AllocError, Global};

@@ -1,7 +1,7 @@
 //! The ticks of a node, one after the other.
 
 ghost use Rattle.std.specs.Prelude.{◌≡◌, ℕ};
-ghost use Rattle.cg_events.specs.declared.event.Event.TheVariants as events;
+ghost use Rattle.cg_core.specs.declared.event.Event.TheVariants as events;
 ghost use Rattle.cg_rounds.specs.Words.{four_of};
 ghost use Rattle.cg_rounds.specs.Ends.{PutsWhere};
 ghost use Rattle.cg_ticker.specs.Ticks.{IsTurn, HasTurned, Ticks};
@@ -9,7 +9,7 @@ ghost use Rattle.cg_ticker.specs.Ticks.{IsTurn, HasTurned, Ticks};
 use crate::passing::pass_on;
 use crate::ticked::{Stop, Ticked};
 use cg_clock::Milliseconds;
-use cg_events::Event;
+use cg_core::Event;
 use cg_records::Enter;
 use cg_rounds::{Putting, next_words};
 use rand_core::Rng;

@@ -5,10 +5,10 @@ use Rattle.std.specs.List.{All}
 use Rattle.std.proofs.lemmas.List.Elements.{All-nil, All-cons, All-append, All-weaker, All-head, All-tail}
 use Rattle.cg_types.specs.declared.fault.Fault.{Fault}
 use Rattle.cg_messages.specs.declared.kind.Kind.TheVariants as kind
-use Rattle.cg_events.specs.declared.event.Event.{Event}
-use Rattle.cg_events.specs.declared.event.Event.TheVariants as event
-use Rattle.cg_events.specs.declared.reply.Reply.{Reply}
-use Rattle.cg_events.specs.declared.reply.Reply.TheVariants as reply
+use Rattle.cg_core.specs.declared.event.Event.{Event}
+use Rattle.cg_core.specs.declared.event.Event.TheVariants as event
+use Rattle.cg_core.specs.declared.reply.Reply.{Reply}
+use Rattle.cg_core.specs.declared.reply.Reply.TheVariants as reply
 use Rattle.cg_core.specs.Values.{NodeValue}
 use Rattle.cg_records.specs.declared.item.Receipt.{Receipt}
 use Rattle.cg_rounds.specs.declared.round.Round.{Round}

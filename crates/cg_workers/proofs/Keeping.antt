@@ -6,14 +6,14 @@ use Rattle.cg_messages.specs.declared.kind.Kind.TheVariants as kind
 use Rattle.cg_messages.specs.declared.message.Message.{Message}
 use Rattle.cg_messages.specs.declared.message.Message.TheVariants as messages
 use Rattle.cg_messages.specs.Values.{SynValue}
-use Rattle.cg_events.specs.declared.event.Event.{Event}
-use Rattle.cg_events.specs.declared.event.Event.TheVariants as event
-use Rattle.cg_events.specs.declared.reply.Reply.{Reply}
+use Rattle.cg_core.specs.declared.event.Event.{Event}
+use Rattle.cg_core.specs.declared.event.Event.TheVariants as event
+use Rattle.cg_core.specs.declared.reply.Reply.{Reply}
 use Rattle.cg_links.specs.declared.counted.Counted.{Counted}
 use Rattle.cg_engine.specs.declared.exchange.Ended.{Ended}
 use Rattle.cg_engine.specs.declared.exchange.Ended.TheVariants as ended
 use Rattle.cg_engine.specs.declared.exchange.Broken.{Broken}
-use Rattle.cg_events.specs.Replies.{IsReplyTo}
+use Rattle.cg_core.specs.Replies.{IsReplyTo}
 use Rattle.cg_engine.specs.Events.{event_due}
 use Rattle.cg_engine.specs.Exchanged.{Turn, AreTurns, Runs, Turned, Exchanges}
 use Rattle.cg_rounds.specs.declared.ends.Taking.{Taking}

@@ -1,8 +1,8 @@
 -- One connection more, and one round more.
 use Rattle.std.proofs.Common.{◌≡◌, ℕ, ◌+◌, List, [], ◌∷◌, ◌++◌, length-append, Option, Result, refl, ap, ◌∙◌, append_assoc}
 use Rattle.cg_types.specs.declared.fault.Fault.{Fault}
-use Rattle.cg_events.specs.declared.event.Event.{Event}
-use Rattle.cg_events.specs.declared.reply.Reply.{Reply}
+use Rattle.cg_core.specs.declared.event.Event.{Event}
+use Rattle.cg_core.specs.declared.reply.Reply.{Reply}
 use Rattle.cg_rounds.specs.declared.round.Round.{Round}
 use Rattle.cg_workers.specs.Workers.{numbers_of, Came, AllCame}
 use Rattle.cg_workers.proofs.EachLemmas.{each_more}

@@ -8,8 +8,8 @@ use Rattle.cg_messages.specs.declared.message.Message.TheVariants as messages
 use Rattle.cg_messages.specs.Values.{SynValue}
 use Rattle.cg_frames.specs.declared.layout.TheConstants.{WRITTEN}
 use Rattle.cg_frames.specs.Spelling.{frame}
-use Rattle.cg_events.specs.declared.event.Event.{Event}
-use Rattle.cg_events.specs.declared.reply.Reply.{Reply}
+use Rattle.cg_core.specs.declared.event.Event.{Event}
+use Rattle.cg_core.specs.declared.reply.Reply.{Reply}
 use Rattle.cg_links.specs.declared.counted.Counted.{Counted}
 use Rattle.cg_links.specs.Counted.{link_of, IsNew}
 use Rattle.cg_engine.specs.declared.exchange.Ended.{Ended}

@@ -29,9 +29,9 @@ use Rattle.cg_exchange_laws.specs.Places.{Ask}
 use Rattle.cg_exchange_laws.specs.PlaceMessages.{PlaceMessage, Syn, Ack, Ack2, AreSpans}
 use Rattle.cg_exchange_laws.specs.Laws.{IsMoved, AckMoves, IsAnswered}
 use Rattle.cg_exchange_laws.proofs.MessageLaws.{syn_is_answered, ack_is_taken, ack2_is_taken}
-use Rattle.cg_events.specs.declared.event.Event.{Event}
-use Rattle.cg_events.specs.declared.event.Event.TheVariants as event
-use Rattle.cg_events.specs.declared.reply.Reply.{Reply}
+use Rattle.cg_core.specs.declared.event.Event.{Event}
+use Rattle.cg_core.specs.declared.event.Event.TheVariants as event
+use Rattle.cg_core.specs.declared.reply.Reply.{Reply}
 use Rattle.cg_core.specs.Values.{NodeValue}
 use Rattle.cg_core.specs.Step.{Step, then, starting_node, next_of, node_step}
 use Rattle.cg_places.specs.PlaceWorld.{PlaceWorld, runs, with_start, may_start, last_entry, after_delivery, after_action}

@@ -9,5 +9,5 @@ pub mod Taken
 pub mod WorkedRuns
 pub use Rattle.cg_types.specs.Answer
 pub use Rattle.cg_entry.specs.History
-pub use Rattle.cg_events.specs.Borrowed
+pub use Rattle.cg_core.specs.Borrowed
 pub use Rattle.cg_core.specs.Step

@@ -8,11 +8,11 @@ use Rattle.cg_table.specs.Own.{own_entry}
 use Rattle.cg_messages.specs.declared.message.Message.TheVariants as message
 use Rattle.cg_messages.specs.Values.{AckValue, Ack2Value}
 use Rattle.cg_exchange.specs.Taking.{outcomes_of}
-use Rattle.cg_events.specs.declared.reply.Reply.{Reply}
-use Rattle.cg_events.specs.declared.reply.Reply.TheVariants as reply
+use Rattle.cg_core.specs.declared.reply.Reply.{Reply}
+use Rattle.cg_core.specs.declared.reply.Reply.TheVariants as reply
 use Rattle.cg_core.specs.SettingsValues.{SettingsValue}
 use Rattle.cg_core.specs.Values.{NodeValue}
-pub use Rattle.cg_events.specs.Replies.{outcomes_in}
+pub use Rattle.cg_core.specs.Replies.{outcomes_in}
 use Rattle.cg_silence.specs.Windows.{arrivals}
 use Rattle.cg_core.specs.Step.{next_of, beating, opening, round_of}
 use Rattle.cg_world.specs.World.{Action, Start, Local, Deliver, LocalEvent, Beat, Set, Remove, Tick, WorldValue, reply_to, acting, act, run}

@@ -11,8 +11,8 @@ use Rattle.cg_messages.specs.Members.{endpoints_of_deltas, endpoints_of_outcomes
 use Rattle.cg_exchange_laws.specs.Places.{took_for}
 use Rattle.cg_exchange_laws.specs.PlaceMessages.{PlaceMessage}
 use Rattle.cg_exchange_laws.specs.Spelling.{SpellsSpans, outcome_about}
-use Rattle.cg_events.specs.declared.reply.Reply.{Reply}
-use Rattle.cg_events.specs.Replies.{outcomes_in}
+use Rattle.cg_core.specs.declared.reply.Reply.{Reply}
+use Rattle.cg_core.specs.Replies.{outcomes_in}
 use Rattle.cg_core.specs.SettingsValues.{SettingsValue}
 pub use Rattle.cg_steps.specs.Step.{spans_in}
 use Rattle.cg_places.specs.PlaceWorld.{PlaceWorld, unless_gap}

@@ -16,7 +16,7 @@ use Rattle.cg_messages.specs.declared.message.Message.{Message}
 use Rattle.cg_messages.specs.declared.message.Message.TheVariants as message
 use Rattle.cg_messages.specs.declared.outcome.Outcome.{Outcome}
 use Rattle.cg_messages.specs.declared.owner_delta.OwnerDelta.{OwnerDelta}
-use Rattle.cg_events.specs.Replies.{outcomes_in}
+use Rattle.cg_core.specs.Replies.{outcomes_in}
 use Rattle.cg_core.specs.Values.{NodeValue}
 use Rattle.cg_world.specs.World.{Action, Start, Local, Deliver, LocalEvent, Beat, Set, Remove, Opening, Tick, WorldValue, reply_to, run_from}
 

@@ -1,10 +1,10 @@
 //! Actions on the nodes of a cluster.
 
 ghost use Rattle.std.specs.Prelude.{◌≡◌, IfOk};
-ghost use Rattle.cg_events.specs.Borrowed.{lent_event};
+ghost use Rattle.cg_core.specs.Borrowed.{lent_event};
 ghost use Rattle.cg_world.specs.World.{event_of, starts};
 
-use cg_events::LentEvent;
+use cg_core::LentEvent;
 use cg_types::{Endpoint, Generation, StateKey, StateText};
 use std::alloc::AllocError;
 

@@ -10,8 +10,7 @@ ghost use Rattle.cg_world.specs.World.{Start, Local, Deliver, new_world, act as 
 
 use crate::action::{Action, LocalEvent};
 use crate::world::Shown;
-use cg_core::{Node, Settings};
-use cg_events::{LentEvent, Reply};
+use cg_core::{LentEvent, Node, Reply, Settings};
 use cg_map::SharedMap;
 use cg_messages::Message;
 use cg_types::{Endpoint, Fault, Generation, MEMBER_LIMIT};

@@ -11,8 +11,7 @@ ghost use Rattle.cg_world.specs.Consistent.{IsConsistent, IsConsistentWorld};
 
 use crate::action::Action;
 use crate::nodes::Nodes;
-use cg_core::{Node, Settings};
-use cg_events::Reply;
+use cg_core::{Node, Reply, Settings};
 use cg_messages::Message;
 use cg_types::{Endpoint, Fault};
 use std::alloc::{AllocError, Global};

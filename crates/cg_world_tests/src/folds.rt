@@ -3,7 +3,7 @@
 //! A is 10.0.0.1:7000 at generation 9. It sets key 1 to NORMAL for caller 1, which is record 1 and version 2, and beats
 //! from then on.
 
-use cg_events::{Event, Reply};
+use cg_core::{Event, Reply};
 use cg_expect::expect_eq;
 use cg_history::{History, Receipt};
 use cg_samples::{A, endpoint, generation, key, settings, version};

@@ -4,8 +4,7 @@
 //! 1, version 4.
 
 use crate::scripts::{act_all, deliver, local, remove, set, set_status, start, world_of};
-use cg_core::Node;
-use cg_events::Reply;
+use cg_core::{Node, Reply};
 use cg_expect::expect_eq;
 use cg_messages::Message;
 use cg_samples::{A, B, endpoint, key, settings};

@@ -4,7 +4,7 @@
 
 use crate::audits::made::{begun, said};
 use cg_audit::{LifeItem, Lives, audit, endpoints_differ};
-use cg_events::{Event, Reply};
+use cg_core::{Event, Reply};
 use cg_expect::expect_eq;
 use cg_history::History;
 use cg_messages::{Message, Syn};

@@ -4,7 +4,7 @@
 
 use crate::audits::made::{begun, said};
 use cg_audit::Lives;
-use cg_events::Event;
+use cg_core::Event;
 use cg_expect::expect_eq;
 use cg_history::History;
 use cg_samples::{A, B, endpoint};

@@ -3,7 +3,7 @@
 ghost use Rattle.std.specs.Prelude.{◌≡◌};
 ghost use Rattle.cg_types.specs.Rising.{Rises};
 ghost use Rattle.cg_messages.specs.Members.{endpoints_of_deltas};
-ghost use Rattle.cg_events.specs.Handed.{deltas_in};
+ghost use Rattle.cg_core.specs.Handed.{deltas_in};
 
 use crate::event::Event;
 use cg_messages::OwnerDelta;

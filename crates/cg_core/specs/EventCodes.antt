@@ -6,12 +6,12 @@ use Rattle.cg_messages.specs.declared.message.Message.{Message}
 use Rattle.cg_messages.specs.declared.outcome.Outcome.{Outcome}
 use Rattle.cg_messages.specs.Values.{SynValue, AckValue, Ack2Value, syn_code, ack_code, ack2_code}
 use Rattle.cg_messages.specs.MessageCode.{message_code}
-use Rattle.cg_events.specs.declared.event.Event.{Event}
-use Rattle.cg_events.specs.declared.event.Event.TheVariants as event
-use Rattle.cg_events.specs.declared.reply.Reply.{Reply}
-use Rattle.cg_events.specs.declared.reply.Reply.TheVariants as reply
+use Rattle.cg_core.specs.declared.event.Event.{Event}
+use Rattle.cg_core.specs.declared.event.Event.TheVariants as event
+use Rattle.cg_core.specs.declared.reply.Reply.{Reply}
+use Rattle.cg_core.specs.declared.reply.Reply.TheVariants as reply
 use Rattle.cg_peers.specs.Codes.{peers_code}
-use Rattle.cg_events.specs.Codes.{outcomes_code}
+use Rattle.cg_core.specs.OutcomeCodes.{outcomes_code}
 
 -- ---- events
 

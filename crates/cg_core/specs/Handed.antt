@@ -1,8 +1,8 @@
 -- Deltas that come with an event.
 use Rattle.std.specs.Prelude.{List, []}
 use Rattle.cg_messages.specs.declared.owner_delta.OwnerDelta.{OwnerDelta}
-use Rattle.cg_events.specs.declared.event.Event.{Event}
-use Rattle.cg_events.specs.declared.event.Event.TheVariants as event
+use Rattle.cg_core.specs.declared.event.Event.{Event}
+use Rattle.cg_core.specs.declared.event.Event.TheVariants as event
 
 -- the deltas that an event brings a node
 abbrev pub deltas_in : Event → List OwnerDelta

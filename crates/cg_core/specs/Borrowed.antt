@@ -2,10 +2,10 @@
 use Rattle.std.specs.Prelude.{ℕ}
 use Rattle.cg_messages.specs.declared.message.Message.{Message}
 use Rattle.cg_messages.specs.declared.message.Message.TheVariants as message
-use Rattle.cg_events.specs.declared.event.Event.{Event}
-use Rattle.cg_events.specs.declared.event.Event.TheVariants as event
-use Rattle.cg_events.specs.declared.lent.LentEvent.{LentEvent}
-use Rattle.cg_events.specs.declared.lent.LentEvent.TheVariants as lent
+use Rattle.cg_core.specs.declared.event.Event.{Event}
+use Rattle.cg_core.specs.declared.event.Event.TheVariants as event
+use Rattle.cg_core.specs.declared.lent.LentEvent.{LentEvent}
+use Rattle.cg_core.specs.declared.lent.LentEvent.TheVariants as lent
 
 -- the event that is borrowed
 abbrev pub lent_event : LentEvent → Event

@@ -3,7 +3,7 @@
 ghost use Rattle.std.specs.Prelude.{◌≡◌};
 ghost use Rattle.std.specs.Option.{option_map};
 ghost use Rattle.cg_messages.specs.Lent.{lent_message};
-ghost use Rattle.cg_events.specs.Sending.{message_of};
+ghost use Rattle.cg_core.specs.Sending.{message_of};
 
 use crate::reply::Reply;
 use cg_messages::{Lent, Message};

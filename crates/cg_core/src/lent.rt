@@ -2,7 +2,7 @@
 
 ghost use Rattle.std.specs.Prelude.{◌≡◌};
 ghost use Rattle.cg_messages.specs.Lent.{lent_message};
-ghost use Rattle.cg_events.specs.Borrowed.{arrival_of, lent_event};
+ghost use Rattle.cg_core.specs.Borrowed.{arrival_of, lent_event};
 
 use crate::event::Event;
 use cg_messages::{Ack, Ack2, Lent, Syn};
