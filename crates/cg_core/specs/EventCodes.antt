@@ -10,7 +10,7 @@ use Rattle.cg_core.specs.declared.event.Event.{Event}
 use Rattle.cg_core.specs.declared.event.Event.TheVariants as event
 use Rattle.cg_core.specs.declared.reply.Reply.{Reply}
 use Rattle.cg_core.specs.declared.reply.Reply.TheVariants as reply
-use Rattle.cg_peers.specs.Codes.{peers_code}
+use Rattle.cg_core.specs.PeerCodes.{peers_code}
 use Rattle.cg_core.specs.OutcomeCodes.{outcomes_code}
 
 -- ---- events

@@ -1,3 +1,5 @@
+pub mod PeerCodes
+pub mod Round
 pub mod OutcomeCodes
 pub mod EventCodes
 pub mod Handed

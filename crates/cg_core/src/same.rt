@@ -3,8 +3,8 @@
 ghost use Rattle.std.specs.Prelude.{◌≡◌, ◌↔◌, IsTrue};
 
 use crate::outcomes::Outcomes;
+use crate::peers::Peers;
 use cg_messages::{Ack, Ack2, Message, Syn};
-use cg_peers::Peers;
 use cg_types::StateText;
 
 pub(crate) fn same_text(one: &StateText, other: &StateText) -> bool

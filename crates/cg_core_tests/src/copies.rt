@@ -1,11 +1,10 @@
 //! Copies of events, replies, outcomes and peers, and their comparison by `==`.
 
 use crate::samples::{ack_event, comes, node, set_event, syn_event};
-use cg_core::{Event, Outcomes, Reply};
+use cg_core::{Event, Outcomes, Peers, Reply};
 use cg_entry::Took;
 use cg_expect::{expect, expect_eq};
 use cg_messages::Outcome;
-use cg_peers::Peers;
 use cg_samples::{A, B, endpoint, version};
 use std::alloc::{AllocError, Global};
 use std::test::Fail;

@@ -1,9 +1,9 @@
 //! Parts of a node by themselves: windows, and the choice of a round's peers.
 
+use cg_core::choose_peers;
 use cg_entry::Took;
 use cg_expect::{expect, expect_eq};
 use cg_messages::Outcome;
-use cg_peers::choose_peers;
 use cg_samples::{B, C, endpoint};
 use cg_silence::{Silence, Verdict, Windows, any_taken, was_taken};
 use std::alloc::Global;

@@ -1,7 +1,7 @@
 //! A round of a node.
 
+use cg_core::Peers;
 use cg_messages::Syn;
-use cg_peers::Peers;
 
 /// A round: its peers, the SYN for each of them, and the number of its record.
 #[derive(Debug, Drop)]

@@ -1,7 +1,7 @@
 //! Sample rounds with a number.
 
+use cg_core::Peers;
 use cg_messages::Syn;
-use cg_peers::Peers;
 use cg_rounds::Round;
 use cg_samples::{cluster, endpoint};
 use std::alloc::Global;

@@ -1,11 +1,11 @@
 //! Rounds that are sent: peers dialed, numbers returned, exchanges broken, and the end of the sender's work.
 
 use crate::samples::{ACK, SYN, Standing, owners, started};
+use cg_core::Peers;
 use cg_engine::{NodeGate, syn_due};
 use cg_expect::{expect, expect_eq};
 use cg_frames::decode;
 use cg_messages::Syn;
-use cg_peers::Peers;
 use cg_rounds::{Round, rounds};
 use cg_samples::{A, B, endpoint};
 use cg_types::{Endpoint, Fault};
