@@ -23,8 +23,8 @@ use Rattle.cg_core.specs.declared.reply.Reply.{Reply}
 use Rattle.cg_core.specs.Replies.{outcomes_in}
 use Rattle.cg_core.specs.Values.{NodeValue}
 use Rattle.cg_core.specs.Step.{node_step, starting_node}
-use Rattle.cg_core_laws.specs.Laws.{TableAfter}
-use Rattle.cg_core_laws.proofs.NodeLaws.{tables_go_by_their_rules, only_own_events_change_the_own_entry}
+use Rattle.cg_core.specs.Laws.{TableAfter}
+use Rattle.cg_core.proofs.NodeLaws.{tables_go_by_their_rules, only_own_events_change_the_own_entry}
 use Rattle.cg_places.specs.PlaceWorld.{PlaceWorld, PlaceAction, Start, put_at, runs, may_start, last_entry, with_start, after_action, after_actions}
 use Rattle.cg_places.specs.Laws.{IsWorld}
 use Rattle.cg_places.specs.Spelling.{SpellsNode, IsChangedAt}

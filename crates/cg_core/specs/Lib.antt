@@ -14,6 +14,8 @@ pub mod Claims
 pub mod Step
 pub mod Parts
 pub mod Changes
+pub mod Laws
+pub mod Arrivals
 pub use Rattle.cg_types.specs.Answer
 pub use Rattle.cg_types.specs.Equality
 pub use Rattle.cg_types.specs.ResultSteps

@@ -16,8 +16,8 @@ use Rattle.cg_core.specs.declared.reply.Reply.{Reply}
 use Rattle.cg_core.specs.declared.reply.Reply.TheVariants as reply
 use Rattle.cg_core.specs.Values.{NodeValue, IsSmall}
 use Rattle.cg_core.specs.Step.{node_step}
-use Rattle.cg_core_laws.specs.Laws.{PutsIts}
-use Rattle.cg_core_laws.proofs.NodeLaws.{sets_put_their_text, removals_put_their_tombstone}
+use Rattle.cg_core.specs.Laws.{PutsIts}
+use Rattle.cg_core.proofs.NodeLaws.{sets_put_their_text, removals_put_their_tombstone}
 use Rattle.cg_records.specs.declared.item.Item.{Item}
 use Rattle.cg_records.specs.declared.item.Receipt.{Receipt}
 use Rattle.cg_records.specs.Items.{puts_of}

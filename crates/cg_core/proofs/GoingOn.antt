@@ -17,7 +17,7 @@ use Rattle.cg_table.proofs.MergeLemmas.{get-merged, later_rise}
 use Rattle.cg_table.specs.Puts.{with_put, goes_on, is_in_order, keep_order}
 use Rattle.cg_core.proofs.OrderLemmas.{same_goes_on}
 use Rattle.cg_core.proofs.PutLemmas.{Moves}
-use Rattle.cg_core_laws.specs.Laws.{ArePuts}
+use Rattle.cg_core.specs.Laws.{ArePuts}
 
 -- Each entry moves, and the own one goes on.
 pub record GoesOn (before after : TableValue) : Type 0 where

@@ -24,8 +24,8 @@ use Rattle.cg_entry.specs.Entry.{removal_of}
 use Rattle.cg_table.specs.Own.{own_entry}
 use Rattle.cg_core.specs.Step.{starting_node, then, next_of, beating, setting, removing, opening, round_of, after_taking, node_step, node_left, after_event, after_events}
 use Rattle.cg_core.specs.Replies.{outcomes_in}
-use Rattle.cg_core_laws.specs.Arrivals.{outcomes_told, moment_of, moments_told, moments_taken, window_of}
-use Rattle.cg_core_laws.specs.Laws.{WindowsShowAllTaken}
+use Rattle.cg_core.specs.Arrivals.{outcomes_told, moment_of, moments_told, moments_taken, window_of}
+use Rattle.cg_core.specs.Laws.{WindowsShowAllTaken}
 use Rattle.cg_core.proofs.HearingLemmas.{other_arrival}
 
 module _ (s : SilenceValue) where

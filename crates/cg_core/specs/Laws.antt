@@ -20,7 +20,7 @@ use Rattle.cg_core.specs.SettingsValues.{SettingsValue}
 use Rattle.cg_core.specs.Values.{NodeValue, IsSmall, HearsOthersAlone}
 use Rattle.cg_core.specs.Step.{Leads, starting_node, after_events, replay}
 use Rattle.cg_core.specs.Changes.{changed_owners}
-use Rattle.cg_core_laws.specs.Arrivals.{moments_taken, window_of}
+use Rattle.cg_core.specs.Arrivals.{moments_taken, window_of}
 
 -- the table after deltas, if it had room for them
 pub record IsAfter (before : TableValue) (deltas : List OwnerDelta) (after : TableValue) : Type 0 where

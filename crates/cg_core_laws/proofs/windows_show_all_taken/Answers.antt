@@ -1,5 +1,0 @@
-use Rattle.cg_core_laws.proofs.ArrivalLemmas.{windows_show_all_taken}
-use Rattle.cg_core_laws.proofs.windows_show_all_taken.Goals as goal
-
-pub returns : goal.returns
-returns c = windows_show_all_taken
