@@ -14,10 +14,10 @@ use Rattle.cg_messages.specs.declared.message.Message.TheVariants as kinds
 use Rattle.cg_messages.specs.declared.outcome.Outcome.{Outcome}
 use Rattle.cg_messages.specs.declared.owner_delta.OwnerDelta.{OwnerDelta}
 use Rattle.cg_messages.specs.Members.{about}
-use Rattle.cg_exchange_laws.specs.Places.{took_for}
-use Rattle.cg_exchange_laws.specs.PlaceMessages.{PlaceMessage, Syn, Ack, Ack2, AreSpans}
-use Rattle.cg_exchange_laws.specs.Spelling.{SpellsSpans, delta_about, outcome_about}
-use Rattle.cg_exchange_laws.specs.Laws.{Says}
+use Rattle.cg_places.specs.Places.{took_for}
+use Rattle.cg_places.specs.PlaceMessages.{PlaceMessage, Syn, Ack, Ack2, AreSpans}
+use Rattle.cg_places.specs.MessageSpelling.{SpellsSpans, delta_about, outcome_about}
+use Rattle.cg_places.specs.MessageLaws.{Says}
 use Rattle.cg_core.specs.declared.event.Event.{Event}
 use Rattle.cg_core.specs.declared.event.Event.TheVariants as event
 use Rattle.cg_core.specs.declared.reply.Reply.{Reply}

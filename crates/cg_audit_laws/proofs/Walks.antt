@@ -15,8 +15,8 @@ use Rattle.cg_table.specs.Values.{TableValue}
 use Rattle.cg_table.specs.Own.{own_entry, with_own}
 use Rattle.cg_table.specs.Table.{lone_table}
 use Rattle.cg_messages.specs.declared.message.Message.{Message}
-use Rattle.cg_exchange_laws.specs.PlaceMessages.{PlaceMessage}
-use Rattle.cg_exchange_laws.specs.Spelling.{outcome_about}
+use Rattle.cg_places.specs.PlaceMessages.{PlaceMessage}
+use Rattle.cg_places.specs.MessageSpelling.{outcome_about}
 use Rattle.cg_core.specs.declared.event.Event.{Event}
 use Rattle.cg_core.specs.declared.event.Event.TheVariants as event
 use Rattle.cg_core.specs.declared.reply.Reply.{Reply}

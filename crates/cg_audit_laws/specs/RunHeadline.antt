@@ -9,7 +9,7 @@ use Rattle.cg_table.specs.Own.{own_entry}
 use Rattle.cg_table.specs.Table.{digests_of}
 use Rattle.cg_messages.specs.declared.outcome.Outcome.{Outcome}
 use Rattle.cg_messages.specs.declared.owner_delta.OwnerDelta.{OwnerDelta}
-use Rattle.cg_exchange_laws.specs.Spelling.{delta_about, outcome_about}
+use Rattle.cg_places.specs.MessageSpelling.{delta_about, outcome_about}
 use Rattle.cg_core.specs.declared.event.Event.{Event}
 use Rattle.cg_core.specs.Values.{NodeValue}
 use Rattle.cg_core.specs.Replies.{outcomes_in}

@@ -4,8 +4,8 @@ use Rattle.std.specs.Prelude.{◌==◌}
 use Rattle.cg_entry.specs.History.{at_place}
 use Rattle.cg_entry.specs.Place.{Span}
 use Rattle.cg_entry.proofs.PlaceLemmas.{at_place_last}
-use Rattle.cg_exchange_laws.specs.Places.{Ask, span_for, ask_for}
-use Rattle.cg_exchange_laws.specs.PlaceMessages.{PlaceMessage, Syn, Ack, Ack2, places_after, grants_at, AreSpans}
+use Rattle.cg_places.specs.Places.{Ask, span_for, ask_for}
+use Rattle.cg_places.specs.PlaceMessages.{PlaceMessage, Syn, Ack, Ack2, places_after, grants_at, AreSpans}
 use Rattle.cg_places.specs.PlaceWorld.{PlaceWorld, Opening, Deliver, runs, with_message, with_spans, after_receipt, after_action}
 use Rattle.cg_places.specs.Exchange.{PlaceExchange, by_places, after_opening, at_syn, after_syn, after_ack, after_exchange, NoStartsOf, NoStartsOfEither}
 use Rattle.cg_places.specs.Refusals.{refusal}

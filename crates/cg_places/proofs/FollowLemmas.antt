@@ -15,9 +15,9 @@ use Rattle.cg_entry.proofs.PlaceLemmas.{at_place_last}
 use Rattle.cg_table.specs.Values.{Entries}
 use Rattle.cg_table.specs.Table.{lone_table, digest_of}
 use Rattle.cg_table.specs.Spelling.{SpellsPlaces}
-use Rattle.cg_exchange_laws.specs.Places.{Ask, IsAsk}
-use Rattle.cg_exchange_laws.specs.PlaceMessages.{PlaceMessage, Stand, places_after}
-use Rattle.cg_exchange_laws.specs.Spelling.{request_of}
+use Rattle.cg_places.specs.Places.{Ask, IsAsk}
+use Rattle.cg_places.specs.PlaceMessages.{PlaceMessage, Stand, places_after}
+use Rattle.cg_places.specs.MessageSpelling.{request_of}
 use Rattle.cg_messages.specs.Members.{about}
 use Rattle.cg_places.specs.PlaceWorld.{PlaceWorld, world_after, put_at, grown, runs, with_start, with_entry, with_message, with_spans}
 use Rattle.cg_places.specs.Laws.{Continues}

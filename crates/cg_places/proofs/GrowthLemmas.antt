@@ -6,8 +6,8 @@ use Rattle.cg_entry.specs.History.{Follows, Starts, IsHistory, generation_at, ge
 use Rattle.cg_entry.specs.Place.{Span, IsSpan}
 use Rattle.cg_entry.proofs.HistoryLaws.{histories_grow}
 use Rattle.cg_entry.proofs.PlaceLemmas.{at_place-append, at_place_none}
-use Rattle.cg_exchange_laws.specs.Places.{Ask, IsAsk}
-use Rattle.cg_exchange_laws.specs.PlaceMessages.{PlaceMessage, Syn, Ack, Ack2, IsPlaceMessage}
+use Rattle.cg_places.specs.Places.{Ask, IsAsk}
+use Rattle.cg_places.specs.PlaceMessages.{PlaceMessage, Syn, Ack, Ack2, IsPlaceMessage}
 use Rattle.cg_places.specs.PlaceWorld.{last_entry, grown}
 use Rattle.cg_places.specs.Laws.{Continues}
 use Rattle.cg_places.proofs.PutLemmas.{length_push, put_at-each, put_at_here}

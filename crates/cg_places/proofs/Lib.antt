@@ -1,3 +1,8 @@
+pub mod MemberLemmas
+pub mod AnswerLaws
+pub mod TakingLaws
+pub mod PlaceRules
+pub mod MessageLaws
 pub mod PutLemmas
 pub mod KeptLemmas
 pub mod Stages

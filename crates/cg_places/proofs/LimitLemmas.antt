@@ -11,7 +11,7 @@ use Rattle.cg_entry.specs.Entry.{starting_entry, entry_after_beat, with_state, h
 use Rattle.cg_entry.specs.History.{at_place}
 use Rattle.cg_entry.specs.Place.{Span}
 use Rattle.cg_entry.proofs.HistoryLemmas.{newest_started, newest_beaten, newest_given}
-use Rattle.cg_exchange_laws.specs.PlaceMessages.{PlaceMessage}
+use Rattle.cg_places.specs.PlaceMessages.{PlaceMessage}
 use Rattle.cg_places.specs.PlaceWorld.{PlaceWorld, PlaceAction, Start, Beat, Set, Remove, Opening, Tick, Deliver, grown, nobody, runs, with_start, with_entry, with_message, with_spans, may_start, last_entry, after_action, after_actions, world_after}
 use Rattle.cg_places.specs.Refusals.{change_refusal, removal_refusal, start_refusal, refusal, AreDone}
 use Rattle.cg_places.specs.Laws.{IsWithinLimits}

@@ -6,7 +6,7 @@ use Rattle.cg_entry.specs.Values.{EntryValue}
 use Rattle.cg_entry.specs.Entry.{starting_entry, entry_after_beat, with_state}
 use Rattle.cg_entry.specs.History.{at_place}
 use Rattle.cg_entry.specs.Place.{Span}
-use Rattle.cg_exchange_laws.specs.PlaceMessages.{PlaceMessage}
+use Rattle.cg_places.specs.PlaceMessages.{PlaceMessage}
 use Rattle.cg_places.specs.PlaceWorld.{PlaceWorld, PlaceAction, Start, Beat, Set, Remove, Opening, Tick, Deliver, put_at, runs, with_start, with_entry, with_message, with_spans, after_action, after_actions}
 use Rattle.cg_places.specs.Exchange.{IsNoStartOf, NoStartsOf}
 use Rattle.cg_places.proofs.KeptLemmas.{IsKept, OwnPart, IsAfterOwn, own_part, action_kept}

@@ -16,7 +16,7 @@ use Rattle.cg_entry.specs.Place.{Span}
 use Rattle.cg_entry.proofs.PlaceLemmas.{at_place_within}
 use Rattle.cg_table.specs.Values.{Entries}
 use Rattle.cg_table.specs.Spelling.{SpellsPlaces}
-use Rattle.cg_exchange_laws.specs.PlaceMessages.{PlaceMessage}
+use Rattle.cg_places.specs.PlaceMessages.{PlaceMessage}
 use Rattle.cg_places.specs.PlaceWorld.{PlaceWorld, PlaceAction, grown, nobody, runs, with_start, with_entry, with_message, with_spans, last_entry, after_action, after_actions, world_after}
 use Rattle.cg_places.proofs.KeptLemmas.{IsKept, IsAfterOwn, own_part, action_kept}
 use Rattle.cg_places.proofs.PutLemmas.{put_at-each, test_same, test_other, same_number, length_push}

@@ -6,7 +6,7 @@ use Rattle.cg_entry.specs.Values.{EntryValue}
 use Rattle.cg_entry.specs.History.{IsHistory, generation_at}
 use Rattle.cg_entry.specs.Place.{Span}
 use Rattle.cg_entry.proofs.HistoryLemmas.{generation_rises}
-use Rattle.cg_exchange_laws.specs.Places.{Ask, within_generation, span_for, ask_for, span_asked, place_with}
+use Rattle.cg_places.specs.Places.{Ask, within_generation, span_for, ask_for, span_asked, place_with}
 use Rattle.cg_places.specs.Laws.{Continues}
 use Rattle.cg_places.proofs.GrowthLemmas.{same_generation}
 use Rattle.cg_places.proofs.StepLemmas.{place_with_rises, place_with_reaches}

@@ -18,10 +18,9 @@ use Rattle.cg_table.specs.Merge.{owners_together}
 use Rattle.cg_table.specs.Spelling.{SpellsPlaces}
 use Rattle.cg_table.proofs.RoomLemmas.{count_by-cons}
 use Rattle.cg_messages.specs.declared.owner_delta.OwnerDelta.{OwnerDelta}
-use Rattle.cg_messages.specs.Members.{endpoints_of_deltas}
-use Rattle.cg_exchange_laws.specs.PlaceMessages.{AreSpans}
-use Rattle.cg_exchange_laws.specs.Spelling.{SpellsSpans}
-use Rattle.cg_messages.specs.Members.{about}
+use Rattle.cg_messages.specs.Members.{endpoints_of_deltas, about}
+use Rattle.cg_places.specs.PlaceMessages.{AreSpans}
+use Rattle.cg_places.specs.MessageSpelling.{SpellsSpans}
 use Rattle.cg_exchange.specs.Taking.{held_after}
 use Rattle.cg_places.specs.PlaceWorld.{PlaceWorld, runs}
 use Rattle.cg_places.proofs.OwnerLemmas.{KnowsOwners, few_keys, keys_known, same_test, held_runs}

@@ -2,7 +2,7 @@
 use Rattle.std.proofs.Common.{◌≡◌, ℕ, ◌<◌, ◌≤◌, ◌⊎◌, inl, inr, List, [], ◌∷◌, ◌++◌, refl, arith, Bool, true, false, Option, Some, None, max}
 use Rattle.std.proofs.lemmas.Bool.Decides.{nat_tests}
 use Rattle.cg_entry.specs.Place.{Span, Taken, Old, Gap, span_outcome}
-use Rattle.cg_exchange_laws.specs.Places.{place_with}
+use Rattle.cg_places.specs.Places.{place_with}
 use Rattle.cg_places.specs.PlaceWorld.{taken_with}
 use Rattle.cg_places.specs.Join.{furthest, targets}
 

@@ -3,8 +3,8 @@ use Rattle.std.proofs.Common.{◌≡◌, ℕ, ◌≤◌, length, refl, ◌∙◌
 use Rattle.std.specs.Prelude.{◌==◌}
 use Rattle.cg_entry.specs.History.{at_place}
 use Rattle.cg_entry.specs.Place.{Span}
-use Rattle.cg_exchange_laws.specs.Places.{Ask}
-use Rattle.cg_exchange_laws.specs.PlaceMessages.{PlaceMessage, Syn, Ack, Ack2}
+use Rattle.cg_places.specs.Places.{Ask}
+use Rattle.cg_places.specs.PlaceMessages.{PlaceMessage, Syn, Ack, Ack2}
 use Rattle.cg_places.specs.PlaceWorld.{PlaceWorld, Opening, Deliver, runs, with_message, with_spans, after_action}
 use Rattle.cg_places.specs.Exchange.{PlaceExchange, prompt_place_exchange, by_places, after_opening, after_syn, after_ack, after_exchange, NoStartsOfEither}
 use Rattle.cg_places.specs.Laws.{BothRun, EndsAtTheJoin}

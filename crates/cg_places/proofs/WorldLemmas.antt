@@ -6,9 +6,9 @@ use Rattle.cg_entry.specs.Values.{EntryValue}
 use Rattle.cg_entry.specs.Entry.{starting_entry, entry_after_beat, with_state}
 use Rattle.cg_entry.specs.History.{IsHistory, Follows, Beats, Sets, Removes, at_place}
 use Rattle.cg_entry.specs.Place.{Span, IsSpan}
-use Rattle.cg_exchange_laws.specs.Places.{Ask, span_asked}
-use Rattle.cg_exchange_laws.specs.PlaceMessages.{PlaceMessage, Syn, Ack, Ack2, grants_at, IsPlaceMessage, AreAsks, AreSpans}
-use Rattle.cg_exchange_laws.proofs.PlaceRules.{rules_stand}
+use Rattle.cg_places.specs.Places.{Ask, span_asked}
+use Rattle.cg_places.specs.PlaceMessages.{PlaceMessage, Syn, Ack, Ack2, grants_at, IsPlaceMessage, AreAsks, AreSpans}
+use Rattle.cg_places.proofs.PlaceRules.{rules_stand}
 use Rattle.std.specs.Option.{option_and_then}
 use Rattle.cg_places.proofs.KeptLemmas.{removable_is}
 use Rattle.cg_places.specs.PlaceWorld.{PlaceWorld, PlaceAction, Start, Beat, Set, Remove, Opening, Tick, Deliver, grown, nobody, runs, with_start, with_entry, with_message, with_spans, may_start, last_entry, after_change, removable, after_opening, after_answer, after_receipt, after_delivery, after_action, after_actions, world_after}

@@ -5,7 +5,7 @@ use Rattle.cg_types.specs.declared.limits.TheConstants.{MEMBER_LIMIT, NUMBER_LIM
 use Rattle.cg_entry.specs.Values.{EntryValue}
 use Rattle.cg_entry.specs.Entry.{newest}
 use Rattle.cg_entry.specs.History.{IsHistory, at_place}
-use Rattle.cg_exchange_laws.specs.PlaceMessages.{PlaceMessage, Stand, IsPlaceMessage}
+use Rattle.cg_places.specs.PlaceMessages.{PlaceMessage, Stand, IsPlaceMessage}
 use Rattle.cg_places.specs.PlaceWorld.{nobody, PlaceAction, PlaceWorld, runs, world_after}
 use Rattle.cg_places.specs.Join.{join, Within, furthest, sources, SamePlaces}
 use Rattle.cg_places.specs.Exchange.{PlaceExchange, prompt_place_exchange, by_places, at_syn, after_exchange, actions_of, NoStartsOfEither}

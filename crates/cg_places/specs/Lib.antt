@@ -1,3 +1,7 @@
+pub mod Places
+pub mod PlaceMessages
+pub mod MessageSpelling
+pub mod MessageLaws
 pub mod PlaceWorld
 pub mod Join
 pub mod Exchange

@@ -6,8 +6,8 @@ use Rattle.cg_entry.specs.History.{at_place, generation_at}
 use Rattle.cg_entry.specs.Place.{Span}
 use Rattle.cg_entry.specs.declared.took.Took.{Took}
 use Rattle.cg_entry.specs.declared.took.Took.TheVariants as took
-use Rattle.cg_exchange_laws.specs.Places.{Ask, took_for}
-use Rattle.cg_exchange_laws.specs.PlaceMessages.{PlaceMessage, Syn, Ack, Ack2, answer_at, places_after, grants_at}
+use Rattle.cg_places.specs.Places.{Ask, took_for}
+use Rattle.cg_places.specs.PlaceMessages.{PlaceMessage, Syn, Ack, Ack2, answer_at, places_after, grants_at}
 
 -- Nodes and owners are numbers. A node is the owner of its own entry.
 pub data PlaceAction : Type 0 where

@@ -9,7 +9,7 @@ use Rattle.cg_version.specs.Version.{next_version}
 use Rattle.cg_entry.specs.Values.{EntryValue}
 use Rattle.cg_entry.specs.Entry.{newest, has_text}
 use Rattle.cg_entry.specs.History.{at_place}
-use Rattle.cg_exchange_laws.specs.PlaceMessages.{PlaceMessage}
+use Rattle.cg_places.specs.PlaceMessages.{PlaceMessage}
 use Rattle.cg_places.specs.PlaceWorld.{PlaceAction, Start, Beat, Set, Remove, Opening, Tick, Deliver, PlaceWorld, runs, may_start, last_entry, after_action}
 use Rattle.cg_places.specs.Exchange.{PlaceExchange, by_places, after_opening, after_syn, after_ack}
 

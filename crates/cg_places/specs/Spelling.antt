@@ -10,9 +10,9 @@ use Rattle.cg_table.specs.Table.{lone_table}
 use Rattle.cg_table.specs.Spelling.{SpellsPlaces}
 use Rattle.cg_messages.specs.declared.owner_delta.OwnerDelta.{OwnerDelta}
 use Rattle.cg_messages.specs.Values.{RequestValue}
-use Rattle.cg_exchange_laws.specs.Places.{Ask}
-use Rattle.cg_exchange_laws.specs.PlaceMessages.{PlaceMessage, Stand, AreAsks, AreSpans, places_after}
-use Rattle.cg_exchange_laws.specs.Spelling.{SpellsDigests, SpellsAsks, SpellsSpans}
+use Rattle.cg_places.specs.Places.{Ask}
+use Rattle.cg_places.specs.PlaceMessages.{PlaceMessage, Stand, AreAsks, AreSpans, places_after}
+use Rattle.cg_places.specs.MessageSpelling.{SpellsDigests, SpellsAsks, SpellsSpans}
 use Rattle.cg_places.specs.PlaceWorld.{PlaceAction, PlaceWorld, runs, world_after, with_start, with_entry, with_message, with_spans}
 use Rattle.cg_places.specs.Laws.{Continues}
 

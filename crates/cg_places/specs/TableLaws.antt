@@ -11,8 +11,8 @@ use Rattle.cg_table.specs.Merge.{merge_of, owners_together}
 use Rattle.cg_table.specs.Spelling.{SpellsPlaces}
 use Rattle.cg_messages.specs.declared.owner_delta.OwnerDelta.{OwnerDelta}
 use Rattle.cg_messages.specs.Members.{endpoints_of_deltas}
-use Rattle.cg_exchange_laws.specs.PlaceMessages.{AreSpans}
-use Rattle.cg_exchange_laws.specs.Spelling.{SpellsSpans}
+use Rattle.cg_places.specs.PlaceMessages.{AreSpans}
+use Rattle.cg_places.specs.MessageSpelling.{SpellsSpans}
 use Rattle.cg_exchange.specs.Taking.{held_after}
 use Rattle.cg_tokens.specs.Ring.{ring}
 use Rattle.cg_places.specs.PlaceWorld.{PlaceAction, PlaceWorld, world_after}

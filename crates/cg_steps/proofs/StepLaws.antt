@@ -19,11 +19,11 @@ use Rattle.cg_messages.specs.declared.outcome.Outcome.{Outcome}
 use Rattle.cg_messages.specs.Values.{SynValue, AckValue, Ack2Value}
 use Rattle.cg_exchange.specs.Answering.{same_cluster}
 use Rattle.cg_exchange.specs.Taking.{taking_ack, taking_ack2}
-use Rattle.cg_exchange_laws.specs.Places.{Ask, took_for}
-use Rattle.cg_exchange_laws.specs.PlaceMessages.{PlaceMessage, Syn, Ack, Ack2, answer_at, places_after, grants_at}
-use Rattle.cg_exchange_laws.specs.Spelling.{outcome_about}
-use Rattle.cg_exchange_laws.specs.Laws.{Says, IsMoved, AckMoves, IsAnswered}
-use Rattle.cg_exchange_laws.proofs.MessageLaws.{syn_says_places, syn_is_answered, ack_is_taken, ack2_is_taken}
+use Rattle.cg_places.specs.Places.{Ask, took_for}
+use Rattle.cg_places.specs.PlaceMessages.{PlaceMessage, Syn, Ack, Ack2, answer_at, places_after, grants_at}
+use Rattle.cg_places.specs.MessageSpelling.{outcome_about}
+use Rattle.cg_places.specs.MessageLaws.{Says, IsMoved, AckMoves, IsAnswered}
+use Rattle.cg_places.proofs.MessageLaws.{syn_says_places, syn_is_answered, ack_is_taken, ack2_is_taken}
 use Rattle.cg_core.specs.declared.event.Event.TheVariants as event
 use Rattle.cg_core.specs.declared.reply.Reply.{Reply}
 use Rattle.cg_core.specs.declared.reply.Reply.TheVariants as reply

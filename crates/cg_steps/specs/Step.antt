@@ -7,10 +7,10 @@ use Rattle.cg_entry.specs.History.{at_place}
 use Rattle.cg_entry.specs.Place.{Span}
 use Rattle.cg_messages.specs.declared.message.Message.{Message}
 use Rattle.cg_messages.specs.declared.message.Message.TheVariants as message
-use Rattle.cg_exchange_laws.specs.Places.{took_for}
-use Rattle.cg_exchange_laws.specs.PlaceMessages.{PlaceMessage, Syn, Ack, Ack2}
-use Rattle.cg_exchange_laws.specs.Spelling.{outcome_about}
-use Rattle.cg_exchange_laws.specs.Laws.{Says}
+use Rattle.cg_places.specs.Places.{took_for}
+use Rattle.cg_places.specs.PlaceMessages.{PlaceMessage, Syn, Ack, Ack2}
+use Rattle.cg_places.specs.MessageSpelling.{outcome_about}
+use Rattle.cg_places.specs.MessageLaws.{Says}
 use Rattle.cg_core.specs.declared.event.Event.{Event}
 use Rattle.cg_core.specs.declared.event.Event.TheVariants as event
 use Rattle.cg_core.specs.declared.reply.Reply.{Reply}

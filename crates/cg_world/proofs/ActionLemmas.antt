@@ -24,11 +24,11 @@ use Rattle.cg_messages.specs.Values.{SynValue, AckValue, Ack2Value}
 use Rattle.cg_exchange.specs.Answering.{same_cluster}
 use Rattle.cg_messages.specs.declared.outcome.Outcome.{Outcome}
 use Rattle.cg_exchange.specs.Taking.{table_after, outcomes_of, held_after, deltas_granted, taking_ack, taking_ack2}
-use Rattle.cg_exchange_laws.specs.Spelling.{SpellsSpans}
-use Rattle.cg_exchange_laws.specs.Places.{Ask}
-use Rattle.cg_exchange_laws.specs.PlaceMessages.{PlaceMessage, Syn, Ack, Ack2, AreSpans}
-use Rattle.cg_exchange_laws.specs.Laws.{IsMoved, AckMoves, IsAnswered}
-use Rattle.cg_exchange_laws.proofs.MessageLaws.{syn_is_answered, ack_is_taken, ack2_is_taken}
+use Rattle.cg_places.specs.MessageSpelling.{SpellsSpans}
+use Rattle.cg_places.specs.Places.{Ask}
+use Rattle.cg_places.specs.PlaceMessages.{PlaceMessage, Syn, Ack, Ack2, AreSpans}
+use Rattle.cg_places.specs.MessageLaws.{IsMoved, AckMoves, IsAnswered}
+use Rattle.cg_places.proofs.MessageLaws.{syn_is_answered, ack_is_taken, ack2_is_taken}
 use Rattle.cg_core.specs.declared.event.Event.{Event}
 use Rattle.cg_core.specs.declared.event.Event.TheVariants as event
 use Rattle.cg_core.specs.declared.reply.Reply.{Reply}

@@ -15,9 +15,9 @@ use Rattle.cg_messages.specs.declared.message.Message.{Message}
 use Rattle.cg_messages.specs.declared.outcome.Outcome.{Outcome}
 use Rattle.cg_messages.specs.declared.owner_delta.OwnerDelta.{OwnerDelta}
 use Rattle.cg_messages.specs.Members.{about}
-use Rattle.cg_exchange_laws.specs.PlaceMessages.{PlaceMessage, Syn, Ack, Ack2, IsPlaceMessage, AreSpans}
-use Rattle.cg_exchange_laws.specs.Places.{took_for, took_of_span}
-use Rattle.cg_exchange_laws.specs.Spelling.{delta_about, outcome_about}
+use Rattle.cg_places.specs.PlaceMessages.{PlaceMessage, Syn, Ack, Ack2, IsPlaceMessage, AreSpans}
+use Rattle.cg_places.specs.Places.{took_for, took_of_span}
+use Rattle.cg_places.specs.MessageSpelling.{delta_about, outcome_about}
 use Rattle.cg_core.specs.declared.reply.Reply.{Reply}
 use Rattle.cg_core.specs.SettingsValues.{SettingsValue}
 use Rattle.cg_core.specs.Values.{NodeValue}

@@ -6,7 +6,7 @@ use Rattle.cg_entry.specs.Values.{EntryValue}
 use Rattle.cg_types.specs.declared.fault.Fault.TheVariants.{NoSuchKey}
 use Rattle.cg_entry.specs.Entry.{starting_entry, entry_after_beat, with_state, has_text}
 use Rattle.cg_entry.specs.History.{at_place}
-use Rattle.cg_exchange_laws.specs.PlaceMessages.{PlaceMessage, Syn, Ack, Ack2}
+use Rattle.cg_places.specs.PlaceMessages.{PlaceMessage, Syn, Ack, Ack2}
 use Rattle.cg_core.specs.SettingsValues.{SettingsValue}
 use Rattle.cg_places.specs.PlaceWorld.{PlaceWorld, runs, grown, with_start, with_entry, with_message, with_spans, may_start, last_entry, after_change, removable, after_opening, after_receipt, after_delivery, after_action}
 use Rattle.cg_places.specs.Refusals.{change_refusal, removal_refusal, refusal}

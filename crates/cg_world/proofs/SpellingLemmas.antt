@@ -12,9 +12,9 @@ use Rattle.cg_entry.specs.History.{at_place}
 use Rattle.cg_table.specs.Values.{Entries}
 use Rattle.cg_messages.specs.declared.message.Message.{Message}
 use Rattle.cg_messages.specs.declared.message.Message.TheVariants as message
-use Rattle.cg_exchange_laws.specs.PlaceMessages.{PlaceMessage, Syn, Ack, Ack2}
-use Rattle.cg_exchange_laws.specs.Spelling.{SpellsMessage}
-use Rattle.cg_exchange_laws.specs.Laws.{Says}
+use Rattle.cg_places.specs.PlaceMessages.{PlaceMessage, Syn, Ack, Ack2}
+use Rattle.cg_places.specs.MessageSpelling.{SpellsMessage}
+use Rattle.cg_places.specs.MessageLaws.{Says}
 use Rattle.cg_core.specs.SettingsValues.{SettingsValue}
 use Rattle.cg_core.specs.Values.{NodeValue}
 use Rattle.cg_steps.specs.Step.{IsSent}

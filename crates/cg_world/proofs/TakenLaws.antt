@@ -19,10 +19,10 @@ use Rattle.cg_messages.specs.declared.outcome.Outcome.{Outcome}
 use Rattle.cg_messages.specs.Values.{SynValue, AckValue, Ack2Value}
 use Rattle.cg_messages.specs.Members.{endpoints_of_deltas, endpoints_of_outcomes}
 use Rattle.cg_exchange.specs.Taking.{table_after, outcomes_of, deltas_granted}
-use Rattle.cg_exchange_laws.specs.Places.{Ask, took_for}
-use Rattle.cg_exchange_laws.specs.PlaceMessages.{PlaceMessage, Syn, Ack, Ack2}
-use Rattle.cg_exchange_laws.specs.Spelling.{SpellsSpans, outcome_about}
-use Rattle.cg_exchange_laws.specs.Laws.{IsMoved}
+use Rattle.cg_places.specs.Places.{Ask, took_for}
+use Rattle.cg_places.specs.PlaceMessages.{PlaceMessage, Syn, Ack, Ack2}
+use Rattle.cg_places.specs.MessageSpelling.{SpellsSpans, outcome_about}
+use Rattle.cg_places.specs.MessageLaws.{IsMoved}
 use Rattle.cg_exchange.proofs.TakingLemmas.{outcomes_about, outcomes_rise}
 use Rattle.cg_core.specs.declared.event.Event.TheVariants as event
 use Rattle.cg_core.specs.declared.reply.Reply.{Reply}

@@ -4,7 +4,7 @@ use Rattle.cg_types.specs.declared.fault.Fault.{Fault}
 use Rattle.cg_entry.specs.Values.{EntryValue}
 use Rattle.cg_entry.specs.Entry.{starting_entry}
 use Rattle.cg_entry.specs.History.{at_place}
-use Rattle.cg_exchange_laws.specs.PlaceMessages.{PlaceMessage}
+use Rattle.cg_places.specs.PlaceMessages.{PlaceMessage}
 use Rattle.cg_core.specs.SettingsValues.{SettingsValue}
 use Rattle.cg_places.specs.PlaceWorld.{PlaceWorld, PlaceAction, nobody, grown, with_start, with_entry, with_message, with_spans, last_entry, after_action, after_actions}
 use Rattle.cg_places.specs.Refusals.{refusal, unless_refused}

@@ -8,9 +8,9 @@ use Rattle.cg_entry.specs.Place.{Span}
 use Rattle.cg_messages.specs.declared.message.Message.{Message}
 use Rattle.cg_messages.specs.declared.outcome.Outcome.{Outcome}
 use Rattle.cg_messages.specs.Members.{endpoints_of_deltas, endpoints_of_outcomes}
-use Rattle.cg_exchange_laws.specs.Places.{took_for}
-use Rattle.cg_exchange_laws.specs.PlaceMessages.{PlaceMessage}
-use Rattle.cg_exchange_laws.specs.Spelling.{SpellsSpans, outcome_about}
+use Rattle.cg_places.specs.Places.{took_for}
+use Rattle.cg_places.specs.PlaceMessages.{PlaceMessage}
+use Rattle.cg_places.specs.MessageSpelling.{SpellsSpans, outcome_about}
 use Rattle.cg_core.specs.declared.reply.Reply.{Reply}
 use Rattle.cg_core.specs.Replies.{outcomes_in}
 use Rattle.cg_core.specs.SettingsValues.{SettingsValue}

@@ -1,4 +1,0 @@
-pub mod Places
-pub mod PlaceMessages
-pub mod Spelling
-pub mod Laws

@@ -1,5 +1,0 @@
-use Rattle.cg_places.proofs.PlaceLaws.{done_actions_keep_limits}
-use Rattle.cg_places.proofs.done_actions_keep_limits.Goals as goal
-
-pub returns : goal.returns
-returns c = done_actions_keep_limits

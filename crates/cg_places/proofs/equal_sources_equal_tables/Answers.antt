@@ -1,5 +1,0 @@
-use Rattle.cg_places.proofs.TableLaws.{equal_sources_equal_tables}
-use Rattle.cg_places.proofs.equal_sources_equal_tables.Goals as goal
-
-pub returns : goal.returns
-returns c = equal_sources_equal_tables

@@ -1,5 +1,0 @@
-use Rattle.cg_places.proofs.PlaceLaws.{histories_continue}
-use Rattle.cg_places.proofs.histories_continue.Goals as goal
-
-pub returns : goal.returns
-returns c = histories_continue

@@ -1,0 +1,5 @@
+use Rattle.cg_places.proofs.TableLaws.{equal_digests_equal_tables}
+use Rattle.cg_places.proofs.laws.equal_digests_equal_tables.Goals as goal
+
+pub returns : goal.returns
+returns c = equal_digests_equal_tables

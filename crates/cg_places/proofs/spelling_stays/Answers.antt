@@ -1,5 +1,0 @@
-use Rattle.cg_places.proofs.FollowLemmas.{spelling_stays}
-use Rattle.cg_places.proofs.spelling_stays.Goals as goal
-
-pub returns : goal.returns
-returns c = spelling_stays

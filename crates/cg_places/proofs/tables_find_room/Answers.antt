@@ -1,5 +1,0 @@
-use Rattle.cg_places.proofs.TableLaws.{tables_find_room}
-use Rattle.cg_places.proofs.tables_find_room.Goals as goal
-
-pub returns : goal.returns
-returns c = tables_find_room

@@ -1,5 +1,0 @@
-use Rattle.cg_places.proofs.PlaceLaws.{undisturbed_exchanges_equal}
-use Rattle.cg_places.proofs.undisturbed_exchanges_equal.Goals as goal
-
-pub returns : goal.returns
-returns c = undisturbed_exchanges_equal

@@ -1,5 +1,0 @@
-use Rattle.cg_places.proofs.WorkedLemmas.{worked_places as worked}
-use Rattle.cg_places.proofs.worked_places.Goals as goal
-
-pub returns : goal.returns
-returns c = worked
