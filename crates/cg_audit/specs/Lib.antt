@@ -6,7 +6,7 @@ pub mod Audit
 pub mod Tracks
 pub use Rattle.cg_types.specs.Rising
 pub use Rattle.cg_messages.specs.Lent
-pub use Rattle.cg_steps.specs.Step
+pub use Rattle.cg_places.specs.Step
 pub use Rattle.cg_one_run.specs.Items
 pub use Rattle.cg_one_run.specs.Turns
 pub use Rattle.cg_sent.specs.Index

@@ -7,7 +7,7 @@ use Rattle.cg_types.specs.Text.{ClusterValue}
 use Rattle.cg_messages.specs.declared.message.Message.{Message}
 use Rattle.cg_places.specs.PlaceWorld.{PlaceWorld}
 use Rattle.cg_places.proofs.OnwardLemmas.{Keeps}
-use Rattle.cg_steps.specs.Step.{SaysSent, IsSentBefore}
+use Rattle.cg_places.specs.Step.{SaysSent, IsSentBefore}
 use Rattle.cg_world.proofs.SpellingLemmas.{says_on}
 use Rattle.cg_one_run.specs.Items.{RunItem}
 use Rattle.cg_one_run.specs.OneRun.{messages_of, WasSent}

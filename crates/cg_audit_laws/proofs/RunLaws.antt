@@ -24,7 +24,7 @@ use Rattle.cg_places.proofs.PutLemmas.{same_number}
 use Rattle.cg_places.proofs.WorldLemmas.{nobody_sound, places_join}
 use Rattle.cg_places.proofs.OwnerLemmas.{nobody_knows}
 use Rattle.cg_places.proofs.PlaceLaws.{world_is}
-use Rattle.cg_steps.proofs.StepLaws.{own_held}
+use Rattle.cg_places.proofs.StepLaws.{own_held}
 use Rattle.cg_world.specs.Terms.{AreEqual, Mark, mark_of, HasGreatest}
 use Rattle.cg_world.proofs.MarkLemmas.{mark_at, mark_here}
 use Rattle.cg_world.proofs.HeadlineLaws.{Each, each_all, HasEntries, marks_by_targets, targets_have, greatest_held, same_held}

@@ -15,8 +15,8 @@ use Rattle.cg_places.specs.Spelling.{StaySpelled}
 use Rattle.cg_places.proofs.GrowthLemmas.{AllContinue}
 use Rattle.cg_places.proofs.FollowLemmas.{spelling_stays}
 use Rattle.cg_places.proofs.OwnerLemmas.{last_entry_runs}
-use Rattle.cg_steps.specs.Step.{IsPlaced}
-use Rattle.cg_steps.proofs.StepLaws.{own_held}
+use Rattle.cg_places.specs.Step.{IsPlaced}
+use Rattle.cg_places.proofs.StepLaws.{own_held}
 use Rattle.cg_world.specs.Terms.{Mark}
 use Rattle.cg_world.proofs.HeadlineLaws.{Marked, marked_still}
 use Rattle.cg_records.specs.declared.item.Item.{Item}

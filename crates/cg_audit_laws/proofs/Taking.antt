@@ -28,7 +28,7 @@ use Rattle.cg_places.specs.Laws.{Continues}
 use Rattle.cg_places.proofs.PutLemmas.{same_number}
 use Rattle.cg_places.proofs.WorldLemmas.{IsSound}
 use Rattle.cg_places.proofs.ExchangeLemmas.{receives}
-use Rattle.cg_steps.specs.Step.{message_in, action_at, spans_in, span_handed, IsPlaced, SaysSent, IsSentBefore, IsStepAt}
+use Rattle.cg_places.specs.Step.{message_in, action_at, spans_in, span_handed, IsPlaced, SaysSent, IsSentBefore, IsStepAt}
 use Rattle.cg_world.specs.declared.action.Action.{Action}
 use Rattle.cg_world.specs.declared.action.Action.TheVariants.{Local, Deliver}
 use Rattle.cg_world.specs.declared.action.LocalEvent.TheVariants.{Beat, Set, Remove, Opening, Tick}

@@ -36,8 +36,8 @@ use Rattle.cg_places.proofs.OnwardLemmas.{Keeps, action_keeps}
 use Rattle.cg_places.proofs.ExchangeLemmas.{sent_last}
 use Rattle.cg_places.proofs.FollowLemmas.{start_changes, running_here}
 use Rattle.cg_places.proofs.PlaceLaws.{world_is}
-use Rattle.cg_steps.specs.Step.{message_in, message_of, action_at, span_handed, IsPlaced, SaysSent, IsSentBefore, SendsOne, Sends, IsStepAt}
-use Rattle.cg_steps.proofs.StepLaws.{own_held, steps_are_by_places}
+use Rattle.cg_places.specs.Step.{message_in, message_of, action_at, span_handed, IsPlaced, SaysSent, IsSentBefore, SendsOne, Sends, IsStepAt}
+use Rattle.cg_places.proofs.StepLaws.{own_held, steps_are_by_places}
 use Rattle.cg_world.specs.Terms.{is_gap, Mark, with_delta, LiesPast}
 use Rattle.cg_world.proofs.MarkLemmas.{AllSpans, marks_at}
 use Rattle.cg_world.proofs.TakenLaws.{start_forgets, start_leaves}

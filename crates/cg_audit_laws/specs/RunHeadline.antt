@@ -13,7 +13,7 @@ use Rattle.cg_places.specs.MessageSpelling.{delta_about, outcome_about}
 use Rattle.cg_core.specs.declared.event.Event.{Event}
 use Rattle.cg_core.specs.Values.{NodeValue}
 use Rattle.cg_core.specs.Replies.{outcomes_in}
-use Rattle.cg_steps.specs.Step.{message_in}
+use Rattle.cg_places.specs.Step.{message_in}
 use Rattle.cg_world.specs.Terms.{AreEqual, deltas_in, is_gap, Mark, mark_of, HasGreatest, LiesPast, with_delta}
 use Rattle.cg_records.specs.declared.item.Item.{Item}
 use Rattle.cg_history.specs.History.{HistoryValue, Replays}

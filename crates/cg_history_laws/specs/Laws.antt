@@ -8,7 +8,7 @@ use Rattle.cg_core.specs.Values.{NodeValue, IsSmall}
 use Rattle.cg_core.specs.Step.{node_step, replay}
 use Rattle.cg_places.specs.PlaceWorld.{PlaceWorld, after_action}
 use Rattle.cg_places.specs.Laws.{IsWorld}
-use Rattle.cg_steps.specs.Step.{message_in, action_at, span_handed, IsPlaced, IsSentBefore, IsStepAt}
+use Rattle.cg_places.specs.Step.{message_in, action_at, span_handed, IsPlaced, IsSentBefore, IsStepAt}
 use Rattle.cg_records.specs.declared.item.Item.{Item}
 use Rattle.cg_records.specs.declared.item.Receipt.{Receipt}
 use Rattle.cg_records.specs.Confirming.{AreConfirmed}

@@ -21,3 +21,4 @@ pub mod FollowLemmas
 pub mod PlaceLaws
 pub mod TableLaws
 pub mod WorkedLemmas
+pub mod StepLaws

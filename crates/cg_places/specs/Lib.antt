@@ -10,3 +10,4 @@ pub mod Laws
 pub mod Spelling
 pub mod TableLaws
 pub mod WorkedPlaces
+pub mod Step

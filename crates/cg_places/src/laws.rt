@@ -1,4 +1,4 @@
-//! Laws of places, and of messages that spell them, each the contract of an empty function.
+//! Laws of places, of messages that spell them, and of a node's step, each the contract of an empty function.
 
 ghost use Rattle.cg_places.specs.Laws.{
   ActionsMakeWorlds,
@@ -28,6 +28,7 @@ ghost use Rattle.cg_places.specs.MessageLaws.{
   SynIsAnswered,
   SynSaysPlaces,
 };
+ghost use Rattle.cg_places.specs.Step.{StepsAreByPlaces};
 
 /// Each owner's entries are a history, and each place and each message is in it. A node's place of its own entry is the
 /// newest, and the owners are those that started.
@@ -149,4 +150,12 @@ pub fn ack2_is_taken()
 /// The requests, spans and grants that the rules give by places lie in the owner's history.
 pub fn rules_stand()
     ensures { RulesStand }
+{}
+
+/// A node's step is its step by places, if its table spells its places and the message it is handed was sent. Both are
+/// of one world: the message says one that was sent there. The new table spells the node's places after the step. The
+/// message that it sends says the one that is sent by places, and the outcome of each delta is that of the span. The
+/// node has settings of its own, and there may be any number of endpoints.
+pub fn steps_are_by_places()
+    ensures { StepsAreByPlaces }
 {}

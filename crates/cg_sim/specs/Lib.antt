@@ -5,7 +5,7 @@ pub mod Simulated
 pub mod Runs
 pub use Rattle.cg_types.specs.Fault
 pub use Rattle.cg_messages.specs.Kind
-pub use Rattle.cg_steps.specs.Step
+pub use Rattle.cg_places.specs.Step
 pub use Rattle.cg_world.specs.Acting
 pub use Rattle.cg_world.specs.World
 pub use Rattle.cg_links.specs.Counted

@@ -12,7 +12,7 @@ use Rattle.cg_core.specs.declared.reply.Reply.TheVariants.{Done, Round, Sent, Bo
 use Rattle.cg_core.specs.Values.{NodeValue}
 use Rattle.cg_world.specs.declared.action.Action.{Action}
 use Rattle.cg_world.specs.World.{WorldValue, new_world, act}
-use Rattle.cg_steps.specs.Step.{message_of}
+use Rattle.cg_places.specs.Step.{message_of}
 use Rattle.cg_world.specs.declared.action.Action.TheVariants.{Start, Local, Deliver}
 use Rattle.cg_world.specs.Acting.{showing}
 use Rattle.cg_world.specs.declared.world.Shown.{Shown}

@@ -1,7 +1,7 @@
 //! The texts of actions, and of views of nodes.
 
 ghost use Rattle.std.specs.Prelude.{◌≡◌, ◌++◌, OnOk, string_bytes, option_map};
-ghost use Rattle.cg_steps.specs.Step.{message_of};
+ghost use Rattle.cg_places.specs.Step.{message_of};
 ghost use Rattle.cg_messages.specs.Kind.{kind_of};
 ghost use Rattle.cg_sim.specs.Script.{reply_lines, sent_lines, answer_lines, shown_lines, node_lines};
 

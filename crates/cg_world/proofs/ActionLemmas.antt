@@ -42,8 +42,8 @@ use Rattle.cg_places.proofs.PutLemmas.{test_same, same_number}
 use Rattle.cg_places.proofs.GrowthLemmas.{grown_continue}
 use Rattle.cg_places.proofs.RoomLemmas.{room_for_deltas}
 use Rattle.cg_places.proofs.FollowLemmas.{follow, replaced_spells}
-use Rattle.cg_steps.specs.Step.{message_in, message_of, action_at, span_handed, IsPlaced, IsSentBefore, IsSent, Sends, IsStepAt}
-use Rattle.cg_steps.proofs.StepLaws.{own_held as own_is_held, steps_are_by_places}
+use Rattle.cg_places.specs.Step.{message_in, message_of, action_at, span_handed, IsPlaced, IsSentBefore, IsSent, Sends, IsStepAt}
+use Rattle.cg_places.proofs.StepLaws.{own_held as own_is_held, steps_are_by_places}
 use Rattle.cg_world.specs.World.{LocalEvent, Beat, Set, Remove, Opening, Tick, Action, Start, Local, Deliver, WorldValue, tables_of, with_node, with_sent, after_step, step_of, step_at, generation_held, event_of, arrival_of, acting, plain_local, plain}
 use Rattle.cg_world.specs.Terms.{own_at}
 use Rattle.cg_world.specs.WorldLaws.{AllSent, IsNodeAt, SpellsWorld}

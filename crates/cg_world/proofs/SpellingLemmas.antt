@@ -17,7 +17,7 @@ use Rattle.cg_places.specs.MessageSpelling.{SpellsMessage}
 use Rattle.cg_places.specs.MessageLaws.{Says}
 use Rattle.cg_core.specs.SettingsValues.{SettingsValue}
 use Rattle.cg_core.specs.Values.{NodeValue}
-use Rattle.cg_steps.specs.Step.{IsSent}
+use Rattle.cg_places.specs.Step.{IsSent}
 use Rattle.cg_places.specs.PlaceWorld.{PlaceWorld, nobody}
 use Rattle.cg_places.specs.Spelling.{SpellsNodes, StaySpelled, IsReplaced}
 use Rattle.cg_places.specs.Laws.{IsWorld, IsWithinLimits}

@@ -35,7 +35,7 @@ use Rattle.cg_places.specs.PlaceWorld.{PlaceWorld, nobody, runs, with_start, wit
 use Rattle.cg_places.specs.PlaceWorld as places
 use Rattle.cg_places.specs.Refusals.{start_refusal, refusal, unless_refused}
 use Rattle.cg_world.specs.World.{LocalEvent, Beat, Set, Remove, Opening, Tick, Action, Start, Local, Deliver, WorldValue, arrival_of, reply_of, step_of, step_at, reply_to, acting, run, plain, place_world}
-use Rattle.cg_steps.specs.Step.{IsSent}
+use Rattle.cg_places.specs.Step.{IsSent}
 use Rattle.cg_world.specs.SingleActions.{outcomes_in}
 use Rattle.cg_world.specs.Terms.{deltas_in}
 use Rattle.cg_world.specs.Taken.{spans_in, with_outcome, taker, AreCounted, OutcomesTellWhatIsTaken}

@@ -14,7 +14,7 @@ use Rattle.cg_places.specs.MessageSpelling.{SpellsSpans, outcome_about}
 use Rattle.cg_core.specs.declared.reply.Reply.{Reply}
 use Rattle.cg_core.specs.Replies.{outcomes_in}
 use Rattle.cg_core.specs.SettingsValues.{SettingsValue}
-pub use Rattle.cg_steps.specs.Step.{spans_in}
+pub use Rattle.cg_places.specs.Step.{spans_in}
 use Rattle.cg_places.specs.PlaceWorld.{PlaceWorld, unless_gap}
 use Rattle.cg_world.specs.World.{Action, Start, Local, Deliver, WorldValue, reply_to, acting, run, place_world}
 use Rattle.cg_world.specs.Terms.{deltas_in}

@@ -19,7 +19,7 @@ use Rattle.cg_core.specs.SettingsValues.{SettingsValue, settings_code}
 use Rattle.cg_core.specs.Values.{NodeValue, node_code}
 use Rattle.cg_core.specs.Step.{Step, starting_node, node_step}
 pub use Rattle.cg_core.specs.Step.{arrival_of}
-pub use Rattle.cg_steps.specs.Step.{message_of}
+pub use Rattle.cg_places.specs.Step.{message_of}
 pub use Rattle.cg_world.specs.declared.action.Action.{Action}
 pub use Rattle.cg_world.specs.declared.action.Action.TheVariants.{Start, Local, Deliver}
 pub use Rattle.cg_world.specs.declared.action.LocalEvent.{LocalEvent}

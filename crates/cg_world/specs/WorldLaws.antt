@@ -13,7 +13,7 @@ use Rattle.cg_table.specs.Table.{digests_of}
 use Rattle.cg_table.specs.Merge.{merge_of}
 use Rattle.cg_messages.specs.declared.message.Message.{Message}
 use Rattle.cg_places.specs.PlaceMessages.{PlaceMessage}
-use Rattle.cg_steps.specs.Step.{IsSent}
+use Rattle.cg_places.specs.Step.{IsSent}
 use Rattle.cg_core.specs.SettingsValues.{SettingsValue}
 use Rattle.cg_core.specs.Values.{NodeValue}
 use Rattle.cg_places.specs.PlaceWorld.{PlaceWorld}

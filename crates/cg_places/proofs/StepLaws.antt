@@ -36,7 +36,7 @@ use Rattle.cg_places.specs.Laws.{IsWorld}
 use Rattle.cg_places.specs.Spelling.{IsChangedAt}
 use Rattle.cg_places.proofs.PutLemmas.{put_at_here}
 use Rattle.cg_places.proofs.FollowLemmas.{running_here, entry_changes, message_changes, spans_change}
-use Rattle.cg_steps.specs.Step.{message_of, IsPlaced, SaysSent, IsSent, spans_in, span_handed, IsStepAt, StepsAreByPlaces}
+use Rattle.cg_places.specs.Step.{message_of, IsPlaced, SaysSent, IsSent, spans_in, span_handed, IsStepAt, StepsAreByPlaces}
 
 -- the empty handover: no span about any owner
 abbrev no_spans : ℕ → Option Span
