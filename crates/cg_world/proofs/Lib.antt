@@ -10,3 +10,6 @@ pub mod MarkLemmas
 pub mod GapLaws
 pub mod OwnLaws
 pub mod HeadlineLaws
+mod ExchangeLaws
+mod MergingLemmas
+mod ExchangeCalls

@@ -1,5 +1,5 @@
 //! Laws of the nodes as they run, after every list of actions. Each is the contract of an empty function. Laws of the
-//! same actions by places are in `cg_places`, those of exchanges and merges in `cg_world_laws`.
+//! same actions by places are in `cg_places`, those of exchanges and merges of nodes in hand in `exchanges.rt` and `merging.rt`.
 
 ghost use Rattle.cg_world.specs.Headline.{HeadlineHolds};
 ghost use Rattle.cg_world.specs.WorldLaws.{
@@ -25,6 +25,12 @@ ghost use Rattle.cg_world.specs.SingleActions.{
 };
 ghost use Rattle.cg_world.specs.Taken.{OutcomesTellWhatIsTaken};
 ghost use Rattle.cg_world.specs.WorkedRuns.{WorkedRuns};
+ghost use Rattle.cg_world.specs.Exchange.{
+  ExchangesEndAtTheJoin,
+  ExchangesAreLists,
+  TickedExchangesFollowBeats,
+  UndisturbedExchangesMerge,
+};
 
 // ---- the headline
 
@@ -147,4 +153,31 @@ pub fn reached_worlds()
 /// the other's entry.
 pub fn worked_runs()
     ensures { WorkedRuns }
+{}
+
+/// An exchange between two nodes that run takes both tables to the merge of what the two held, or past it, unless one
+/// restarts meanwhile.
+///
+/// The merge is that of what the opener held when it opened and the answerer when it answered. One more merge with that
+/// changes neither table. Any other actions may come between its messages.
+pub fn exchanges_end_at_the_join()
+    ensures { ExchangesEndAtTheJoin }
+{}
+
+/// An exchange between two nodes that run leaves both with equal tables and rings if nothing is done between its
+/// messages.
+///
+/// Their table is the merge of the two that they held.
+pub fn undisturbed_exchanges_merge()
+    ensures { UndisturbedExchangesMerge }
+{}
+
+/// An exchange between nodes that run is the list of its actions.
+pub fn exchanges_are_lists()
+    ensures { ExchangesAreLists }
+{}
+
+/// An exchange whose SYN a tick sent is the exchange after a beat.
+pub fn ticked_exchanges_follow_beats()
+    ensures { TickedExchangesFollowBeats }
 {}

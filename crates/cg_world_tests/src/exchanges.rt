@@ -3,14 +3,13 @@
 ghost use Rattle.std.specs.Prelude.{◌≡◌, IsTrue};
 ghost use Rattle.std.specs.List.{list_any};
 ghost use Rattle.cg_world.specs.World.{starts};
-ghost use Rattle.cg_world_laws.specs.Exchange.{NeverStarts};
+ghost use Rattle.cg_world.specs.Exchange.{NeverStarts};
 
 use crate::scripts::{deliver, held_by, local, start, world_of};
 use cg_expect::expect_eq;
 use cg_samples::{A, B, endpoint};
 use cg_types::{Endpoint, Fault};
-use cg_world::{Action, LocalEvent, World};
-use cg_world_laws::exchange_reaches_join;
+use cg_world::{Action, LocalEvent, World, exchange_reaches_join};
 use std::alloc::Global;
 use std::test::Fail;
 

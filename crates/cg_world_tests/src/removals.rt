@@ -9,8 +9,7 @@ use cg_expect::expect_eq;
 use cg_messages::Message;
 use cg_samples::{A, B, endpoint, key, settings};
 use cg_types::Fault;
-use cg_world::{LocalEvent, Shown, World};
-use cg_world_laws::equal_digests;
+use cg_world::{LocalEvent, Shown, World, equal_digests};
 use std::alloc::Global;
 use std::test::Fail;
 

@@ -6,8 +6,7 @@ use cg_messages::Message;
 use cg_samples::{A, B, C, endpoint, settings};
 use cg_table::Table;
 use cg_types::{Endpoint, Fault};
-use cg_world::{Action, LocalEvent, Shown, World};
-use cg_world_laws::{equal_digests, merge_is_join};
+use cg_world::{Action, LocalEvent, Shown, World, equal_digests, merge_is_join};
 use std::alloc::Global;
 use std::test::Fail;
 

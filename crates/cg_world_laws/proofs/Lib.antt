@@ -1,3 +1,0 @@
-mod ExchangeLaws
-mod MergingLemmas
-mod ExchangeCalls

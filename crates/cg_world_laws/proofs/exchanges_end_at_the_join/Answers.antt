@@ -1,5 +1,0 @@
-use Rattle.cg_world_laws.proofs.ExchangeLaws.{exchanges_end_at_the_join}
-use Rattle.cg_world_laws.proofs.exchanges_end_at_the_join.Goals as goal
-
-pub returns : goal.returns
-returns c = exchanges_end_at_the_join

@@ -1,5 +1,0 @@
-use Rattle.cg_world_laws.proofs.ExchangeLaws.{ticked_exchanges_follow_beats}
-use Rattle.cg_world_laws.proofs.ticked_exchanges_follow_beats.Goals as goal
-
-pub returns : goal.returns
-returns c = ticked_exchanges_follow_beats
