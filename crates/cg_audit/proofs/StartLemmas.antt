@@ -2,7 +2,7 @@
 use Rattle.std.proofs.Common.{◌≡◌, ℕ, List, [], ◌∷◌, sym, ap, ◌∙◌}
 use Rattle.cg_core.specs.Values.{NodeValue}
 use Rattle.cg_core.proofs.NodeLaws.{only_own_events_change_the_own_entry}
-use Rattle.cg_records.specs.declared.item.Item.{Item}
+use Rattle.cg_history.specs.declared.item.Item.{Item}
 use Rattle.cg_history.specs.History.{HistoryValue, Replays, IsReplayed}
 use Rattle.cg_one_run.specs.Items.{IsLife}
 

@@ -8,8 +8,7 @@ ghost use Rattle.cg_audit.specs.Tracks.{IsHere, advanced as advanced_of, first_c
 
 use crate::lives::Lives;
 use crate::step::{Step, item_in};
-use cg_history::History;
-use cg_records::Item;
+use cg_history::{History, Item};
 use cg_types::Endpoint;
 use std::alloc::{AllocError, Global};
 

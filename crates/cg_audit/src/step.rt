@@ -10,9 +10,8 @@ ghost use Rattle.cg_audit.specs.Steps.{run_item};
 use crate::item::LifeItem;
 use crate::lives::generation;
 use cg_core::Event;
-use cg_history::History;
+use cg_history::{History, Item};
 use cg_messages::Lent;
-use cg_records::Item;
 use cg_types::{Endpoint, Generation};
 
 /// An item of a life, the message that it handles and the one that it sends.

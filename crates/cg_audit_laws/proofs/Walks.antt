@@ -43,7 +43,7 @@ use Rattle.cg_world.proofs.MarkLemmas.{AllSpans, marks_at}
 use Rattle.cg_world.proofs.TakenLaws.{start_forgets, start_leaves}
 use Rattle.cg_world.proofs.WholeEntries.{OldOrLast, action_old}
 use Rattle.cg_world.proofs.HeadlineLaws.{Marked}
-use Rattle.cg_records.specs.declared.item.Item.{Item}
+use Rattle.cg_history.specs.declared.item.Item.{Item}
 use Rattle.cg_history.specs.History.{record_of, HistoryValue, Replays}
 use Rattle.cg_history.proofs.Replaying.{base_is_start}
 use Rattle.cg_one_run.specs.Items.{RunItem, generation_of, start_item, item_of, items_of_lives}

@@ -3,7 +3,7 @@ use Rattle.std.specs.Prelude.{ℕ, suc, ◌≡◌, ◌⊎◌, ⊤, List, [], ◌
 use Rattle.cg_places.specs.PlaceWorld.{PlaceWorld, PlaceAction, Start, nobody, after_action, world_after}
 use Rattle.cg_places.specs.Laws.{IsWorld}
 use Rattle.cg_places.specs.Step.{message_in, action_at, IsPlaced, IsSentBefore}
-use Rattle.cg_records.specs.declared.item.Item.{Item}
+use Rattle.cg_history.specs.declared.item.Item.{Item}
 use Rattle.cg_history.specs.History.{HistoryValue}
 use Rattle.cg_one_run.specs.Items.{RunItem, LivesValue, AreLives, AreWhole, generation_of}
 use Rattle.cg_one_run.specs.OneRun.{IsOneRun}

@@ -9,8 +9,8 @@ use Rattle.cg_core.specs.declared.event.Event.{Event}
 use Rattle.cg_core.specs.declared.reply.Reply.{Reply}
 use Rattle.cg_core.specs.Values.{NodeValue}
 use Rattle.cg_core.specs.Step.{Step, node_step, node_left, after_event}
-use Rattle.cg_records.specs.declared.item.Item.{Item}
-use Rattle.cg_records.specs.declared.item.Receipt.{Receipt}
+use Rattle.cg_history.specs.declared.item.Item.{Item}
+use Rattle.cg_history.specs.declared.item.Receipt.{Receipt}
 use Rattle.cg_history.specs.History.{record_of, HistoryValue, Replays, IsReplayed, IsFoldOf, LAST_NUMBER, count_of, with_record, receipt_of, with_step, apply, node_after, with_folded, unfolded}
 
 -- ---- where records lead

@@ -3,12 +3,13 @@
 ghost use Rattle.std.specs.Prelude.{◌≡◌, ◌<◌, ◌≤◌, IfOk, IsOk, MatchResult, OnOk, OnErr, length, take};
 ghost use Rattle.cg_types.specs.Answer.{Answers};
 ghost use Rattle.cg_core.specs.Step.{after_event};
-ghost use Rattle.cg_records.specs.Confirming.{AreConfirmed, IsFirstStray};
+ghost use Rattle.cg_history.specs.Confirming.{AreConfirmed, IsFirstStray};
 ghost use Rattle.cg_history.specs.History.{IsReplayed, IsFoldOf, LAST_NUMBER, count_of, new_history, receipt_of, with_record, apply as apply_of, node_after, with_folded, unfolded};
 
+use crate::confirming::confirms;
+use crate::item::{Item, Receipt, Stray};
 use crate::log::Log;
 use cg_core::{Event, Node, Reply, Settings};
-use cg_records::{Item, Receipt, Stray, confirms};
 use cg_types::{Endpoint, Fault, Generation};
 use std::alloc::{AllocError, Global};
 use std::marker::Model;
@@ -230,7 +231,7 @@ impl History {
 
     /// Tests whether each receipt is in the history at its number, with its caller, event and reply, and numbers rise
     /// for each caller. If not, it returns the first receipt that does not pass: as `Folded` if its number is that of a
-    /// folded record, else as `Stranger`. It takes no memory; `confirms` of `cg_records`, which it calls, says how long
+    /// folded record, else as `Stranger`. It takes no memory; `confirms`, which it calls, says how long
     /// it takes.
     pub fn confirms(&self, receipts: &[Receipt]) -> Result<(), Stray>
         ensures { MatchResult result

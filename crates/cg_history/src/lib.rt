@@ -1,14 +1,20 @@
 //! A history: a node, and the records of all that it did since it started.
 //!
 //! Each record of a history replays: from the node before it, its event leads by one step to the node after it, with
-//! the record's reply. The record's puts are what the step changed in the table. The first records can be folded into
-//! the history's base: then the history keeps their number alone. `History::confirms` tests whether receipts are the
-//! history's own. Records, receipts and unconfirmed receipts are types of `cg_records`.
+//! the record's reply. The record's puts are what the step changed in the table. A receipt is what the caller keeps of its
+//! record; `History::confirms` tests whether receipts are the history's own. An `Enter` has events done, and keeps their
+//! receipts. The first records can be folded into the history's base: then the history keeps their number alone.
 #![tactic(auto)]
 
+mod confirming;
+mod enter;
+mod greatest;
 mod history;
+mod item;
 mod log;
 
-pub use cg_records::{Item, Receipt};
+pub use confirming::confirms;
+pub use enter::Enter;
 pub use history::History;
+pub use item::{Item, Receipt, Stray};
 pub use log::Log;

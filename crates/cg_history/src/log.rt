@@ -1,9 +1,9 @@
 //! A log that is told of each record before a history keeps it.
 
 ghost use Rattle.std.specs.Prelude.{◌≡◌, ◌++◌, ◌∷◌, [], List, MatchBool};
-ghost use Rattle.cg_records.specs.declared.item.Item.{Item as ItemValue};
+ghost use Rattle.cg_history.specs.declared.item.Item.{Item as ItemValue};
 
-use cg_records::Item;
+use crate::item::Item;
 
 /// A log of records, which is told of each one before a history keeps it.
 pub trait Log {

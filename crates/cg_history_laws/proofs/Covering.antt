@@ -8,9 +8,9 @@ use Rattle.std.proofs.lemmas.Option.{same_Some, slice_get_within}
 use Rattle.cg_types.specs.Rising.{is_among}
 use Rattle.cg_types.proofs.RisingLemmas.{both, first_of, second_of}
 use Rattle.cg_types.specs.ListPlace.{at_place}
-use Rattle.cg_records.specs.declared.item.Item.{Item}
-use Rattle.cg_records.specs.declared.item.Receipt.{Receipt}
-use Rattle.cg_records.specs.Confirming.{AreConfirmed}
+use Rattle.cg_history.specs.declared.item.Item.{Item}
+use Rattle.cg_history.specs.declared.item.Receipt.{Receipt}
+use Rattle.cg_history.specs.Confirming.{AreConfirmed}
 use Rattle.cg_history_laws.specs.Laws.{EachRecordHasItsReceipt, AllConfirmedAreKept}
 use Rattle.cg_history_laws.proofs.Receipts.{confirmed_stand_once}
 

@@ -9,10 +9,10 @@ use Rattle.cg_types.specs.ListPlace.{at_place}
 use Rattle.cg_table.specs.Puts.{puts}
 use Rattle.cg_core.specs.declared.event.Event.{Event}
 use Rattle.cg_core.specs.Step.{Step, node_step}
-use Rattle.cg_records.specs.declared.item.Item.{Item}
-use Rattle.cg_records.specs.declared.item.Receipt.{Receipt}
-use Rattle.cg_records.specs.Confirming.{Stands, ComesAfter, IsConfirmed, AreConfirmed}
-use Rattle.cg_records.proofs.Confirmed.{at_take, at_place_within, within_follows}
+use Rattle.cg_history.specs.declared.item.Item.{Item}
+use Rattle.cg_history.specs.declared.item.Receipt.{Receipt}
+use Rattle.cg_history.specs.Confirming.{Stands, ComesAfter, IsConfirmed, AreConfirmed}
+use Rattle.cg_history.proofs.Confirmed.{at_take, at_place_within, within_follows}
 use Rattle.cg_history.specs.History.{record_of, HistoryValue, IsFoldOf, LAST_NUMBER, count_of, with_record, with_step, apply, node_after, with_folded, unfolded}
 use Rattle.cg_history.proofs.Folding.{count_stays, folded_twice, fold_more, fold_folded, whole_done}
 use Rattle.cg_history_laws.specs.Laws.{with_answer_folded, uncounted, FoldingChangesNoAnswer, FoldsAddUp, ConfirmedPastAFold, ConfirmedBeforeAFold, ConfirmedUncounted, FoldedHistoriesGoOn}

@@ -10,7 +10,7 @@ use Rattle.cg_core.specs.Step.{Step, node_step}
 use Rattle.cg_places.specs.PlaceWorld.{after_action}
 use Rattle.cg_places.specs.Step.{action_at, span_handed, IsStepAt}
 use Rattle.cg_places.proofs.StepLaws.{steps_are_by_places}
-use Rattle.cg_records.specs.declared.item.Receipt.{Receipt}
+use Rattle.cg_history.specs.declared.item.Receipt.{Receipt}
 use Rattle.cg_history.specs.History.{record_of, HistoryValue, receipt_of, LAST_NUMBER, count_of, with_record, with_step}
 use Rattle.cg_history_laws.specs.Laws.{HasOneMore, EachEventMakesOneRecord, RecordsAreStepsByPlaces}
 

@@ -13,8 +13,8 @@ use Rattle.cg_core.specs.Values.{NodeValue, IsSmall}
 use Rattle.cg_core.specs.Step.{node_step, replay, on_step, with_reply}
 use Rattle.cg_core.specs.Laws.{ArePuts}
 use Rattle.cg_core.proofs.NodeLaws.{puts_keep_their_order, nodes_stay_small}
-use Rattle.cg_records.specs.declared.item.Item.{Item}
-use Rattle.cg_records.specs.Items.{puts_of, events_of, replies_of}
+use Rattle.cg_history.specs.declared.item.Item.{Item}
+use Rattle.cg_history.specs.Items.{puts_of, events_of, replies_of}
 use Rattle.cg_history.specs.History.{HistoryValue, Replays, IsReplayed}
 use Rattle.cg_history.proofs.Replaying.{start_small}
 use Rattle.cg_history_laws.specs.Laws.{RecordsReplay, PutsLead, PutsOfRecordsLead}

@@ -2,8 +2,8 @@
 use Rattle.std.proofs.Common.{◌≡◌, ◌-◌, ℕ, Option, Some, sym, ap, ◌∙◌, arith, take}
 use Rattle.std.proofs.lemmas.Option.{same_Some}
 use Rattle.cg_types.specs.ListPlace.{at_place}
-use Rattle.cg_records.specs.declared.item.Item.{Item}
-use Rattle.cg_records.proofs.Confirmed.{at_take, within_follows}
+use Rattle.cg_history.specs.declared.item.Item.{Item}
+use Rattle.cg_history.proofs.Confirmed.{at_take, within_follows}
 use Rattle.cg_history_laws.specs.Laws.{ConfirmedStandOnce}
 
 same_item : (x y : Option Item) (i j : Item) → x ≡ Some i → y ≡ Some j → x ≡ y → i ≡ j

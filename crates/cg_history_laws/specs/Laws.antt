@@ -9,10 +9,10 @@ use Rattle.cg_core.specs.Step.{node_step, replay}
 use Rattle.cg_places.specs.PlaceWorld.{PlaceWorld, after_action}
 use Rattle.cg_places.specs.Laws.{IsWorld}
 use Rattle.cg_places.specs.Step.{message_in, action_at, span_handed, IsPlaced, IsSentBefore, IsStepAt}
-use Rattle.cg_records.specs.declared.item.Item.{Item}
-use Rattle.cg_records.specs.declared.item.Receipt.{Receipt}
-use Rattle.cg_records.specs.Confirming.{AreConfirmed}
-use Rattle.cg_records.specs.Items.{puts_of, events_of, replies_of}
+use Rattle.cg_history.specs.declared.item.Item.{Item}
+use Rattle.cg_history.specs.declared.item.Receipt.{Receipt}
+use Rattle.cg_history.specs.Confirming.{AreConfirmed}
+use Rattle.cg_history.specs.Items.{puts_of, events_of, replies_of}
 use Rattle.cg_history.specs.History.{HistoryValue, Replays, IsFoldOf, apply, count_of, unfolded, with_folded}
 
 -- The events of the records, done one after the other, lead to the node with their replies.

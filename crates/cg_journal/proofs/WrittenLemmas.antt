@@ -11,7 +11,7 @@ use Rattle.cg_links.specs.declared.counted.Counted.{Counted}
 use Rattle.cg_links.specs.Counts.{one_more}
 use Rattle.cg_links.specs.Counted.{KeepsCounts, CountsFailed, CountsIdle}
 use Rattle.cg_links.proofs.Counts.{KeepsCounts-trans}
-use Rattle.cg_records.specs.declared.item.Item.{Item}
+use Rattle.cg_history.specs.declared.item.Item.{Item}
 use Rattle.cg_journal.specs.Text.{joined, event_line, event_lines}
 use Rattle.cg_journal.specs.Written.{WritesAll, WritesFirst, BreaksOff, Writes}
 

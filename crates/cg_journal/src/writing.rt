@@ -8,9 +8,8 @@ ghost use Rattle.cg_journal.specs.Written.{Writes};
 
 use crate::text::{event_text, life_text};
 use cg_core::{Event, Node};
-use cg_history::History;
+use cg_history::{History, Item};
 use cg_links::{Counted, write_bytes};
-use cg_records::Item;
 use cg_types::Fault;
 use std::alloc::Global;
 use std::io::Write;

@@ -8,7 +8,7 @@ use Rattle.cg_core.specs.declared.reply.Reply.{Reply}
 use Rattle.cg_core.specs.SettingsValues.{SettingsValue}
 use Rattle.cg_core.specs.Values.{NodeValue}
 use Rattle.cg_core.specs.Step.{Step, node_step, starting_node}
-use Rattle.cg_records.specs.declared.item.Item.{Item}
+use Rattle.cg_history.specs.declared.item.Item.{Item}
 use Rattle.cg_history.specs.History.{record_of, HistoryValue, Replays, LAST_NUMBER, count_of, new_history, with_record, with_step}
 use Rattle.cg_history.proofs.Replaying.{base_is_start}
 use Rattle.cg_links.specs.Lines.{lines_of}

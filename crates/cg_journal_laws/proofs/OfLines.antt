@@ -8,8 +8,8 @@ use Rattle.cg_types.specs.Words.{cut_at}
 use Rattle.cg_core.specs.declared.event.Event.{Event}
 use Rattle.cg_core.specs.SettingsValues.{SettingsValue}
 use Rattle.cg_core.specs.Step.{Step, node_step}
-use Rattle.cg_records.specs.declared.item.Item.{Item}
-use Rattle.cg_records.specs.Items.{events_of}
+use Rattle.cg_history.specs.declared.item.Item.{Item}
+use Rattle.cg_history.specs.Items.{events_of}
 use Rattle.cg_history.specs.History.{record_of, HistoryValue, LAST_NUMBER, count_of, with_record, with_step, new_history}
 use Rattle.cg_script.specs.Gives.{readable}
 use Rattle.cg_script.specs.Words.{endpoint_before}

@@ -3,8 +3,8 @@ use Rattle.std.proofs.Common.{◌≡◌, ℕ, suc, List, [], ◌∷◌, map, Opt
 use Rattle.std.specs.List.{AllByRecursion}
 use Rattle.cg_types.specs.declared.fault.Fault.{Fault}
 use Rattle.cg_core.specs.declared.event.Event.{Event}
-use Rattle.cg_records.specs.declared.item.Item.{Item}
-use Rattle.cg_records.specs.declared.item.Receipt.{Receipt}
+use Rattle.cg_history.specs.declared.item.Item.{Item}
+use Rattle.cg_history.specs.declared.item.Receipt.{Receipt}
 use Rattle.cg_history.specs.History.{HistoryValue, apply}
 use Rattle.cg_links.specs.Lines.{lines_of}
 use Rattle.cg_script.specs.Gives.{readable}

@@ -6,8 +6,8 @@ use Rattle.cg_types.specs.declared.fault.Fault.{Fault}
 use Rattle.cg_types.specs.declared.fault.Fault.TheVariants.{VersionsSpent}
 use Rattle.cg_core.specs.declared.event.Event.{Event}
 use Rattle.cg_core.specs.Step.{Step, node_step}
-use Rattle.cg_records.specs.declared.item.Item.{Item}
-use Rattle.cg_records.specs.declared.item.Receipt.{Receipt}
+use Rattle.cg_history.specs.declared.item.Item.{Item}
+use Rattle.cg_history.specs.declared.item.Receipt.{Receipt}
 use Rattle.cg_history.specs.History.{record_of, HistoryValue, IsReplayed, LAST_NUMBER, count_of, new_history, with_record, with_step, receipt_of}
 use Rattle.cg_history.proofs.Replaying.{replayed_new, replayed_after}
 use Rattle.cg_journal_laws.specs.Contents.{IsCount, IsEvent, MayStart, IsWritable}

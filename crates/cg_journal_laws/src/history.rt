@@ -7,8 +7,7 @@ ghost use Rattle.cg_journal_laws.specs.Contents.{IsEvent, MayStart, IsWritable};
 
 use crate::event::every_event_fits;
 use cg_core::Node;
-use cg_history::History;
-use cg_records::Item;
+use cg_history::{History, Item};
 use cg_types::Endpoint;
 
 fn show_endpoint(endpoint: Endpoint)

@@ -5,8 +5,8 @@ use Rattle.std.specs.List.{All}
 use mathlib.Core.List.{IsPrefix}
 use Rattle.cg_core.specs.declared.event.Event.{Event}
 use Rattle.cg_core.specs.declared.event.Event.TheVariants as event
-use Rattle.cg_records.specs.declared.item.Receipt.{Receipt}
-use Rattle.cg_records.specs.Items.{receipt_code}
+use Rattle.cg_history.specs.declared.item.Receipt.{Receipt}
+use Rattle.cg_history.specs.Items.{receipt_code}
 use Rattle.cg_rounds.specs.declared.round.Round.{Round}
 use Rattle.cg_rounds.specs.declared.ends.Putting.{Putting}
 use Rattle.cg_rounds.specs.declared.ends.Taking.{Taking}

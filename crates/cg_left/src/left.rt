@@ -1,11 +1,11 @@
 //! The results of the workers: seats, receipts and ends of the channel.
 
 ghost use Rattle.std.specs.Prelude.{◌≡◌, [], true, false, length};
-ghost use Rattle.cg_records.specs.Confirming.{AreConfirmed};
+ghost use Rattle.cg_history.specs.Confirming.{AreConfirmed};
 ghost use Rattle.cg_left.specs.Workers.{all_began};
 
+use cg_history::Receipt;
 use cg_locked::{Name, Seat};
-use cg_records::Receipt;
 use cg_rounds::{Putting, Taken};
 use std::alloc::Global;
 use std::marker::Model;
@@ -21,7 +21,7 @@ pub struct SeatLeft<N: Name> {
 
 impl<N: Name> Model for SeatLeft<N> {
     ghost use Rattle.std.specs.Prelude.{◌≡◌, length};
-    ghost use Rattle.cg_records.specs.Confirming.{AreConfirmed};
+    ghost use Rattle.cg_history.specs.Confirming.{AreConfirmed};
     ghost use Rattle.cg_left.specs.Left.{LeftValue, left_code};
 
     ghost Value = { LeftValue };

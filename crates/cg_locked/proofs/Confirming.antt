@@ -5,10 +5,10 @@ use Rattle.std.proofs.lemmas.Option.{slice_get_within}
 use mathlib.Core.List.{IsPrefix}
 use Rattle.cg_types.specs.ListPlace.{at_place}
 use Rattle.cg_table.specs.Puts.{puts}
-use Rattle.cg_records.specs.declared.item.Item.{Item}
-use Rattle.cg_records.specs.declared.item.Receipt.{Receipt}
-use Rattle.cg_records.specs.Confirming.{Stands, Follows}
-use Rattle.cg_records.proofs.Confirmed.{at_place_within, confirmed_more}
+use Rattle.cg_history.specs.declared.item.Item.{Item}
+use Rattle.cg_history.specs.declared.item.Receipt.{Receipt}
+use Rattle.cg_history.specs.Confirming.{Stands, Follows}
+use Rattle.cg_history.proofs.Confirmed.{at_place_within, confirmed_more}
 use Rattle.cg_history_laws.proofs.OneMore.{each_event_makes_one_record}
 use Rattle.cg_history.specs.History.{count_of}
 use Rattle.cg_locked.specs.Entry.{ConfirmedStay, EntriesAreConfirmed}

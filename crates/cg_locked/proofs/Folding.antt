@@ -2,7 +2,7 @@
 use Rattle.std.proofs.Common.{◌≡◌, ℕ, ◌+◌, ◌≤◌, List, [], length, take, refl, ap, ◌∙◌, subst, sym, arith, take_all, get_or-drop}
 use Rattle.std.specs.Prelude.{slice_index_or}
 use Rattle.cg_core.specs.Values.{NodeValue}
-use Rattle.cg_records.specs.declared.item.Item.{Item}
+use Rattle.cg_history.specs.declared.item.Item.{Item}
 use Rattle.cg_history.specs.History.{HistoryValue, Replays, IsReplayed, IsFoldOf, unfolded, with_folded}
 use Rattle.cg_history.proofs.Folding.{all_counted}
 use Rattle.cg_locked.specs.Board.{NoneIsFolded}

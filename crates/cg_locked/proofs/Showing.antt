@@ -18,9 +18,9 @@ use Rattle.cg_core.specs.Values.{NodeValue, IsSmall}
 use Rattle.cg_core.specs.Step.{node_step}
 use Rattle.cg_core.specs.Laws.{PutsIts}
 use Rattle.cg_core.proofs.NodeLaws.{sets_put_their_text, removals_put_their_tombstone}
-use Rattle.cg_records.specs.declared.item.Item.{Item}
-use Rattle.cg_records.specs.declared.item.Receipt.{Receipt}
-use Rattle.cg_records.specs.Items.{puts_of}
+use Rattle.cg_history.specs.declared.item.Item.{Item}
+use Rattle.cg_history.specs.declared.item.Receipt.{Receipt}
+use Rattle.cg_history.specs.Items.{puts_of}
 use Rattle.cg_history.specs.History.{HistoryValue, Replays, IsReplayed, IsFoldOf, count_of, apply, unfolded}
 use Rattle.cg_history.proofs.Folding.{all_counted}
 use Rattle.cg_history.proofs.Replaying.{replays_more}

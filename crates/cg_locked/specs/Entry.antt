@@ -12,10 +12,10 @@ use Rattle.cg_core.specs.declared.reply.Reply.TheVariants as reply
 use Rattle.cg_core.specs.SettingsValues.{settings_of}
 use Rattle.cg_core.specs.Values.{NodeValue}
 use Rattle.cg_core.specs.Step.{starting_node}
-use Rattle.cg_records.specs.declared.item.Receipt.{Receipt}
-use Rattle.cg_records.specs.declared.item.Item.{Item}
-use Rattle.cg_records.specs.Confirming.{AreConfirmed}
-use Rattle.cg_records.specs.Items.{puts_of}
+use Rattle.cg_history.specs.declared.item.Receipt.{Receipt}
+use Rattle.cg_history.specs.declared.item.Item.{Item}
+use Rattle.cg_history.specs.Confirming.{AreConfirmed}
+use Rattle.cg_history.specs.Items.{puts_of}
 use Rattle.cg_history.specs.History.{HistoryValue, IsReplayed, apply}
 use Rattle.cg_views.specs.Lists.{StartsWith}
 use Rattle.cg_views.specs.Reading.{HasState, OwnHasFrom}

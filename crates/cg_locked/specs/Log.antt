@@ -3,7 +3,7 @@ use Rattle.std.specs.Prelude.{ℕ, ◌≡◌, ◌+◌, ◌*◌, ◌≤◌, ◌==
 use Rattle.logbook.specs.Pages.{Cell, Step, View, Book, Named, Nib, nib, may_make, may_write}
 use Rattle.cg_core.specs.declared.event.Event.TheVariants as event
 use Rattle.cg_core.specs.declared.reply.Reply.TheVariants as reply
-use Rattle.cg_records.specs.declared.item.Item.{Item}
+use Rattle.cg_history.specs.declared.item.Item.{Item}
 
 -- a place at home for each record, and this number of places prepared, which are not at home
 abbrev pub places : ℕ → ℕ → List Cell

@@ -8,8 +8,8 @@ use Rattle.cg_core.specs.declared.reply.Reply.{Reply}
 use Rattle.cg_core.specs.EventCodes.{reply_code}
 use Rattle.cg_core.specs.Values.{NodeValue, node_code}
 use Rattle.cg_core.specs.Step.{node_step}
-use Rattle.cg_records.specs.declared.item.Item.{Item}
-use Rattle.cg_records.specs.Items.{item_code}
+use Rattle.cg_history.specs.declared.item.Item.{Item}
+use Rattle.cg_history.specs.Items.{item_code}
 use Rattle.cg_history.specs.History.{record_of, Replays}
 
 -- ---- that a result is this value

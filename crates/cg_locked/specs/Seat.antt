@@ -1,8 +1,8 @@
 -- A seat as contracts see it.
 use Rattle.std.specs.Prelude.{ℕ, ◌+◌, List, refl}
 use Rattle.std.specs.Coded.{Coded, code_by, coded×, coded_ℕ, coded_list}
-use Rattle.cg_records.specs.declared.item.Item.{Item}
-use Rattle.cg_records.specs.Items.{item_code}
+use Rattle.cg_history.specs.declared.item.Item.{Item}
+use Rattle.cg_history.specs.Items.{item_code}
 
 -- its caller, its parts of the ledger, the number of events that it counted, and the records that it has seen
 pub record SeatState : Type 0 where

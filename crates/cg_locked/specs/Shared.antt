@@ -2,7 +2,7 @@
 use Rattle.std.specs.Prelude.{ℕ, zero, suc, List, [], ◌++◌, ◌∷◌, Result, Ok, Err, refl}
 use Rattle.std.specs.Coded.{Coded, code_by, coded×, coded_ℕ}
 use Rattle.logbook.specs.Pages.{Book, book_coded}
-use Rattle.cg_records.specs.declared.item.Stray.{Stray}
+use Rattle.cg_history.specs.declared.item.Stray.{Stray}
 use Rattle.cg_history.specs.History.{HistoryValue}
 use Rattle.cg_locked.specs.declared.shared.Unconfirmed.{Unconfirmed}
 

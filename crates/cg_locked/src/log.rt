@@ -6,7 +6,7 @@ ghost use Rattle.logbook.specs.Pages.{nib, may_write};
 ghost use Rattle.cg_locked.specs.Log.{head_of};
 
 use crate::name::Name;
-use cg_records::Item;
+use cg_history::Item;
 use logbook::{Gain, Offer, Pen, Plain, Play, Rule, Seen, Start, Word};
 use std::marker::{Model, PhantomData};
 
@@ -175,8 +175,8 @@ pub(crate) struct Log<N: Name> {
 impl<N: Name> Model for Log<N> {
     ghost use Rattle.std.specs.Prelude.{◌≡◌, List, length};
     ghost use Rattle.std.specs.Coded.{coded_list};
-    ghost use Rattle.cg_records.specs.declared.item.Item.{Item};
-    ghost use Rattle.cg_records.specs.Items.{item_code};
+    ghost use Rattle.cg_history.specs.declared.item.Item.{Item};
+    ghost use Rattle.cg_history.specs.Items.{item_code};
     ghost use Rattle.cg_locked.specs.Log.{head_of, place_behind};
 
     ghost Value = { List Item };
@@ -199,8 +199,8 @@ pub(crate) struct Front<N: Name> {
 impl<N: Name> Model for Front<N> {
     ghost use Rattle.std.specs.Prelude.{◌≡◌, List};
     ghost use Rattle.std.specs.Coded.{coded_list};
-    ghost use Rattle.cg_records.specs.declared.item.Item.{Item};
-    ghost use Rattle.cg_records.specs.Items.{item_code};
+    ghost use Rattle.cg_history.specs.declared.item.Item.{Item};
+    ghost use Rattle.cg_history.specs.Items.{item_code};
 
     ghost Value = { List Item };
 

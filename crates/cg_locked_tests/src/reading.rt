@@ -7,8 +7,8 @@ ghost use Rattle.cg_views.specs.Reading.{OwnHasFrom};
 ghost use Rattle.cg_locked.specs.Entry.{ShowsChange, ShowsState};
 
 use cg_core::{Event, Reply};
+use cg_history::Receipt;
 use cg_locked::{Name, Seat, Shared};
-use cg_records::Receipt;
 use cg_types::{Fault, StateKey, StateText, Version};
 use cg_views::{Pass, Snapshot};
 use std::alloc::Global;

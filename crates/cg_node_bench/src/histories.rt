@@ -2,9 +2,8 @@
 
 use crate::nodes::{after, begun, heartbeat, others, started};
 use cg_core::{Event, Node, Reply};
-use cg_history::History;
+use cg_history::{History, Receipt};
 use cg_measure::{Failure, Shape};
-use cg_records::Receipt;
 use cg_samples::version;
 use cg_types::Fault;
 use std::alloc::{AllocError, Global};

@@ -7,7 +7,7 @@ use Rattle.std.proofs.lemmas.List.Elements.{Contains-append_left, Contains-appen
 use Rattle.cg_types.specs.Equality.{same_by, same_by-Decides}
 use Rattle.cg_messages.specs.declared.message.Message.{Message}
 use Rattle.cg_messages.specs.MessageCode.{message_code}
-use Rattle.cg_records.specs.declared.item.Item.{Item}
+use Rattle.cg_history.specs.declared.item.Item.{Item}
 use Rattle.cg_history.specs.History.{HistoryValue}
 use Rattle.cg_one_run.specs.Items.{RunItem, LivesValue, generation_of, items_from, items_of_life, items_of_lives, items_at}
 use Rattle.cg_one_run.specs.OneRun.{messages_of, items_by, WasSent, EachWasSent}

@@ -5,7 +5,7 @@ use Rattle.cg_table.specs.Own.{own_entry}
 use Rattle.cg_messages.specs.declared.message.Message.{Message}
 use Rattle.cg_core.specs.Sending.{message_of}
 use Rattle.cg_places.specs.Step.{message_in}
-use Rattle.cg_records.specs.declared.item.Item.{Item}
+use Rattle.cg_history.specs.declared.item.Item.{Item}
 use Rattle.cg_history.specs.History.{HistoryValue, IsReplayed}
 
 -- an item of a life: its start, which is item 0, or a record, by its number

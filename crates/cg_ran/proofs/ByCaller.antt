@@ -5,10 +5,10 @@ use Rattle.std.proofs.lemmas.Option.{same_Some, slice_get_within}
 use Rattle.cg_types.specs.ListPlace.{at_place}
 use Rattle.cg_types.proofs.RisingLemmas.{first_of}
 use Rattle.cg_core.specs.declared.event.Event.{Event}
-use Rattle.cg_records.specs.declared.item.Item.{Item}
-use Rattle.cg_records.specs.declared.item.Receipt.{Receipt}
-use Rattle.cg_records.specs.Confirming.{IsOf, Stands, AreConfirmed}
-use Rattle.cg_records.proofs.Confirmed.{at_take, within_follows}
+use Rattle.cg_history.specs.declared.item.Item.{Item}
+use Rattle.cg_history.specs.declared.item.Receipt.{Receipt}
+use Rattle.cg_history.specs.Confirming.{IsOf, Stands, AreConfirmed}
+use Rattle.cg_history.proofs.Confirmed.{at_take, within_follows}
 use Rattle.cg_history_laws.proofs.Covering.{each_record_has_its_receipt}
 use Rattle.cg_ran.specs.Numbers.{numbers_in, numbers_on, is_record_of, is_receipt_of}
 use Rattle.cg_ran.specs.Laws.{ReceiptsHaveTheNumbers}

@@ -1,8 +1,8 @@
 -- A history that confirms the receipts of one worker after another.
 use Rattle.std.proofs.Common.{◌≡◌, ℕ, ◌+◌, ◌++◌, List, length, Result, Ok, Err, sym, ◌∙◌, subst, arith, length-append}
 use Rattle.std.specs.Prelude.{MatchResult}
-use Rattle.cg_records.specs.declared.item.Receipt.{Receipt}
-use Rattle.cg_records.specs.Confirming.{AreConfirmed, IsFirstStray}
+use Rattle.cg_history.specs.declared.item.Receipt.{Receipt}
+use Rattle.cg_history.specs.Confirming.{AreConfirmed, IsFirstStray}
 use Rattle.cg_history.specs.History.{HistoryValue}
 use Rattle.cg_locked.specs.declared.shared.Unconfirmed.{Unconfirmed}
 use Rattle.cg_locked.specs.Shared.{history_of, stray_of}

@@ -4,10 +4,10 @@ use Rattle.std.specs.Prelude.{slice_get}
 use Rattle.std.specs.List.{All}
 use Rattle.std.proofs.lemmas.Option.{same_Some, slice_get_within}
 use Rattle.std.proofs.lemmas.List.Elements.{All-append, All-weaker, All-head, All-tail, All-take}
-use Rattle.cg_records.specs.declared.item.Item.{Item}
-use Rattle.cg_records.specs.declared.item.Receipt.{Receipt}
-use Rattle.cg_records.specs.declared.item.Stray.{Stray}
-use Rattle.cg_records.specs.Confirming.{ComesAfter, Follows, IsConfirmed, AreConfirmed, IsFirstStray}
+use Rattle.cg_history.specs.declared.item.Item.{Item}
+use Rattle.cg_history.specs.declared.item.Receipt.{Receipt}
+use Rattle.cg_history.specs.declared.item.Stray.{Stray}
+use Rattle.cg_history.specs.Confirming.{ComesAfter, Follows, IsConfirmed, AreConfirmed, IsFirstStray}
 use Rattle.cg_ran.specs.Ran.{IsStrayBehind}
 
 -- ---- members of two lists, one after the other

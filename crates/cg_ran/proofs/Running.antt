@@ -4,7 +4,7 @@ use Rattle.std.specs.Prelude.{IfOk, IfErr}
 use Rattle.std.proofs.lemmas.List.{map-append}
 use mathlib.Core.List.{IsPrefix}
 use Rattle.cg_core.specs.Values.{NodeValue}
-use Rattle.cg_records.specs.Confirming.{AreConfirmed, IsFirstStray}
+use Rattle.cg_history.specs.Confirming.{AreConfirmed, IsFirstStray}
 use Rattle.cg_history.specs.History.{HistoryValue, IsReplayed, count_of}
 use Rattle.cg_history.proofs.Replaying.{base_is_start}
 use Rattle.cg_locked.specs.declared.shared.Unconfirmed.{Unconfirmed}

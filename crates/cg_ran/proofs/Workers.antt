@@ -6,12 +6,12 @@ use Rattle.std.proofs.lemmas.Option.{same_Some, slice_get_within, get_or_from_sl
 use Rattle.std.proofs.lemmas.List.{append-nil, map-append}
 use Rattle.std.proofs.lemmas.List.Elements.{All-append, All-weaker, All-head, All-tail, filter-append}
 use Rattle.cg_core.specs.declared.event.Event.{Event}
-use Rattle.cg_records.specs.declared.item.Item.{Item}
-use Rattle.cg_records.specs.declared.item.Receipt.{Receipt}
-use Rattle.cg_records.specs.declared.item.Stray.{Stray}
+use Rattle.cg_history.specs.declared.item.Item.{Item}
+use Rattle.cg_history.specs.declared.item.Receipt.{Receipt}
+use Rattle.cg_history.specs.declared.item.Stray.{Stray}
 use Rattle.cg_left.specs.declared.callers.TheConstants.{RECEIVER, SENDER, TICKER, OPERATOR}
 use Rattle.cg_types.specs.ListPlace.{at_place}
-use Rattle.cg_records.specs.Confirming.{AreConfirmed, IsFirstStray}
+use Rattle.cg_history.specs.Confirming.{AreConfirmed, IsFirstStray}
 use Rattle.cg_ran.specs.Numbers.{numbers_in, numbers_on, is_receipt_of}
 use Rattle.cg_left.specs.Left.{IsOf, AreOf, AreOfWorkers, numbers_of_all, is_received, is_ack, is_tick, is_any}
 use Rattle.cg_ran.specs.Ran.{IsStrayBehind, IsWork}

@@ -1,9 +1,9 @@
 -- The law of confirmed receipts, as a statement.
 use Rattle.std.specs.Prelude.{ℕ, ◌≡◌, Bool, List, length}
 use Rattle.cg_core.specs.declared.event.Event.{Event}
-use Rattle.cg_records.specs.declared.item.Item.{Item}
-use Rattle.cg_records.specs.declared.item.Receipt.{Receipt}
-use Rattle.cg_records.specs.Confirming.{AreConfirmed}
+use Rattle.cg_history.specs.declared.item.Item.{Item}
+use Rattle.cg_history.specs.declared.item.Receipt.{Receipt}
+use Rattle.cg_history.specs.Confirming.{AreConfirmed}
 use Rattle.cg_ran.specs.Numbers.{numbers_in, numbers_on}
 
 -- The receipts of a caller's events of a kind have the numbers of the records of these, in their order. This holds if

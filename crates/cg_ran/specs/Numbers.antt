@@ -2,8 +2,8 @@
 use Rattle.std.specs.Prelude.{ℕ, suc, ◌==◌, Bool, ◌&&◌, List, [], ◌∷◌, map, if◌then◌else◌}
 use Rattle.std.specs.List.{filter}
 use Rattle.cg_core.specs.declared.event.Event.{Event}
-use Rattle.cg_records.specs.declared.item.Item.{Item}
-use Rattle.cg_records.specs.declared.item.Receipt.{Receipt}
+use Rattle.cg_history.specs.declared.item.Item.{Item}
+use Rattle.cg_history.specs.declared.item.Receipt.{Receipt}
 
 -- the numbers of those that pass a test, in their order, if the first of all has number n
 abbrev pub numbers_from : {A : Type 0} → ℕ → (A → Bool) → List A → List ℕ

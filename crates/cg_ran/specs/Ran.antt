@@ -5,10 +5,10 @@ use mathlib.Core.List.{IsPrefix}
 use Rattle.cg_types.specs.declared.fault.Fault.TheVariants as fault
 use Rattle.cg_core.specs.declared.event.Event.{Event}
 use Rattle.cg_core.specs.Values.{NodeValue}
-use Rattle.cg_records.specs.declared.item.Item.{Item}
-use Rattle.cg_records.specs.declared.item.Receipt.{Receipt}
-use Rattle.cg_records.specs.declared.item.Stray.{Stray}
-use Rattle.cg_records.specs.Confirming.{AreConfirmed, IsFirstStray}
+use Rattle.cg_history.specs.declared.item.Item.{Item}
+use Rattle.cg_history.specs.declared.item.Receipt.{Receipt}
+use Rattle.cg_history.specs.declared.item.Stray.{Stray}
+use Rattle.cg_history.specs.Confirming.{AreConfirmed, IsFirstStray}
 use Rattle.cg_history.specs.History.{HistoryValue, IsReplayed}
 use Rattle.cg_locked.specs.declared.shared.Unconfirmed.{Unconfirmed}
 use Rattle.cg_locked.specs.Shared.{stray_of}

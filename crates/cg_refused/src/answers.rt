@@ -1,8 +1,8 @@
 //! The answers of calls, and their short texts.
 
 use cg_core::Reply;
+use cg_history::Receipt;
 use cg_messages::Outcome;
-use cg_records::Receipt;
 use cg_types::{Endpoint, Fault};
 use cg_world::Shown;
 use std::alloc::{AllocError, Global};

@@ -8,10 +8,10 @@ use Rattle.cg_table.specs.Puts.{Put, puts_code}
 use Rattle.cg_core.specs.declared.event.Event.{Event}
 use Rattle.cg_core.specs.declared.reply.Reply.{Reply}
 use Rattle.cg_core.specs.Values.{NodeValue}
-use Rattle.cg_records.specs.declared.item.Receipt.{Receipt}
-use Rattle.cg_records.specs.declared.item.Item.{Item}
-use Rattle.cg_records.specs.Items.{receipt_code}
-use Rattle.cg_records.specs.Confirming.{AreConfirmed}
+use Rattle.cg_history.specs.declared.item.Receipt.{Receipt}
+use Rattle.cg_history.specs.declared.item.Item.{Item}
+use Rattle.cg_history.specs.Items.{receipt_code}
+use Rattle.cg_history.specs.Confirming.{AreConfirmed}
 use Rattle.cg_locked.specs.Seat.{SeatState}
 use Rattle.cg_locked.specs.Entry.{Answer, IsEntry, ShowsChange}
 

@@ -1,13 +1,13 @@
 //! The gate over a seat.
 
 ghost use Rattle.std.specs.Prelude.{◌≡◌, ◌++◌, [], None, length};
-ghost use Rattle.cg_records.specs.Confirming.{AreConfirmed};
+ghost use Rattle.cg_history.specs.Confirming.{AreConfirmed};
 ghost use Rattle.cg_seats.specs.Seats.{AreOf, new_gate, with_told};
 
 use cg_core::{Event, Reply};
 use cg_engine::Gate;
+use cg_history::{Enter, Receipt};
 use cg_locked::{Name, Seat, Shared};
-use cg_records::{Enter, Receipt};
 use cg_types::Fault;
 use cg_views::Told;
 use std::alloc::Global;
@@ -28,7 +28,7 @@ pub struct SeatGate<'a, N: Name, R: Wait> {
 /// receipts, they are its caller's, and the records that it has seen confirm them.
 impl<'a, N: Name, R: Wait> Model for SeatGate<'a, N, R> {
     ghost use Rattle.std.specs.Prelude.{◌≡◌, length};
-    ghost use Rattle.cg_records.specs.Confirming.{AreConfirmed};
+    ghost use Rattle.cg_history.specs.Confirming.{AreConfirmed};
     ghost use Rattle.cg_seats.specs.Seats.{SeatValue, AreOf, seat_code};
 
     ghost Value = { SeatValue };

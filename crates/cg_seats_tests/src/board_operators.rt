@@ -4,11 +4,11 @@ ghost use Rattle.cg_seats.specs.Seats.{GoesOn};
 
 use cg_core::Event;
 use cg_engine::Gate;
+use cg_history::Enter;
 use cg_links::Counted;
 use cg_locked::Name;
 use cg_messages::Syn;
 use cg_operator::operate;
-use cg_records::Enter;
 use cg_samples::key;
 use cg_seat_samples::{last_version, learn, read_removed, read_three, remove_three, set_three};
 use cg_seats::{Operate, SeatGate};

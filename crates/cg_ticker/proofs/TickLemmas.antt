@@ -8,7 +8,7 @@ use Rattle.rand_core.specs.Stream.{Stream}
 use Rattle.cg_types.specs.declared.fault.Fault.{Fault}
 use Rattle.cg_core.specs.declared.event.Event.{Event}
 use Rattle.cg_core.specs.declared.reply.Reply.{Reply}
-use Rattle.cg_records.specs.declared.item.Receipt.{Receipt}
+use Rattle.cg_history.specs.declared.item.Receipt.{Receipt}
 use Rattle.cg_rounds.specs.declared.ends.Putting.{Putting}
 use Rattle.cg_rounds.specs.Ends.{put_by}
 use Rattle.cg_rounds.specs.Words.{four_of, words_of_ticks}

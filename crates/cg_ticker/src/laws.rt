@@ -3,7 +3,7 @@
 ghost use Rattle.cg_ticker.specs.Laws.{TicksMakeRounds};
 
 use cg_clock::Milliseconds;
-use cg_records::Enter;
+use cg_history::Enter;
 
 /// The rounds that were put in are those of the ticks that were done, in their order; if the ticker stopped, the last
 /// of these has none there. The ticks are at times that the clock showed. If no tick was refused, their words are the

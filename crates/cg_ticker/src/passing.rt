@@ -8,7 +8,7 @@ ghost use Rattle.cg_ticker.specs.Ticks.{IsPassedOn, round_in};
 use crate::ticked::Stop;
 use crate::ticking::Turn;
 use cg_core::Reply;
-use cg_records::Receipt;
+use cg_history::Receipt;
 use cg_rounds::{Putting, Round};
 use std::alloc::{AllocError, Global};
 use std::sync::Wait;

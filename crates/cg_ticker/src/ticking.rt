@@ -10,7 +10,7 @@ use crate::passing::pass_on;
 use crate::ticked::{Stop, Ticked};
 use cg_clock::Milliseconds;
 use cg_core::Event;
-use cg_records::Enter;
+use cg_history::Enter;
 use cg_rounds::{Putting, next_words};
 use rand_core::Rng;
 use std::alloc::Global;

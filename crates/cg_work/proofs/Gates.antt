@@ -10,7 +10,7 @@ use Rattle.cg_core.specs.declared.event.Event.TheVariants as event
 use Rattle.cg_core.specs.declared.reply.Reply.{Reply}
 use Rattle.cg_core.specs.declared.reply.Reply.TheVariants as reply
 use Rattle.cg_core.specs.Values.{NodeValue}
-use Rattle.cg_records.specs.declared.item.Receipt.{Receipt}
+use Rattle.cg_history.specs.declared.item.Receipt.{Receipt}
 use Rattle.cg_rounds.specs.declared.round.Round.{Round}
 use Rattle.cg_rounds.specs.declared.ends.Taking.{Taking}
 use Rattle.cg_seats.specs.Seats.{SeatValue, Enters, Refuses, new_gate, GoesOn}

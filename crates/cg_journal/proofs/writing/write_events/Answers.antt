@@ -1,6 +1,6 @@
 use Rattle.std.proofs.Common.{◌≡◌, ◌+◌, ◌++◌, [], ◌∷◌, ap, sym, ◌∙◌, take}
 use Rattle.std.proofs.lemmas.List.{take_more}
-use Rattle.cg_records.specs.declared.item.Item.{Item}
+use Rattle.cg_history.specs.declared.item.Item.{Item}
 use Rattle.cg_journal.proofs.WrittenLemmas.{writes_none, events_kept, events_fail, events_all}
 use Rattle.cg_journal.proofs.writing.write_events.Goals as goal
 

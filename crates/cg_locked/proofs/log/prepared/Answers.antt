@@ -1,5 +1,5 @@
 use Rattle.std.proofs.Common.{◌+◌, ◌*◌, ◌≤◌, List, length, sym, ◌∙◌, ap, subst}
-use Rattle.cg_records.specs.declared.item.Item.{Item}
+use Rattle.cg_history.specs.declared.item.Item.{Item}
 use Rattle.cg_locked.specs.Log.{no_item}
 use Rattle.cg_locked.proofs.Logging.{prepares_moves}
 use Rattle.cg_locked.proofs.log.prepared.Goals as goal

@@ -1,5 +1,5 @@
 use Rattle.std.proofs.Common.{List, sym, ap, subst}
-use Rattle.cg_records.specs.declared.item.Receipt.{Receipt}
+use Rattle.cg_history.specs.declared.item.Receipt.{Receipt}
 use Rattle.cg_rounds.specs.Ends.{put_by}
 use Rattle.cg_seats.specs.Seats.{SeatValue}
 use Rattle.cg_left.specs.Left.{AreRoundsOf, is_tick}

@@ -2,7 +2,7 @@ use Rattle.std.proofs.Common.{◌≡◌, ◌+◌, ◌++◌, ◌∙◌, sym, ap, 
 use Rattle.cg_table.specs.Values.{TableValue}
 use Rattle.cg_table.specs.Puts.{with_puts}
 use Rattle.cg_core.specs.Values.{NodeValue}
-use Rattle.cg_records.specs.Items.{puts_of}
+use Rattle.cg_history.specs.Items.{puts_of}
 use Rattle.cg_history.specs.History.{unfolded}
 use Rattle.cg_views.specs.Lists.{MayFollow, are_all}
 use Rattle.cg_locked.proofs.Folding.{whole_replayed}

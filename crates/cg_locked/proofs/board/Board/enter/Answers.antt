@@ -1,6 +1,6 @@
 use Rattle.std.proofs.Common.{◌≡◌, ◌≤◌, ◌+◌, List, length, Ok, arith, sym, ap, ◌∙◌, subst}
-use Rattle.cg_records.specs.declared.item.Item.{Item}
-use Rattle.cg_records.specs.Items.{puts_of}
+use Rattle.cg_history.specs.declared.item.Item.{Item}
+use Rattle.cg_history.specs.Items.{puts_of}
 use Rattle.cg_history.specs.History.{apply, unfolded}
 use Rattle.cg_locked.proofs.Showing.{kept}
 use Rattle.cg_locked.proofs.board.Board.enter.Goals as goal

@@ -1,6 +1,6 @@
 use Rattle.std.proofs.Common.{◌≤◌, length, refl, ap, ◌∙◌, arith}
 use Rattle.std.proofs.lemmas.Result.{err_from_is_err_and}
-use Rattle.cg_records.specs.Items.{puts_of}
+use Rattle.cg_history.specs.Items.{puts_of}
 use Rattle.cg_history.specs.History.{unfolded}
 use Rattle.cg_history.proofs.Folding.{all_counted}
 use Rattle.cg_locked.proofs.Folding.{whole_replayed}

@@ -1,5 +1,5 @@
 use Rattle.std.proofs.Common.{rules, true, false, ◌≡◌, ◌≤◌, ◌+◌, ◌-◌, length, take, arith, subst, sym, ap, ◌∙◌}
-use Rattle.cg_records.specs.Items.{puts_of}
+use Rattle.cg_history.specs.Items.{puts_of}
 use Rattle.cg_history.specs.History.{HistoryValue, IsFoldOf, Replays, count_of, with_folded}
 use Rattle.cg_history.proofs.Folding.{count_stays, fold_folded}
 use Rattle.cg_locked.proofs.board.Board.fold.Goals as goal

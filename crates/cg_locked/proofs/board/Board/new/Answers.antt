@@ -1,7 +1,7 @@
 use Rattle.std.proofs.Common.{◌≡◌, ℕ, ◌+◌, List, length, take, sym, ap, ◌∙◌, subst, arith}
 use Rattle.cg_core.specs.Values.{NodeValue}
-use Rattle.cg_records.specs.declared.item.Item.{Item}
-use Rattle.cg_records.specs.Items.{puts_of}
+use Rattle.cg_history.specs.declared.item.Item.{Item}
+use Rattle.cg_history.specs.Items.{puts_of}
 use Rattle.cg_history.specs.History.{IsFoldOf, Replays}
 use Rattle.cg_history.proofs.Replaying.{base_is_start}
 use Rattle.cg_history.proofs.Folding.{fold_of_whole}

@@ -1,7 +1,7 @@
 use Rattle.std.proofs.Common.{◌≡◌, ◌+◌, List, length, take, arith, ap, ◌∙◌, ◌<◌}
 use Rattle.std.specs.Prelude.{slice_index_or}
-use Rattle.cg_records.specs.declared.item.Item.{Item}
-use Rattle.cg_records.specs.Items.{puts_of}
+use Rattle.cg_history.specs.declared.item.Item.{Item}
+use Rattle.cg_history.specs.Items.{puts_of}
 use Rattle.cg_history.proofs.Folding.{all_counted}
 use Rattle.cg_history_laws.proofs.PutsOfRecords.{puts_next}
 use Rattle.cg_locked.proofs.Folding.{index_in_all}

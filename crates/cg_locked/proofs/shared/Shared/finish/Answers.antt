@@ -1,7 +1,7 @@
 use Rattle.std.proofs.Common.{List, sym, subst}
 use Rattle.std.specs.List.{All}
 use mathlib.Core.List.{IsPrefix}
-use Rattle.cg_records.specs.declared.item.Item.{Item}
+use Rattle.cg_history.specs.declared.item.Item.{Item}
 use Rattle.cg_history.specs.History.{IsFoldOf}
 use Rattle.cg_locked.specs.Seat.{SeatState}
 use Rattle.cg_locked.proofs.shared.Shared.finish.Goals as goal

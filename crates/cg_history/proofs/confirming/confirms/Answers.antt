@@ -1,10 +1,10 @@
 use Rattle.std.proofs.Common.{rules, take_all, take, length, ◌+◌, ◌<◌, ◌≡◌, ◌∙◌, ap, subst, sym, arith, List, ◌++◌, ◌∷◌, []}
 use Rattle.std.proofs.lemmas.List.{take_more}
-use Rattle.cg_records.specs.declared.item.Receipt.{Receipt}
-use Rattle.cg_records.specs.Confirming.{AreConfirmed, IsConfirmed}
-use Rattle.cg_records.proofs.Confirmed.{confirmed_more}
-use Rattle.cg_records.proofs.AtMost.{at_most_more}
-use Rattle.cg_records.proofs.confirming.confirms.Goals as goal
+use Rattle.cg_history.specs.declared.item.Receipt.{Receipt}
+use Rattle.cg_history.specs.Confirming.{AreConfirmed, IsConfirmed}
+use Rattle.cg_history.proofs.Confirmed.{confirmed_more}
+use Rattle.cg_history.proofs.AtMost.{at_most_more}
+use Rattle.cg_history.proofs.confirming.confirms.Goals as goal
 
 pub loop-place-preserved : goal.loop-place-preserved
 loop-place-preserved c =

@@ -1,9 +1,9 @@
 -- The greatest number so far of each group of callers.
 use Rattle.std.specs.Prelude.{ℕ, ◌%◌, ◌≤◌, List, get_or}
 use Rattle.std.specs.List.{All}
-use Rattle.cg_records.specs.declared.item.Receipt.{Receipt}
-use Rattle.cg_records.specs.declared.greatest.Greatest.{Greatest}
-use Rattle.cg_records.specs.declared.greatest.TheConstants.{GROUPS}
+use Rattle.cg_history.specs.declared.item.Receipt.{Receipt}
+use Rattle.cg_history.specs.declared.greatest.Greatest.{Greatest}
+use Rattle.cg_history.specs.declared.greatest.TheConstants.{GROUPS}
 
 -- the greatest number so far of a caller's group
 abbrev pub greatest_of : Greatest → ℕ → ℕ

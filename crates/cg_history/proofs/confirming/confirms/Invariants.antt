@@ -1,7 +1,7 @@
 use Rattle.std.proofs.Common.{take}
-use Rattle.cg_records.specs.Greatest.{AreAtMost}
-use Rattle.cg_records.specs.Confirming.{AreConfirmed}
-use Rattle.cg_records.proofs.confirming.confirms.Given as goal
+use Rattle.cg_history.specs.Greatest.{AreAtMost}
+use Rattle.cg_history.specs.Confirming.{AreConfirmed}
+use Rattle.cg_history.proofs.confirming.confirms.Given as goal
 
 abbrev pub invariant-loop-place : goal.invariant-loop-place
 invariant-loop-place l = record {

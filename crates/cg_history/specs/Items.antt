@@ -5,8 +5,8 @@ use Rattle.cg_table.specs.Puts.{Put, puts_code}
 use Rattle.cg_core.specs.declared.event.Event.{Event}
 use Rattle.cg_core.specs.declared.reply.Reply.{Reply}
 use Rattle.cg_core.specs.EventCodes.{event_code, reply_code}
-use Rattle.cg_records.specs.declared.item.Item.{Item}
-use Rattle.cg_records.specs.declared.item.Receipt.{Receipt}
+use Rattle.cg_history.specs.declared.item.Item.{Item}
+use Rattle.cg_history.specs.declared.item.Receipt.{Receipt}
 
 -- the code that a model of a list of records requires
 abbrev pub item_code : Coded Item

@@ -1,10 +1,10 @@
 -- The greatest number of a group of callers, and the receipts that come after it.
 use Rattle.std.proofs.Common.{◌≡◌, ℕ, ◌+◌, ◌<◌, ◌≤◌, List, length, take, subst, arith, get_or}
 use Rattle.std.proofs.lemmas.List.Elements.{All-more}
-use Rattle.cg_records.specs.declared.item.Receipt.{Receipt}
-use Rattle.cg_records.specs.declared.greatest.Greatest.{Greatest}
-use Rattle.cg_records.specs.Greatest.{greatest_of, AreAtMost}
-use Rattle.cg_records.specs.Confirming.{Follows}
+use Rattle.cg_history.specs.declared.item.Receipt.{Receipt}
+use Rattle.cg_history.specs.declared.greatest.Greatest.{Greatest}
+use Rattle.cg_history.specs.Greatest.{greatest_of, AreAtMost}
+use Rattle.cg_history.specs.Confirming.{Follows}
 
 -- a receipt comes after all of its caller if its number is above the group's
 pub follows_at_most : (m : Greatest) (before : List Receipt) (r : Receipt) → AreAtMost m before → greatest_of m r.caller < r.number → Follows before r

@@ -5,7 +5,7 @@ ghost use Rattle.cg_types.specs.declared.fault.Fault.{Fault as FaultValue};
 ghost use Rattle.cg_core.specs.declared.event.Event.{Event as EventValue};
 ghost use Rattle.cg_core.specs.declared.reply.Reply.{Reply as ReplyValue};
 ghost use Rattle.cg_core.specs.Replies.{IsReplyTo};
-ghost use Rattle.cg_records.specs.declared.item.Receipt.{Receipt as ReceiptValue};
+ghost use Rattle.cg_history.specs.declared.item.Receipt.{Receipt as ReceiptValue};
 
 use crate::item::Receipt;
 use cg_core::Event;

@@ -4,9 +4,9 @@ use Rattle.std.specs.List.{All}
 use Rattle.cg_types.specs.declared.fault.Fault.{Fault}
 use Rattle.cg_types.specs.declared.fault.Fault.TheVariants.{Folded, Stranger}
 use Rattle.cg_types.specs.ListPlace.{at_place}
-use Rattle.cg_records.specs.declared.item.Item.{Item}
-use Rattle.cg_records.specs.declared.item.Receipt.{Receipt}
-use Rattle.cg_records.specs.declared.item.Stray.{Stray}
+use Rattle.cg_history.specs.declared.item.Item.{Item}
+use Rattle.cg_history.specs.declared.item.Receipt.{Receipt}
+use Rattle.cg_history.specs.declared.item.Stray.{Stray}
 
 -- The record is the receipt's.
 abbrev pub IsOf : Item → Receipt → Type 0

@@ -1,7 +1,7 @@
 //! The greatest number so far, for each group of callers.
 
 ghost use Rattle.std.specs.Prelude.{◌≡◌, ℕ, ◌≤◌};
-ghost use Rattle.cg_records.specs.Greatest.{greatest_of};
+ghost use Rattle.cg_history.specs.Greatest.{greatest_of};
 
 /// The number of groups of callers. Callers are of one group if they leave the same remainder by it.
 const GROUPS: usize = 1024;

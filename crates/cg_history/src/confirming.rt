@@ -1,9 +1,8 @@
 //! The test of receipts against records.
 
 ghost use Rattle.std.specs.Prelude.{◌≡◌, ◌↔◌, IsTrue, MatchResult};
-ghost use Rattle.cg_records.specs.Greatest.{AreAtMost};
-ghost use Rattle.cg_records.specs.Confirming.{IsOf, Stands, Follows, AreInOrder, AreConfirmed, IsFirstStray};
-ghost use Rattle.cg_records.specs.Confirming.{stray_fault};
+ghost use Rattle.cg_history.specs.Greatest.{AreAtMost};
+ghost use Rattle.cg_history.specs.Confirming.{IsOf, Stands, Follows, AreInOrder, AreConfirmed, IsFirstStray, stray_fault};
 
 use crate::greatest::Greatest;
 use crate::item::{Item, Receipt, Stray};

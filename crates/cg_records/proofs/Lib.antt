@@ -1,2 +1,0 @@
-pub mod Confirmed
-pub mod AtMost
