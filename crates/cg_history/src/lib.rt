@@ -1,4 +1,4 @@
-//! A history: a node, and the records of all that it did since it started.
+//! A history: a node, and the records of all that it did since it started, with the laws of both.
 //!
 //! Each record of a history replays: from the node before it, its event leads by one step to the node after it, with
 //! the record's reply. The record's puts are what the step changed in the table. A receipt is what the caller keeps of its
@@ -11,6 +11,8 @@ mod enter;
 mod greatest;
 mod history;
 mod item;
+/// Laws of histories.
+pub mod laws;
 mod log;
 
 pub use confirming::confirms;

@@ -9,7 +9,7 @@ use Rattle.cg_history.specs.declared.item.Item.{Item}
 use Rattle.cg_history.specs.declared.item.Receipt.{Receipt}
 use Rattle.cg_history.specs.Confirming.{Stands, Follows}
 use Rattle.cg_history.proofs.Confirmed.{at_place_within, confirmed_more}
-use Rattle.cg_history_laws.proofs.OneMore.{each_event_makes_one_record}
+use Rattle.cg_history.proofs.OneMore.{each_event_makes_one_record}
 use Rattle.cg_history.specs.History.{count_of}
 use Rattle.cg_locked.specs.Entry.{ConfirmedStay, EntriesAreConfirmed}
 

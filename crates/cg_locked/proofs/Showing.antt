@@ -24,8 +24,8 @@ use Rattle.cg_history.specs.Items.{puts_of}
 use Rattle.cg_history.specs.History.{HistoryValue, Replays, IsReplayed, IsFoldOf, count_of, apply, unfolded}
 use Rattle.cg_history.proofs.Folding.{all_counted}
 use Rattle.cg_history.proofs.Replaying.{replays_more}
-use Rattle.cg_history_laws.proofs.OneMore.{each_event_makes_one_record}
-use Rattle.cg_history_laws.proofs.PutsOfRecords.{puts_of-append, front_fits, own_stays, node_small}
+use Rattle.cg_history.proofs.OneMore.{each_event_makes_one_record}
+use Rattle.cg_history.proofs.PutsOfRecords.{puts_of-append, front_fits, own_stays, node_small}
 use Rattle.cg_views.specs.Lists.{MayFollow}
 use Rattle.cg_views.specs.Reading.{Has, HasState}
 use Rattle.cg_views.proofs.Reading.{told_sets_are_read}

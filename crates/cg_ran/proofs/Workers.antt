@@ -15,7 +15,7 @@ use Rattle.cg_history.specs.Confirming.{AreConfirmed, IsFirstStray}
 use Rattle.cg_ran.specs.Numbers.{numbers_in, numbers_on, is_receipt_of}
 use Rattle.cg_left.specs.Left.{IsOf, AreOf, AreOfWorkers, numbers_of_all, is_received, is_ack, is_tick, is_any}
 use Rattle.cg_ran.specs.Ran.{IsStrayBehind, IsWork}
-use Rattle.cg_history_laws.proofs.Covering.{each_record_has_its_receipt}
+use Rattle.cg_history.proofs.Covering.{each_record_has_its_receipt}
 use Rattle.cg_ran.proofs.ByCaller.{receipts_have_the_numbers}
 use Rattle.cg_ran.proofs.Joined.{Below, Own, confirmed_joined, stray_behind, stray_before}
 

@@ -11,7 +11,7 @@ use Rattle.cg_core.specs.Values.{NodeValue}
 use Rattle.cg_core.specs.Step.{Step, node_step}
 use Rattle.cg_history.specs.declared.item.Receipt.{Receipt}
 use Rattle.cg_history.specs.History.{HistoryValue, LAST_NUMBER, count_of, with_step, apply}
-use Rattle.cg_history_laws.proofs.OneMore.{each_event_makes_one_record}
+use Rattle.cg_history.proofs.OneMore.{each_event_makes_one_record}
 use Rattle.cg_history.specs.declared.item.Item.{Item}
 use Rattle.cg_history.specs.Confirming.{AreConfirmed}
 use Rattle.cg_locked.specs.Seat.{SeatState}

@@ -3,7 +3,7 @@ use Rattle.std.specs.Prelude.{slice_index_or}
 use Rattle.cg_history.specs.declared.item.Item.{Item}
 use Rattle.cg_history.specs.Items.{puts_of}
 use Rattle.cg_history.proofs.Folding.{all_counted}
-use Rattle.cg_history_laws.proofs.PutsOfRecords.{puts_next}
+use Rattle.cg_history.proofs.PutsOfRecords.{puts_next}
 use Rattle.cg_locked.proofs.Folding.{index_in_all}
 use Rattle.cg_locked.proofs.board.Board.next_puts.Goals as goal
 

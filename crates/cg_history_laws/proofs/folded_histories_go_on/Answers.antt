@@ -1,5 +1,0 @@
-use Rattle.cg_history_laws.proofs.Folds.{folded_histories_go_on}
-use Rattle.cg_history_laws.proofs.folded_histories_go_on.Goals as goal
-
-pub returns : goal.returns
-returns c = folded_histories_go_on

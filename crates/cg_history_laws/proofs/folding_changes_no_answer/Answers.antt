@@ -1,5 +1,0 @@
-use Rattle.cg_history_laws.proofs.Folds.{folding_changes_no_answer}
-use Rattle.cg_history_laws.proofs.folding_changes_no_answer.Goals as goal
-
-pub returns : goal.returns
-returns c = folding_changes_no_answer

@@ -1,5 +1,0 @@
-use Rattle.cg_history_laws.proofs.PutsOfRecords.{puts_of_records_lead}
-use Rattle.cg_history_laws.proofs.puts_of_records_lead.Goals as goal
-
-pub returns : goal.returns
-returns c = puts_of_records_lead
