@@ -6,10 +6,10 @@ use Rattle.cg_types.specs.declared.fault.Fault.{Fault}
 use Rattle.cg_types.specs.declared.fault.Fault.TheVariants.{OutOfMemory}
 use Rattle.std.specs.List.{AllByRecursion}
 use Rattle.cg_history.specs.History.{HistoryValue}
-use Rattle.cg_one_run.specs.Items.{RunItem, LivesValue, AreLives, AreWhole, generation_of, items_at, items_of_lives}
-use Rattle.cg_one_run.specs.OneRun.{GenerationsRise}
-use Rattle.cg_one_run.specs.Turns as turns
-use Rattle.cg_one_run.specs.Laws.{OrdersAreRuns, StuckLivesAreNoRun, HeadsCanNotGo}
+use Rattle.cg_audit.specs.Items.{RunItem, LivesValue, AreLives, AreWhole, generation_of, items_at, items_of_lives}
+use Rattle.cg_audit.specs.OneRun.{GenerationsRise}
+use Rattle.cg_audit.specs.Turns as turns
+use Rattle.cg_audit.specs.Laws.{OrdersAreRuns, StuckLivesAreNoRun, HeadsCanNotGo}
 use Rattle.cg_audit.specs.declared.item.Order.{Order}
 use Rattle.cg_audit.specs.declared.item.AuditFault.{AuditFault}
 use Rattle.cg_audit.specs.declared.item.AuditFault.TheVariants.{Other, Stuck}

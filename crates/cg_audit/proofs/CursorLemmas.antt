@@ -4,8 +4,8 @@ use Rattle.std.specs.Option.{option_map, option_to_list, option_and_then}
 use Rattle.std.proofs.lemmas.Option.{slice_get-get_or, slice_get_past}
 use Rattle.cg_history.specs.declared.item.Item.{Item}
 use Rattle.cg_history.specs.History.{HistoryValue}
-use Rattle.cg_one_run.specs.Items.{RunItem, LivesValue, generation_of, start_item, item_of, items_from, items_of_life, items_of_lives}
-use Rattle.cg_one_run.specs.Turns as turns
+use Rattle.cg_audit.specs.Items.{RunItem, LivesValue, generation_of, start_item, item_of, items_from, items_of_life, items_of_lives}
+use Rattle.cg_audit.specs.Turns as turns
 use Rattle.cg_audit.specs.declared.cursor.Cursor.{Cursor}
 use Rattle.cg_audit.specs.Track.{Track}
 use Rattle.cg_audit.specs.Tracks.{IsHere, first_cursors, item_here, left_at, left_from, track_at, track_of, tracks}

@@ -1,3 +1,6 @@
+pub mod ItemLemmas
+pub mod TurnLemmas
+pub mod RunLaws
 pub mod PlaceLemmas
 pub mod StartLemmas
 pub mod CursorLemmas

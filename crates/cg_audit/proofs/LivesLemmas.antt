@@ -7,9 +7,9 @@ use Rattle.std.proofs.lemmas.List.{append-nil, append_assoc, length-map, map-app
 use Rattle.std.proofs.lemmas.Option.{slice_get_within}
 use Rattle.cg_messages.specs.declared.message.Message.{Message}
 use Rattle.cg_sent.specs.Index.{HaveTheSame}
-use Rattle.cg_one_run.specs.Items.{RunItem, LivesValue}
-use Rattle.cg_one_run.specs.OneRun.{messages_of}
-use Rattle.cg_one_run.specs.Turns as turns
+use Rattle.cg_audit.specs.Items.{RunItem, LivesValue}
+use Rattle.cg_audit.specs.OneRun.{messages_of}
+use Rattle.cg_audit.specs.Turns as turns
 use Rattle.cg_audit.specs.declared.cursor.Cursor.{Cursor}
 use Rattle.cg_audit.specs.declared.item.LifeItem.{LifeItem}
 use Rattle.cg_audit.specs.Audit.{life_item}

@@ -9,9 +9,9 @@ use Rattle.std.proofs.lemmas.Bool.Decides.{leb_tells}
 use Rattle.cg_types.specs.Rising.{is_among}
 use Rattle.cg_messages.specs.declared.message.Message.{Message}
 use Rattle.cg_history.specs.History.{HistoryValue}
-use Rattle.cg_one_run.specs.Items.{RunItem, LivesValue, items_of_life, items_of_lives}
-use Rattle.cg_one_run.specs.Turns as turns
-use Rattle.cg_one_run.proofs.ItemLemmas.{IsOf, all_both, named_at}
+use Rattle.cg_audit.specs.Items.{RunItem, LivesValue, items_of_life, items_of_lives}
+use Rattle.cg_audit.specs.Turns as turns
+use Rattle.cg_audit.proofs.ItemLemmas.{IsOf, all_both, named_at}
 use Rattle.cg_audit.specs.declared.cursor.Cursor.{Cursor}
 use Rattle.cg_audit.specs.Lives.{differ}
 use Rattle.cg_audit.specs.Track.{Track}

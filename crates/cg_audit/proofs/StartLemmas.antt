@@ -4,7 +4,7 @@ use Rattle.cg_core.specs.Values.{NodeValue}
 use Rattle.cg_core.proofs.NodeLaws.{only_own_events_change_the_own_entry}
 use Rattle.cg_history.specs.declared.item.Item.{Item}
 use Rattle.cg_history.specs.History.{HistoryValue, Replays, IsReplayed}
-use Rattle.cg_one_run.specs.Items.{IsLife}
+use Rattle.cg_audit.specs.Items.{IsLife}
 
 -- records lead to a node of the same endpoint
 own_stays : (b : NodeValue) (rs : List Item) (n : NodeValue) → Replays b rs n → n.table.own ≡ b.table.own

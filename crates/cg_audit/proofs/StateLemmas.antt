@@ -6,10 +6,10 @@ use Rattle.std.proofs.lemmas.List.{map-append}
 use Rattle.std.proofs.lemmas.List.Elements.{Contains-append_left, Contains-append_right, Contains-append_cases}
 use Rattle.cg_messages.specs.declared.message.Message.{Message}
 use Rattle.cg_sent.specs.Index.{HaveTheSame}
-use Rattle.cg_one_run.specs.Items.{RunItem}
-use Rattle.cg_one_run.specs.OneRun.{messages_of}
-use Rattle.cg_one_run.specs.Turns as turns
-use Rattle.cg_one_run.proofs.ItemLemmas.{messages_both}
+use Rattle.cg_audit.specs.Items.{RunItem}
+use Rattle.cg_audit.specs.OneRun.{messages_of}
+use Rattle.cg_audit.specs.Turns as turns
+use Rattle.cg_audit.proofs.ItemLemmas.{messages_both}
 use Rattle.cg_audit.specs.declared.item.LifeItem.{LifeItem}
 use Rattle.cg_audit.specs.Audit.{life_item}
 use Rattle.cg_audit.specs.Track.{Track}

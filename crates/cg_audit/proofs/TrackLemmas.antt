@@ -7,10 +7,10 @@ use Rattle.std.proofs.Math.ListN.{set}
 use Rattle.cg_types.specs.Rising.{is_among}
 use Rattle.cg_messages.specs.declared.message.Message.{Message}
 use Rattle.cg_sent.specs.Index.{HaveTheSame}
-use Rattle.cg_one_run.specs.Items.{RunItem}
-use Rattle.cg_one_run.specs.OneRun.{messages_of}
-use Rattle.cg_one_run.specs.Turns as turns
-use Rattle.cg_one_run.proofs.ItemLemmas.{among_is_in, in_is_among}
+use Rattle.cg_audit.specs.Items.{RunItem}
+use Rattle.cg_audit.specs.OneRun.{messages_of}
+use Rattle.cg_audit.specs.Turns as turns
+use Rattle.cg_audit.proofs.ItemLemmas.{among_is_in, in_is_among}
 use Rattle.cg_audit.specs.Track.{Track}
 use Rattle.cg_audit.specs.Tracks.{advanced, are_distinct, endpoints_in, left_in, goes, ready_item, next_item, heads_left}
 

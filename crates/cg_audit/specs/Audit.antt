@@ -2,10 +2,10 @@
 use Rattle.std.specs.Prelude.{◌≡◌, List, map, Result, Ok, Err}
 use Rattle.cg_types.specs.declared.fault.Fault.{Fault}
 use Rattle.cg_types.specs.declared.fault.Fault.TheVariants.{Folded, NotRising, OutOfMemory}
-use Rattle.cg_one_run.specs.Items.{RunItem, LivesValue, AreLives, AreWhole}
-use Rattle.cg_one_run.specs.OneRun.{IsOneRun, GenerationsRise}
-use Rattle.cg_one_run.specs.Turns as turns
-use Rattle.cg_one_run.specs.Laws.{AreStuck}
+use Rattle.cg_audit.specs.Items.{RunItem, LivesValue, AreLives, AreWhole}
+use Rattle.cg_audit.specs.OneRun.{IsOneRun, GenerationsRise}
+use Rattle.cg_audit.specs.Turns as turns
+use Rattle.cg_audit.specs.Laws.{AreStuck}
 use Rattle.cg_audit.specs.declared.item.LifeItem.{LifeItem}
 use Rattle.cg_audit.specs.declared.item.Order.{Order}
 use Rattle.cg_audit.specs.declared.item.AuditFault.{AuditFault}

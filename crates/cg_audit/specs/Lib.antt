@@ -1,3 +1,7 @@
+pub mod Items
+pub mod OneRun
+pub mod Turns
+pub mod Laws
 pub mod LivesCode
 pub mod Lives
 pub mod Steps
@@ -7,6 +11,4 @@ pub mod Tracks
 pub use Rattle.cg_types.specs.Rising
 pub use Rattle.cg_messages.specs.Lent
 pub use Rattle.cg_places.specs.Step
-pub use Rattle.cg_one_run.specs.Items
-pub use Rattle.cg_one_run.specs.Turns
 pub use Rattle.cg_sent.specs.Index

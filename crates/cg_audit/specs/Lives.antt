@@ -3,7 +3,7 @@ use Rattle.std.specs.Prelude.{Bool, true, ◌==◌, ◌&&◌, not, map, List, []
 use Rattle.std.specs.List.{list_all, list_any}
 use Rattle.cg_types.specs.Rising.{rise_past}
 use Rattle.cg_history.specs.History.{HistoryValue}
-use Rattle.cg_one_run.specs.Items.{LivesValue, generation_of}
+use Rattle.cg_audit.specs.Items.{LivesValue, generation_of}
 
 -- the lives of an endpoint that has one
 abbrev pub lone_life : HistoryValue → LivesValue

@@ -3,7 +3,7 @@ use Rattle.std.specs.Prelude.{ℕ, Bool, ◌==◌, List, refl}
 use Rattle.std.specs.List.{list_all}
 use Rattle.std.specs.Coded.{Coded, code_by, coded×, coded_ℕ, coded_list}
 use Rattle.cg_history.specs.History.{HistoryValue, history_code}
-use Rattle.cg_one_run.specs.Items.{LivesValue}
+use Rattle.cg_audit.specs.Items.{LivesValue}
 
 -- `true` if each history began with a node of the endpoint
 abbrev pub are_of : ℕ → List HistoryValue → Bool

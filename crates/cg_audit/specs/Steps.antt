@@ -1,7 +1,7 @@
 -- Steps as items.
 use Rattle.std.specs.Option.{option_map}
 use Rattle.cg_messages.specs.Lent.{lent_message}
-use Rattle.cg_one_run.specs.Items.{RunItem}
+use Rattle.cg_audit.specs.Items.{RunItem}
 use Rattle.cg_audit.specs.declared.step.Step.{Step}
 
 -- the item of a step

@@ -1,6 +1,6 @@
 -- The items left of an endpoint.
 use Rattle.std.specs.Prelude.{ℕ, List}
-use Rattle.cg_one_run.specs.Items.{RunItem}
+use Rattle.cg_audit.specs.Items.{RunItem}
 
 pub record Track : Type 0 where
   pub endpoint : ℕ

@@ -5,8 +5,8 @@ use Rattle.cg_types.specs.Rising.{is_among}
 use Rattle.cg_types.specs.declared.fault.Fault.TheVariants.{OutOfMemory}
 use Rattle.cg_messages.specs.declared.message.Message.{Message}
 use Rattle.cg_history.specs.History.{HistoryValue}
-use Rattle.cg_one_run.specs.Items.{RunItem, LivesValue, items_of_life, items_of_lives}
-use Rattle.cg_one_run.specs.Turns as turns
+use Rattle.cg_audit.specs.Items.{RunItem, LivesValue, items_of_life, items_of_lives}
+use Rattle.cg_audit.specs.Turns as turns
 use Rattle.cg_audit.specs.declared.item.Order.{Order}
 use Rattle.cg_audit.specs.declared.item.AuditFault.{AuditFault}
 use Rattle.cg_audit.specs.declared.item.AuditFault.TheVariants.{Other, Stuck}

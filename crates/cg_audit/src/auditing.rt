@@ -5,9 +5,9 @@ ghost use Rattle.cg_audit.specs.Lives.{differ};
 ghost use Rattle.cg_audit.specs.Audit.{IsAudited};
 
 use crate::item::{AuditFault, Order};
+use crate::laws::{heads_can_not_go, orders_are_runs, stuck_lives_are_no_run};
 use crate::lives::{Lives, all_rise, are_whole, show_lives};
 use crate::turns::by_turns;
-use cg_one_run::{heads_can_not_go, orders_are_runs, stuck_lives_are_no_run};
 use cg_types::Fault;
 use std::alloc::Global;
 

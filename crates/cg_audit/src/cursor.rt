@@ -2,7 +2,7 @@
 
 ghost use Rattle.std.specs.Prelude.{◌≡◌, ◌+◌, ◌≤◌, ℕ, IfOk, length, option_copied, slice_get};
 ghost use Rattle.std.specs.Option.{option_map, option_to_list};
-ghost use Rattle.cg_one_run.specs.Turns.{rest, first as first_of};
+ghost use Rattle.cg_audit.specs.Turns.{rest, first as first_of};
 ghost use Rattle.cg_audit.specs.Steps.{run_item};
 ghost use Rattle.cg_audit.specs.Tracks.{IsHere, advanced as advanced_of, first_cursors, item_here, left_at, track_at};
 

@@ -10,6 +10,8 @@
 mod auditing;
 mod cursor;
 mod item;
+/// Laws of one run, and of the search that finds it by turns.
+pub mod laws;
 mod lives;
 mod step;
 mod turns;

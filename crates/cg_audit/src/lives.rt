@@ -4,10 +4,9 @@ ghost use Rattle.std.specs.Prelude.{◌≡◌, ◌↔◌, ◌==◌, map, None, I
 ghost use Rattle.std.specs.Bool.{OnTrue};
 ghost use Rattle.cg_types.specs.Rising.{rise_past};
 ghost use Rattle.std.specs.List.{list_any, AllByRecursion};
-ghost use Rattle.cg_one_run.specs.Items.{LivesValue, IsLife, AreLives, generation_of};
+ghost use Rattle.cg_audit.specs.Items.{LivesValue, IsLife, AreLives, generation_of};
 ghost use Rattle.cg_audit.specs.LivesCode.{are_of as are_of_lem};
-ghost use Rattle.cg_audit.specs.Lives.{differ, all_rise as all_rise_lem, lone_life, then_life};
-ghost use Rattle.cg_audit.specs.Lives.{none_folded as none_folded_lem, are_whole as are_whole_lem};
+ghost use Rattle.cg_audit.specs.Lives.{differ, all_rise as all_rise_lem, lone_life, then_life, none_folded as none_folded_lem, are_whole as are_whole_lem};
 
 use cg_history::History;
 use cg_types::{Endpoint, Generation};
@@ -24,7 +23,7 @@ pub struct Lives {
 /// A contract sees the endpoint and the histories, each of which began with a start of that endpoint.
 impl Model for Lives {
     ghost use Rattle.std.specs.List.{AllByRecursion};
-    ghost use Rattle.cg_one_run.specs.Items.{LivesValue, IsLife};
+    ghost use Rattle.cg_audit.specs.Items.{LivesValue, IsLife};
     ghost use Rattle.cg_audit.specs.LivesCode.{lives_code};
 
     ghost Value = { LivesValue };

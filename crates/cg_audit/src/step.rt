@@ -4,7 +4,7 @@ ghost use Rattle.std.specs.Prelude.{◌≡◌, option_copied, slice_get};
 ghost use Rattle.std.specs.Option.{option_map};
 ghost use Rattle.cg_messages.specs.Lent.{lent_message};
 ghost use Rattle.cg_places.specs.Step.{message_in};
-ghost use Rattle.cg_one_run.specs.Items.{generation_of, start_item, item_of, items_of_life};
+ghost use Rattle.cg_audit.specs.Items.{generation_of, start_item, item_of, items_of_life};
 ghost use Rattle.cg_audit.specs.Steps.{run_item};
 
 use crate::item::LifeItem;

@@ -3,7 +3,7 @@
 ghost use Rattle.std.specs.Prelude.{◌≡◌, ◌<◌, ◌==◌, ◌++◌, ◌&&◌, IsTrue, IfOk, IfSome, Some, length, map, is_some, nat_lt, slice_get, slice_index};
 ghost use Rattle.std.specs.Option.{option_map, option_to_list};
 ghost use Rattle.cg_messages.specs.Lent.{lent_message};
-ghost use Rattle.cg_one_run.specs.Turns.{endpoints_of};
+ghost use Rattle.cg_audit.specs.Turns.{endpoints_of};
 ghost use Rattle.cg_sent.specs.Index.{HaveTheSame};
 ghost use Rattle.cg_audit.specs.Steps.{run_item};
 ghost use Rattle.cg_audit.specs.Audit.{life_item};

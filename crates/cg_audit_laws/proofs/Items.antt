@@ -9,9 +9,9 @@ use Rattle.cg_places.specs.PlaceWorld.{PlaceWorld}
 use Rattle.cg_places.proofs.OnwardLemmas.{Keeps}
 use Rattle.cg_places.specs.Step.{SaysSent, IsSentBefore}
 use Rattle.cg_world.proofs.SpellingLemmas.{says_on}
-use Rattle.cg_one_run.specs.Items.{RunItem}
-use Rattle.cg_one_run.specs.OneRun.{messages_of, WasSent}
-use Rattle.cg_one_run.proofs.ItemLemmas.{messages_both}
+use Rattle.cg_audit.specs.Items.{RunItem}
+use Rattle.cg_audit.specs.OneRun.{messages_of, WasSent}
+use Rattle.cg_audit.proofs.ItemLemmas.{messages_both}
 
 -- The world has each message that these items sent.
 abbrev pub AllSaid : PlaceWorld → List RunItem → Type 0

@@ -29,8 +29,8 @@ use Rattle.cg_world.specs.Terms.{AreEqual, Mark, mark_of, HasGreatest}
 use Rattle.cg_world.proofs.MarkLemmas.{mark_at, mark_here}
 use Rattle.cg_world.proofs.HeadlineLaws.{Each, each_all, HasEntries, marks_by_targets, targets_have, greatest_held, same_held}
 use Rattle.cg_history.specs.History.{HistoryValue}
-use Rattle.cg_one_run.specs.Items.{RunItem, LivesValue, IsLife, AreLives, AreWhole, generation_of, items_of_lives, items_at}
-use Rattle.cg_one_run.specs.OneRun.{GenerationsRise, IsOneRun, messages_of}
+use Rattle.cg_audit.specs.Items.{RunItem, LivesValue, IsLife, AreLives, AreWhole, generation_of, items_of_lives, items_at}
+use Rattle.cg_audit.specs.OneRun.{GenerationsRise, IsOneRun, messages_of}
 use Rattle.cg_audit_laws.specs.RunHeadline.{histories_at, EndsWith, took_from, marks_of, Was, IsMarked, SameMarks, RunsHaveTheHeadline}
 use Rattle.cg_audit_laws.specs.RunWorld.{RunsHaveAWorld}
 use Rattle.cg_audit_laws.proofs.Stages.{IsWholeLife, Stage, Idle}

@@ -21,7 +21,7 @@ use Rattle.cg_world.specs.Terms.{Mark}
 use Rattle.cg_world.proofs.HeadlineLaws.{Marked, marked_still}
 use Rattle.cg_history.specs.declared.item.Item.{Item}
 use Rattle.cg_history.specs.History.{record_of, HistoryValue, Replays}
-use Rattle.cg_one_run.specs.Items.{RunItem, IsLife, generation_of, items_from, items_of_lives}
+use Rattle.cg_audit.specs.Items.{RunItem, IsLife, generation_of, items_from, items_of_lives}
 use Rattle.cg_audit_laws.specs.RunHeadline.{last_or, took_from, GapsLiePast, AllGapsLiePast, WasOwnFrom, WasOwnIn}
 use Rattle.cg_audit_laws.specs.RunWorld.{IsNumbered, IsRecordOf}
 

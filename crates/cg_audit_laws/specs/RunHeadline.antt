@@ -17,8 +17,8 @@ use Rattle.cg_places.specs.Step.{message_in}
 use Rattle.cg_world.specs.Terms.{AreEqual, deltas_in, is_gap, Mark, mark_of, HasGreatest, LiesPast, with_delta}
 use Rattle.cg_history.specs.declared.item.Item.{Item}
 use Rattle.cg_history.specs.History.{HistoryValue, Replays}
-use Rattle.cg_one_run.specs.Items.{RunItem, LivesValue, AreLives, AreWhole}
-use Rattle.cg_one_run.specs.OneRun.{IsOneRun}
+use Rattle.cg_audit.specs.Items.{RunItem, LivesValue, AreLives, AreWhole}
+use Rattle.cg_audit.specs.OneRun.{IsOneRun}
 
 -- ---- lives
 

@@ -5,8 +5,8 @@ use Rattle.cg_places.specs.Laws.{IsWorld}
 use Rattle.cg_places.specs.Step.{message_in, action_at, IsPlaced, IsSentBefore}
 use Rattle.cg_history.specs.declared.item.Item.{Item}
 use Rattle.cg_history.specs.History.{HistoryValue}
-use Rattle.cg_one_run.specs.Items.{RunItem, LivesValue, AreLives, AreWhole, generation_of}
-use Rattle.cg_one_run.specs.OneRun.{IsOneRun}
+use Rattle.cg_audit.specs.Items.{RunItem, LivesValue, AreLives, AreWhole, generation_of}
+use Rattle.cg_audit.specs.OneRun.{IsOneRun}
 use Rattle.cg_audit_laws.specs.RunHeadline.{histories_at, EndsWith}
 
 -- ---- records by their numbers

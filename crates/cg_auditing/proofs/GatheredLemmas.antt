@@ -7,7 +7,7 @@ use Rattle.std.proofs.lemmas.Bool.Decides.{nat_tests}
 use Rattle.cg_types.specs.Rising.{rise_past, is_past}
 use Rattle.cg_types.proofs.RisingLemmas.{both, first_of, second_of, rise_earlier}
 use Rattle.cg_history.specs.History.{HistoryValue}
-use Rattle.cg_one_run.specs.Items.{LivesValue}
+use Rattle.cg_audit.specs.Items.{LivesValue}
 use Rattle.cg_audit.specs.Lives.{differ, lone_life, then_life}
 use Rattle.std.proofs.lemmas.Option.{slice_get_within}
 use Rattle.cg_auditing.specs.Gathered.{EndpointsRise, with_life, is_of, IsPushed}

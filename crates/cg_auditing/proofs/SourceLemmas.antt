@@ -3,7 +3,7 @@ use Rattle.std.proofs.Common.{◌≡◌, ℕ, zero, suc, ◌+◌, List, [], ◌�
 use Rattle.std.proofs.Math.ListN.{set}
 use Rattle.cg_history.specs.History.{HistoryValue}
 use Rattle.cg_journal.specs.declared.unread.Unread.{Unread}
-use Rattle.cg_one_run.specs.Items.{LivesValue}
+use Rattle.cg_audit.specs.Items.{LivesValue}
 use Rattle.cg_auditing.specs.Gathered.{Gathers, GathersNone, GathersAll, StopsAt}
 
 module _ {S : Type 0} (reads : S → S → HistoryValue → Type 0) (fails : S → S → Unread → Type 0) where

@@ -4,7 +4,7 @@ use Rattle.cg_types.specs.declared.fault.Fault.TheVariants as fault
 use Rattle.cg_types.specs.Fault.{fault_text}
 use Rattle.cg_history.specs.History.{HistoryValue}
 use Rattle.cg_journal.specs.declared.unread.Unread.{Unread}
-use Rattle.cg_one_run.specs.Items.{LivesValue}
+use Rattle.cg_audit.specs.Items.{LivesValue}
 use Rattle.cg_audit.specs.Audit.{IsAudited}
 use Rattle.cg_audit.specs.declared.item.Order.{Order}
 use Rattle.cg_audit.specs.declared.item.AuditFault.{AuditFault}

@@ -4,7 +4,7 @@ use Rattle.cg_types.specs.declared.fault.Fault.TheVariants.{OutOfMemory}
 use Rattle.cg_types.specs.Rising.{Rises}
 use Rattle.cg_history.specs.History.{HistoryValue}
 use Rattle.cg_journal.specs.declared.unread.Unread.{Unread}
-use Rattle.cg_one_run.specs.Items.{LivesValue}
+use Rattle.cg_audit.specs.Items.{LivesValue}
 use Rattle.cg_audit.specs.Lives.{lone_life, then_life}
 
 -- the endpoints rise

@@ -6,7 +6,7 @@ pub use Rattle.cg_links.specs.Counted
 pub use Rattle.cg_printed.specs.Written
 pub use Rattle.cg_history.specs.History
 pub use Rattle.cg_journal.specs.Read
-pub use Rattle.cg_one_run.specs.Items
+pub use Rattle.cg_audit.specs.Items
 pub use Rattle.cg_audit.specs.Lives
 pub use Rattle.cg_audit.specs.LivesCode
 pub use Rattle.cg_audit.specs.Audit

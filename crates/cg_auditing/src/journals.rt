@@ -2,7 +2,7 @@
 
 ghost use Rattle.std.specs.Prelude.{◌≡◌, [], IsTrue, OnErr, OnOk, nat_lt, option_copied, slice_get};
 ghost use Rattle.std.specs.List.{prefix_len};
-ghost use Rattle.cg_one_run.specs.Items.{LivesValue};
+ghost use Rattle.cg_audit.specs.Items.{LivesValue};
 ghost use Rattle.cg_audit.specs.Audit.{IsAudited};
 ghost use Rattle.cg_auditing.specs.Gathered.{with_life, is_of, IsPushed, GathersOne};
 
@@ -24,7 +24,7 @@ pub struct Journals {
 impl Model for Journals {
     ghost use Rattle.std.specs.Prelude.{List};
     ghost use Rattle.std.specs.Coded.{coded_list};
-    ghost use Rattle.cg_one_run.specs.Items.{LivesValue};
+    ghost use Rattle.cg_audit.specs.Items.{LivesValue};
     ghost use Rattle.cg_audit.specs.LivesCode.{lives_code};
     ghost use Rattle.cg_auditing.specs.Gathered.{EndpointsRise};
 

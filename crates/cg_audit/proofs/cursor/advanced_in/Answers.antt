@@ -1,5 +1,5 @@
 use Rattle.std.proofs.Common.{◌≡◌, ap, ◌∙◌}
-use Rattle.cg_one_run.specs.Turns.{rest}
+use Rattle.cg_audit.specs.Turns.{rest}
 use Rattle.cg_audit.proofs.cursor.advanced_in.Goals as goal
 
 pub returns : goal.returns

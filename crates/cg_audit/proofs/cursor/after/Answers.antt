@@ -1,5 +1,5 @@
 use Rattle.std.proofs.Common.{◌≡◌, ◌+◌, sym, ap, ◌∙◌}
-use Rattle.cg_one_run.specs.Turns.{rest}
+use Rattle.cg_audit.specs.Turns.{rest}
 use Rattle.cg_audit.specs.Tracks.{left_at}
 use Rattle.cg_audit.proofs.CursorLemmas.{left_none, has_item}
 use Rattle.cg_audit.proofs.cursor.after.Goals as goal

@@ -1,6 +1,6 @@
 use Rattle.std.proofs.Common.{◌≡◌, ap, ◌∙◌}
 use Rattle.std.specs.Option.{option_to_list}
-use Rattle.cg_one_run.specs.Turns as turns
+use Rattle.cg_audit.specs.Turns as turns
 use Rattle.cg_audit.proofs.CursorLemmas.{first_here}
 use Rattle.cg_audit.proofs.cursor.first_in.Goals as goal
 

@@ -1,6 +1,6 @@
 use Rattle.std.proofs.Common.{◌≡◌, length}
 use Rattle.std.specs.List.{AllByRecursion}
-use Rattle.cg_one_run.specs.Items.{IsLife}
+use Rattle.cg_audit.specs.Items.{IsLife}
 use Rattle.cg_audit.specs.LivesCode.{are_of}
 use Rattle.cg_audit.proofs.lives.are_of.Given as goal
 

@@ -2,7 +2,7 @@ use Rattle.std.specs.Prelude.{nat_lt}
 use Rattle.std.proofs.Common.{rules}
 use Rattle.std.proofs.lemmas.List.Sorted.{answers_always}
 use Rattle.cg_types.proofs.NeighbourLemmas.{neighbours_rise}
-use Rattle.cg_one_run.specs.Items.{generation_of}
+use Rattle.cg_audit.specs.Items.{generation_of}
 use Rattle.cg_audit.proofs.lives.rise.Goals as goal
 
 pub returns : goal.returns

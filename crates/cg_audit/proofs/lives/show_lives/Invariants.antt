@@ -1,5 +1,5 @@
 use Rattle.std.proofs.Common.{length}
-use Rattle.cg_one_run.specs.Items.{AreLives}
+use Rattle.cg_audit.specs.Items.{AreLives}
 use Rattle.cg_audit.proofs.lives.show_lives.Given as goal
 
 abbrev pub invariant-loop-first : goal.invariant-loop-first

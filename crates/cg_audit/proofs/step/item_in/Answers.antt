@@ -1,6 +1,6 @@
 use Rattle.std.proofs.Common.{◌≡◌, ◌-◌, Option, Some, None, sym, ap, ◌∙◌, slice_get}
 use Rattle.std.specs.Option.{option_map}
-use Rattle.cg_one_run.specs.Items.{item_of, generation_of}
+use Rattle.cg_audit.specs.Items.{item_of, generation_of}
 use Rattle.cg_audit.specs.Steps.{run_item}
 use Rattle.cg_audit.proofs.CursorLemmas.{item_in_life}
 use Rattle.cg_audit.proofs.step.item_in.Goals as goal

@@ -5,7 +5,7 @@ use Rattle.std.proofs.lemmas.List.Sums.{prefix_len-le-length}
 use Rattle.std.proofs.lemmas.Result.{IfOk-weaker}
 use Rattle.cg_table.specs.Values.{TableValue}
 use Rattle.cg_core.specs.Values.{NodeValue}
-use Rattle.cg_one_run.specs.Items.{LivesValue}
+use Rattle.cg_audit.specs.Items.{LivesValue}
 use Rattle.cg_auditing.specs.Gathered.{is_of}
 use Rattle.cg_auditing.proofs.GatheredLemmas.{count_before, pushed_there, inserted_there}
 use Rattle.cg_auditing.proofs.journals.add_life.Goals as goal

@@ -2,7 +2,7 @@ use Rattle.std.proofs.Common.{◌≡◌, sym, ap, ◌∙◌}
 use Rattle.std.proofs.lemmas.Option.{get_or_from_slice_get}
 use Rattle.std.proofs.lemmas.Result.{IfOk-weaker}
 use Rattle.std.proofs.Math.ListN.{set}
-use Rattle.cg_one_run.specs.Items.{LivesValue}
+use Rattle.cg_audit.specs.Items.{LivesValue}
 use Rattle.cg_audit.specs.Lives.{then_life}
 use Rattle.cg_auditing.proofs.GatheredLemmas.{are_here}
 use Rattle.cg_auditing.proofs.journals.push_at.Goals as goal

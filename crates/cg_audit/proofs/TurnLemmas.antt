@@ -4,10 +4,10 @@ use Rattle.std.specs.Prelude.{◌==◌, nat_le}
 use Rattle.std.specs.List.{AllByRecursion}
 use Rattle.std.proofs.lemmas.List.{append-nil, append_assoc}
 use Rattle.std.proofs.lemmas.Option.{same_Some}
-use Rattle.cg_one_run.specs.Items.{RunItem, LivesValue, items_at}
-use Rattle.cg_one_run.specs.OneRun.{items_by, EachWasSent}
-use Rattle.cg_one_run.specs.Turns.{can_go, ready, lesser, next, rest, without_next, first, heads, count_left}
-use Rattle.cg_one_run.proofs.ItemLemmas.{IsIn, IsOf, all_last, named_at, going_was_sent, items_both, sent_more}
+use Rattle.cg_audit.specs.Items.{RunItem, LivesValue, items_at}
+use Rattle.cg_audit.specs.OneRun.{items_by, EachWasSent}
+use Rattle.cg_audit.specs.Turns.{can_go, ready, lesser, next, rest, without_next, first, heads, count_left}
+use Rattle.cg_audit.proofs.ItemLemmas.{IsIn, IsOf, all_last, named_at, going_was_sent, items_both, sent_more}
 
 -- ---- the item that goes next
 

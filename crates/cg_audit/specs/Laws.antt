@@ -1,9 +1,9 @@
 -- Turns find an order that is one run exactly if there is one.
 use Rattle.std.specs.Prelude.{ℕ, ◌≡◌, ◌++◌, false, List, []}
 use Rattle.std.specs.List.{AllByRecursion}
-use Rattle.cg_one_run.specs.Items.{RunItem, LivesValue, items_at}
-use Rattle.cg_one_run.specs.OneRun.{EachWasSent, GenerationsRise, IsOneRun, items_by}
-use Rattle.cg_one_run.specs.Turns.{Order, Stuck, can_go, heads, order_of, endpoints_of}
+use Rattle.cg_audit.specs.Items.{RunItem, LivesValue, items_at}
+use Rattle.cg_audit.specs.OneRun.{EachWasSent, GenerationsRise, IsOneRun, items_by}
+use Rattle.cg_audit.specs.Turns.{Order, Stuck, can_go, heads, order_of, endpoints_of}
 
 abbrev pub OrdersAreRuns : Type 0
 OrdersAreRuns =

@@ -3,7 +3,7 @@ use Rattle.std.specs.Prelude.{ℕ, ◌≡◌, ◌==◌, ⊤, List, [], ◌∷◌
 use Rattle.std.specs.List.{AllByRecursion, Contains, filter, filter_map}
 use Rattle.cg_types.specs.Rising.{Rises}
 use Rattle.cg_messages.specs.declared.message.Message.{Message}
-use Rattle.cg_one_run.specs.Items.{RunItem, LivesValue, generation_of, items_at}
+use Rattle.cg_audit.specs.Items.{RunItem, LivesValue, generation_of, items_at}
 
 -- the messages that these items sent
 abbrev pub messages_of : List RunItem → List Message

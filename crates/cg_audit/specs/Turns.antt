@@ -1,11 +1,10 @@
 -- The order that turns find: at each turn the least endpoint goes whose next item can go.
-use Rattle.std.specs.Prelude.{ℕ, zero, suc, ◌==◌, ◌||◌, ◌+◌, Bool, true, false, nat_le, if◌then◌else◌}
-use Rattle.std.specs.Prelude.{List, [], ◌∷◌, ◌++◌, length, map, Option, Some, None}
+use Rattle.std.specs.Prelude.{ℕ, zero, suc, ◌==◌, ◌||◌, ◌+◌, Bool, true, false, nat_le, if◌then◌else◌, List, [], ◌∷◌, ◌++◌, length, map, Option, Some, None}
 use Rattle.cg_types.specs.Equality.{same_by}
 use Rattle.cg_messages.specs.declared.message.Message.{Message}
 use Rattle.cg_messages.specs.MessageCode.{message_code}
-use Rattle.cg_one_run.specs.Items.{RunItem, LivesValue, items_at}
-use Rattle.cg_one_run.specs.OneRun.{messages_of}
+use Rattle.cg_audit.specs.Items.{RunItem, LivesValue, items_at}
+use Rattle.cg_audit.specs.OneRun.{messages_of}
 
 abbrev pub is_among : List Message → Message → Bool
 is_among [] m = false

@@ -9,9 +9,9 @@ use Rattle.cg_messages.specs.declared.message.Message.{Message}
 use Rattle.cg_messages.specs.MessageCode.{message_code}
 use Rattle.cg_history.specs.declared.item.Item.{Item}
 use Rattle.cg_history.specs.History.{HistoryValue}
-use Rattle.cg_one_run.specs.Items.{RunItem, LivesValue, generation_of, items_from, items_of_life, items_of_lives, items_at}
-use Rattle.cg_one_run.specs.OneRun.{messages_of, items_by, WasSent, EachWasSent}
-use Rattle.cg_one_run.specs.Turns.{is_among, can_go, endpoints_of}
+use Rattle.cg_audit.specs.Items.{RunItem, LivesValue, generation_of, items_from, items_of_life, items_of_lives, items_at}
+use Rattle.cg_audit.specs.OneRun.{messages_of, items_by, WasSent, EachWasSent}
+use Rattle.cg_audit.specs.Turns.{is_among, can_go, endpoints_of}
 
 -- ---- lists
 

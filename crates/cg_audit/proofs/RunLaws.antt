@@ -5,12 +5,12 @@ use Rattle.std.specs.List.{AllByRecursion, Contains}
 use Rattle.std.proofs.lemmas.List.{append-nil, append_assoc, append_cancel_left}
 use Rattle.std.proofs.lemmas.List.Elements.{Contains-append_left, Contains-append_right, Contains-append_cases}
 use Rattle.cg_messages.specs.declared.message.Message.{Message}
-use Rattle.cg_one_run.specs.Items.{RunItem, LivesValue, items_at}
-use Rattle.cg_one_run.specs.OneRun.{messages_of, items_by, WasSent, EachWasSent, GenerationsRise, IsOneRun}
-use Rattle.cg_one_run.specs.Turns.{Found, Order, Stuck, can_go, next, without_next, first, heads, found, after_turn, turns, count_left, endpoints_of}
-use Rattle.cg_one_run.specs.Laws.{OrdersAreRuns, StuckLivesAreNoRun, HeadsCanNotGo, AreStuck}
-use Rattle.cg_one_run.proofs.ItemLemmas.{IsIn, lives_or_none, sent_can_go, messages_both, items_both}
-use Rattle.cg_one_run.proofs.TurnLemmas.{next_is, heads_stay, none_left, head_of, nobody_left, count_less, IsAtTurn, named_so, after_one}
+use Rattle.cg_audit.specs.Items.{RunItem, LivesValue, items_at}
+use Rattle.cg_audit.specs.OneRun.{messages_of, items_by, WasSent, EachWasSent, GenerationsRise, IsOneRun}
+use Rattle.cg_audit.specs.Turns.{Found, Order, Stuck, can_go, next, without_next, first, heads, found, after_turn, turns, count_left, endpoints_of}
+use Rattle.cg_audit.specs.Laws.{OrdersAreRuns, StuckLivesAreNoRun, HeadsCanNotGo, AreStuck}
+use Rattle.cg_audit.proofs.ItemLemmas.{IsIn, lives_or_none, sent_can_go, messages_both, items_both}
+use Rattle.cg_audit.proofs.TurnLemmas.{next_is, heads_stay, none_left, head_of, nobody_left, count_less, IsAtTurn, named_so, after_one}
 
 abbrev in_order : Found → List RunItem
 in_order (Order order) = order

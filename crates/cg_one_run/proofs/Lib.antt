@@ -1,3 +1,0 @@
-pub mod ItemLemmas
-pub mod TurnLemmas
-pub mod RunLaws

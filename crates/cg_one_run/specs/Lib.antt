@@ -1,4 +1,0 @@
-pub mod Items
-pub mod OneRun
-pub mod Turns
-pub mod Laws
