@@ -1,3 +1,5 @@
+pub mod IndexLemmas
+pub mod PushLemmas
 pub mod ItemLemmas
 pub mod TurnLemmas
 pub mod RunLaws

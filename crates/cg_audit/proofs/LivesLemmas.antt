@@ -6,7 +6,7 @@ use Rattle.std.proofs.Math.ListN.{set, length-set}
 use Rattle.std.proofs.lemmas.List.{append-nil, append_assoc, length-map, map-append}
 use Rattle.std.proofs.lemmas.Option.{slice_get_within}
 use Rattle.cg_messages.specs.declared.message.Message.{Message}
-use Rattle.cg_sent.specs.Index.{HaveTheSame}
+use Rattle.cg_audit.specs.Index.{HaveTheSame}
 use Rattle.cg_audit.specs.Items.{RunItem, LivesValue}
 use Rattle.cg_audit.specs.OneRun.{messages_of}
 use Rattle.cg_audit.specs.Turns as turns

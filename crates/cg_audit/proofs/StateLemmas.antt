@@ -5,7 +5,7 @@ use Rattle.std.proofs.Math.ListN.{set}
 use Rattle.std.proofs.lemmas.List.{map-append}
 use Rattle.std.proofs.lemmas.List.Elements.{Contains-append_left, Contains-append_right, Contains-append_cases}
 use Rattle.cg_messages.specs.declared.message.Message.{Message}
-use Rattle.cg_sent.specs.Index.{HaveTheSame}
+use Rattle.cg_audit.specs.Index.{HaveTheSame}
 use Rattle.cg_audit.specs.Items.{RunItem}
 use Rattle.cg_audit.specs.OneRun.{messages_of}
 use Rattle.cg_audit.specs.Turns as turns

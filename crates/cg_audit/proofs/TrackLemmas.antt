@@ -6,7 +6,7 @@ use Rattle.std.specs.Cmp.{both_ways}
 use Rattle.std.proofs.Math.ListN.{set}
 use Rattle.cg_types.specs.Rising.{is_among}
 use Rattle.cg_messages.specs.declared.message.Message.{Message}
-use Rattle.cg_sent.specs.Index.{HaveTheSame}
+use Rattle.cg_audit.specs.Index.{HaveTheSame}
 use Rattle.cg_audit.specs.Items.{RunItem}
 use Rattle.cg_audit.specs.OneRun.{messages_of}
 use Rattle.cg_audit.specs.Turns as turns

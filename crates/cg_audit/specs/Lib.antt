@@ -1,3 +1,5 @@
+pub mod Hash
+pub mod Index
 pub mod Items
 pub mod OneRun
 pub mod Turns
@@ -11,4 +13,4 @@ pub mod Tracks
 pub use Rattle.cg_types.specs.Rising
 pub use Rattle.cg_messages.specs.Lent
 pub use Rattle.cg_places.specs.Step
-pub use Rattle.cg_sent.specs.Index
+pub use Rattle.cg_messages.specs.MessageCode

@@ -9,13 +9,17 @@
 
 mod auditing;
 mod cursor;
+mod hash;
+mod index;
 mod item;
 /// Laws of one run, and of the search that finds it by turns.
 pub mod laws;
 mod lives;
+mod same;
 mod step;
 mod turns;
 
 pub use auditing::audit;
+pub use index::SentMessages;
 pub use item::{AuditFault, LifeItem, Order};
 pub use lives::{Lives, endpoints_differ};

@@ -4,17 +4,17 @@ ghost use Rattle.std.specs.Prelude.{◌≡◌, ◌<◌, ◌==◌, ◌++◌, ◌&
 ghost use Rattle.std.specs.Option.{option_map, option_to_list};
 ghost use Rattle.cg_messages.specs.Lent.{lent_message};
 ghost use Rattle.cg_audit.specs.Turns.{endpoints_of};
-ghost use Rattle.cg_sent.specs.Index.{HaveTheSame};
+ghost use Rattle.cg_audit.specs.Index.{HaveTheSame};
 ghost use Rattle.cg_audit.specs.Steps.{run_item};
 ghost use Rattle.cg_audit.specs.Audit.{life_item};
 ghost use Rattle.cg_audit.specs.Lives.{differ};
 ghost use Rattle.cg_audit.specs.Tracks.{IsFound, IsNext, better_place, found_of, goes, heads_left, is_before as is_before_lem, is_ready as is_ready_lem, ready_item, track_at, track_of, tracks};
 
 use crate::cursor::{Cursor, advanced, cursors, first};
+use crate::index::SentMessages;
 use crate::item::{AuditFault, LifeItem, Order};
 use crate::lives::Lives;
 use cg_messages::Lent;
-use cg_sent::SentMessages;
 use cg_types::Endpoint;
 use std::alloc::{AllocError, Global};
 

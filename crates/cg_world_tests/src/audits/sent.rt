@@ -2,10 +2,10 @@
 //!
 //! They are ACK2s about A, 10.0.0.1:7000, or B, 10.0.0.2:7000, with one delta that has a heartbeat alone.
 
+use cg_audit::SentMessages;
 use cg_expect::expect_eq;
 use cg_messages::{Ack2, Message, OwnerDelta};
 use cg_samples::{A, B, bare_delta, endpoint};
-use cg_sent::SentMessages;
 use std::alloc::{AllocError, Global};
 use std::test::Fail;
 

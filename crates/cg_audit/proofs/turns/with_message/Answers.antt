@@ -1,7 +1,7 @@
 use Rattle.std.proofs.Common.{◌++◌, IfOk, sym, subst}
 use Rattle.std.specs.Option.{option_map, option_to_list}
 use Rattle.cg_messages.specs.Lent.{lent_message}
-use Rattle.cg_sent.specs.Index.{HaveTheSame}
+use Rattle.cg_audit.specs.Index.{HaveTheSame}
 use Rattle.cg_audit.proofs.turns.with_message.Goals as goal
 
 pub returns-in-Some : goal.returns-in-Some

@@ -1,7 +1,7 @@
 -- Lists of messages that are found by their hashes.
 use Rattle.std.specs.Prelude.{ℕ, suc, ◌≡◌, ◌<◌, ◌≤◌, ◌%◌, ◌↔◌, List, length, map, Contains, slice_index}
 use Rattle.cg_messages.specs.declared.message.Message.{Message}
-use Rattle.cg_sent.specs.Hash.{hash_of}
+use Rattle.cg_audit.specs.Hash.{hash_of}
 
 -- The greatest number of a bucket among this many first messages, or 0 if the bucket has none of them.
 pub record IsLast (hashes : List ℕ) (buckets bucket first number : ℕ) : Type 0 where

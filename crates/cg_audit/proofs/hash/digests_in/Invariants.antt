@@ -1,7 +1,7 @@
 use Rattle.std.proofs.Common.{◌≡◌, take}
 use Rattle.std.specs.List.{fold}
-use Rattle.cg_sent.specs.Hash.{with_digest}
-use Rattle.cg_sent.proofs.hash.digests_in.Given as goal
+use Rattle.cg_audit.specs.Hash.{with_digest}
+use Rattle.cg_audit.proofs.hash.digests_in.Given as goal
 
 -- the parts so far are in the hash
 abbrev pub invariant-loop-digest : goal.invariant-loop-digest

@@ -2,7 +2,7 @@
 
 ghost use Rattle.std.specs.Prelude.{◌≡◌, fold};
 ghost use Rattle.cg_messages.specs.Lent.{lent_message};
-ghost use Rattle.cg_sent.specs.Hash.{mixed as mixed_of, endpoint_number as endpoint_number_of, with_digest, with_request, with_delta, hash_of as hash_of_lem};
+ghost use Rattle.cg_audit.specs.Hash.{mixed as mixed_of, endpoint_number as endpoint_number_of, with_digest, with_request, with_delta, hash_of as hash_of_lem};
 
 use cg_entry::Digest;
 use cg_messages::{Ack, Ack2, Lent, OwnerDelta, Request, Syn};

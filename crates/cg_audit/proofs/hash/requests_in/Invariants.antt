@@ -1,7 +1,7 @@
 use Rattle.std.proofs.Common.{◌≡◌, take}
 use Rattle.std.specs.List.{fold}
-use Rattle.cg_sent.specs.Hash.{with_request}
-use Rattle.cg_sent.proofs.hash.requests_in.Given as goal
+use Rattle.cg_audit.specs.Hash.{with_request}
+use Rattle.cg_audit.proofs.hash.requests_in.Given as goal
 
 -- the parts so far are in the hash
 abbrev pub invariant-loop-request : goal.invariant-loop-request

@@ -6,8 +6,8 @@ use Rattle.std.proofs.lemmas.List.{length-map}
 use Rattle.std.proofs.lemmas.Bool.{cases_lt}
 use Rattle.std.proofs.lemmas.Option.{slice_get-map, slice_get-get_or, slice_get_within, get_or_from_slice_get}
 use Rattle.cg_messages.specs.declared.message.Message.{Message}
-use Rattle.cg_sent.specs.Hash.{hash_of}
-use Rattle.cg_sent.specs.Index.{IsLast, IsIndex}
+use Rattle.cg_audit.specs.Hash.{hash_of}
+use Rattle.cg_audit.specs.Index.{IsLast, IsIndex}
 
 -- the hash at a message's place is the message's
 pub hash_at : (messages : List Message) (hashes : List ℕ) → map hash_of messages ≡ hashes → (place : ℕ) (m : Message) → slice_get messages place ≡ Some m → get_or hashes place 0 ≡ hash_of m

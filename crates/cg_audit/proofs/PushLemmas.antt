@@ -6,8 +6,8 @@ use Rattle.std.proofs.lemmas.Bool.{cases_lt, cases_eq}
 use Rattle.std.proofs.lemmas.List.{map-append, get_or_append_left, get_or_push, get_or-set_same, get_or-set_other}
 use Rattle.std.proofs.lemmas.List.Elements.{Contains-append_left, Contains-append_cases, Contains-push_cases}
 use Rattle.cg_messages.specs.declared.message.Message.{Message}
-use Rattle.cg_sent.specs.Hash.{hash_of}
-use Rattle.cg_sent.specs.Index.{IsLast, IsIndex, HaveTheSame}
+use Rattle.cg_audit.specs.Hash.{hash_of}
+use Rattle.cg_audit.specs.Index.{IsLast, IsIndex, HaveTheSame}
 
 module _ (hashes : List ℕ) (hash buckets : ℕ) where
   abbrev longer : List ℕ

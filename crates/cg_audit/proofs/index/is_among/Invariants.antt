@@ -1,7 +1,7 @@
 use Rattle.std.proofs.Common.{map, length}
 use Rattle.cg_messages.specs.Lent.{lent_message}
-use Rattle.cg_sent.proofs.IndexLemmas.{IsPassed}
-use Rattle.cg_sent.proofs.index.is_among.Given as goal
+use Rattle.cg_audit.proofs.IndexLemmas.{IsPassed}
+use Rattle.cg_audit.proofs.index.is_among.Given as goal
 
 abbrev pub invariant-loop-number : goal.invariant-loop-number
 invariant-loop-number l = IsPassed (map lent_message l.messages) l.hashes (length l.last) (lent_message l.wanted) l.number

@@ -1,8 +1,8 @@
 use Rattle.std.proofs.Common.{◌≡◌, ℕ, suc, ◌<◌, ◌-◌, ◌%◌, map, length, refl, ap, ◌∙◌, subst, arith}
 use Rattle.cg_messages.specs.Lent.{lent_message}
-use Rattle.cg_sent.specs.Hash.{hash_of}
-use Rattle.cg_sent.proofs.IndexLemmas.{IsPassed, passed_first, passed_next, contains_at, at_contained}
-use Rattle.cg_sent.proofs.index.is_among.Goals as goal
+use Rattle.cg_audit.specs.Hash.{hash_of}
+use Rattle.cg_audit.proofs.IndexLemmas.{IsPassed, passed_first, passed_next, contains_at, at_contained}
+use Rattle.cg_audit.proofs.index.is_among.Goals as goal
 
 pub loop-number-init : goal.loop-number-init
 loop-number-init c =

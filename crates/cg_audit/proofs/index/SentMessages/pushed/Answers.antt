@@ -3,10 +3,10 @@ use Rattle.std.proofs.lemmas.List.{map-append, get_or_default}
 use Rattle.std.proofs.Math.ListN.{set}
 use Rattle.cg_messages.specs.declared.message.Message.{Message}
 use Rattle.cg_messages.specs.Lent.{lent_message}
-use Rattle.cg_sent.specs.Hash.{hash_of}
-use Rattle.cg_sent.specs.Index.{IsIndex}
-use Rattle.cg_sent.proofs.PushLemmas.{pushed_index}
-use Rattle.cg_sent.proofs.index.SentMessages.pushed.Goals as goal
+use Rattle.cg_audit.specs.Hash.{hash_of}
+use Rattle.cg_audit.specs.Index.{IsIndex}
+use Rattle.cg_audit.proofs.PushLemmas.{pushed_index}
+use Rattle.cg_audit.proofs.index.SentMessages.pushed.Goals as goal
 
 pub invariant_of-result : goal.invariant_of-result
 invariant_of-result c =

@@ -2,8 +2,8 @@
 
 ghost use Rattle.std.specs.Prelude.{◌≡◌, ◌<◌, ◌+◌, ◌%◌, ◌↔◌, ◌∷◌, ◌++◌, [], IsTrue, IfOk, Contains, Some, length, map, slice_get};
 ghost use Rattle.cg_messages.specs.Lent.{lent_message};
-ghost use Rattle.cg_sent.specs.Hash.{hash_of as hash_of_lem};
-ghost use Rattle.cg_sent.specs.Index.{IsIndex, HaveTheSame};
+ghost use Rattle.cg_audit.specs.Hash.{hash_of as hash_of_lem};
+ghost use Rattle.cg_audit.specs.Index.{IsIndex, HaveTheSame};
 
 use crate::hash::hash_of;
 use crate::same::is_same;
@@ -30,7 +30,7 @@ impl<'a> Model for SentMessages<'a> {
     ghost use Rattle.cg_messages.specs.declared.message.Message.{Message};
     ghost use Rattle.cg_messages.specs.MessageCode.{message_code};
     ghost use Rattle.cg_messages.specs.Lent.{lent_message};
-    ghost use Rattle.cg_sent.specs.Index.{IsIndex};
+    ghost use Rattle.cg_audit.specs.Index.{IsIndex};
 
     ghost Value = { List Message };
 

@@ -8,7 +8,7 @@ use Rattle.cg_messages.specs.Values.{RequestValue}
 use Rattle.cg_messages.specs.declared.owner_delta.OwnerDelta.{OwnerDelta}
 use Rattle.cg_messages.specs.declared.message.Message.{Message}
 use Rattle.cg_messages.specs.declared.message.Message.TheVariants.{Syn, Ack, Ack2}
-use Rattle.cg_sent.specs.declared.hash.TheConstants.{FACTOR}
+use Rattle.cg_audit.specs.declared.hash.TheConstants.{FACTOR}
 
 -- a hash with one more number
 abbrev pub mixed : ℕ → ℕ → ℕ

@@ -1,2 +1,0 @@
-pub mod IndexLemmas
-pub mod PushLemmas
