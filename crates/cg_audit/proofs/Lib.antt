@@ -11,3 +11,8 @@ pub mod StateLemmas
 pub mod NextLemmas
 pub mod LivesLemmas
 pub mod AuditLemmas
+pub mod Stages
+pub mod Taking
+pub mod Items
+pub mod Walks
+pub mod HeadlineOfRuns

@@ -10,6 +10,8 @@ pub mod Steps
 pub mod Track
 pub mod Audit
 pub mod Tracks
+pub mod RunHeadline
+pub mod RunWorld
 pub use Rattle.cg_types.specs.Rising
 pub use Rattle.cg_messages.specs.Lent
 pub use Rattle.cg_places.specs.Step

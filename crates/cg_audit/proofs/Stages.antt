@@ -22,8 +22,8 @@ use Rattle.cg_world.proofs.HeadlineLaws.{Marked, marked_still}
 use Rattle.cg_history.specs.declared.item.Item.{Item}
 use Rattle.cg_history.specs.History.{record_of, HistoryValue, Replays}
 use Rattle.cg_audit.specs.Items.{RunItem, IsLife, generation_of, items_from, items_of_lives}
-use Rattle.cg_audit_laws.specs.RunHeadline.{last_or, took_from, GapsLiePast, AllGapsLiePast, WasOwnFrom, WasOwnIn}
-use Rattle.cg_audit_laws.specs.RunWorld.{IsNumbered, IsRecordOf}
+use Rattle.cg_audit.specs.RunHeadline.{last_or, took_from, GapsLiePast, AllGapsLiePast, WasOwnFrom, WasOwnIn}
+use Rattle.cg_audit.specs.RunWorld.{IsNumbered, IsRecordOf}
 
 -- The history is a life of the endpoint, and no record of it is folded.
 pub record IsWholeLife (e : ℕ) (h : HistoryValue) : Type 0 where

@@ -48,11 +48,11 @@ use Rattle.cg_history.specs.History.{record_of, HistoryValue, Replays}
 use Rattle.cg_history.proofs.Replaying.{base_is_start}
 use Rattle.cg_audit.specs.Items.{RunItem, generation_of, start_item, item_of, items_of_lives}
 use Rattle.cg_audit.specs.OneRun.{WasSent, EachWasSent, items_by}
-use Rattle.cg_audit_laws.specs.RunHeadline.{WasOwnFrom, WasOwnIn, delta_handed, took_from, GapsLiePast}
-use Rattle.cg_audit_laws.specs.RunWorld.{IsActionOf, AreActionsOf}
-use Rattle.cg_audit_laws.proofs.Stages.{IsWholeLife, RecordIn, Now, Stage, Idle, Going, items_left, last_of, OwnIn, IsGoing, IsStage, Goes, own_later, own_after, own_at_end, own_here, stage_stays, GapsIn, no_gaps, same_step}
-use Rattle.cg_audit_laws.proofs.Taking.{others_take_nothing, step_marked, step_told}
-use Rattle.cg_audit_laws.proofs.Items.{AllSaid, sent_before, said_more}
+use Rattle.cg_audit.specs.RunHeadline.{WasOwnFrom, WasOwnIn, delta_handed, took_from, GapsLiePast}
+use Rattle.cg_audit.specs.RunWorld.{IsActionOf, AreActionsOf}
+use Rattle.cg_audit.proofs.Stages.{IsWholeLife, RecordIn, Now, Stage, Idle, Going, items_left, last_of, OwnIn, IsGoing, IsStage, Goes, own_later, own_after, own_at_end, own_here, stage_stays, GapsIn, no_gaps, same_step}
+use Rattle.cg_audit.proofs.Taking.{others_take_nothing, step_marked, step_told}
+use Rattle.cg_audit.proofs.Items.{AllSaid, sent_before, said_more}
 
 -- ---- generations
 

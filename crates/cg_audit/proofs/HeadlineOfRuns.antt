@@ -31,10 +31,10 @@ use Rattle.cg_world.proofs.HeadlineLaws.{Each, each_all, HasEntries, marks_by_ta
 use Rattle.cg_history.specs.History.{HistoryValue}
 use Rattle.cg_audit.specs.Items.{RunItem, LivesValue, IsLife, AreLives, AreWhole, generation_of, items_of_lives, items_at}
 use Rattle.cg_audit.specs.OneRun.{GenerationsRise, IsOneRun, messages_of}
-use Rattle.cg_audit_laws.specs.RunHeadline.{histories_at, EndsWith, took_from, marks_of, Was, IsMarked, SameMarks, RunsHaveTheHeadline}
-use Rattle.cg_audit_laws.specs.RunWorld.{RunsHaveAWorld}
-use Rattle.cg_audit_laws.proofs.Stages.{IsWholeLife, Stage, Idle}
-use Rattle.cg_audit_laws.proofs.Walks.{IsAt, EndsAt, Ends, walk, life_generation}
+use Rattle.cg_audit.specs.RunHeadline.{histories_at, EndsWith, took_from, marks_of, Was, IsMarked, SameMarks, RunsHaveTheHeadline}
+use Rattle.cg_audit.specs.RunWorld.{RunsHaveAWorld}
+use Rattle.cg_audit.proofs.Stages.{IsWholeLife, Stage, Idle}
+use Rattle.cg_audit.proofs.Walks.{IsAt, EndsAt, Ends, walk, life_generation}
 
 -- ---- before the first item
 

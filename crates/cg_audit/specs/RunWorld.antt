@@ -7,7 +7,7 @@ use Rattle.cg_history.specs.declared.item.Item.{Item}
 use Rattle.cg_history.specs.History.{HistoryValue}
 use Rattle.cg_audit.specs.Items.{RunItem, LivesValue, AreLives, AreWhole, generation_of}
 use Rattle.cg_audit.specs.OneRun.{IsOneRun}
-use Rattle.cg_audit_laws.specs.RunHeadline.{histories_at, EndsWith}
+use Rattle.cg_audit.specs.RunHeadline.{histories_at, EndsWith}
 
 -- ---- records by their numbers
 

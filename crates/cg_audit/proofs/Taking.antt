@@ -39,7 +39,7 @@ use Rattle.cg_world.proofs.MarkLemmas.{mark_at, IsDeltaTo, span_delta}
 use Rattle.cg_world.proofs.GapLaws.{spans_are, lies_past, gap_by_place}
 use Rattle.cg_world.proofs.TakenLaws.{outcome_at, spans_counted, message_takes_nothing, local_takes_nothing, action_leaves}
 use Rattle.cg_world.proofs.HeadlineLaws.{Marked, marked_still, marked_more}
-use Rattle.cg_audit_laws.specs.RunHeadline.{delta_handed}
+use Rattle.cg_audit.specs.RunHeadline.{delta_handed}
 
 -- ---- deltas that other nodes took
 

@@ -1,2 +1,0 @@
-pub mod RunHeadline
-pub mod RunWorld
