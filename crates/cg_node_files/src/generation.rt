@@ -5,10 +5,10 @@ ghost use Rattle.cg_types.specs.declared.fault.Fault.TheVariants as faults;
 ghost use Rattle.cg_files.specs.Disk.{Call, OpenedToLock, Locked};
 ghost use Rattle.cg_node_files.specs.Kept.{StoresNext, lock_path, Advances, IsUnkept};
 
-use cg_clock::seconds_since_1970;
 use cg_files::{Disk, store_generation, stored_generation};
 use cg_types::{Fault, Generation};
 use cg_version::next_generation;
+use cg_workers::seconds_since_1970;
 use std::alloc::Global;
 use std::rt::Clock;
 use std::thread;

@@ -4,7 +4,6 @@ ghost use Rattle.std.specs.Prelude.{◌≡◌, []};
 ghost use Rattle.cg_rounds.specs.Ends.{PutsWhere, TakesWhere};
 
 use crate::history::new_history;
-use cg_clock::Milliseconds;
 use cg_core::Event;
 use cg_expect::expect_eq;
 use cg_history::{History, Receipt};
@@ -15,6 +14,7 @@ use cg_seats::SeatGate;
 use cg_table::Table;
 use cg_ticker::{Stop, Ticked, ticker};
 use cg_views::{Opened, views};
+use cg_workers::Milliseconds;
 use std::alloc::Global;
 use std::marker::Brand;
 use std::rt::Clock;

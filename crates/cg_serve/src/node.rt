@@ -3,7 +3,6 @@
 ghost use Rattle.std.specs.Prelude.{◌≡◌, IfOk, IfErr};
 ghost use Rattle.cg_serve.specs.Lives.{node_of, left_after, IsLifeLeft, IsUnstarted};
 
-use cg_clock::HostClock;
 use cg_core::Settings;
 use cg_history::History;
 use cg_operator::Console;
@@ -12,6 +11,7 @@ use cg_settings_file::Turns;
 use cg_sockets::{Dialer, Listener, answer_limit, limit_for};
 use cg_threads::{NotRun, Parts, Ran, run_node};
 use cg_types::{Endpoint, Fault, Generation};
+use cg_workers::HostClock;
 use std::alloc::Global;
 use std::io::{Eprint, Input, Print};
 use std::net::{Net, TcpListener, TcpStream};

@@ -1,12 +1,11 @@
 //! The promises of a worker's thread about the values that it leaves.
 
-use cg_clock::Milliseconds;
 use cg_left::{SeatLeft, SenderLeft, TickerLeft};
 use cg_locked::{Name, Seat};
 use cg_rounds::{Putting, Taking};
 use cg_seats::Operate;
 use cg_settings_file::Turns;
-use cg_workers::Dial;
+use cg_workers::{Dial, Milliseconds};
 use rand_core::Rng;
 use std::snapshot::Snapshot;
 use std::thread::Promise;

@@ -2,9 +2,9 @@
 
 use crate::nodes::Side;
 use crate::waiting::{TURNS, is_raised, pause};
-use cg_clock::Milliseconds;
 use cg_threads::{Dial, Listen};
 use cg_types::{Endpoint, Fault};
+use cg_workers::Milliseconds;
 use std::io;
 use std::io::{Empty, ErrorKind};
 use std::net::{Net, SocketAddr, TcpListener, TcpStream};

@@ -2,8 +2,8 @@
 
 ghost use Rattle.cg_ticker.specs.Laws.{TicksMakeRounds};
 
-use cg_clock::Milliseconds;
 use cg_history::Enter;
+use cg_workers::Milliseconds;
 
 /// The rounds that were put in are those of the ticks that were done, in their order; if the ticker stopped, the last
 /// of these has none there. The ticks are at times that the clock showed. If no tick was refused, their words are the

@@ -8,10 +8,10 @@ ghost use Rattle.cg_ticker.specs.Ticks.{IsTurn, HasTurned, Ticks};
 
 use crate::passing::pass_on;
 use crate::ticked::{Stop, Ticked};
-use cg_clock::Milliseconds;
 use cg_core::Event;
 use cg_history::Enter;
 use cg_rounds::{Putting, next_words};
+use cg_workers::Milliseconds;
 use rand_core::Rng;
 use std::alloc::Global;
 use std::rt::Clock;

@@ -8,7 +8,6 @@ ghost use Rattle.cg_left.specs.Left.{IsLeft, HasTaken, HasPut, is_received, is_a
 ghost use Rattle.cg_work.specs.Worked.{HasReceived, HasSent, HasBegun, HasOperated};
 
 use crate::site::Site;
-use cg_clock::Milliseconds;
 use cg_left::{SeatLeft, SenderLeft, TickerLeft};
 use cg_locked::{Name, Seat};
 use cg_rounds::{Putting, Taking};
@@ -16,7 +15,7 @@ use cg_seats::{Operate, SeatGate, operator};
 use cg_settings_file::Turns;
 use cg_ticker::ticker;
 use cg_views::Pass;
-use cg_workers::{Dial, Listen, receiver, sender};
+use cg_workers::{Dial, Listen, Milliseconds, receiver, sender};
 use rand_core::Rng;
 use std::alloc::Global;
 use std::rt::Clock;

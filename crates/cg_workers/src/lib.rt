@@ -5,11 +5,15 @@
 //! who hands out links has to bound them.
 #![tactic(auto)]
 
+mod clock;
+mod host;
 pub mod laws;
 mod links;
 mod receiving;
 mod sending;
 
+pub use clock::Milliseconds;
+pub use host::{HostClock, seconds_since_1970};
 pub use links::{Dial, Listen};
 pub use receiving::receiver;
 pub use sending::{ROUNDS_AT_ONCE, sender};

@@ -3,8 +3,8 @@
 ghost use Rattle.std.specs.Prelude.{◌≤◌};
 ghost use Rattle.cg_workers.specs.Workers.{Answered, Received};
 
+use crate::clock::Milliseconds;
 use crate::links::Listen;
-use cg_clock::Milliseconds;
 use cg_engine::{Counted, Gate, respond};
 use std::alloc::Global;
 use std::io::{Read, Write};

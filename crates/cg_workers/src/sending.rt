@@ -5,8 +5,8 @@ ghost use Rattle.cg_rounds.specs.Ends.{TakesWhere};
 ghost use Rattle.cg_workers.specs.declared.sending.TheConstants.{ROUNDS_AT_ONCE};
 ghost use Rattle.cg_workers.specs.Workers.{Begun, Reached, SentRound, SentRounds};
 
+use crate::clock::Milliseconds;
 use crate::links::Dial;
-use cg_clock::Milliseconds;
 use cg_engine::{Counted, Gate, initiate};
 use cg_messages::Syn;
 use cg_rounds::{Round, Taking};

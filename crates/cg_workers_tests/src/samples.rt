@@ -2,10 +2,10 @@
 //!
 //! The exchange is that of A, 10.0.0.1:7000 in generation 9, with B, 10.0.0.2:7000 in generation 5, of the cluster c1.
 
-use cg_clock::Milliseconds;
 use cg_core::Node;
 use cg_engine::NodeGate;
 use cg_samples::{endpoint, generation, settings};
+use cg_workers::Milliseconds;
 use std::alloc::Global;
 use std::test::Fail;
 

@@ -3,7 +3,7 @@
 ghost use Rattle.std.specs.Prelude.{◌≡◌, ◌-◌, ◌/◌, ◌^◌, min};
 ghost use Rattle.std.specs.Duration.{as_nanos};
 
-use crate::Milliseconds;
+use crate::clock::Milliseconds;
 use std::rt::Clock;
 use std::sync::atomic::{AtomicU64, Ordering};
 use std::time::{Duration, Instant, SystemTime};

@@ -1,11 +1,6 @@
 //! The clock from which a node's times are read.
-#![tactic(auto)]
-
-mod host;
 
 ghost use Rattle.std.specs.Prelude.{ℕ};
-
-pub use host::{HostClock, seconds_since_1970};
 
 /// A clock of milliseconds. It may be read by many threads.
 pub trait Milliseconds {
