@@ -1,3 +1,3 @@
 pub mod Seats
 pub use Rattle.cg_locked.specs.Shared
-pub use Rattle.cg_rounds.specs.Ends
+pub use Rattle.cg_workers.specs.Ends

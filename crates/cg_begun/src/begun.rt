@@ -1,7 +1,7 @@
 //! The values made for the workers before they start.
 
 ghost use Rattle.std.specs.Prelude.{◌≡◌, ◌≤◌, [], vec_capacity, IfOk};
-ghost use Rattle.cg_rounds.specs.Ends.{AreEnds, put_by, taken_by};
+ghost use Rattle.cg_workers.specs.Ends.{AreEnds, put_by, taken_by};
 ghost use Rattle.cg_views.specs.Lists.{opened_with};
 ghost use Rattle.cg_begun.specs.Seats.{AreWorkers, AreUnused, parts_of};
 
@@ -9,9 +9,9 @@ use crate::seats::{Seats, given};
 use cg_history::History;
 use cg_left::WORKERS;
 use cg_locked::{Fresh, Name, Seat, Shared};
-use cg_rounds::{Putting, Taking, rounds};
 use cg_table::Table;
 use cg_views::{Opened, Pass, Publisher, views};
+use cg_workers::{Putting, Taking, rounds};
 use std::alloc::{AllocError, Global};
 use std::sync::Wait;
 

@@ -7,11 +7,11 @@ use Rattle.cg_core.specs.declared.event.Event.{Event}
 use Rattle.cg_core.specs.declared.event.Event.TheVariants as event
 use Rattle.cg_history.specs.declared.item.Receipt.{Receipt}
 use Rattle.cg_history.specs.Items.{receipt_code}
-use Rattle.cg_rounds.specs.declared.round.Round.{Round}
-use Rattle.cg_rounds.specs.declared.ends.Putting.{Putting}
-use Rattle.cg_rounds.specs.declared.ends.Taking.{Taking}
-use Rattle.cg_rounds.specs.declared.ends.Taken.{Taken}
-use Rattle.cg_rounds.specs.Ends.{put_by, taken_in, PutsWhere, IsLeftOf, WereTakenOf}
+use Rattle.cg_workers.specs.declared.round.Round.{Round}
+use Rattle.cg_workers.specs.declared.ends.Putting.{Putting}
+use Rattle.cg_workers.specs.declared.ends.Taking.{Taking}
+use Rattle.cg_workers.specs.declared.ends.Taken.{Taken}
+use Rattle.cg_workers.specs.Ends.{put_by, taken_in, PutsWhere, IsLeftOf, WereTakenOf}
 use Rattle.cg_ticker.specs.Laws.{rounds_in}
 use Rattle.cg_workers.specs.Workers.{numbers_of}
 use Rattle.cg_left.specs.declared.callers.TheConstants.{RECEIVER, SENDER, TICKER, OPERATOR}

@@ -1,4 +1,4 @@
 pub mod Left
 pub mod Workers
 pub mod Callers
-pub use Rattle.cg_rounds.specs.Ends
+pub use Rattle.cg_workers.specs.Ends

@@ -1,6 +1,6 @@
 -- The results of all workers.
 use Rattle.std.specs.Prelude.{Bool, ◌&&◌}
-use Rattle.cg_rounds.specs.Ends.{taken_in}
+use Rattle.cg_workers.specs.Ends.{taken_in}
 use Rattle.cg_left.specs.declared.left.WorkersLeft.{WorkersLeft}
 use Rattle.cg_left.specs.Left.{Work}
 

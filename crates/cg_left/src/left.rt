@@ -6,7 +6,7 @@ ghost use Rattle.cg_left.specs.Workers.{all_began};
 
 use cg_history::Receipt;
 use cg_locked::{Name, Seat};
-use cg_rounds::{Putting, Taken};
+use cg_workers::{Putting, Taken};
 use std::alloc::Global;
 use std::marker::Model;
 

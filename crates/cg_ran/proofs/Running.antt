@@ -9,10 +9,10 @@ use Rattle.cg_history.specs.History.{HistoryValue, IsReplayed, count_of}
 use Rattle.cg_history.proofs.Replaying.{base_is_start}
 use Rattle.cg_locked.specs.declared.shared.Unconfirmed.{Unconfirmed}
 use Rattle.cg_locked.specs.Shared.{stray_of}
-use Rattle.cg_rounds.specs.declared.round.Round.{Round}
-use Rattle.cg_rounds.specs.declared.ends.Putting.{Putting}
-use Rattle.cg_rounds.specs.declared.ends.Taken.{Taken}
-use Rattle.cg_rounds.specs.Ends.{put_by, taken_in}
+use Rattle.cg_workers.specs.declared.round.Round.{Round}
+use Rattle.cg_workers.specs.declared.ends.Putting.{Putting}
+use Rattle.cg_workers.specs.declared.ends.Taken.{Taken}
+use Rattle.cg_workers.specs.Ends.{put_by, taken_in}
 use Rattle.cg_workers.specs.Workers.{numbers_of}
 use Rattle.cg_left.specs.declared.callers.TheConstants.{TICKER}
 use Rattle.cg_ticker.specs.Laws.{rounds_in}

@@ -1,7 +1,7 @@
 //! Rounds that a ticker puts in: two of two ticks, none of none, and one that is handed back.
 
 ghost use Rattle.std.specs.Prelude.{◌≡◌, []};
-ghost use Rattle.cg_rounds.specs.Ends.{PutsWhere, TakesWhere};
+ghost use Rattle.cg_workers.specs.Ends.{PutsWhere, TakesWhere};
 
 use crate::history::new_history;
 use cg_core::Event;
@@ -9,12 +9,11 @@ use cg_expect::expect_eq;
 use cg_history::{History, Receipt};
 use cg_left::SeatLeft;
 use cg_locked::{Fresh, Name, Seat, Shared};
-use cg_rounds::{Putting, Taking, generator, rounds};
 use cg_seats::SeatGate;
 use cg_table::Table;
 use cg_ticker::{Stop, Ticked, ticker};
 use cg_views::{Opened, views};
-use cg_workers::Milliseconds;
+use cg_workers::{Milliseconds, Putting, Taking, generator, rounds};
 use std::alloc::Global;
 use std::marker::Brand;
 use std::rt::Clock;

@@ -2,10 +2,9 @@
 
 use cg_left::{SeatLeft, SenderLeft, TickerLeft};
 use cg_locked::{Name, Seat};
-use cg_rounds::{Putting, Taking};
 use cg_seats::Operate;
 use cg_settings_file::Turns;
-use cg_workers::{Dial, Milliseconds};
+use cg_workers::{Dial, Milliseconds, Putting, Taking};
 use rand_core::Rng;
 use std::snapshot::Snapshot;
 use std::thread::Promise;
@@ -38,7 +37,7 @@ pub(crate) struct Sends<N: Name, D: Dial, C: Milliseconds> {
 
 impl<N: Name, D: Dial, C: Milliseconds> Promise<SenderLeft<N>> for Sends<N, D, C> {
     ghost use Rattle.std.specs.Prelude.{◌≡◌, true};
-    ghost use Rattle.cg_rounds.specs.Ends.{taken_in};
+    ghost use Rattle.cg_workers.specs.Ends.{taken_in};
     ghost use Rattle.cg_left.specs.Left.{IsLeft, HasTaken, is_ack};
     ghost use Rattle.cg_work.specs.Worked.{HasSent};
 

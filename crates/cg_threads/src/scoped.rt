@@ -1,7 +1,7 @@
 //! The workers in their threads.
 
 ghost use Rattle.std.specs.Prelude.{◌≡◌, [], true};
-ghost use Rattle.cg_rounds.specs.Ends.{AreEnds, put_by, taken_by, taken_in};
+ghost use Rattle.cg_workers.specs.Ends.{AreEnds, put_by, taken_by, taken_in};
 ghost use Rattle.cg_begun.specs.Seats.{AreWorkers, AreUnused};
 ghost use Rattle.cg_left.specs.Left.{IsLeft, HasTaken, HasPut, AreOfWorkers, AreTaken, is_received, is_ack, is_tick, is_any};
 ghost use Rattle.cg_left.specs.Workers.{all_began, work_of};
@@ -13,12 +13,11 @@ use crate::tools::Tools;
 use cg_begun::Seats;
 use cg_left::{SeatLeft, SenderLeft, TickerLeft, WorkersLeft};
 use cg_locked::Name;
-use cg_rounds::{Putting, Taking};
 use cg_seats::Operate;
 use cg_settings_file::Turns;
 use cg_views::Pass;
 use cg_work::{Site, operate, receive, send, tick};
-use cg_workers::{Dial, Listen, Milliseconds};
+use cg_workers::{Dial, Listen, Milliseconds, Putting, Taking};
 use rand_core::Rng;
 use std::alloc::Global;
 use std::rt::Clock;

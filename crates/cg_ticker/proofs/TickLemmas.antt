@@ -9,9 +9,9 @@ use Rattle.cg_types.specs.declared.fault.Fault.{Fault}
 use Rattle.cg_core.specs.declared.event.Event.{Event}
 use Rattle.cg_core.specs.declared.reply.Reply.{Reply}
 use Rattle.cg_history.specs.declared.item.Receipt.{Receipt}
-use Rattle.cg_rounds.specs.declared.ends.Putting.{Putting}
-use Rattle.cg_rounds.specs.Ends.{put_by}
-use Rattle.cg_rounds.specs.Words.{four_of, words_of_ticks}
+use Rattle.cg_workers.specs.declared.ends.Putting.{Putting}
+use Rattle.cg_workers.specs.Ends.{put_by}
+use Rattle.cg_workers.specs.Words.{four_of, words_of_ticks}
 use Rattle.cg_ticker.specs.declared.ticked.Stop.{Stop}
 use Rattle.cg_ticker.specs.declared.ticked.Stop.TheVariants as stop
 use Rattle.cg_ticker.specs.declared.ticked.Ticked.{Ticked}

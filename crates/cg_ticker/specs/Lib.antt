@@ -1,5 +1,5 @@
 pub mod Ticks
 pub mod Laws
 pub use Rattle.cg_core.specs.Replies
-pub use Rattle.cg_rounds.specs.Ends
-pub use Rattle.cg_rounds.specs.Words
+pub use Rattle.cg_workers.specs.Ends
+pub use Rattle.cg_workers.specs.Words

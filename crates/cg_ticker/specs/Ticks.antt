@@ -8,10 +8,10 @@ use Rattle.cg_core.specs.declared.event.Event.TheVariants as event
 use Rattle.cg_core.specs.declared.reply.Reply.{Reply}
 use Rattle.cg_core.specs.declared.reply.Reply.TheVariants as reply
 use Rattle.cg_history.specs.declared.item.Receipt.{Receipt}
-use Rattle.cg_rounds.specs.declared.round.Round.{Round}
-use Rattle.cg_rounds.specs.declared.ends.Putting.{Putting}
-use Rattle.cg_rounds.specs.Ends.{put_by, said_by, IsDisconnected, HasEnded}
-use Rattle.cg_rounds.specs.Words.{four_of}
+use Rattle.cg_workers.specs.declared.round.Round.{Round}
+use Rattle.cg_workers.specs.declared.ends.Putting.{Putting}
+use Rattle.cg_workers.specs.Ends.{put_by, said_by, IsDisconnected, HasEnded}
+use Rattle.cg_workers.specs.Words.{four_of}
 use Rattle.cg_ticker.specs.declared.ticked.Stop.{Stop}
 use Rattle.cg_ticker.specs.declared.ticked.Stop.TheVariants as stop
 use Rattle.cg_ticker.specs.declared.ticked.Ticked.{Ticked}

@@ -11,8 +11,8 @@ use Rattle.cg_core.specs.declared.reply.Reply.{Reply}
 use Rattle.cg_core.specs.declared.reply.Reply.TheVariants as reply
 use Rattle.cg_core.specs.Values.{NodeValue}
 use Rattle.cg_history.specs.declared.item.Receipt.{Receipt}
-use Rattle.cg_rounds.specs.declared.round.Round.{Round}
-use Rattle.cg_rounds.specs.declared.ends.Taking.{Taking}
+use Rattle.cg_workers.specs.declared.round.Round.{Round}
+use Rattle.cg_workers.specs.declared.ends.Taking.{Taking}
 use Rattle.cg_seats.specs.Seats.{SeatValue, Enters, Refuses, new_gate, GoesOn}
 use Rattle.cg_seats.specs.Seats as seat
 use Rattle.rand_core.specs.Stream.{Stream}
@@ -20,8 +20,8 @@ use Rattle.cg_ticker.specs.declared.ticked.Ticked.{Ticked}
 use Rattle.cg_ticker.specs.Ticks.{IsTickOf, IsTick, round_in, Ticks}
 use Rattle.cg_ticker.specs.Laws.{rounds_in, MakesRounds}
 use Rattle.cg_ticker.proofs.TickLemmas.{ticks_make}
-use Rattle.cg_rounds.specs.declared.ends.Putting.{Putting}
-use Rattle.cg_rounds.specs.Ends.{put_by, taken_by}
+use Rattle.cg_workers.specs.declared.ends.Putting.{Putting}
+use Rattle.cg_workers.specs.Ends.{put_by, taken_by}
 use Rattle.cg_workers.specs.Each.{Each}
 use Rattle.cg_workers.specs.Workers.{numbers_of, Received, SentRound, SentRounds}
 use Rattle.cg_workers.proofs.Keeping.{IsEventAt, received_keeps, sent_keeps}

@@ -6,8 +6,8 @@ use Rattle.cg_table.specs.Values.{TableValue}
 use Rattle.cg_table.specs.Puts.{Put}
 use Rattle.cg_core.specs.Values.{NodeValue}
 use Rattle.cg_history.specs.declared.item.Receipt.{Receipt}
-use Rattle.cg_rounds.specs.declared.round.Round.{Round}
-use Rattle.cg_rounds.specs.declared.ends.Putting.{Putting}
+use Rattle.cg_workers.specs.declared.round.Round.{Round}
+use Rattle.cg_workers.specs.declared.ends.Putting.{Putting}
 use Rattle.cg_settings_file.specs.declared.settings.Turns.{Turns}
 use Rattle.cg_seats.specs.Seats.{SeatValue, Enters, Refuses, new_gate}
 use Rattle.cg_ticker.specs.declared.ticked.Ticked.{Ticked}

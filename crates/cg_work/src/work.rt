@@ -2,7 +2,7 @@
 //! signal first.
 
 ghost use Rattle.std.specs.Prelude.{◌≡◌, [], true};
-ghost use Rattle.cg_rounds.specs.Ends.{put_by, taken_by, taken_in};
+ghost use Rattle.cg_workers.specs.Ends.{put_by, taken_by, taken_in};
 ghost use Rattle.cg_seats.specs.Seats.{AreOf};
 ghost use Rattle.cg_left.specs.Left.{IsLeft, HasTaken, HasPut, is_received, is_ack, is_tick, is_any};
 ghost use Rattle.cg_work.specs.Worked.{HasReceived, HasSent, HasBegun, HasOperated};
@@ -10,12 +10,11 @@ ghost use Rattle.cg_work.specs.Worked.{HasReceived, HasSent, HasBegun, HasOperat
 use crate::site::Site;
 use cg_left::{SeatLeft, SenderLeft, TickerLeft};
 use cg_locked::{Name, Seat};
-use cg_rounds::{Putting, Taking};
 use cg_seats::{Operate, SeatGate, operator};
 use cg_settings_file::Turns;
 use cg_ticker::ticker;
 use cg_views::Pass;
-use cg_workers::{Dial, Listen, Milliseconds, receiver, sender};
+use cg_workers::{Dial, Listen, Milliseconds, Putting, Taking, receiver, sender};
 use rand_core::Rng;
 use std::alloc::Global;
 use std::rt::Clock;

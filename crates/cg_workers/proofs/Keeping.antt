@@ -16,7 +16,7 @@ use Rattle.cg_engine.specs.declared.exchange.Broken.{Broken}
 use Rattle.cg_core.specs.Replies.{IsReplyTo}
 use Rattle.cg_engine.specs.Events.{event_due}
 use Rattle.cg_engine.specs.Exchanged.{Turn, AreTurns, Runs, Turned, Exchanges}
-use Rattle.cg_rounds.specs.declared.ends.Taking.{Taking}
+use Rattle.cg_workers.specs.declared.ends.Taking.{Taking}
 use Rattle.cg_workers.specs.Workers.{Exchanged, BegunWith, Came, Received, Reached, SentRound, SentRounds}
 use Rattle.cg_workers.proofs.EachLemmas.{each_keeps}
 

@@ -1,3 +1,5 @@
+pub mod Lines
+pub mod WordLemmas
 pub mod EachLemmas
 pub mod WorkLemmas
 pub mod Keeping

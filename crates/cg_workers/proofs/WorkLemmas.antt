@@ -3,7 +3,7 @@ use Rattle.std.proofs.Common.{◌≡◌, ℕ, ◌+◌, List, [], ◌∷◌, ◌+
 use Rattle.cg_types.specs.declared.fault.Fault.{Fault}
 use Rattle.cg_core.specs.declared.event.Event.{Event}
 use Rattle.cg_core.specs.declared.reply.Reply.{Reply}
-use Rattle.cg_rounds.specs.declared.round.Round.{Round}
+use Rattle.cg_workers.specs.declared.round.Round.{Round}
 use Rattle.cg_workers.specs.Workers.{numbers_of, Came, AllCame}
 use Rattle.cg_workers.proofs.EachLemmas.{each_more}
 

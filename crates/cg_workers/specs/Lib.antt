@@ -1,4 +1,11 @@
+pub mod Rounds
+pub mod Ends
+pub mod Words
+pub mod RoundLaws
 pub mod Each
 pub mod Workers
 pub mod Laws
-pub use Rattle.cg_rounds.specs.Ends
+pub use Rattle.crossbeam_channel.specs.Claims
+pub use Rattle.crossbeam_channel.specs.Ends as CrossbeamChannelEnds
+pub use Rattle.rand_core.specs.Pcg32Seed
+pub use Rattle.rand_pcg.specs.Pcg

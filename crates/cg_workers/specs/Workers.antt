@@ -15,9 +15,9 @@ use Rattle.cg_links.specs.Counted.{link_of, IsNew}
 use Rattle.cg_engine.specs.declared.exchange.Ended.{Ended}
 use Rattle.cg_engine.specs.declared.exchange.Broken.{Broken}
 use Rattle.cg_engine.specs.Exchanged.{Exchanges}
-use Rattle.cg_rounds.specs.declared.round.Round.{Round}
-use Rattle.cg_rounds.specs.declared.ends.Taking.{Taking}
-use Rattle.cg_rounds.specs.Ends.{taken_by}
+use Rattle.cg_workers.specs.declared.round.Round.{Round}
+use Rattle.cg_workers.specs.declared.ends.Taking.{Taking}
+use Rattle.cg_workers.specs.Ends.{taken_by}
 use Rattle.cg_workers.specs.Each.{Each}
 
 -- the faults of accepting a connection, and of dialing a peer

@@ -6,14 +6,26 @@
 #![tactic(auto)]
 
 mod clock;
+mod ends;
 mod host;
+/// Laws of the words, and of the room for rounds.
 pub mod laws;
 mod links;
+mod making;
+mod putting;
 mod receiving;
+mod round;
+mod rule;
 mod sending;
+mod taking;
+mod words;
 
 pub use clock::Milliseconds;
+pub use ends::{Putting, Taken, Taking};
 pub use host::{HostClock, seconds_since_1970};
 pub use links::{Dial, Listen};
+pub use making::{ROOM, rounds};
 pub use receiving::receiver;
+pub use round::Round;
 pub use sending::{ROUNDS_AT_ONCE, sender};
+pub use words::{generator, next_words};

@@ -1,15 +1,16 @@
 //! Rounds that are sent.
 
 ghost use Rattle.std.specs.Prelude.{◌≡◌, ◌≤◌, ◌⊎◌, [], vec_capacity};
-ghost use Rattle.cg_rounds.specs.Ends.{TakesWhere};
+ghost use Rattle.cg_workers.specs.Ends.{TakesWhere};
 ghost use Rattle.cg_workers.specs.declared.sending.TheConstants.{ROUNDS_AT_ONCE};
 ghost use Rattle.cg_workers.specs.Workers.{Begun, Reached, SentRound, SentRounds};
 
 use crate::clock::Milliseconds;
+use crate::ends::Taking;
 use crate::links::Dial;
+use crate::round::Round;
 use cg_engine::{Counted, Gate, initiate};
 use cg_messages::Syn;
-use cg_rounds::{Round, Taking};
 use cg_types::Endpoint;
 use std::alloc::Global;
 use std::io::{Read, Write};

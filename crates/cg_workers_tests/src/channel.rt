@@ -2,8 +2,8 @@
 
 use crate::numbered::{round, shown};
 use cg_expect::expect_eq;
-use cg_rounds::laws::room_has_its_value;
-use cg_rounds::{ROOM, rounds};
+use cg_workers::laws::room_has_its_value;
+use cg_workers::{ROOM, rounds};
 use std::alloc::Global;
 use std::sync::Wait;
 use std::test::Fail;

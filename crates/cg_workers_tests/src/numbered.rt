@@ -2,8 +2,8 @@
 
 use cg_core::Peers;
 use cg_messages::Syn;
-use cg_rounds::Round;
 use cg_samples::{cluster, endpoint};
+use cg_workers::Round;
 use std::alloc::Global;
 use std::test::Fail;
 

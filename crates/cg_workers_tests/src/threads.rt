@@ -2,7 +2,7 @@
 
 use crate::numbered::{round, shown};
 use cg_expect::{expect, expect_eq};
-use cg_rounds::{Putting, Taking, rounds};
+use cg_workers::{Putting, Taking, rounds};
 use std::alloc::Global;
 use std::sync::Wait;
 use std::test::Fail;

@@ -1,5 +1,5 @@
 use Rattle.std.proofs.Common.{◌≡◌}
-use Rattle.cg_rounds.specs.Ends.{PutsWhere}
+use Rattle.cg_workers.specs.Ends.{PutsWhere}
 use Rattle.cg_ticker.proofs.TickLemmas.{SoFar}
 use Rattle.cg_ticker.proofs.ticking.turns.Given as goal
 

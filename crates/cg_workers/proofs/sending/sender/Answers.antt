@@ -1,5 +1,5 @@
 use Rattle.std.proofs.Common.{[], ◌∷◌, ◌++◌, refl, sym, ◌∙◌, append-nil}
-use Rattle.cg_rounds.specs.Ends.{taken_by}
+use Rattle.cg_workers.specs.Ends.{taken_by}
 use Rattle.cg_workers.specs.Workers.{SentRound}
 use Rattle.cg_workers.proofs.EachLemmas.{each_more}
 use Rattle.cg_workers.proofs.WorkLemmas.{rounds_more, numbers_after}

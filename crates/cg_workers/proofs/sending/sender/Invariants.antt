@@ -1,7 +1,7 @@
 -- Each round so far was sent.
 use Rattle.std.proofs.Common.{◌≡◌, List, ◌++◌}
-use Rattle.cg_rounds.specs.declared.round.Round.{Round}
-use Rattle.cg_rounds.specs.Ends.{taken_by, TakesWhere}
+use Rattle.cg_workers.specs.declared.round.Round.{Round}
+use Rattle.cg_workers.specs.Ends.{taken_by, TakesWhere}
 use Rattle.cg_workers.specs.Each.{Each}
 use Rattle.cg_workers.specs.Workers.{SentRound, numbers_of}
 use Rattle.cg_workers.proofs.sending.sender.Given as goal

@@ -1,5 +1,0 @@
-use Rattle.cg_rounds.proofs.WordLemmas.{ticks_draw_first}
-use Rattle.cg_rounds.proofs.laws.words_are_the_generators.Goals as goal
-
-pub returns : goal.returns
-returns c = ticks_draw_first

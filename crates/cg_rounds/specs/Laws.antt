@@ -1,7 +1,0 @@
--- The channel's room, as a number.
-use Rattle.std.specs.Prelude.{◌≡◌}
-use Rattle.cg_rounds.specs.declared.making.TheConstants.{ROOM}
-
--- rounds that the channel has room for
-abbrev pub RoomHasItsValue : Type 0
-RoomHasItsValue = ROOM ≡ 16

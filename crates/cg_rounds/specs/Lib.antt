@@ -1,8 +1,0 @@
-pub mod Rounds
-pub mod Ends
-pub mod Words
-pub mod Laws
-pub use Rattle.crossbeam_channel.specs.Claims
-pub use Rattle.crossbeam_channel.specs.Ends as CrossbeamChannelEnds
-pub use Rattle.rand_core.specs.Pcg32Seed
-pub use Rattle.rand_pcg.specs.Pcg
