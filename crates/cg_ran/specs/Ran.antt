@@ -15,7 +15,7 @@ use Rattle.cg_locked.specs.Shared.{stray_of}
 use Rattle.cg_left.specs.declared.callers.TheConstants.{RECEIVER, SENDER, TICKER, OPERATOR}
 use Rattle.cg_ran.specs.declared.ran.NotRun.{NotRun}
 use Rattle.cg_ran.specs.declared.ran.NotRun.TheVariants as not_run
-use Rattle.cg_ticker.specs.Laws.{rounds_in}
+use Rattle.cg_workers.specs.TickLaws.{rounds_in}
 use Rattle.cg_workers.specs.Workers.{numbers_of}
 use Rattle.cg_left.specs.Left.{Work, receipts_of, AreOfWorkers, is_received, is_ack, is_tick}
 use Rattle.cg_ran.specs.Numbers.{numbers_in}

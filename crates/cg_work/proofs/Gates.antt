@@ -16,10 +16,10 @@ use Rattle.cg_workers.specs.declared.ends.Taking.{Taking}
 use Rattle.cg_seats.specs.Seats.{SeatValue, Enters, Refuses, new_gate, GoesOn}
 use Rattle.cg_seats.specs.Seats as seat
 use Rattle.rand_core.specs.Stream.{Stream}
-use Rattle.cg_ticker.specs.declared.ticked.Ticked.{Ticked}
-use Rattle.cg_ticker.specs.Ticks.{IsTickOf, IsTick, round_in, Ticks}
-use Rattle.cg_ticker.specs.Laws.{rounds_in, MakesRounds}
-use Rattle.cg_ticker.proofs.TickLemmas.{ticks_make}
+use Rattle.cg_workers.specs.declared.ticked.Ticked.{Ticked}
+use Rattle.cg_workers.specs.Ticks.{IsTickOf, IsTick, round_in, Ticks}
+use Rattle.cg_workers.specs.TickLaws.{rounds_in, MakesRounds}
+use Rattle.cg_workers.proofs.TickLemmas.{ticks_make}
 use Rattle.cg_workers.specs.declared.ends.Putting.{Putting}
 use Rattle.cg_workers.specs.Ends.{put_by, taken_by}
 use Rattle.cg_workers.specs.Each.{Each}

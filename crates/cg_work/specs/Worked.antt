@@ -10,8 +10,8 @@ use Rattle.cg_workers.specs.declared.round.Round.{Round}
 use Rattle.cg_workers.specs.declared.ends.Putting.{Putting}
 use Rattle.cg_settings_file.specs.declared.settings.Turns.{Turns}
 use Rattle.cg_seats.specs.Seats.{SeatValue, Enters, Refuses, new_gate}
-use Rattle.cg_ticker.specs.declared.ticked.Ticked.{Ticked}
-use Rattle.cg_ticker.specs.Ticks.{Ticks}
+use Rattle.cg_workers.specs.declared.ticked.Ticked.{Ticked}
+use Rattle.cg_workers.specs.Ticks.{Ticks}
 use Rattle.cg_workers.specs.Each.{Each}
 use Rattle.cg_workers.specs.Workers.{Received, SentRound}
 use Rattle.cg_left.specs.declared.callers.TheConstants.{RECEIVER, SENDER, TICKER, OPERATOR}

@@ -3,3 +3,4 @@ pub mod WordLemmas
 pub mod EachLemmas
 pub mod WorkLemmas
 pub mod Keeping
+pub mod TickLemmas

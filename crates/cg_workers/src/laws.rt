@@ -1,8 +1,12 @@
-//! Laws of the words, and of the room for rounds, each the contract of an empty function.
+//! Laws of the words, of the room for rounds, and of a ticker's turns, each the contract of an empty function.
 
 ghost use Rattle.cg_workers.specs.Laws.{RoomIsThis};
 ghost use Rattle.cg_workers.specs.RoundLaws.{RoomHasItsValue};
 ghost use Rattle.cg_workers.specs.Words.{WordsAreTheGenerators};
+ghost use Rattle.cg_workers.specs.TickLaws.{TicksMakeRounds};
+
+use crate::clock::Milliseconds;
+use cg_history::Enter;
 
 /// `ROUNDS_AT_ONCE`, the number of rounds for whose numbers room is made at once, is 1,000,000.
 pub fn room_is_this()
@@ -17,4 +21,11 @@ pub fn words_are_the_generators()
 /// `ROOM`, the number of rounds for which the channel has room, is 16.
 pub fn room_has_its_value()
     ensures { RoomHasItsValue }
+{}
+
+/// The rounds that were put in are those of the ticks that were done, in their order; if the ticker stopped, the last
+/// of these has none there. The ticks are at times that the clock showed. If no tick was refused, their words are the
+/// generator's, four by four.
+pub fn ticks_make_rounds<E: Enter, C: Milliseconds>()
+    ensures { TicksMakeRounds E.receipts E.does E.refuses C.shows }
 {}

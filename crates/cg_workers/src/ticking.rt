@@ -4,13 +4,15 @@ ghost use Rattle.std.specs.Prelude.{◌≡◌, ℕ};
 ghost use Rattle.cg_core.specs.declared.event.Event.TheVariants as events;
 ghost use Rattle.cg_workers.specs.Words.{four_of};
 ghost use Rattle.cg_workers.specs.Ends.{PutsWhere};
-ghost use Rattle.cg_ticker.specs.Ticks.{IsTurn, HasTurned, Ticks};
+ghost use Rattle.cg_workers.specs.Ticks.{IsTurn, HasTurned, Ticks};
 
+use crate::clock::Milliseconds;
+use crate::ends::Putting;
 use crate::passing::pass_on;
 use crate::ticked::{Stop, Ticked};
+use crate::words::next_words;
 use cg_core::Event;
 use cg_history::Enter;
-use cg_workers::{Milliseconds, Putting, next_words};
 use rand_core::Rng;
 use std::alloc::Global;
 use std::rt::Clock;

@@ -12,13 +12,13 @@ use Rattle.cg_history.specs.declared.item.Receipt.{Receipt}
 use Rattle.cg_workers.specs.declared.ends.Putting.{Putting}
 use Rattle.cg_workers.specs.Ends.{put_by}
 use Rattle.cg_workers.specs.Words.{four_of, words_of_ticks}
-use Rattle.cg_ticker.specs.declared.ticked.Stop.{Stop}
-use Rattle.cg_ticker.specs.declared.ticked.Stop.TheVariants as stop
-use Rattle.cg_ticker.specs.declared.ticked.Ticked.{Ticked}
-use Rattle.cg_ticker.specs.declared.ticking.Turn.{Turn}
-use Rattle.cg_ticker.specs.declared.ticking.Turn.TheVariants as turn
-use Rattle.cg_ticker.specs.Ticks.{IsTick, round_in, words_in, IsPassedOn, GoesOn, last_of, refusals, HasTicked, IsTurn, AreTurns, HasTurned, Ticks}
-use Rattle.cg_ticker.specs.Laws.{rounds_in, words_of, MakesRounds}
+use Rattle.cg_workers.specs.declared.ticked.Stop.{Stop}
+use Rattle.cg_workers.specs.declared.ticked.Stop.TheVariants as stop
+use Rattle.cg_workers.specs.declared.ticked.Ticked.{Ticked}
+use Rattle.cg_workers.specs.declared.ticking.Turn.{Turn}
+use Rattle.cg_workers.specs.declared.ticking.Turn.TheVariants as turn
+use Rattle.cg_workers.specs.Ticks.{IsTick, round_in, words_in, IsPassedOn, GoesOn, last_of, refusals, HasTicked, IsTurn, AreTurns, HasTurned, Ticks}
+use Rattle.cg_workers.specs.TickLaws.{rounds_in, words_of, MakesRounds}
 
 -- ---- words
 

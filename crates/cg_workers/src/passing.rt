@@ -3,13 +3,14 @@
 ghost use Rattle.std.specs.Prelude.{◌≡◌, ◌∷◌, [], IfOk};
 ghost use Rattle.cg_core.specs.Replies.{IsRound};
 ghost use Rattle.cg_workers.specs.Ends.{PutsWhere};
-ghost use Rattle.cg_ticker.specs.Ticks.{IsPassedOn, round_in};
+ghost use Rattle.cg_workers.specs.Ticks.{IsPassedOn, round_in};
 
+use crate::ends::Putting;
+use crate::round::Round;
 use crate::ticked::Stop;
 use crate::ticking::Turn;
 use cg_core::Reply;
 use cg_history::Receipt;
-use cg_workers::{Putting, Round};
 use std::alloc::{AllocError, Global};
 use std::sync::Wait;
 

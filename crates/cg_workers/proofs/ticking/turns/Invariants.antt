@@ -1,7 +1,7 @@
 use Rattle.std.proofs.Common.{◌≡◌}
 use Rattle.cg_workers.specs.Ends.{PutsWhere}
-use Rattle.cg_ticker.proofs.TickLemmas.{SoFar}
-use Rattle.cg_ticker.proofs.ticking.turns.Given as goal
+use Rattle.cg_workers.proofs.TickLemmas.{SoFar}
+use Rattle.cg_workers.proofs.ticking.turns.Given as goal
 
 abbrev pub invariant-loop-place : goal.invariant-loop-place
 invariant-loop-place g l = PutsWhere l.to l.initial.to

@@ -10,9 +10,9 @@ use Rattle.cg_workers.specs.declared.round.Round.{Round}
 use Rattle.cg_workers.specs.declared.ends.Putting.{Putting}
 use Rattle.cg_workers.specs.Ends.{put_by}
 use Rattle.cg_workers.specs.Words.{words_of_ticks}
-use Rattle.cg_ticker.specs.declared.ticked.Stop.{Stop}
-use Rattle.cg_ticker.specs.declared.ticked.Ticked.{Ticked}
-use Rattle.cg_ticker.specs.Ticks.{IsTick, round_in, words_in, Ticks}
+use Rattle.cg_workers.specs.declared.ticked.Stop.{Stop}
+use Rattle.cg_workers.specs.declared.ticked.Ticked.{Ticked}
+use Rattle.cg_workers.specs.Ticks.{IsTick, round_in, words_in, Ticks}
 
 -- the rounds of receipts
 abbrev pub rounds_in : List Receipt → List Round

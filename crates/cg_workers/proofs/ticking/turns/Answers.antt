@@ -1,8 +1,8 @@
 use Rattle.std.proofs.Common.{refl, ◌∙◌, arith}
-use Rattle.cg_ticker.specs.declared.ticking.Turn.TheVariants as turn
-use Rattle.cg_ticker.proofs.TickLemmas.{none_so_far, more_so_far, stopped_here, all_done}
-use Rattle.cg_ticker.proofs.ticking.turns.Goals as goal
-use Rattle.cg_ticker.proofs.ticking.turns.Goals.{in-Refused, in-Put}
+use Rattle.cg_workers.specs.declared.ticking.Turn.TheVariants as turn
+use Rattle.cg_workers.proofs.TickLemmas.{none_so_far, more_so_far, stopped_here, all_done}
+use Rattle.cg_workers.proofs.ticking.turns.Goals as goal
+use Rattle.cg_workers.proofs.ticking.turns.Goals.{in-Refused, in-Put}
 
 pub loop-place-init : goal.loop-place-init
 loop-place-init g c = (refl, none_so_far _ _ _ _ _ _, refl)

@@ -12,11 +12,11 @@ use Rattle.cg_workers.specs.declared.round.Round.{Round}
 use Rattle.cg_workers.specs.declared.ends.Putting.{Putting}
 use Rattle.cg_workers.specs.Ends.{put_by, said_by, IsDisconnected, HasEnded}
 use Rattle.cg_workers.specs.Words.{four_of}
-use Rattle.cg_ticker.specs.declared.ticked.Stop.{Stop}
-use Rattle.cg_ticker.specs.declared.ticked.Stop.TheVariants as stop
-use Rattle.cg_ticker.specs.declared.ticked.Ticked.{Ticked}
-use Rattle.cg_ticker.specs.declared.ticking.Turn.{Turn}
-use Rattle.cg_ticker.specs.declared.ticking.Turn.TheVariants as turn
+use Rattle.cg_workers.specs.declared.ticked.Stop.{Stop}
+use Rattle.cg_workers.specs.declared.ticked.Stop.TheVariants as stop
+use Rattle.cg_workers.specs.declared.ticked.Ticked.{Ticked}
+use Rattle.cg_workers.specs.declared.ticking.Turn.{Turn}
+use Rattle.cg_workers.specs.declared.ticking.Turn.TheVariants as turn
 
 -- ---- ticks, and their rounds
 
