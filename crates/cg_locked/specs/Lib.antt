@@ -5,6 +5,7 @@ pub mod Shared
 pub mod Limits
 pub mod Log
 pub mod Replaying
+pub mod Seats
 pub use Rattle.cg_types.specs.Answer
 pub use Rattle.cg_core.specs.Values
 pub use Rattle.cg_history.specs.Confirming

@@ -8,7 +8,7 @@ use Rattle.cg_core.specs.declared.event.Event.TheVariants as event
 use Rattle.cg_core.specs.Values.{NodeValue}
 use Rattle.cg_history.specs.declared.item.Receipt.{Receipt}
 use Rattle.cg_views.specs.Lists.{StartsWith}
-use Rattle.cg_seats.specs.Seats.{SeatValue, GoesOn, IsOperatorFault}
+use Rattle.cg_locked.specs.Seats.{SeatValue, GoesOn, IsOperatorFault}
 use Rattle.cg_links.proofs.ReadingLemmas.{stops_in_text, stops_in_lines}
 use Rattle.cg_links.specs.Taken.{Takes, Refuses, Lacks, Stops, IsUnread, Fails}
 use Rattle.cg_links.specs.Lines.{ended_lines, lines_of}

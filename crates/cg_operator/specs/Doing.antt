@@ -11,7 +11,7 @@ use Rattle.cg_core.specs.declared.reply.Reply.TheVariants as reply
 use Rattle.cg_core.specs.Values.{NodeValue}
 use Rattle.cg_views.specs.Lists.{StartsWith}
 use Rattle.cg_printed.specs.Printed.{version_line}
-use Rattle.cg_seats.specs.Seats.{SeatValue, with_told, Enters, Refuses}
+use Rattle.cg_locked.specs.Seats.{SeatValue, with_told, Enters, Refuses}
 use Rattle.cg_script.specs.declared.line.View.{View}
 use Rattle.cg_orders.specs.declared.command.OperatorCommand.{OperatorCommand}
 use Rattle.cg_orders.specs.declared.command.OperatorCommand.TheVariants.{Show, Set, Remove, Quit}

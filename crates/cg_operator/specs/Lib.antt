@@ -4,6 +4,6 @@ pub mod Steps
 pub use Rattle.cg_links.specs.Counted
 pub use Rattle.cg_orders.specs.Commands
 pub use Rattle.cg_orders.specs.Shown
-pub use Rattle.cg_seats.specs.Seats
+pub use Rattle.cg_locked.specs.Seats
 pub use Rattle.cg_table.specs.Puts
 pub use Rattle.cg_views.specs.Lists

@@ -2,8 +2,7 @@
 
 use crate::operating::operate;
 use cg_links::Counted;
-use cg_locked::Name;
-use cg_seats::{Operate, SeatGate};
+use cg_locked::{Name, Operate, SeatGate};
 use cg_types::Fault;
 use cg_views::Pass;
 use std::alloc::Global;

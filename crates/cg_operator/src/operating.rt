@@ -4,14 +4,13 @@ ghost use Rattle.std.specs.Prelude.{◌≡◌, ◌≤◌, ◌+◌, true, false, 
 ghost use Rattle.cg_links.specs.Counted.{link_of, calls_of};
 ghost use Rattle.cg_links.specs.declared.transfer.TheConstants.{MOST_READS};
 ghost use Rattle.cg_views.specs.Lists.{StartsWith};
-ghost use Rattle.cg_seats.specs.Seats.{GoesOn, IsOperatorFault};
+ghost use Rattle.cg_locked.specs.Seats.{GoesOn, IsOperatorFault};
 ghost use Rattle.cg_operator.specs.Operating.{Operates, TellsLine};
 ghost use Rattle.cg_operator.specs.Steps.{at_of};
 
 use crate::answering::answer;
 use cg_links::{Counted, TakeLine, take_lines, write_and_flush};
-use cg_locked::Name;
-use cg_seats::SeatGate;
+use cg_locked::{Name, SeatGate};
 use cg_types::Fault;
 use cg_views::Pass;
 use std::alloc::Global;

@@ -1,15 +1,14 @@
 //! Lines of an operator that set a key or remove it, each a call of its own, and what its pass reads behind them.
 
-ghost use Rattle.cg_seats.specs.Seats.{GoesOn};
+ghost use Rattle.cg_locked.specs.Seats.{GoesOn};
 
 use crate::boards::{Work, seen};
 use crate::samples::Change;
 use crate::trials::Outcome;
 use cg_links::Counted;
-use cg_locked::{Name, Shared};
+use cg_locked::{Name, SeatGate, Shared};
 use cg_operator::operate;
 use cg_samples::key;
-use cg_seats::SeatGate;
 use cg_types::Fault;
 use cg_views::Pass;
 use std::alloc::Global;

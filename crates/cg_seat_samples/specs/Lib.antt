@@ -1,1 +1,1 @@
-pub use Rattle.cg_seats.specs.Seats
+pub use Rattle.cg_locked.specs.Seats

@@ -1,13 +1,12 @@
 //! Calls that the operators of tests make at a gate.
 
 ghost use Rattle.std.specs.Prelude.{IfErr};
-ghost use Rattle.cg_seats.specs.Seats.{GoesOn, IsOperatorFault};
+ghost use Rattle.cg_locked.specs.Seats.{GoesOn, IsOperatorFault};
 
 use cg_core::{Event, Reply};
 use cg_engine::Gate;
-use cg_locked::Name;
+use cg_locked::{Name, SeatGate};
 use cg_samples::key;
-use cg_seats::SeatGate;
 use cg_types::{Fault, StateText, Version};
 use cg_views::Pass;
 use std::alloc::Global;

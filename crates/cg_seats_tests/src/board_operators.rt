@@ -1,17 +1,16 @@
 //! Sample operators at the one seat of a board.
 
-ghost use Rattle.cg_seats.specs.Seats.{GoesOn};
+ghost use Rattle.cg_locked.specs.Seats.{GoesOn};
 
 use cg_core::Event;
 use cg_engine::Gate;
 use cg_history::Enter;
 use cg_links::Counted;
-use cg_locked::Name;
+use cg_locked::{Name, Operate, SeatGate};
 use cg_messages::Syn;
 use cg_operator::operate;
 use cg_samples::key;
 use cg_seat_samples::{last_version, learn, read_removed, read_three, remove_three, set_three};
-use cg_seats::{Operate, SeatGate};
 use cg_types::{Cluster, Fault, StateText, Version};
 use cg_views::Pass;
 use std::alloc::Global;

@@ -12,8 +12,8 @@ mod scoped;
 mod started;
 mod tools;
 
+pub use cg_locked::{Operate, SeatGate, operator};
 pub use cg_ran::{NotRun, Ran};
-pub use cg_seats::{Operate, SeatGate, operator};
 pub use cg_settings_file::Turns;
 pub use cg_workers::{Dial, Listen, receiver, sender, ticker};
 pub use parts::Parts;

@@ -1,8 +1,7 @@
 //! The promises of a worker's thread about the values that it leaves.
 
 use cg_left::{SeatLeft, SenderLeft, TickerLeft};
-use cg_locked::{Name, Seat};
-use cg_seats::Operate;
+use cg_locked::{Name, Operate, Seat};
 use cg_settings_file::Turns;
 use cg_workers::{Dial, Milliseconds, Putting, Taking};
 use rand_core::Rng;

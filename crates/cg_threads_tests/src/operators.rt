@@ -1,7 +1,7 @@
 //! Sample operators of nodes that run.
 
 ghost use Rattle.std.specs.Prelude.{IfErr};
-ghost use Rattle.cg_seats.specs.Seats.{GoesOn, IsOperatorFault};
+ghost use Rattle.cg_locked.specs.Seats.{GoesOn, IsOperatorFault};
 
 use crate::nodes::Side;
 use crate::waiting::is_raised;

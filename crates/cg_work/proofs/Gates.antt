@@ -13,8 +13,8 @@ use Rattle.cg_core.specs.Values.{NodeValue}
 use Rattle.cg_history.specs.declared.item.Receipt.{Receipt}
 use Rattle.cg_workers.specs.declared.round.Round.{Round}
 use Rattle.cg_workers.specs.declared.ends.Taking.{Taking}
-use Rattle.cg_seats.specs.Seats.{SeatValue, Enters, Refuses, new_gate, GoesOn}
-use Rattle.cg_seats.specs.Seats as seat
+use Rattle.cg_locked.specs.Seats.{SeatValue, Enters, Refuses, new_gate, GoesOn}
+use Rattle.cg_locked.specs.Seats as seat
 use Rattle.rand_core.specs.Stream.{Stream}
 use Rattle.cg_workers.specs.declared.ticked.Ticked.{Ticked}
 use Rattle.cg_workers.specs.Ticks.{IsTickOf, IsTick, round_in, Ticks}

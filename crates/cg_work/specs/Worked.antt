@@ -9,7 +9,7 @@ use Rattle.cg_history.specs.declared.item.Receipt.{Receipt}
 use Rattle.cg_workers.specs.declared.round.Round.{Round}
 use Rattle.cg_workers.specs.declared.ends.Putting.{Putting}
 use Rattle.cg_settings_file.specs.declared.settings.Turns.{Turns}
-use Rattle.cg_seats.specs.Seats.{SeatValue, Enters, Refuses, new_gate}
+use Rattle.cg_locked.specs.Seats.{SeatValue, Enters, Refuses, new_gate}
 use Rattle.cg_workers.specs.declared.ticked.Ticked.{Ticked}
 use Rattle.cg_workers.specs.Ticks.{Ticks}
 use Rattle.cg_workers.specs.Each.{Each}

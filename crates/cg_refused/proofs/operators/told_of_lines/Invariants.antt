@@ -1,4 +1,4 @@
-use Rattle.cg_seats.specs.Seats.{GoesOn}
+use Rattle.cg_locked.specs.Seats.{GoesOn}
 use Rattle.cg_refused.proofs.operators.told_of_lines.Given as goal
 
 abbrev pub invariant-loop-line : goal.invariant-loop-line

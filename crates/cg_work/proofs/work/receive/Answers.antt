@@ -1,5 +1,5 @@
 use Rattle.std.proofs.Common.{subst}
-use Rattle.cg_seats.specs.Seats.{SeatValue, Enters, Refuses}
+use Rattle.cg_locked.specs.Seats.{SeatValue, Enters, Refuses}
 use Rattle.cg_workers.specs.Workers.{Received}
 use Rattle.cg_left.specs.Left.{is_received}
 use Rattle.cg_work.proofs.Gates.{More, left_more, received_more}

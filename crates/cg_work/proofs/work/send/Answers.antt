@@ -1,5 +1,5 @@
 use Rattle.std.proofs.Common.{subst}
-use Rattle.cg_seats.specs.Seats.{SeatValue}
+use Rattle.cg_locked.specs.Seats.{SeatValue}
 use Rattle.cg_left.specs.Left.{is_ack}
 use Rattle.cg_work.proofs.Gates.{More, left_more, sent_more, sent_all}
 use Rattle.cg_work.proofs.work.send.Goals as goal

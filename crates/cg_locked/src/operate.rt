@@ -4,10 +4,10 @@ ghost use Rattle.std.specs.Prelude.{List, IfErr};
 ghost use Rattle.cg_table.specs.Values.{TableValue};
 ghost use Rattle.cg_table.specs.Puts.{Put};
 ghost use Rattle.cg_core.specs.Values.{NodeValue};
-ghost use Rattle.cg_seats.specs.Seats.{SeatValue, GoesOn, IsOperatorFault};
+ghost use Rattle.cg_locked.specs.Seats.{SeatValue, GoesOn, IsOperatorFault};
 
+use crate::name::Name;
 use crate::seat_gate::SeatGate;
-use cg_locked::Name;
 use cg_types::Fault;
 use cg_views::Pass;
 use std::alloc::Global;

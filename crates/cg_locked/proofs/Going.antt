@@ -6,7 +6,7 @@ use Rattle.cg_table.specs.Puts.{Put}
 use Rattle.cg_core.specs.declared.event.Event.{Event}
 use Rattle.cg_core.specs.declared.reply.Reply.{Reply}
 use Rattle.cg_core.specs.Values.{NodeValue}
-use Rattle.cg_seats.specs.Seats.{SeatValue, with_told, Enters, GoesOn}
+use Rattle.cg_locked.specs.Seats.{SeatValue, with_told, Enters, GoesOn}
 
 -- no call, or one that was refused
 pub goes_on-same : (g h : SeatValue) → h ≡ g → GoesOn g h

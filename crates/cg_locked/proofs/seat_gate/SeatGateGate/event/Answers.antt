@@ -1,7 +1,7 @@
 use Rattle.std.proofs.Common.{refl, inr}
 use Rattle.std.proofs.lemmas.Result.{err_from_is_err_and}
-use Rattle.cg_seats.proofs.SeatLemmas.{entered, refused, still_counted, still_left, entry_fault}
-use Rattle.cg_seats.proofs.seat_gate.SeatGateGate.event.Goals as goal
+use Rattle.cg_locked.proofs.SeatLemmas.{entered, refused, still_counted, still_left, entry_fault}
+use Rattle.cg_locked.proofs.seat_gate.SeatGateGate.event.Goals as goal
 
 pub returns-in_err-receipt-clause-known : goal.returns-in_err-receipt-clause-known
 returns-in_err-receipt-clause-known g c =

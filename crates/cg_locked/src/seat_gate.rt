@@ -2,12 +2,14 @@
 
 ghost use Rattle.std.specs.Prelude.{◌≡◌, ◌++◌, [], None, length};
 ghost use Rattle.cg_history.specs.Confirming.{AreConfirmed};
-ghost use Rattle.cg_seats.specs.Seats.{AreOf, new_gate, with_told};
+ghost use Rattle.cg_locked.specs.Seats.{AreOf, new_gate, with_told};
 
+use crate::name::Name;
+use crate::seat::Seat;
+use crate::shared::Shared;
 use cg_core::{Event, Reply};
 use cg_engine::Gate;
 use cg_history::{Enter, Receipt};
-use cg_locked::{Name, Seat, Shared};
 use cg_types::Fault;
 use cg_views::Told;
 use std::alloc::Global;
@@ -29,7 +31,7 @@ pub struct SeatGate<'a, N: Name, R: Wait> {
 impl<'a, N: Name, R: Wait> Model for SeatGate<'a, N, R> {
     ghost use Rattle.std.specs.Prelude.{◌≡◌, length};
     ghost use Rattle.cg_history.specs.Confirming.{AreConfirmed};
-    ghost use Rattle.cg_seats.specs.Seats.{SeatValue, AreOf, seat_code};
+    ghost use Rattle.cg_locked.specs.Seats.{SeatValue, AreOf, seat_code};
 
     ghost Value = { SeatValue };
 
@@ -96,7 +98,7 @@ impl<'a, N: Name, R: Wait> SeatGate<'a, N, R> {
 /// nothing.
 impl<'a, N: Name, R: Wait> Gate for SeatGate<'a, N, R> {
     ghost use Rattle.std.specs.Prelude.{◌≡◌};
-    ghost use Rattle.cg_seats.specs.Seats.{Enters, Refuses, last_reply};
+    ghost use Rattle.cg_locked.specs.Seats.{Enters, Refuses, last_reply};
 
     ghost does = { Enters N.start N.opening.own };
 
@@ -123,7 +125,7 @@ impl<'a, N: Name, R: Wait> Gate for SeatGate<'a, N, R> {
 }
 
 impl<'a, N: Name, R: Wait> Enter for SeatGate<'a, N, R> {
-    ghost use Rattle.cg_seats.specs.Seats.{Enters, Refuses};
+    ghost use Rattle.cg_locked.specs.Seats.{Enters, Refuses};
 
     ghost receipts = { λ g. g.receipts };
 

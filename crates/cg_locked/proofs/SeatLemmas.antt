@@ -21,7 +21,7 @@ use Rattle.cg_locked.proofs.Confirming.{confirmed_stay, entries_are_confirmed}
 use Rattle.cg_core.specs.Replies.{IsReplyTo}
 use Rattle.cg_engine.specs.Events.{IsGateFault}
 use Rattle.cg_engine.proofs.ReplyLemmas.{reply_kind, step_fault}
-use Rattle.cg_seats.specs.Seats.{SeatValue, AreOf, last_reply, IsReceiptOf, IsSeatOf, HasEntered, Enters}
+use Rattle.cg_locked.specs.Seats.{SeatValue, AreOf, last_reply, IsReceiptOf, IsSeatOf, HasEntered, Enters}
 
 -- ---- a receipt more
 
