@@ -5,7 +5,7 @@ use Rattle.cg_types.specs.declared.fault.Fault.{Fault}
 use Rattle.cg_types.specs.declared.fault.Fault.TheVariants.{OutOfMemory, BadText}
 use Rattle.cg_settings_file.specs.Settings.{ServeValue, TurnsValue}
 use Rattle.cg_settings_file.specs.declared.settings.ServeSettings.{ServeSettings}
-use Rattle.cg_settings_file.specs.declared.settings.Turns.{Turns}
+use Rattle.cg_workers.specs.declared.turns.Turns.{Turns}
 use Rattle.cg_settings_file.specs.declared.stop.Stop.{Stop}
 use Rattle.cg_settings_file.specs.declared.stop.Stop.TheVariants.{Memory, Key}
 use Rattle.cg_settings_file.specs.declared.stop.Unset.{Unset}

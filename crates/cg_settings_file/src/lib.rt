@@ -14,6 +14,7 @@ mod settings;
 mod stop;
 mod values;
 
+pub use cg_workers::Turns;
 pub use limits::{DEFAULT_INTERVAL, DEFAULT_RANDOM, INTERVAL_LIMIT, TURN_LIMIT};
-pub use settings::{ServeSettings, Turns, settings_of, settings_of_bytes, settings_or_key};
+pub use settings::{ServeSettings, settings_of, settings_of_bytes, settings_or_key};
 pub use stop::Unset;

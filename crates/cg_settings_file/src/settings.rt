@@ -12,19 +12,9 @@ use crate::stop::{Stop, Unset, without_key};
 use crate::values::{endpoint_at, number_in, number_or_key, text_or_key, value_at};
 use cg_core::Settings;
 use cg_types::{Endpoint, Fault};
+use cg_workers::Turns;
 use std::alloc::Global;
 use toml::Table;
-
-/// The rounds and exchanges of a node that serves, and its interval.
-#[derive(Clone, Copy, Debug, PartialEq, Eq)]
-pub struct Turns {
-    /// The rounds that it begins.
-    pub rounds: u32,
-    /// The exchanges that it takes.
-    pub exchanges: u32,
-    /// Milliseconds between two rounds.
-    pub interval: u32,
-}
 
 /// The settings of a node that serves.
 #[derive(Debug, Drop)]

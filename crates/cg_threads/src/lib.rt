@@ -14,7 +14,6 @@ mod tools;
 
 pub use cg_locked::{Operate, SeatGate, operator};
 pub use cg_ran::{NotRun, Ran};
-pub use cg_settings_file::Turns;
-pub use cg_workers::{Dial, Listen, receiver, sender, ticker};
+pub use cg_workers::{Dial, Listen, Turns, receiver, sender, ticker};
 pub use parts::Parts;
 pub use run::run_node;

@@ -2,8 +2,7 @@
 
 use cg_left::{SeatLeft, SenderLeft, TickerLeft};
 use cg_locked::{Name, Operate, Seat};
-use cg_settings_file::Turns;
-use cg_workers::{Dial, Milliseconds, Putting, Taking};
+use cg_workers::{Dial, Milliseconds, Putting, Taking, Turns};
 use rand_core::Rng;
 use std::snapshot::Snapshot;
 use std::thread::Promise;

@@ -8,7 +8,7 @@ use Rattle.cg_core.specs.Values.{NodeValue}
 use Rattle.cg_history.specs.declared.item.Receipt.{Receipt}
 use Rattle.cg_workers.specs.declared.round.Round.{Round}
 use Rattle.cg_workers.specs.declared.ends.Putting.{Putting}
-use Rattle.cg_settings_file.specs.declared.settings.Turns.{Turns}
+use Rattle.cg_workers.specs.declared.turns.Turns.{Turns}
 use Rattle.cg_locked.specs.Seats.{SeatValue, Enters, Refuses, new_gate}
 use Rattle.cg_workers.specs.declared.ticked.Ticked.{Ticked}
 use Rattle.cg_workers.specs.Ticks.{Ticks}

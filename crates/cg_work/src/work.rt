@@ -10,9 +10,8 @@ ghost use Rattle.cg_work.specs.Worked.{HasReceived, HasSent, HasBegun, HasOperat
 use crate::site::Site;
 use cg_left::{SeatLeft, SenderLeft, TickerLeft};
 use cg_locked::{Name, Operate, Seat, SeatGate, operator};
-use cg_settings_file::Turns;
 use cg_views::Pass;
-use cg_workers::{Dial, Listen, Milliseconds, Putting, Taking, receiver, sender, ticker};
+use cg_workers::{Dial, Listen, Milliseconds, Putting, Taking, Turns, receiver, sender, ticker};
 use rand_core::Rng;
 use std::alloc::Global;
 use std::rt::Clock;

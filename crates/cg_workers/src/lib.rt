@@ -23,6 +23,7 @@ mod sending;
 mod taking;
 mod ticked;
 mod ticking;
+mod turns;
 mod words;
 
 pub use clock::Milliseconds;
@@ -35,4 +36,5 @@ pub use round::Round;
 pub use sending::{ROUNDS_AT_ONCE, sender};
 pub use ticked::{Stop, Ticked};
 pub use ticking::ticker;
+pub use turns::Turns;
 pub use words::{generator, next_words};
