@@ -1,1 +1,2 @@
+pub mod Gates
 mod Beginning

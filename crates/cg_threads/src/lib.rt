@@ -9,11 +9,15 @@ mod parts;
 mod promises;
 mod run;
 mod scoped;
+mod site;
 mod started;
 mod tools;
+mod work;
 
 pub use cg_locked::{Operate, SeatGate, operator};
 pub use cg_ran::{NotRun, Ran};
 pub use cg_workers::{Dial, Listen, Turns, receiver, sender, ticker};
 pub use parts::Parts;
 pub use run::run_node;
+pub use site::Site;
+pub use work::{operate, receive, send, tick};

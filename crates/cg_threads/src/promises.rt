@@ -17,7 +17,7 @@ pub(crate) struct Operates<N: Name, O: Operate> {
 impl<N: Name, O: Operate> Promise<SeatLeft<N>> for Operates<N, O> {
     ghost use Rattle.std.specs.Prelude.{◌≡◌, true};
     ghost use Rattle.cg_left.specs.Left.{IsLeft, is_any};
-    ghost use Rattle.cg_work.specs.Worked.{HasOperated};
+    ghost use Rattle.cg_threads.specs.Worked.{HasOperated};
 
     ghost kept_by = { λ p r.
         IsLeft is_any p.seat.value.caller p.seat.value.parts r
@@ -37,7 +37,7 @@ impl<N: Name, D: Dial, C: Milliseconds> Promise<SenderLeft<N>> for Sends<N, D, C
     ghost use Rattle.std.specs.Prelude.{◌≡◌, true};
     ghost use Rattle.cg_workers.specs.Ends.{taken_in};
     ghost use Rattle.cg_left.specs.Left.{IsLeft, HasTaken, is_ack};
-    ghost use Rattle.cg_work.specs.Worked.{HasSent};
+    ghost use Rattle.cg_threads.specs.Worked.{HasSent};
 
     ghost kept_by = { λ p r.
         IsLeft is_ack p.seat.value.caller p.seat.value.parts r.left
@@ -59,7 +59,7 @@ pub(crate) struct TicksOn<N: Name, C: Milliseconds, G: Rng> {
 impl<N: Name, C: Milliseconds, G: Rng> Promise<TickerLeft<N>> for TicksOn<N, C, G> {
     ghost use Rattle.std.specs.Prelude.{◌≡◌, true};
     ghost use Rattle.cg_left.specs.Left.{IsLeft, HasPut, is_tick};
-    ghost use Rattle.cg_work.specs.Worked.{HasBegun};
+    ghost use Rattle.cg_threads.specs.Worked.{HasBegun};
 
     ghost kept_by = { λ p r.
         IsLeft is_tick p.seat.value.caller p.seat.value.parts r.left

@@ -1,11 +1,12 @@
 //! The run of a node.
 
 ghost use Rattle.std.specs.Prelude.{◌≡◌, [], false, IfOk, IfErr};
-ghost use Rattle.cg_work.specs.Worked.{HaveWorked};
+ghost use Rattle.cg_threads.specs.Worked.{HaveWorked};
 ghost use Rattle.cg_ran.specs.Ran.{IsRun, IsNotRun};
 
 use crate::parts::Parts;
 use crate::scoped::work;
+use crate::site::Site;
 use crate::tools::Tools;
 use cg_begun::{Begun, begin};
 use cg_history::History;
@@ -15,7 +16,6 @@ use cg_ran::{NotRun, Ran, finish};
 use cg_table::Table;
 use cg_types::Fault;
 use cg_views::Opened;
-use cg_work::Site;
 use cg_workers::{Dial, Listen, Milliseconds, Turns};
 use rand_core::Rng;
 use std::alloc::Global;

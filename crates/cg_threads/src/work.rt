@@ -5,7 +5,7 @@ ghost use Rattle.std.specs.Prelude.{◌≡◌, [], true};
 ghost use Rattle.cg_workers.specs.Ends.{put_by, taken_by, taken_in};
 ghost use Rattle.cg_locked.specs.Seats.{AreOf};
 ghost use Rattle.cg_left.specs.Left.{IsLeft, HasTaken, HasPut, is_received, is_ack, is_tick, is_any};
-ghost use Rattle.cg_work.specs.Worked.{HasReceived, HasSent, HasBegun, HasOperated};
+ghost use Rattle.cg_threads.specs.Worked.{HasReceived, HasSent, HasBegun, HasOperated};
 
 use crate::site::Site;
 use cg_left::{SeatLeft, SenderLeft, TickerLeft};

@@ -1,8 +1,8 @@
 use Rattle.std.proofs.Common.{subst}
 use Rattle.cg_locked.specs.Seats.{SeatValue}
 use Rattle.cg_left.specs.Left.{is_ack}
-use Rattle.cg_work.proofs.Gates.{More, left_more, sent_more, sent_all}
-use Rattle.cg_work.proofs.work.send.Goals as goal
+use Rattle.cg_threads.proofs.Gates.{More, left_more, sent_more, sent_all}
+use Rattle.cg_threads.proofs.work.send.Goals as goal
 
 pub returns-clause-left : goal.returns-clause-left
 returns-clause-left g c =

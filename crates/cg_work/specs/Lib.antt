@@ -1,4 +1,0 @@
-pub mod Worked
-pub use Rattle.cg_left.specs.Left
-pub use Rattle.cg_workers.specs.Ends
-pub use Rattle.cg_locked.specs.Seats
