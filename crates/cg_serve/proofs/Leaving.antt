@@ -4,10 +4,10 @@ use Rattle.std.specs.Prelude.{IfOk, IfErr}
 use Rattle.cg_types.specs.declared.fault.Fault.{Fault}
 use Rattle.cg_core.specs.Values.{NodeValue}
 use Rattle.cg_left.specs.Left.{Work}
-use Rattle.cg_ran.specs.declared.ran.Ran.{Ran}
-use Rattle.cg_ran.specs.declared.ran.NotRun.{NotRun}
-use Rattle.cg_ran.specs.Ran.{AnyWork, IsRun, IsNotRun}
-use Rattle.cg_ran.proofs.Running.{ran_weaker, did_not_weaker}
+use Rattle.cg_threads.specs.declared.ran.Ran.{Ran}
+use Rattle.cg_threads.specs.declared.ran.NotRun.{NotRun}
+use Rattle.cg_threads.specs.Ran.{AnyWork, IsRun, IsNotRun}
+use Rattle.cg_threads.proofs.Running.{ran_weaker, did_not_weaker}
 use Rattle.cg_serve.specs.declared.node.LifeLeft.{LifeLeft}
 use Rattle.cg_serve.specs.Lives.{left_after, IsLifeLeft}
 

@@ -8,10 +8,10 @@ use Rattle.cg_core.specs.Step.{starting_node}
 use Rattle.cg_history.specs.History.{HistoryValue}
 use Rattle.cg_journal.specs.Text.{joined, journal_lines}
 use Rattle.cg_settings_file.specs.Settings.{ServeValue}
-use Rattle.cg_ran.specs.declared.ran.Ran.{Ran}
-use Rattle.cg_ran.specs.declared.ran.NotRun.{NotRun}
-use Rattle.cg_ran.specs.declared.ran.NotRun.TheVariants as not_run
-use Rattle.cg_ran.specs.Ran.{AnyWork, IsRun, IsNotRun}
+use Rattle.cg_threads.specs.declared.ran.Ran.{Ran}
+use Rattle.cg_threads.specs.declared.ran.NotRun.{NotRun}
+use Rattle.cg_threads.specs.declared.ran.NotRun.TheVariants as not_run
+use Rattle.cg_threads.specs.Ran.{AnyWork, IsRun, IsNotRun}
 use Rattle.cg_files.specs.Disk.{Call, Replaces}
 use Rattle.cg_node_files.specs.Kept.{Settles, Unsettled, Advances, IsUnkept, Unwritten}
 use Rattle.cg_serve.specs.declared.node.Birth.{Birth}

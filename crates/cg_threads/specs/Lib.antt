@@ -1,6 +1,10 @@
+pub mod Numbers
+pub mod Laws
+pub mod Ran
 pub mod Worked
 pub use Rattle.cg_left.specs.Left
-pub use Rattle.cg_ran.specs.Ran
 pub use Rattle.cg_workers.specs.Ends
 pub use Rattle.cg_left.specs.Workers
 pub use Rattle.cg_locked.specs.Seats
+pub use Rattle.cg_history.specs.Confirming
+pub use Rattle.cg_locked.specs.Shared

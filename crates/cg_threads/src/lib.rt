@@ -5,8 +5,11 @@
 //! their receipts.
 #![tactic(auto)]
 
+mod finishing;
+pub mod laws;
 mod parts;
 mod promises;
+mod ran;
 mod run;
 mod scoped;
 mod site;
@@ -15,9 +18,10 @@ mod tools;
 mod work;
 
 pub use cg_locked::{Operate, SeatGate, operator};
-pub use cg_ran::{NotRun, Ran};
 pub use cg_workers::{Dial, Listen, Turns, receiver, sender, ticker};
+pub use finishing::finish;
 pub use parts::Parts;
+pub use ran::{NotRun, Ran};
 pub use run::run_node;
 pub use site::Site;
 pub use work::{operate, receive, send, tick};

@@ -2,9 +2,11 @@
 
 ghost use Rattle.std.specs.Prelude.{◌≡◌, [], false, IfOk, IfErr};
 ghost use Rattle.cg_threads.specs.Worked.{HaveWorked};
-ghost use Rattle.cg_ran.specs.Ran.{IsRun, IsNotRun};
+ghost use Rattle.cg_threads.specs.Ran.{IsRun, IsNotRun};
 
+use crate::finishing::finish;
 use crate::parts::Parts;
+use crate::ran::{NotRun, Ran};
 use crate::scoped::work;
 use crate::site::Site;
 use crate::tools::Tools;
@@ -12,7 +14,6 @@ use cg_begun::{Begun, begin};
 use cg_history::History;
 use cg_left::WORKERS;
 use cg_locked::{Fresh, Name, Operate};
-use cg_ran::{NotRun, Ran, finish};
 use cg_table::Table;
 use cg_types::Fault;
 use cg_views::Opened;

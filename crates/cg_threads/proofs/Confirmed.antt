@@ -7,8 +7,8 @@ use Rattle.cg_history.specs.History.{HistoryValue}
 use Rattle.cg_locked.specs.declared.shared.Unconfirmed.{Unconfirmed}
 use Rattle.cg_locked.specs.Shared.{history_of, stray_of}
 use Rattle.cg_left.specs.Left.{AreOfWorkers}
-use Rattle.cg_ran.specs.Ran.{IsStrayBehind}
-use Rattle.cg_ran.proofs.Workers.{stray_of_sender, stray_of_ticker, stray_of_operator, all_confirmed}
+use Rattle.cg_threads.specs.Ran.{IsStrayBehind}
+use Rattle.cg_threads.proofs.Workers.{stray_of_sender, stray_of_ticker, stray_of_operator, all_confirmed}
 
 -- as many as the receipts of all workers
 pub as_many : (receiver sender ticker operator : List Receipt) (n : ℕ) → n ≡ length receiver + length sender + length ticker + length operator

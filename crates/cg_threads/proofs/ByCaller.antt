@@ -10,9 +10,9 @@ use Rattle.cg_history.specs.declared.item.Receipt.{Receipt}
 use Rattle.cg_history.specs.Confirming.{IsOf, Stands, AreConfirmed}
 use Rattle.cg_history.proofs.Confirmed.{at_take, within_follows}
 use Rattle.cg_history.proofs.Covering.{each_record_has_its_receipt}
-use Rattle.cg_ran.specs.Numbers.{numbers_in, numbers_on, is_record_of, is_receipt_of}
-use Rattle.cg_ran.specs.Laws.{ReceiptsHaveTheNumbers}
-use Rattle.cg_ran.proofs.SameNumbers.{In, same_members, places_rise, place_passes, passes_in_place, passing_rise, passing_with, with_passing}
+use Rattle.cg_threads.specs.Numbers.{numbers_in, numbers_on, is_record_of, is_receipt_of}
+use Rattle.cg_threads.specs.Laws.{ReceiptsHaveTheNumbers}
+use Rattle.cg_threads.proofs.SameNumbers.{In, same_members, places_rise, place_passes, passes_in_place, passing_rise, passing_with, with_passing}
 
 module _ (caller : ℕ) (kind : Event → Bool) where
   -- a record passes if its receipt does

@@ -2,9 +2,9 @@ use Rattle.std.proofs.Common.{ap, ◌∙◌}
 use Rattle.std.proofs.lemmas.Result.{err_from_is_err_and}
 use Rattle.cg_history.specs.History.{HistoryValue, count_of}
 use Rattle.cg_locked.specs.Shared.{stray_of}
-use Rattle.cg_ran.proofs.Workers.{stray_of_receiver}
-use Rattle.cg_ran.proofs.Confirmed.{as_many, after_receiver, after_sender, after_ticker}
-use Rattle.cg_ran.proofs.finishing.confirm_all.Goals as goal
+use Rattle.cg_threads.proofs.Workers.{stray_of_receiver}
+use Rattle.cg_threads.proofs.Confirmed.{as_many, after_receiver, after_sender, after_ticker}
+use Rattle.cg_threads.proofs.finishing.confirm_all.Goals as goal
 
 pub returns-in_err-history-clause-confirmed : goal.returns-in_err-history-clause-confirmed
 returns-in_err-history-clause-confirmed g c =

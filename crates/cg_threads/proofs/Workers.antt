@@ -12,12 +12,12 @@ use Rattle.cg_history.specs.declared.item.Stray.{Stray}
 use Rattle.cg_left.specs.declared.callers.TheConstants.{RECEIVER, SENDER, TICKER, OPERATOR}
 use Rattle.cg_types.specs.ListPlace.{at_place}
 use Rattle.cg_history.specs.Confirming.{AreConfirmed, IsFirstStray}
-use Rattle.cg_ran.specs.Numbers.{numbers_in, numbers_on, is_receipt_of}
+use Rattle.cg_threads.specs.Numbers.{numbers_in, numbers_on, is_receipt_of}
 use Rattle.cg_left.specs.Left.{IsOf, AreOf, AreOfWorkers, numbers_of_all, is_received, is_ack, is_tick, is_any}
-use Rattle.cg_ran.specs.Ran.{IsStrayBehind, IsWork}
+use Rattle.cg_threads.specs.Ran.{IsStrayBehind, IsWork}
 use Rattle.cg_history.proofs.Covering.{each_record_has_its_receipt}
-use Rattle.cg_ran.proofs.ByCaller.{receipts_have_the_numbers}
-use Rattle.cg_ran.proofs.Joined.{Below, Own, confirmed_joined, stray_behind, stray_before}
+use Rattle.cg_threads.proofs.ByCaller.{receipts_have_the_numbers}
+use Rattle.cg_threads.proofs.Joined.{Below, Own, confirmed_joined, stray_behind, stray_before}
 
 own_of : (kind : Event → Bool) (c : ℕ) (qs : List Receipt) → AreOf kind c qs → Own c qs
 own_of kind c qs are = All-weaker (IsOf kind c) (λ (q : Receipt). q.caller ≡ c) (λ q is. is.own) qs are

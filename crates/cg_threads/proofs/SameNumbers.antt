@@ -3,7 +3,7 @@ use Rattle.std.proofs.Common.{◌≡◌, ℕ, zero, suc, ◌+◌, ◌<◌, ◌�
 use Rattle.std.specs.Prelude.{slice_get}
 use Rattle.std.specs.List.{filter}
 use Rattle.std.proofs.lemmas.Option.{same_Some}
-use Rattle.cg_ran.specs.Numbers.{numbers_from}
+use Rattle.cg_threads.specs.Numbers.{numbers_from}
 
 -- ---- rising numbers
 

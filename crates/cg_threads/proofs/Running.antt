@@ -17,12 +17,12 @@ use Rattle.cg_workers.specs.Workers.{numbers_of}
 use Rattle.cg_left.specs.declared.callers.TheConstants.{TICKER}
 use Rattle.cg_workers.specs.TickLaws.{rounds_in}
 use Rattle.cg_left.specs.Left.{Work, receipts_of, AreOfWorkers, AreTaken, is_tick}
-use Rattle.cg_ran.specs.declared.ran.Ran.{Ran}
-use Rattle.cg_ran.specs.declared.ran.NotRun.{NotRun}
-use Rattle.cg_ran.specs.declared.ran.NotRun.TheVariants as not_run
-use Rattle.cg_ran.specs.Numbers.{numbers_in}
-use Rattle.cg_ran.specs.Ran.{IsOfWork, IsRun, IsUnconfirmed, IsNotRun, StraysIn, TellsStart}
-use Rattle.cg_ran.proofs.Workers.{records_are_work, numbers_are_the_tickers}
+use Rattle.cg_threads.specs.declared.ran.Ran.{Ran}
+use Rattle.cg_threads.specs.declared.ran.NotRun.{NotRun}
+use Rattle.cg_threads.specs.declared.ran.NotRun.TheVariants as not_run
+use Rattle.cg_threads.specs.Numbers.{numbers_in}
+use Rattle.cg_threads.specs.Ran.{IsOfWork, IsRun, IsUnconfirmed, IsNotRun, StraysIn, TellsStart}
+use Rattle.cg_threads.proofs.Workers.{records_are_work, numbers_are_the_tickers}
 
 numbers_prefix : (xs ys : List Round) → IsPrefix xs ys → IsPrefix (numbers_of xs) (numbers_of ys)
 numbers_prefix xs ys front = (numbers_of front.0, sym (map-append (λ (r : Round). r.number) xs front.0) ∙ ap numbers_of front.1)

@@ -1,7 +1,7 @@
 use Rattle.std.proofs.Common.{refl, ◌∙◌}
 use Rattle.cg_left.specs.Workers.{work_of}
-use Rattle.cg_ran.proofs.Running.{is_run, is_unconfirmed, strays_in}
-use Rattle.cg_ran.proofs.finishing.finish.Goals as goal
+use Rattle.cg_threads.proofs.Running.{is_run, is_unconfirmed, strays_in}
+use Rattle.cg_threads.proofs.finishing.finish.Goals as goal
 
 pub returns-in-Ok-clause-ran : goal.returns-in-Ok-clause-ran
 returns-in-Ok-clause-ran g c =

@@ -1,5 +1,5 @@
 use Rattle.std.proofs.Common.{refl}
-use Rattle.cg_ran.proofs.finishing.confirm_behind.Goals as goal
+use Rattle.cg_threads.proofs.finishing.confirm_behind.Goals as goal
 
 pub returns-in-Ok-clause-history : goal.returns-in-Ok-clause-history
 returns-in-Ok-clause-history c = refl

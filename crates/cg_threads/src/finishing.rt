@@ -7,7 +7,7 @@ ghost use Rattle.cg_history.specs.History.{count_of};
 ghost use Rattle.cg_locked.specs.Shared.{history_of, stray_of};
 ghost use Rattle.cg_left.specs.Left.{receipts_of, AreOfWorkers, AreTaken};
 ghost use Rattle.cg_left.specs.Workers.{all_began, work_of};
-ghost use Rattle.cg_ran.specs.Ran.{IsStrayBehind, StraysIn, IsRun, IsNotRun, TellsStart};
+ghost use Rattle.cg_threads.specs.Ran.{IsStrayBehind, StraysIn, IsRun, IsNotRun, TellsStart};
 
 use crate::ran::{NotRun, Ran};
 use cg_history::{History, Receipt};

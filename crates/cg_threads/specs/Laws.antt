@@ -4,7 +4,7 @@ use Rattle.cg_core.specs.declared.event.Event.{Event}
 use Rattle.cg_history.specs.declared.item.Item.{Item}
 use Rattle.cg_history.specs.declared.item.Receipt.{Receipt}
 use Rattle.cg_history.specs.Confirming.{AreConfirmed}
-use Rattle.cg_ran.specs.Numbers.{numbers_in, numbers_on}
+use Rattle.cg_threads.specs.Numbers.{numbers_in, numbers_on}
 
 -- The receipts of a caller's events of a kind have the numbers of the records of these, in their order. This holds if
 -- none is folded, and confirmed receipts are as many as the records.

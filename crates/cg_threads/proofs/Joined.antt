@@ -8,7 +8,7 @@ use Rattle.cg_history.specs.declared.item.Item.{Item}
 use Rattle.cg_history.specs.declared.item.Receipt.{Receipt}
 use Rattle.cg_history.specs.declared.item.Stray.{Stray}
 use Rattle.cg_history.specs.Confirming.{ComesAfter, Follows, IsConfirmed, AreConfirmed, IsFirstStray}
-use Rattle.cg_ran.specs.Ran.{IsStrayBehind}
+use Rattle.cg_threads.specs.Ran.{IsStrayBehind}
 
 -- ---- members of two lists, one after the other
 

@@ -1,5 +1,0 @@
-use Rattle.cg_ran.proofs.ByCaller.{receipts_have_the_numbers}
-use Rattle.cg_ran.proofs.laws.receipts_have_the_numbers.Goals as goal
-
-pub returns : goal.returns
-returns c = receipts_have_the_numbers
