@@ -5,6 +5,7 @@
 //! their receipts.
 #![tactic(auto)]
 
+mod begun;
 mod finishing;
 pub mod laws;
 mod parts;
@@ -12,16 +13,19 @@ mod promises;
 mod ran;
 mod run;
 mod scoped;
+mod seats;
 mod site;
 mod started;
 mod tools;
 mod work;
 
+pub use begun::{Begun, begin};
 pub use cg_locked::{Operate, SeatGate, operator};
 pub use cg_workers::{Dial, Listen, Turns, receiver, sender, ticker};
 pub use finishing::finish;
 pub use parts::Parts;
 pub use ran::{NotRun, Ran};
 pub use run::run_node;
+pub use seats::Seats;
 pub use site::Site;
 pub use work::{operate, receive, send, tick};

@@ -4,13 +4,13 @@ ghost use Rattle.std.specs.Prelude.{◌≡◌, [], false, IfOk, IfErr};
 ghost use Rattle.cg_threads.specs.Worked.{HaveWorked};
 ghost use Rattle.cg_threads.specs.Ran.{IsRun, IsNotRun};
 
+use crate::begun::{Begun, begin};
 use crate::finishing::finish;
 use crate::parts::Parts;
 use crate::ran::{NotRun, Ran};
 use crate::scoped::work;
 use crate::site::Site;
 use crate::tools::Tools;
-use cg_begun::{Begun, begin};
 use cg_history::History;
 use cg_left::WORKERS;
 use cg_locked::{Fresh, Name, Operate};

@@ -2,17 +2,17 @@
 
 ghost use Rattle.std.specs.Prelude.{◌≡◌, [], true};
 ghost use Rattle.cg_workers.specs.Ends.{AreEnds, put_by, taken_by, taken_in};
-ghost use Rattle.cg_begun.specs.Seats.{AreWorkers, AreUnused};
+ghost use Rattle.cg_threads.specs.Seats.{AreWorkers, AreUnused};
 ghost use Rattle.cg_left.specs.Left.{IsLeft, HasTaken, HasPut, AreOfWorkers, AreTaken, is_received, is_ack, is_tick, is_any};
 ghost use Rattle.cg_left.specs.Workers.{all_began, work_of};
 ghost use Rattle.cg_threads.specs.Worked.{HasReceived, HasSent, HasBegun, HasOperated, HaveWorked};
 
 use crate::promises::{Operates, Sends, TicksOn};
+use crate::seats::Seats;
 use crate::site::Site;
 use crate::started::{start, told};
 use crate::tools::Tools;
 use crate::work::{operate, receive, send, tick};
-use cg_begun::Seats;
 use cg_left::{SeatLeft, SenderLeft, TickerLeft, WorkersLeft};
 use cg_locked::{Name, Operate};
 use cg_views::Pass;

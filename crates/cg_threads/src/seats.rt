@@ -3,7 +3,7 @@
 ghost use Rattle.std.specs.Prelude.{◌≡◌, ◌≤◌, [], map, vec_len, vec_capacity};
 ghost use Rattle.std.specs.List.{sum_by};
 ghost use Rattle.cg_locked.specs.Shared.{callers_up_to};
-ghost use Rattle.cg_begun.specs.Seats.{AreWorkers, AreUnused, parts_of};
+ghost use Rattle.cg_threads.specs.Seats.{AreWorkers, AreUnused, parts_of};
 
 use cg_locked::{Name, Seat};
 

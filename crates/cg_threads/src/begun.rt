@@ -3,7 +3,7 @@
 ghost use Rattle.std.specs.Prelude.{◌≡◌, ◌≤◌, [], vec_capacity, IfOk};
 ghost use Rattle.cg_workers.specs.Ends.{AreEnds, put_by, taken_by};
 ghost use Rattle.cg_views.specs.Lists.{opened_with};
-ghost use Rattle.cg_begun.specs.Seats.{AreWorkers, AreUnused, parts_of};
+ghost use Rattle.cg_threads.specs.Seats.{AreWorkers, AreUnused, parts_of};
 
 use crate::seats::{Seats, given};
 use cg_history::History;
