@@ -5,10 +5,11 @@ ghost use Rattle.std.specs.Prelude.{◌≡◌, false, []};
 use crate::history::new_history;
 use cg_expect::expect_eq;
 use cg_history::History;
-use cg_left::{SeatLeft, SenderLeft, TickerLeft, WORKERS, WorkersLeft};
 use cg_locked::{Fresh, Name};
 use cg_table::Table;
-use cg_threads::{Begun, NotRun, Ran, begin, finish};
+use cg_threads::{
+    Begun, NotRun, Ran, SeatLeft, SenderLeft, TickerLeft, WORKERS, WorkersLeft, begin, finish,
+};
 use cg_types::Fault;
 use cg_views::Opened;
 use std::alloc::Global;

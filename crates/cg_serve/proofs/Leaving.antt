@@ -3,7 +3,7 @@ use Rattle.std.proofs.Common.{◌≡◌, Result, Ok, Err, sym}
 use Rattle.std.specs.Prelude.{IfOk, IfErr}
 use Rattle.cg_types.specs.declared.fault.Fault.{Fault}
 use Rattle.cg_core.specs.Values.{NodeValue}
-use Rattle.cg_left.specs.Left.{Work}
+use Rattle.cg_threads.specs.Left.{Work}
 use Rattle.cg_threads.specs.declared.ran.Ran.{Ran}
 use Rattle.cg_threads.specs.declared.ran.NotRun.{NotRun}
 use Rattle.cg_threads.specs.Ran.{AnyWork, IsRun, IsNotRun}

@@ -6,7 +6,7 @@ use Rattle.cg_history.specs.Confirming.{AreConfirmed, IsFirstStray}
 use Rattle.cg_history.specs.History.{HistoryValue}
 use Rattle.cg_locked.specs.declared.shared.Unconfirmed.{Unconfirmed}
 use Rattle.cg_locked.specs.Shared.{history_of, stray_of}
-use Rattle.cg_left.specs.Left.{AreOfWorkers}
+use Rattle.cg_threads.specs.Left.{AreOfWorkers}
 use Rattle.cg_threads.specs.Ran.{IsStrayBehind}
 use Rattle.cg_threads.proofs.Workers.{stray_of_sender, stray_of_ticker, stray_of_operator, all_confirmed}
 

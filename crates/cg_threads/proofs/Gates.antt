@@ -25,7 +25,7 @@ use Rattle.cg_workers.specs.Ends.{put_by, taken_by}
 use Rattle.cg_workers.specs.Each.{Each}
 use Rattle.cg_workers.specs.Workers.{numbers_of, Received, SentRound, SentRounds}
 use Rattle.cg_workers.proofs.Keeping.{IsEventAt, received_keeps, sent_keeps}
-use Rattle.cg_left.specs.Left.{LeftValue, IsOf, AreOf, IsLeft, AreRoundsOf, numbers_of_all, is_received, is_ack, is_tick, is_any}
+use Rattle.cg_threads.specs.Left.{LeftValue, IsOf, AreOf, IsLeft, AreRoundsOf, numbers_of_all, is_received, is_ack, is_tick, is_any}
 
 -- the gate went on by receipts of events of the kind
 pub record More (kind : Event → Bool) (g h : SeatValue) : Type 0 where

@@ -14,9 +14,9 @@ use Rattle.cg_workers.specs.declared.ends.Putting.{Putting}
 use Rattle.cg_workers.specs.declared.ends.Taken.{Taken}
 use Rattle.cg_workers.specs.Ends.{put_by, taken_in}
 use Rattle.cg_workers.specs.Workers.{numbers_of}
-use Rattle.cg_left.specs.declared.callers.TheConstants.{TICKER}
+use Rattle.cg_threads.specs.declared.callers.TheConstants.{TICKER}
 use Rattle.cg_workers.specs.TickLaws.{rounds_in}
-use Rattle.cg_left.specs.Left.{Work, receipts_of, AreOfWorkers, AreTaken, is_tick}
+use Rattle.cg_threads.specs.Left.{Work, receipts_of, AreOfWorkers, AreTaken, is_tick}
 use Rattle.cg_threads.specs.declared.ran.Ran.{Ran}
 use Rattle.cg_threads.specs.declared.ran.NotRun.{NotRun}
 use Rattle.cg_threads.specs.declared.ran.NotRun.TheVariants as not_run

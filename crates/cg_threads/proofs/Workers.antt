@@ -9,11 +9,11 @@ use Rattle.cg_core.specs.declared.event.Event.{Event}
 use Rattle.cg_history.specs.declared.item.Item.{Item}
 use Rattle.cg_history.specs.declared.item.Receipt.{Receipt}
 use Rattle.cg_history.specs.declared.item.Stray.{Stray}
-use Rattle.cg_left.specs.declared.callers.TheConstants.{RECEIVER, SENDER, TICKER, OPERATOR}
+use Rattle.cg_threads.specs.declared.callers.TheConstants.{RECEIVER, SENDER, TICKER, OPERATOR}
 use Rattle.cg_types.specs.ListPlace.{at_place}
 use Rattle.cg_history.specs.Confirming.{AreConfirmed, IsFirstStray}
 use Rattle.cg_threads.specs.Numbers.{numbers_in, numbers_on, is_receipt_of}
-use Rattle.cg_left.specs.Left.{IsOf, AreOf, AreOfWorkers, numbers_of_all, is_received, is_ack, is_tick, is_any}
+use Rattle.cg_threads.specs.Left.{IsOf, AreOf, AreOfWorkers, numbers_of_all, is_received, is_ack, is_tick, is_any}
 use Rattle.cg_threads.specs.Ran.{IsStrayBehind, IsWork}
 use Rattle.cg_history.proofs.Covering.{each_record_has_its_receipt}
 use Rattle.cg_threads.proofs.ByCaller.{receipts_have_the_numbers}

@@ -12,12 +12,12 @@ use Rattle.cg_history.specs.Confirming.{AreConfirmed, IsFirstStray}
 use Rattle.cg_history.specs.History.{HistoryValue, IsReplayed}
 use Rattle.cg_locked.specs.declared.shared.Unconfirmed.{Unconfirmed}
 use Rattle.cg_locked.specs.Shared.{stray_of}
-use Rattle.cg_left.specs.declared.callers.TheConstants.{RECEIVER, SENDER, TICKER, OPERATOR}
+use Rattle.cg_threads.specs.declared.callers.TheConstants.{RECEIVER, SENDER, TICKER, OPERATOR}
 use Rattle.cg_threads.specs.declared.ran.NotRun.{NotRun}
 use Rattle.cg_threads.specs.declared.ran.NotRun.TheVariants as not_run
 use Rattle.cg_workers.specs.TickLaws.{rounds_in}
 use Rattle.cg_workers.specs.Workers.{numbers_of}
-use Rattle.cg_left.specs.Left.{Work, receipts_of, AreOfWorkers, is_received, is_ack, is_tick}
+use Rattle.cg_threads.specs.Left.{Work, receipts_of, AreOfWorkers, is_received, is_ack, is_tick}
 use Rattle.cg_threads.specs.Numbers.{numbers_in}
 
 -- The first unconfirmed receipt of these is counted after `before` others.

@@ -1,6 +1,6 @@
 -- The seats that a node's workers begin with.
 use Rattle.std.specs.Prelude.{ℕ, ◌≡◌, ◌+◌}
-use Rattle.cg_left.specs.declared.callers.TheConstants.{RECEIVER, SENDER, TICKER, OPERATOR}
+use Rattle.cg_threads.specs.declared.callers.TheConstants.{RECEIVER, SENDER, TICKER, OPERATOR}
 use Rattle.cg_threads.specs.declared.seats.Seats.{Seats}
 
 -- Each is its worker's own.

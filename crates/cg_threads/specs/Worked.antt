@@ -14,8 +14,8 @@ use Rattle.cg_workers.specs.declared.ticked.Ticked.{Ticked}
 use Rattle.cg_workers.specs.Ticks.{Ticks}
 use Rattle.cg_workers.specs.Each.{Each}
 use Rattle.cg_workers.specs.Workers.{Received, SentRound}
-use Rattle.cg_left.specs.declared.callers.TheConstants.{RECEIVER, SENDER, TICKER, OPERATOR}
-use Rattle.cg_left.specs.Left.{Work}
+use Rattle.cg_threads.specs.declared.callers.TheConstants.{RECEIVER, SENDER, TICKER, OPERATOR}
+use Rattle.cg_threads.specs.Left.{Work}
 
 -- ---- the receiver and the sender
 

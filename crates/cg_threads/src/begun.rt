@@ -5,9 +5,9 @@ ghost use Rattle.cg_workers.specs.Ends.{AreEnds, put_by, taken_by};
 ghost use Rattle.cg_views.specs.Lists.{opened_with};
 ghost use Rattle.cg_threads.specs.Seats.{AreWorkers, AreUnused, parts_of};
 
+use crate::callers::WORKERS;
 use crate::seats::{Seats, given};
 use cg_history::History;
-use cg_left::WORKERS;
 use cg_locked::{Fresh, Name, Seat, Shared};
 use cg_table::Table;
 use cg_views::{Opened, Pass, Publisher, views};

@@ -5,13 +5,13 @@ ghost use Rattle.std.specs.List.{sum_by};
 ghost use Rattle.cg_history.specs.Confirming.{AreConfirmed, IsFirstStray};
 ghost use Rattle.cg_history.specs.History.{count_of};
 ghost use Rattle.cg_locked.specs.Shared.{history_of, stray_of};
-ghost use Rattle.cg_left.specs.Left.{receipts_of, AreOfWorkers, AreTaken};
-ghost use Rattle.cg_left.specs.Workers.{all_began, work_of};
+ghost use Rattle.cg_threads.specs.Left.{receipts_of, AreOfWorkers, AreTaken};
+ghost use Rattle.cg_threads.specs.Workers.{all_began, work_of};
 ghost use Rattle.cg_threads.specs.Ran.{IsStrayBehind, StraysIn, IsRun, IsNotRun, TellsStart};
 
+use crate::left::{SenderLeft, TickerLeft, WorkersLeft};
 use crate::ran::{NotRun, Ran};
 use cg_history::{History, Receipt};
-use cg_left::{SenderLeft, TickerLeft, WorkersLeft};
 use cg_locked::{Name, Seat, Shared, Unconfirmed};
 use cg_types::Fault;
 use std::sync::Wait;

@@ -1,6 +1,6 @@
 //! The promises of a worker's thread about the values that it leaves.
 
-use cg_left::{SeatLeft, SenderLeft, TickerLeft};
+use crate::left::{SeatLeft, SenderLeft, TickerLeft};
 use cg_locked::{Name, Operate, Seat};
 use cg_workers::{Dial, Milliseconds, Putting, Taking, Turns};
 use rand_core::Rng;
@@ -16,7 +16,7 @@ pub(crate) struct Operates<N: Name, O: Operate> {
 
 impl<N: Name, O: Operate> Promise<SeatLeft<N>> for Operates<N, O> {
     ghost use Rattle.std.specs.Prelude.{◌≡◌, true};
-    ghost use Rattle.cg_left.specs.Left.{IsLeft, is_any};
+    ghost use Rattle.cg_threads.specs.Left.{IsLeft, is_any};
     ghost use Rattle.cg_threads.specs.Worked.{HasOperated};
 
     ghost kept_by = { λ p r.
@@ -36,7 +36,7 @@ pub(crate) struct Sends<N: Name, D: Dial, C: Milliseconds> {
 impl<N: Name, D: Dial, C: Milliseconds> Promise<SenderLeft<N>> for Sends<N, D, C> {
     ghost use Rattle.std.specs.Prelude.{◌≡◌, true};
     ghost use Rattle.cg_workers.specs.Ends.{taken_in};
-    ghost use Rattle.cg_left.specs.Left.{IsLeft, HasTaken, is_ack};
+    ghost use Rattle.cg_threads.specs.Left.{IsLeft, HasTaken, is_ack};
     ghost use Rattle.cg_threads.specs.Worked.{HasSent};
 
     ghost kept_by = { λ p r.
@@ -58,7 +58,7 @@ pub(crate) struct TicksOn<N: Name, C: Milliseconds, G: Rng> {
 
 impl<N: Name, C: Milliseconds, G: Rng> Promise<TickerLeft<N>> for TicksOn<N, C, G> {
     ghost use Rattle.std.specs.Prelude.{◌≡◌, true};
-    ghost use Rattle.cg_left.specs.Left.{IsLeft, HasPut, is_tick};
+    ghost use Rattle.cg_threads.specs.Left.{IsLeft, HasPut, is_tick};
     ghost use Rattle.cg_threads.specs.Worked.{HasBegun};
 
     ghost kept_by = { λ p r.

@@ -5,6 +5,7 @@ ghost use Rattle.cg_threads.specs.Worked.{HaveWorked};
 ghost use Rattle.cg_threads.specs.Ran.{IsRun, IsNotRun};
 
 use crate::begun::{Begun, begin};
+use crate::callers::WORKERS;
 use crate::finishing::finish;
 use crate::parts::Parts;
 use crate::ran::{NotRun, Ran};
@@ -12,7 +13,6 @@ use crate::scoped::work;
 use crate::site::Site;
 use crate::tools::Tools;
 use cg_history::History;
-use cg_left::WORKERS;
 use cg_locked::{Fresh, Name, Operate};
 use cg_table::Table;
 use cg_types::Fault;

@@ -3,17 +3,17 @@
 ghost use Rattle.std.specs.Prelude.{◌≡◌, [], true};
 ghost use Rattle.cg_workers.specs.Ends.{AreEnds, put_by, taken_by, taken_in};
 ghost use Rattle.cg_threads.specs.Seats.{AreWorkers, AreUnused};
-ghost use Rattle.cg_left.specs.Left.{IsLeft, HasTaken, HasPut, AreOfWorkers, AreTaken, is_received, is_ack, is_tick, is_any};
-ghost use Rattle.cg_left.specs.Workers.{all_began, work_of};
+ghost use Rattle.cg_threads.specs.Left.{IsLeft, HasTaken, HasPut, AreOfWorkers, AreTaken, is_received, is_ack, is_tick, is_any};
+ghost use Rattle.cg_threads.specs.Workers.{all_began, work_of};
 ghost use Rattle.cg_threads.specs.Worked.{HasReceived, HasSent, HasBegun, HasOperated, HaveWorked};
 
+use crate::left::{SeatLeft, SenderLeft, TickerLeft, WorkersLeft};
 use crate::promises::{Operates, Sends, TicksOn};
 use crate::seats::Seats;
 use crate::site::Site;
 use crate::started::{start, told};
 use crate::tools::Tools;
 use crate::work::{operate, receive, send, tick};
-use cg_left::{SeatLeft, SenderLeft, TickerLeft, WorkersLeft};
 use cg_locked::{Name, Operate};
 use cg_views::Pass;
 use cg_workers::{Dial, Listen, Milliseconds, Putting, Taking, Turns};

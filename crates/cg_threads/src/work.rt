@@ -4,11 +4,11 @@
 ghost use Rattle.std.specs.Prelude.{◌≡◌, [], true};
 ghost use Rattle.cg_workers.specs.Ends.{put_by, taken_by, taken_in};
 ghost use Rattle.cg_locked.specs.Seats.{AreOf};
-ghost use Rattle.cg_left.specs.Left.{IsLeft, HasTaken, HasPut, is_received, is_ack, is_tick, is_any};
+ghost use Rattle.cg_threads.specs.Left.{IsLeft, HasTaken, HasPut, is_received, is_ack, is_tick, is_any};
 ghost use Rattle.cg_threads.specs.Worked.{HasReceived, HasSent, HasBegun, HasOperated};
 
+use crate::left::{SeatLeft, SenderLeft, TickerLeft};
 use crate::site::Site;
-use cg_left::{SeatLeft, SenderLeft, TickerLeft};
 use cg_locked::{Name, Operate, Seat, SeatGate, operator};
 use cg_views::Pass;
 use cg_workers::{Dial, Listen, Milliseconds, Putting, Taking, Turns, receiver, sender, ticker};

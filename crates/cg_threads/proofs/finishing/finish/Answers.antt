@@ -1,5 +1,5 @@
 use Rattle.std.proofs.Common.{refl, ◌∙◌}
-use Rattle.cg_left.specs.Workers.{work_of}
+use Rattle.cg_threads.specs.Workers.{work_of}
 use Rattle.cg_threads.proofs.Running.{is_run, is_unconfirmed, strays_in}
 use Rattle.cg_threads.proofs.finishing.finish.Goals as goal
 

@@ -1,6 +1,6 @@
 use Rattle.std.proofs.Common.{sym}
-use Rattle.cg_left.specs.Left.{Work}
-use Rattle.cg_left.specs.Workers.{all_began, work_of}
+use Rattle.cg_threads.specs.Left.{Work}
+use Rattle.cg_threads.specs.Workers.{all_began, work_of}
 use Rattle.cg_threads.specs.Worked.{HaveWorked}
 use Rattle.cg_threads.proofs.Running.{ran_of_work, did_not_of_work}
 use Rattle.cg_threads.proofs.run.run_named.Goals as goal

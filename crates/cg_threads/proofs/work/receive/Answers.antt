@@ -1,7 +1,7 @@
 use Rattle.std.proofs.Common.{subst}
 use Rattle.cg_locked.specs.Seats.{SeatValue, Enters, Refuses}
 use Rattle.cg_workers.specs.Workers.{Received}
-use Rattle.cg_left.specs.Left.{is_received}
+use Rattle.cg_threads.specs.Left.{is_received}
 use Rattle.cg_threads.proofs.Gates.{More, left_more, received_more}
 use Rattle.cg_threads.proofs.work.receive.Goals as goal
 

@@ -1,6 +1,6 @@
 use Rattle.std.proofs.Common.{subst}
 use Rattle.cg_locked.specs.Seats.{SeatValue}
-use Rattle.cg_left.specs.Left.{is_ack}
+use Rattle.cg_threads.specs.Left.{is_ack}
 use Rattle.cg_threads.proofs.Gates.{More, left_more, sent_more, sent_all}
 use Rattle.cg_threads.proofs.work.send.Goals as goal
 

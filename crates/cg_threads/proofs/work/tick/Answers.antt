@@ -2,7 +2,7 @@ use Rattle.std.proofs.Common.{List, sym, ap, subst}
 use Rattle.cg_history.specs.declared.item.Receipt.{Receipt}
 use Rattle.cg_workers.specs.Ends.{put_by}
 use Rattle.cg_locked.specs.Seats.{SeatValue}
-use Rattle.cg_left.specs.Left.{AreRoundsOf, is_tick}
+use Rattle.cg_threads.specs.Left.{AreRoundsOf, is_tick}
 use Rattle.cg_threads.proofs.Gates.{More, left_more, ticked_first, ticked_more}
 use Rattle.cg_threads.proofs.work.tick.Goals as goal
 

@@ -1,5 +1,5 @@
 use Rattle.std.proofs.Common.{sym, ap, ◌∙◌}
-use Rattle.cg_left.specs.Left.{LeftValue, is_received}
+use Rattle.cg_threads.specs.Left.{LeftValue, is_received}
 use Rattle.cg_threads.proofs.Gates.{left_unused}
 use Rattle.cg_threads.proofs.Beginning.{no_false}
 use Rattle.cg_threads.proofs.scoped.fn.work.scope.Goals as goal

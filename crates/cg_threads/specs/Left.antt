@@ -14,7 +14,7 @@ use Rattle.cg_workers.specs.declared.ends.Taken.{Taken}
 use Rattle.cg_workers.specs.Ends.{put_by, taken_in, PutsWhere, IsLeftOf, WereTakenOf}
 use Rattle.cg_workers.specs.TickLaws.{rounds_in}
 use Rattle.cg_workers.specs.Workers.{numbers_of}
-use Rattle.cg_left.specs.declared.callers.TheConstants.{RECEIVER, SENDER, TICKER, OPERATOR}
+use Rattle.cg_threads.specs.declared.callers.TheConstants.{RECEIVER, SENDER, TICKER, OPERATOR}
 
 -- ---- kinds of events
 

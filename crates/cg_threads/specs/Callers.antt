@@ -1,6 +1,6 @@
 -- The numbers of the callers, and of the workers.
 use Rattle.std.specs.Prelude.{◌≡◌}
-use Rattle.cg_left.specs.declared.callers.TheConstants.{RECEIVER, SENDER, TICKER, OPERATOR, WORKERS}
+use Rattle.cg_threads.specs.declared.callers.TheConstants.{RECEIVER, SENDER, TICKER, OPERATOR, WORKERS}
 
 pub record CallersHaveTheirNumbers : Type 0 where
   pub receiver : RECEIVER ≡ 1

@@ -1,8 +1,8 @@
 -- The results of all workers.
 use Rattle.std.specs.Prelude.{Bool, ◌&&◌}
 use Rattle.cg_workers.specs.Ends.{taken_in}
-use Rattle.cg_left.specs.declared.left.WorkersLeft.{WorkersLeft}
-use Rattle.cg_left.specs.Left.{Work}
+use Rattle.cg_threads.specs.declared.left.WorkersLeft.{WorkersLeft}
+use Rattle.cg_threads.specs.Left.{Work}
 
 -- true if all workers began
 abbrev pub all_began : {N : Type 0} → WorkersLeft N → Bool

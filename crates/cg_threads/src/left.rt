@@ -2,7 +2,7 @@
 
 ghost use Rattle.std.specs.Prelude.{◌≡◌, [], true, false, length};
 ghost use Rattle.cg_history.specs.Confirming.{AreConfirmed};
-ghost use Rattle.cg_left.specs.Workers.{all_began};
+ghost use Rattle.cg_threads.specs.Workers.{all_began};
 
 use cg_history::Receipt;
 use cg_locked::{Name, Seat};
@@ -22,7 +22,7 @@ pub struct SeatLeft<N: Name> {
 impl<N: Name> Model for SeatLeft<N> {
     ghost use Rattle.std.specs.Prelude.{◌≡◌, length};
     ghost use Rattle.cg_history.specs.Confirming.{AreConfirmed};
-    ghost use Rattle.cg_left.specs.Left.{LeftValue, left_code};
+    ghost use Rattle.cg_threads.specs.Left.{LeftValue, left_code};
 
     ghost Value = { LeftValue };
 
