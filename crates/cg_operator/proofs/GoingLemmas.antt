@@ -13,9 +13,9 @@ use Rattle.cg_links.proofs.ReadingLemmas.{stops_in_text, stops_in_lines}
 use Rattle.cg_links.specs.Taken.{Takes, Refuses, Lacks, Stops, IsUnread, Fails}
 use Rattle.cg_links.specs.Lines.{ended_lines, lines_of}
 use Rattle.cg_links.specs.declared.counted.Counted.{Counted}
-use Rattle.cg_orders.specs.declared.command.OperatorCommand.{OperatorCommand}
-use Rattle.cg_orders.specs.declared.command.OperatorCommand.TheVariants.{Show, Set, Remove, Quit}
-use Rattle.cg_orders.specs.Commands.{command_in}
+use Rattle.cg_operator.specs.declared.command.OperatorCommand.{OperatorCommand}
+use Rattle.cg_operator.specs.declared.command.OperatorCommand.TheVariants.{Show, Set, Remove, Quit}
+use Rattle.cg_operator.specs.Commands.{command_in}
 use Rattle.cg_operator.specs.Doing.{Does, ChangesKey, Changes, ChangeRunsOut, RunsOut}
 use Rattle.cg_operator.specs.Operating.{At, DoesLine, EndsAt, LacksMemory, ReadsNothing, WritesFront, ReachesTheEnd, Operates}
 

@@ -9,9 +9,9 @@ use Rattle.cg_links.specs.Counted.{KeepsCounts}
 use Rattle.cg_links.specs.Lines.{ended_lines, open_line, last_line, lines_of}
 use Rattle.cg_links.proofs.ReadingLemmas.{stops_in_text, stops_in_lines}
 use Rattle.cg_links.specs.Taken.{Takes, Refuses, Lacks, StopsAmong, Stops, StopsLast, IsUnread, Fails, TakesAll, TakesLines}
-use Rattle.cg_orders.specs.declared.command.OperatorCommand.TheVariants.{Quit}
+use Rattle.cg_operator.specs.declared.command.OperatorCommand.TheVariants.{Quit}
 use Rattle.cg_operator.specs.declared.operating.Operating.{Operating}
-use Rattle.cg_orders.specs.Commands.{command_in}
+use Rattle.cg_operator.specs.Commands.{command_in}
 use Rattle.cg_operator.specs.Operating.{At, DoesLine, EndsAt, Quits, ReachesTheEnd, Operates}
 use Rattle.cg_operator.specs.Steps.{at_of, HoldsSame, TakesStep, RefusesStep}
 

@@ -13,9 +13,9 @@ use Rattle.cg_views.specs.Lists.{StartsWith}
 use Rattle.cg_printed.specs.Printed.{version_line}
 use Rattle.cg_locked.specs.Seats.{SeatValue, with_told, Enters, Refuses}
 use Rattle.cg_script.specs.declared.line.View.{View}
-use Rattle.cg_orders.specs.declared.command.OperatorCommand.{OperatorCommand}
-use Rattle.cg_orders.specs.declared.command.OperatorCommand.TheVariants.{Show, Set, Remove, Quit}
-use Rattle.cg_orders.specs.Shown.{table_lines, unpublished_line}
+use Rattle.cg_operator.specs.declared.command.OperatorCommand.{OperatorCommand}
+use Rattle.cg_operator.specs.declared.command.OperatorCommand.TheVariants.{Show, Set, Remove, Quit}
+use Rattle.cg_operator.specs.Shown.{table_lines, unpublished_line}
 
 -- The answer to a change of a key is its version, once the pass has learnt the told of the change; if there is none,
 -- it is the line of an unpublished version.

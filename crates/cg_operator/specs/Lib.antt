@@ -1,9 +1,11 @@
+pub mod Commands
+pub mod Shown
 pub mod Doing
 pub mod Operating
 pub mod Steps
 pub use Rattle.cg_links.specs.Counted
-pub use Rattle.cg_orders.specs.Commands
-pub use Rattle.cg_orders.specs.Shown
 pub use Rattle.cg_locked.specs.Seats
 pub use Rattle.cg_table.specs.Puts
 pub use Rattle.cg_views.specs.Lists
+pub use Rattle.cg_script.specs.Gives
+pub use Rattle.cg_script.specs.Words

@@ -12,8 +12,8 @@ use Rattle.cg_links.specs.Lines.{ended_lines, lines_of}
 use Rattle.cg_links.specs.Taken.{Takes, TakesAll, Fails}
 use Rattle.cg_script.specs.declared.line.View.{View}
 use Rattle.cg_locked.specs.Seats.{SeatValue}
-use Rattle.cg_orders.specs.declared.command.OperatorCommand.TheVariants.{Show, Quit}
-use Rattle.cg_orders.specs.Commands.{command_in}
+use Rattle.cg_operator.specs.declared.command.OperatorCommand.TheVariants.{Show, Quit}
+use Rattle.cg_operator.specs.Commands.{command_in}
 use Rattle.cg_operator.specs.Doing.{Does, RunsOut}
 
 -- the progress of an operator: its gate, the puts that its pass has read or learnt, and its writer

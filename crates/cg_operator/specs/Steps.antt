@@ -3,9 +3,9 @@ use Rattle.std.specs.Prelude.{ℕ, ◌≡◌, ◌⊎◌, true, List, Option, Ok}
 use Rattle.cg_types.specs.declared.fault.Fault.{Fault}
 use Rattle.cg_table.specs.Values.{TableValue}
 use Rattle.cg_core.specs.Values.{NodeValue}
-use Rattle.cg_orders.specs.declared.command.OperatorCommand.TheVariants.{Quit}
+use Rattle.cg_operator.specs.declared.command.OperatorCommand.TheVariants.{Quit}
 use Rattle.cg_operator.specs.declared.operating.Operating.{Operating}
-use Rattle.cg_orders.specs.Commands.{command_in}
+use Rattle.cg_operator.specs.Commands.{command_in}
 use Rattle.cg_operator.specs.Operating.{At, DoesLine, EndsAt}
 
 -- the progress of the operator

@@ -1,7 +1,7 @@
 //! The text of a change that readers do not see yet.
 
 use cg_expect::expect_eq;
-use cg_orders::add_unpublished;
+use cg_operator::add_unpublished;
 use cg_samples::version;
 use std::test::Fail;
 

@@ -7,8 +7,8 @@ use Rattle.cg_types.specs.Words.{cut_at, key_in}
 use Rattle.cg_tokens.specs.Tokens.{token_of}
 use Rattle.cg_script.specs.declared.line.View.TheVariants as view
 use Rattle.cg_script.specs.Words.{count_before, key_before, text_in, state_text_in}
-use Rattle.cg_orders.specs.declared.command.OperatorCommand.{OperatorCommand}
-use Rattle.cg_orders.specs.declared.command.OperatorCommand.TheVariants.{Show, Set, Remove, Quit}
+use Rattle.cg_operator.specs.declared.command.OperatorCommand.{OperatorCommand}
+use Rattle.cg_operator.specs.declared.command.OperatorCommand.TheVariants.{Show, Set, Remove, Quit}
 
 abbrev pub or_unreadable : Option OperatorCommand → Result OperatorCommand Fault
 or_unreadable None = Err BadText

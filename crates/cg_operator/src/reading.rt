@@ -3,7 +3,7 @@
 ghost use Rattle.std.specs.Prelude.{◌≡◌, option_map};
 ghost use Rattle.cg_script.specs.Gives.{Gives};
 ghost use Rattle.cg_script.specs.Words.{text_in as text_of_bytes};
-ghost use Rattle.cg_orders.specs.Commands as spec;
+ghost use Rattle.cg_operator.specs.Commands as spec;
 
 use crate::command::OperatorCommand;
 use cg_script::{View, count_before, is_word, key_before, state_text_in};

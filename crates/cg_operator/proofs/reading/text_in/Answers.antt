@@ -2,7 +2,7 @@ use Rattle.std.proofs.Common.{Some, sym, ap}
 use Rattle.std.proofs.lemmas.Str.{is_utf8-from_IsUtf8}
 use Rattle.cg_script.specs.Words.{text_in}
 use Rattle.cg_script.proofs.TextLemmas.{no_text}
-use Rattle.cg_orders.proofs.reading.text_in.Goals as goal
+use Rattle.cg_operator.proofs.reading.text_in.Goals as goal
 
 pub returns-in-Ok : goal.returns-in-Ok
 unfolding text_in

@@ -1,7 +1,7 @@
 //! Texts that show a table.
 
 ghost use Rattle.std.specs.Prelude.{◌≡◌, ◌++◌, IfOk, OnOk, string_bytes};
-ghost use Rattle.cg_orders.specs.Shown.{table_lines, unpublished_line};
+ghost use Rattle.cg_operator.specs.Shown.{table_lines, unpublished_line};
 
 use cg_printed::{add_digests, add_gossipinfo, add_replicas, add_ring};
 use cg_script::View;
