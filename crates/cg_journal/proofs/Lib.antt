@@ -1,2 +1,14 @@
 pub mod WrittenLemmas
 pub mod ReadLemmas
+pub mod OfLines
+pub mod Fronts
+pub mod WordsRead
+pub mod LinesRead
+pub mod BytesRead
+pub mod EventsRead
+pub mod LifeRead
+pub mod HistoryRead
+pub mod Writable
+pub mod EventsHeld
+pub mod LifeHeld
+pub mod ReadAgain

@@ -2,6 +2,8 @@ pub mod Text
 pub mod Reading
 pub mod Written
 pub mod Read
+pub mod Contents
+pub mod Laws
 pub use Rattle.hex.specs.Hex
 pub use Rattle.cg_table.specs.Own
 pub use Rattle.cg_messages.specs.Lent

@@ -8,12 +8,18 @@
 #![tactic(auto)]
 
 mod event;
+mod fitting;
+mod history;
+/// Laws of journals.
+pub mod laws;
 mod life;
 mod reading;
 mod text;
 mod unread;
 mod writing;
 
+pub use fitting::every_event_fits;
+pub use history::every_history_fits;
 pub use reading::{read_journal, read_journal_telling};
 pub use unread::Unread;
 pub use writing::write_journal;

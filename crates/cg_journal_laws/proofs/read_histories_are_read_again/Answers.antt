@@ -1,5 +1,0 @@
-use Rattle.cg_journal_laws.proofs.ReadAgain.{read_again}
-use Rattle.cg_journal_laws.proofs.read_histories_are_read_again.Goals as goal
-
-pub returns : goal.returns
-returns c = read_again

@@ -1,5 +1,0 @@
-use Rattle.cg_journal_laws.proofs.Writable.{writable_histories_go_on}
-use Rattle.cg_journal_laws.proofs.writable_histories_go_on.Goals as goal
-
-pub returns : goal.returns
-returns c = writable_histories_go_on
