@@ -1,6 +1,6 @@
 //! Files of a node that is served, by its name, in the folder where the tests run.
 
-use cg_files::{read_file, replace, stored_generation};
+use cg_host::{read_file, replace, stored_generation};
 use cg_journal::read_journal;
 use cg_links::Counted;
 use cg_types::{Endpoint, Fault, Generation};

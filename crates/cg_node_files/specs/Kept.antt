@@ -3,10 +3,10 @@ use Rattle.std.specs.Prelude.{◌≡◌, ◌<◌, ◌⊎◌, ℕ, true, false, L
 use Rattle.cg_types.specs.declared.fault.Fault.{Fault}
 use Rattle.cg_types.specs.declared.fault.Fault.TheVariants as fault
 use Rattle.cg_history.specs.History.{HistoryValue}
-use Rattle.cg_files.specs.Disk.{Call, Opened, Placed, Made, Compared, OpenedToLock, Locked, HasBytes, Unfound, Replaces, Unreplaced}
-use Rattle.cg_files.specs.Generation.{text_of}
-use Rattle.cg_files.specs.Replacing.{aside_of}
-use Rattle.cg_files.specs.Storing.{Stored, Unstored}
+use Rattle.cg_host.specs.Disk.{Call, Opened, Placed, Made, Compared, OpenedToLock, Locked, HasBytes, Unfound, Replaces, Unreplaced}
+use Rattle.cg_host.specs.Generation.{text_of}
+use Rattle.cg_host.specs.Replacing.{aside_of}
+use Rattle.cg_host.specs.Storing.{Stored, Unstored}
 use Rattle.cg_settings_file.specs.Settings.{ServeValue, settings_in_bytes, settings_or_key_in_bytes}
 use Rattle.cg_settings_file.specs.Seen.{Refuses}
 use Rattle.cg_version.specs.Version.{generation_at_start}

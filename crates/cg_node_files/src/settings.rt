@@ -5,7 +5,7 @@ ghost use Rattle.cg_types.specs.declared.fault.Fault.TheVariants.{OutOfMemory, B
 ghost use Rattle.cg_settings_file.specs.Seen.{settings_view, told_key};
 ghost use Rattle.cg_node_files.specs.Kept.{AreApart, AreShared, Settles, Unsettled};
 
-use cg_files::{Disk, read_file};
+use cg_host::{Disk, read_file};
 use cg_settings_file::{ServeSettings, Unset, settings_or_key};
 use cg_types::Fault;
 use std::alloc::Global;

@@ -6,8 +6,8 @@ ghost use Rattle.cg_printed.specs.Written.{WroteOut};
 ghost use Rattle.cg_serve.specs.Lives.{Lives, fault_lines, text_after, status_after, Says, Ends, WritesJournal, Serves};
 
 use crate::node::{Birth, LifeLeft, run};
-use cg_files::Disk;
 use cg_history::History;
+use cg_host::Disk;
 use cg_links::Counted;
 use cg_node_files::{next_life, settings_telling, try_journal, write_journal_to};
 use cg_printed::written;

@@ -1,7 +1,7 @@
 //! Files read and replaced: whole, half written, too long, missing; and the generations that they keep.
 
 use cg_expect::{expect, expect_eq};
-use cg_files::{Replacement, read_file, replace, store_generation, stored_generation};
+use cg_host::{Replacement, read_file, replace, store_generation, stored_generation};
 use cg_links::write_bytes;
 use cg_types::{Fault, Generation};
 use std::alloc::Global;

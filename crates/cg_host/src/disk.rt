@@ -1,7 +1,7 @@
 //! The files of a system, call by call.
 
 ghost use Rattle.std.specs.Prelude.{◌≡◌, Ok, Err, IfErr, IsTrue, MatchResult, string_bytes};
-ghost use Rattle.cg_files.specs.Disk.{IsWritingFault, IsOpeningFault, Call, Looked, Opened, Placed, Made, Synced, Renamed, FolderSynced, Compared, OpenedToLock, Locked};
+ghost use Rattle.cg_host.specs.Disk.{IsWritingFault, IsOpeningFault, Call, Looked, Opened, Placed, Made, Synced, Renamed, FolderSynced, Compared, OpenedToLock, Locked};
 
 use cg_types::Fault;
 use std::alloc::Global;

@@ -5,7 +5,7 @@ use Rattle.cg_types.specs.declared.limits.TheConstants.{NUMBER_LIMIT}
 use Rattle.cg_types.specs.Words.{number_between, generation_in as number_in}
 use Rattle.cg_types.proofs.WordLemmas.{number_of-decimal, digits_of_decimal}
 use Rattle.cg_types.proofs.EndpointLaws.{cut_at-digits}
-use Rattle.cg_files.specs.Generation.{generation_in, text_of, KeptIsRead}
+use Rattle.cg_host.specs.Generation.{generation_in, text_of, KeptIsRead}
 
 number_read : (n : ℕ) → 0 < n → n < NUMBER_LIMIT → number_in (decimal n) ≡ Some n
 unfolding number_between

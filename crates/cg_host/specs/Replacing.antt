@@ -1,7 +1,7 @@
 -- The path and the link of a new file that is to replace another.
 use Rattle.std.specs.Prelude.{ℕ, List, ◌++◌, codes, string_bytes}
 use Rattle.cg_links.specs.declared.counted.Counted.{Counted}
-use Rattle.cg_files.specs.declared.replacing.Replacement.{Replacement}
+use Rattle.cg_host.specs.declared.replacing.Replacement.{Replacement}
 
 -- the path of the new file
 abbrev pub aside_of : List ℕ → List ℕ

@@ -2,9 +2,9 @@
 
 ghost use Rattle.std.specs.Prelude.{◌≡◌, ◌⊎◌, IfOk, IfErr, OnOk, MatchResult, string_bytes};
 ghost use Rattle.cg_types.specs.declared.fault.Fault.TheVariants as faults;
-ghost use Rattle.cg_files.specs.Disk.{Replaces, Unreplaced};
-ghost use Rattle.cg_files.specs.Storing.{Holds, HoldsNone, Stored, Unstored};
-ghost use Rattle.cg_files.specs.Generation.{generation_in as generation_of, text_of};
+ghost use Rattle.cg_host.specs.Disk.{Replaces, Unreplaced};
+ghost use Rattle.cg_host.specs.Storing.{Holds, HoldsNone, Stored, Unstored};
+ghost use Rattle.cg_host.specs.Generation.{generation_in as generation_of, text_of};
 
 use crate::disk::Disk;
 use crate::reading::read_file;

@@ -4,7 +4,7 @@ ghost use Rattle.std.specs.Prelude.{◌≡◌, ◌⊎◌, ◌↔◌, IfOk, IfErr
 ghost use Rattle.std.specs.IoError.{error_kind};
 ghost use Rattle.std.specs.Fs.{file_type, IsFile};
 ghost use Rattle.cg_types.specs.declared.fault.Fault.TheVariants as faults;
-ghost use Rattle.cg_files.specs.Disk.{IsWritingFault};
+ghost use Rattle.cg_host.specs.Disk.{IsWritingFault};
 
 use crate::disk::Disk;
 use cg_types::Fault;

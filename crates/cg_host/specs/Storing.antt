@@ -2,9 +2,9 @@
 use Rattle.std.specs.Prelude.{◌≡◌, ◌⊎◌, ℕ, true, false, List, Option, Some, None, Ok}
 use Rattle.cg_types.specs.declared.fault.Fault.{Fault}
 use Rattle.cg_types.specs.declared.fault.Fault.TheVariants as fault
-use Rattle.cg_files.specs.declared.generation.TheConstants.{MOST}
-use Rattle.cg_files.specs.Generation.{generation_in}
-use Rattle.cg_files.specs.Disk.{Call, Looked, Opened, HasBytes, Unfound}
+use Rattle.cg_host.specs.declared.generation.TheConstants.{MOST}
+use Rattle.cg_host.specs.Generation.{generation_in}
+use Rattle.cg_host.specs.Disk.{Call, Looked, Opened, HasBytes, Unfound}
 
 module _ {F : Type 0} (did : Call F → Type 0) (remaining : F → Option (List ℕ)) (path : List ℕ) where
   -- the generation that the file's bytes are, or no file

@@ -2,8 +2,8 @@
 
 ghost use Rattle.std.specs.Prelude.{◌≡◌, IfOk, IfErr, OnOk, string_bytes};
 ghost use Rattle.cg_links.specs.Counted.{IsNew, link_of};
-ghost use Rattle.cg_files.specs.Disk.{Call, Made, IsWritingFault, Puts, Replaces, Unreplaced};
-ghost use Rattle.cg_files.specs.Replacing.{aside_of, link_in, aside_path};
+ghost use Rattle.cg_host.specs.Disk.{Call, Made, IsWritingFault, Puts, Replaces, Unreplaced};
+ghost use Rattle.cg_host.specs.Replacing.{aside_of, link_in, aside_path};
 
 use crate::disk::Disk;
 use cg_links::{Counted, write_bytes};

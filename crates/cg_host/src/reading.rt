@@ -2,7 +2,7 @@
 
 ghost use Rattle.std.specs.Prelude.{◌≡◌, ◌⊎◌, ◌≤◌, ◌<◌, length, Err, IfOk, IfErr, IfSome, MatchResult, option_map};
 ghost use Rattle.cg_types.specs.declared.fault.Fault.TheVariants as faults;
-ghost use Rattle.cg_files.specs.Disk.{Found, Unfound};
+ghost use Rattle.cg_host.specs.Disk.{Found, Unfound};
 
 use crate::disk::Disk;
 use cg_links::{Counted, read_all};

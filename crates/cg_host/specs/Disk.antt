@@ -3,7 +3,7 @@ use Rattle.std.specs.Prelude.{◌≡◌, ◌⊎◌, ◌≤◌, ◌<◌, ℕ, Boo
 use Rattle.std.specs.Io.KnownBytes.{Appends}
 use Rattle.cg_types.specs.declared.fault.Fault.{Fault}
 use Rattle.cg_types.specs.declared.fault.Fault.TheVariants as fault
-use Rattle.cg_files.specs.Replacing.{aside_of}
+use Rattle.cg_host.specs.Replacing.{aside_of}
 
 abbrev pub IsWritingFault : Fault → Type 0
 IsWritingFault f = (f ≡ fault.OutOfMemory) ⊎ (f ≡ fault.WriteFault)
