@@ -6,12 +6,18 @@
 
 mod disk;
 mod generation;
+mod journal;
+mod kept_generation;
 pub mod laws;
 mod reading;
 mod replacing;
+mod settings;
 mod system;
 
 pub use disk::Disk;
 pub use generation::{generation_in, generation_text, store_generation, stored_generation};
+pub use journal::{try_journal, write_journal_to};
+pub use kept_generation::next_life;
 pub use reading::read_file;
 pub use replacing::{Replacement, replace};
+pub use settings::{SETTINGS_MOST, settings_telling};

@@ -13,7 +13,7 @@ use Rattle.cg_threads.specs.declared.ran.NotRun.{NotRun}
 use Rattle.cg_threads.specs.declared.ran.NotRun.TheVariants as not_run
 use Rattle.cg_threads.specs.Ran.{AnyWork, IsRun, IsNotRun}
 use Rattle.cg_host.specs.Disk.{Call, Replaces}
-use Rattle.cg_node_files.specs.Kept.{Settles, Unsettled, Advances, IsUnkept, Unwritten}
+use Rattle.cg_host.specs.Kept.{Settles, Unsettled, Advances, IsUnkept, Unwritten}
 use Rattle.cg_serve.specs.declared.node.Birth.{Birth}
 use Rattle.cg_serve.specs.declared.node.LifeLeft.{LifeLeft}
 use Rattle.cg_serve.specs.declared.serving.Lived.{Lived}

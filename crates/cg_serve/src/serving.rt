@@ -7,9 +7,8 @@ ghost use Rattle.cg_serve.specs.Lives.{Lives, fault_lines, text_after, status_af
 
 use crate::node::{Birth, LifeLeft, run};
 use cg_history::History;
-use cg_host::Disk;
+use cg_host::{Disk, next_life, settings_telling, try_journal, write_journal_to};
 use cg_links::Counted;
-use cg_node_files::{next_life, settings_telling, try_journal, write_journal_to};
 use cg_printed::written;
 use cg_settings_file::{ServeSettings, Unset};
 use cg_types::Fault;

@@ -2,7 +2,7 @@ use Rattle.std.proofs.Common.{inr, ap, sym, ◌∙◌}
 use Rattle.std.specs.Result.{result_ok}
 use Rattle.cg_settings_file.specs.Seen.{settings_view}
 use Rattle.cg_settings_file.specs.Settings.{settings_in_bytes}
-use Rattle.cg_node_files.proofs.settings.settings_telling.Goals as goal
+use Rattle.cg_host.proofs.settings.settings_telling.Goals as goal
 
 pub returns : goal.returns
 returns g c =

@@ -3,9 +3,10 @@
 ghost use Rattle.std.specs.Prelude.{◌≡◌, Ok, Err, IfErr, IfOk, MatchResult};
 ghost use Rattle.cg_types.specs.declared.fault.Fault.TheVariants as faults;
 ghost use Rattle.cg_host.specs.Disk.{Call, OpenedToLock, Locked};
-ghost use Rattle.cg_node_files.specs.Kept.{StoresNext, lock_path, Advances, IsUnkept};
+ghost use Rattle.cg_host.specs.Kept.{StoresNext, lock_path, Advances, IsUnkept};
 
-use cg_host::{Disk, store_generation, stored_generation};
+use crate::disk::Disk;
+use crate::generation::{store_generation, stored_generation};
 use cg_types::{Fault, Generation};
 use cg_version::next_generation;
 use cg_workers::seconds_since_1970;

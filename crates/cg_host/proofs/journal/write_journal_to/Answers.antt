@@ -1,6 +1,6 @@
 use Rattle.std.proofs.Common.{rules, ◌≡◌, inl}
 use Rattle.std.proofs.lemmas.Result.{IfErr-weaker, IfOk-weaker}
-use Rattle.cg_node_files.proofs.journal.write_journal_to.Goals as goal
+use Rattle.cg_host.proofs.journal.write_journal_to.Goals as goal
 
 pub returns-clause-written : goal.returns-clause-written
 returns-clause-written g c =

@@ -3,10 +3,11 @@
 ghost use Rattle.std.specs.Prelude.{◌≡◌, IfErr, OnOk};
 ghost use Rattle.cg_host.specs.Disk.{Replaces, Unreplaced};
 ghost use Rattle.cg_journal.specs.Text.{joined, journal_lines};
-ghost use Rattle.cg_node_files.specs.Kept.{IsTried, Unwritten};
+ghost use Rattle.cg_host.specs.Kept.{IsTried, Unwritten};
 
+use crate::disk::Disk;
+use crate::replacing::Replacement;
 use cg_history::History;
-use cg_host::{Disk, Replacement};
 use cg_journal::write_journal;
 use cg_types::Fault;
 use std::alloc::Global;

@@ -10,7 +10,7 @@ use Rattle.cg_host.specs.Storing.{Stored, Unstored}
 use Rattle.cg_settings_file.specs.Settings.{ServeValue, settings_in_bytes, settings_or_key_in_bytes}
 use Rattle.cg_settings_file.specs.Seen.{Refuses}
 use Rattle.cg_version.specs.Version.{generation_at_start}
-use Rattle.cg_node_files.specs.declared.settings.TheConstants.{SETTINGS_MOST}
+use Rattle.cg_host.specs.declared.settings.TheConstants.{SETTINGS_MOST}
 
 -- by the calls of a disk that were made, and the bytes that an open file has left or holds
 module _ {F : Type 0} (did : Call F → Type 0) (remaining contents : F → Option (List ℕ)) (path : List ℕ) where

@@ -3,9 +3,10 @@
 ghost use Rattle.std.specs.Prelude.{◌≡◌, ◌⊎◌, None, Some, MatchResult};
 ghost use Rattle.cg_types.specs.declared.fault.Fault.TheVariants.{OutOfMemory, BadText};
 ghost use Rattle.cg_settings_file.specs.Seen.{settings_view, told_key};
-ghost use Rattle.cg_node_files.specs.Kept.{AreApart, AreShared, Settles, Unsettled};
+ghost use Rattle.cg_host.specs.Kept.{AreApart, AreShared, Settles, Unsettled};
 
-use cg_host::{Disk, read_file};
+use crate::disk::Disk;
+use crate::reading::read_file;
 use cg_settings_file::{ServeSettings, Unset, settings_or_key};
 use cg_types::Fault;
 use std::alloc::Global;
