@@ -1,3 +1,5 @@
+pub mod Limits
+pub mod Passing
 pub mod Disk
 pub mod Generation
 pub mod Replacing

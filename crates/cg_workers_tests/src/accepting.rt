@@ -2,7 +2,7 @@
 
 use crate::ports::{at_port, free_endpoint};
 use cg_expect::{expect, expect_eq};
-use cg_sockets::{Dialer, Listener};
+use cg_host::{Dialer, Listener};
 use cg_types::{Endpoint, Fault};
 use cg_workers::{Dial, Listen};
 use std::alloc::Global;

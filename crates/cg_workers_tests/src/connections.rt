@@ -2,7 +2,7 @@
 
 use crate::ports::free_endpoint;
 use cg_expect::expect;
-use cg_sockets::{Dialer, Listener};
+use cg_host::{Dialer, Listener};
 use cg_types::{Endpoint, Fault};
 use cg_workers::{Dial, Listen};
 use std::alloc::Global;

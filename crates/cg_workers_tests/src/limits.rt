@@ -2,8 +2,8 @@
 //! time in which its first byte has to come.
 
 use cg_expect::expect_eq;
-use cg_sockets::laws::limits_have_their_values;
-use cg_sockets::{answer_limit, first_byte_limit, limit_for};
+use cg_host::laws::limits_have_their_values;
+use cg_host::{answer_limit, first_byte_limit, limit_for};
 use std::test::Fail;
 
 #[test]
