@@ -1,7 +1,7 @@
 //! Words of the command line that name a job, that don't, and that ask for help.
 
-use cg_command::{Subcommand, job_of};
 use cg_expect::expect;
+use cg_tool::{Subcommand, job_of};
 use std::alloc::{AllocError, Global};
 use std::test::Fail;
 

@@ -1,12 +1,11 @@
 -- Matches that clap finds for a command whose shape is known.
 use Rattle.std.proofs.Common.{◌≡◌, List, [], Option, true, refl, sym, ap, ◌∙◌, codes, option_map, unwrap_or}
-use Rattle.clap.specs.Words.{App, HasMatchesOf, Text, fault_of, is_simple, is_simple_and_free, subcommand_of, subcommand_rows_of, takes}
+use Rattle.clap.specs.Words.{App, HasMatchesOf, Text, fault_of, is_simple, is_simple_and_free, subcommand_of, subcommand_rows_of, takes, matched_of, raw_values, rows_of}
 use Rattle.clap.proofs.OnLiterals.{clap_on_literals}
-use Rattle.clap.specs.Words.{matched_of, raw_values, rows_of}
 use Rattle.clap.specs.declared.parser.matches.ArgMatches.{ArgMatches}
 use Rattle.clap.specs.declared.parser.matches.Found.{Found}
 use Rattle.clap.proofs.WalkLemmas.{raw_values-rows}
-use Rattle.cg_command.specs.Job.{program, subcommand_in, are_taken, faults_of, files_in}
+use Rattle.cg_tool.specs.Job.{program, subcommand_in, are_taken, faults_of, files_in}
 
 pub program_is_simple : is_simple program ≡ true
 unfolding program clap_on_literals

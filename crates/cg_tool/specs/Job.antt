@@ -1,11 +1,10 @@
 -- The job of a command line.
 use Rattle.std.specs.Prelude.{Bool, true, List, [], map, codes, Option, Some, None, unwrap_or, if◌then◌else◌, bytes_eq}
 use Rattle.std.specs.Borrow.{Bor}
-use Rattle.clap.specs.Words.{App, Kinds, Row, Rule, Text, all_of, fault_of, new_app, new_rule, subcommand_of, takes}
-use Rattle.clap.specs.Words.{with_rule, with_subcommand}
+use Rattle.clap.specs.Words.{App, Kinds, Row, Rule, Text, all_of, fault_of, new_app, new_rule, subcommand_of, takes, with_rule, with_subcommand}
 use Rattle.clap.specs.declared.builder.action.ArgAction.TheVariants.{Append}
-use Rattle.cg_command.specs.declared.job.Subcommand.{Subcommand}
-use Rattle.cg_command.specs.declared.job.Subcommand.TheVariants.{Answer, Sim, Audit, Serve}
+use Rattle.cg_tool.specs.declared.job.Subcommand.{Subcommand}
+use Rattle.cg_tool.specs.declared.job.Subcommand.TheVariants.{Answer, Sim, Audit, Serve}
 
 -- a command with a version
 abbrev pub with_version : App → App

@@ -1,9 +1,9 @@
 use Rattle.std.proofs.Common.{List, Option, Some, None, sym, ap, ◌∙◌}
 use Rattle.std.proofs.lemmas.Result.{IfOk-weaker}
 use Rattle.clap.specs.Words.{Text, found_of}
-use Rattle.cg_command.specs.Job.{texts}
-use Rattle.cg_command.proofs.Matched.{files_from}
-use Rattle.cg_command.proofs.job.files_of.Goals as goal
+use Rattle.cg_tool.specs.Job.{texts}
+use Rattle.cg_tool.proofs.Matched.{files_from}
+use Rattle.cg_tool.proofs.job.files_of.Goals as goal
 
 abbrev none : Option (List Text)
 none = None

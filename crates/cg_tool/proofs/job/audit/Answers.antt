@@ -1,7 +1,7 @@
 use Rattle.std.proofs.Common.{◌≡◌, ◌∙◌, ap₂, codes, rules}
 use Rattle.clap.specs.Words.{app_of, new_app, rule_of, with_rule}
-use Rattle.cg_command.specs.Job.{files_rule}
-use Rattle.cg_command.proofs.job.audit.Goals as goal
+use Rattle.cg_tool.specs.Job.{files_rule}
+use Rattle.cg_tool.proofs.job.audit.Goals as goal
 
 pub returns-clause-app : goal.returns-clause-app
 returns-clause-app c =

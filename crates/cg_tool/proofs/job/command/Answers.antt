@@ -1,7 +1,7 @@
 use Rattle.std.proofs.Common.{◌∙◌, ap, ap₂}
 use Rattle.clap.specs.Words.{App, with_subcommand}
-use Rattle.cg_command.specs.Job.{program}
-use Rattle.cg_command.proofs.job.command.Goals as goal
+use Rattle.cg_tool.specs.Job.{program}
+use Rattle.cg_tool.proofs.job.command.Goals as goal
 
 pub returns : goal.returns
 unfolding program

@@ -3,7 +3,7 @@
 ghost use Rattle.std.specs.Prelude.{◌≡◌, IfOk, IfErr, true, false, codes};
 ghost use Rattle.clap.specs.Words.{app_of, found_of, new_app, rows_of, subcommand_rows_of, kind_of, FailsBy};
 ghost use Rattle.clap.specs.declared.builder.command.Command.TheViews.{out-Command};
-ghost use Rattle.cg_command.specs.Job.{with_version, without_name, audit_command, serve_command, program, subcommand_named as named_subcommand, subcommand_met, files_met, files_in, texts, subcommand_in, are_taken, faults_of};
+ghost use Rattle.cg_tool.specs.Job.{with_version, without_name, audit_command, serve_command, program, subcommand_named as named_subcommand, subcommand_met, files_met, files_in, texts, subcommand_in, are_taken, faults_of};
 
 use crate::texts::{
     ABOUT, ANSWER_ABOUT, ANSWER_HELP, AUDIT_ABOUT, AUDIT_HELP, SERVE_ABOUT, SERVE_HELP, SIM_ABOUT,

@@ -1,8 +1,8 @@
 use Rattle.std.proofs.Common.{subst}
 use Rattle.std.proofs.lemmas.Result.{IfErr-weaker, IfOk-weaker}
 use Rattle.clap.specs.Words.{FailsBy, Kinds}
-use Rattle.cg_command.proofs.Matched.{met_by, taken_by, faults_by, free_by}
-use Rattle.cg_command.proofs.job.matches.Goals as goal
+use Rattle.cg_tool.proofs.Matched.{met_by, taken_by, faults_by, free_by}
+use Rattle.cg_tool.proofs.job.matches.Goals as goal
 
 pub returns : goal.returns
 returns c =
