@@ -3,12 +3,14 @@
 //! The words of the command line choose a job, which a crate of its own does. Serving is left to the program.
 #![tactic(auto)]
 
+mod answering;
 mod job;
+mod request;
 mod running;
 mod showing;
 mod texts;
 
-pub use cg_answering::answer;
+pub use answering::answer;
 pub use cg_auditing::{Source, audit_files};
 pub use cg_journal::{Unread, read_journal, read_journal_telling, write_journal};
 pub use cg_operator::operate;

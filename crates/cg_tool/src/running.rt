@@ -1,8 +1,8 @@
 //! A run of the program: its words, its streams and its status.
 
+use crate::answering::answer;
 use crate::job::{Job, Subcommand, job_of};
 use crate::{Error, ErrorKind};
-use cg_answering::answer;
 use cg_auditing::{Source, Unread, audit_files};
 use cg_history::History;
 use cg_journal::read_journal_telling;

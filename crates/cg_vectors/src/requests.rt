@@ -1,8 +1,8 @@
 //! Vectors of requests to `answer`, each on one line, and of their answers.
 
 use crate::files::add_status;
-use cg_answering::answer;
 use cg_links::Counted;
+use cg_tool::answer;
 use cg_types::Fault;
 use percent_encoding::percent_decode;
 use std::alloc::Global;

@@ -2,7 +2,7 @@
 
 ghost use Rattle.std.specs.Prelude.{◌≡◌, option_map};
 ghost use Rattle.cg_script.specs.Gives.{Finds};
-ghost use Rattle.cg_answering.specs.Request.{header_in, last_line as text_last_line, request_in};
+ghost use Rattle.cg_tool.specs.Request.{header_in, last_line as text_last_line, request_in};
 
 use cg_script::{bytes_in, cluster_named};
 use cg_types::{Cluster, Endpoint, Fault, Generation, cut};

@@ -6,7 +6,7 @@ use Rattle.cg_types.specs.Fault.{fault_text}
 use Rattle.cg_links.specs.declared.counted.Counted.{Counted}
 use Rattle.cg_links.specs.declared.transfer.TheConstants.{MOST_READS}
 use Rattle.cg_links.specs.Counted.{KeepsCounts, CountsCalls, CountsFailed}
-use Rattle.cg_answering.specs.Answer.{answer_to, text_of, status_of}
+use Rattle.cg_tool.specs.Answer.{answer_to, text_of, status_of}
 
 -- the reader was read to its end, and the text answers all that was read
 pub record AnswersInput {L : Type 0} (before after : Option (List ℕ)) (old new : Counted L)

@@ -17,8 +17,8 @@ use Rattle.cg_frames.specs.declared.layout.TheConstants.{WRITTEN, LAYOUTS}
 use Rattle.cg_frames.specs.Choosing.{frame_among}
 use Rattle.cg_frames.specs.Spelling.{frame}
 use Rattle.cg_engine.specs.Due.{syn_due}
-use Rattle.cg_answering.specs.declared.request.Header.{Header}
-use Rattle.cg_answering.specs.Request.{request_in}
+use Rattle.cg_tool.specs.declared.request.Header.{Header}
+use Rattle.cg_tool.specs.Request.{request_in}
 
 -- the message at the start of the bytes, if nothing follows it
 abbrev pub alone_in : List ℕ → Result (Option (Message × ℕ)) Fault → Result SynValue Fault

@@ -5,9 +5,9 @@ ghost use Rattle.cg_types.specs.declared.fault.Fault.TheVariants as fault;
 ghost use Rattle.cg_script.specs.Gives.{Gives};
 ghost use Rattle.cg_links.specs.declared.transfer.TheConstants.{MOST_READS};
 ghost use Rattle.cg_links.specs.Counted.{link_of, calls_of, failed_of, idle_of, CountsFewer};
-ghost use Rattle.cg_answering.specs.Answer.{syn_in as text_syn_in, answer_to_frame, answer_to, text_of, status_of};
+ghost use Rattle.cg_tool.specs.Answer.{syn_in as text_syn_in, answer_to_frame, answer_to, text_of, status_of};
 ghost use Rattle.cg_printed.specs.Written.{WroteOut};
-ghost use Rattle.cg_answering.specs.Answered.{IsDue, AnswersAll, SaysOutOfMemory};
+ghost use Rattle.cg_tool.specs.Answered.{IsDue, AnswersAll, SaysOutOfMemory};
 
 use crate::request::{Header, request};
 use bytes::Bytes;
