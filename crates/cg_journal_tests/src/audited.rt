@@ -1,8 +1,8 @@
 //! `audit_files` over texts, with the status: one run, a stuck one, lives that do not rise, an unreadable line.
 
-use cg_auditing::audit_files;
 use cg_expect::expect_eq;
 use cg_links::Counted;
+use cg_tool::audit_files;
 use std::alloc::Global;
 use std::test::Fail;
 

@@ -1,9 +1,10 @@
 //! A run of the program: its words, its streams and its status.
 
 use crate::answering::answer;
+use crate::auditing::audit_files;
 use crate::job::{Job, Subcommand, job_of};
-use crate::{Error, ErrorKind};
-use cg_auditing::{Source, Unread, audit_files};
+use crate::source::Source;
+use crate::{Error, ErrorKind, Unread};
 use cg_history::History;
 use cg_journal::read_journal_telling;
 use cg_links::Counted;

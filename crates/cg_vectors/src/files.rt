@@ -1,8 +1,8 @@
 //! Vectors of scripts and journals, which are in files of their own.
 
-use cg_auditing::audit_files;
 use cg_links::{Counted, read_all};
 use cg_sim::sim;
+use cg_tool::audit_files;
 use cg_types::Fault;
 use std::alloc::Global;
 use std::fs;

@@ -1,2 +1,0 @@
-pub mod GatheredLemmas
-pub mod SourceLemmas
