@@ -5,7 +5,7 @@ use cg_audit::Lives;
 use cg_core::Event;
 use cg_history::History;
 use cg_messages::Lent;
-use cg_samples::{endpoint, generation, settings};
+use cg_testing::{endpoint, generation, settings};
 use std::alloc::{AllocError, Global};
 use std::hint::black_box;
 

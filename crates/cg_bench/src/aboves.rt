@@ -4,7 +4,7 @@ use crate::cases::{Above, SMALL_SHAPE};
 use cg_entry::{Delta, Entry};
 use cg_measure::{Failure, Held, table};
 use cg_messages::{Ack2, Message, OwnerDelta};
-use cg_samples::endpoint;
+use cg_testing::endpoint;
 use std::alloc::{AllocError, Global};
 
 // The number of the owner whose entry is asked.

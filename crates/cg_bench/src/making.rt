@@ -7,8 +7,8 @@ use crate::work::GossipWork;
 use bytes::Bytes;
 use cg_frames::encode;
 use cg_measure::{Failure, Held, Name, Shape};
-use cg_samples::cluster;
 use cg_table::Table;
+use cg_testing::cluster;
 use std::alloc::Global;
 
 fn frame(alloc: Global, tables: &[Table], said: Said) -> Result<Bytes, Failure> {

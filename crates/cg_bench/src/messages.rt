@@ -3,8 +3,8 @@
 use cg_exchange::{answer_syn, syn};
 use cg_measure::{Failure, HELD, Held, Shape, bringing, empty_syn, table};
 use cg_messages::{Ack, Ack2, Message, OwnerDelta, Syn};
-use cg_samples::cluster;
 use cg_table::Table;
+use cg_testing::cluster;
 use std::alloc::{AllocError, Global};
 
 /// The table of which a SYN is made.

@@ -2,8 +2,8 @@
 
 use cg_entry::{Absorbed, Entry, meet};
 use cg_measure::{Failure, leaving};
-use cg_samples::endpoint;
 use cg_table::Table;
+use cg_testing::endpoint;
 use cg_tokens::Ring;
 use std::alloc::{AllocError, Global};
 use std::marker::Model;

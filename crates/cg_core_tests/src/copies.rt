@@ -5,7 +5,7 @@ use cg_core::{Event, Outcomes, Peers, Reply};
 use cg_entry::Took;
 use cg_expect::{expect, expect_eq};
 use cg_messages::Outcome;
-use cg_samples::{A, B, endpoint, version};
+use cg_testing::{A, B, endpoint, version};
 use std::alloc::{AllocError, Global};
 use std::test::Fail;
 

@@ -3,8 +3,8 @@
 use crate::samples::{ack_event, comes, node};
 use cg_core::Node;
 use cg_expect::expect_eq;
-use cg_samples::{A, B, C, endpoint};
 use cg_silence::Verdict;
+use cg_testing::{A, B, C, endpoint};
 use std::alloc::Global;
 use std::test::Fail;
 

@@ -3,7 +3,7 @@
 use crate::samples::{held, node, refusal, set_event};
 use cg_core::{Event, Node, Reply};
 use cg_expect::expect_eq;
-use cg_samples::{A, key};
+use cg_testing::{A, key};
 use cg_types::Fault;
 use std::alloc::Global;
 use std::test::Fail;

@@ -3,7 +3,7 @@
 use cg_core::{Event, Node};
 use cg_entry::Digest;
 use cg_messages::{Ack, Ack2, OwnerDelta, Request, Syn};
-use cg_samples::{A, B, bare_delta, endpoint, generation, key, settings, version};
+use cg_testing::{A, B, bare_delta, endpoint, generation, key, settings, version};
 use cg_types::{Cluster, Endpoint, Fault, StateText};
 use std::alloc::Global;
 use std::test::Fail;

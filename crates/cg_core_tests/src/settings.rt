@@ -2,8 +2,8 @@
 
 use cg_core::{SEED_LIMIT, Settings, SettingsFault};
 use cg_expect::{expect, expect_eq};
-use cg_samples::{A, B, cluster, endpoint};
 use cg_silence::Silence;
+use cg_testing::{A, B, cluster, endpoint};
 use cg_types::{Cluster, Endpoint};
 use std::alloc::Global;
 use std::test::Fail;

@@ -5,7 +5,7 @@ use cg_core::{Event, Node, Reply};
 use cg_entry::Entry;
 use cg_expect::{expect, expect_eq};
 use cg_messages::Message;
-use cg_samples::{A, bare_entry, delta, key, state};
+use cg_testing::{A, bare_entry, delta, key, state};
 use cg_types::Fault;
 use std::alloc::Global;
 use std::test::Fail;

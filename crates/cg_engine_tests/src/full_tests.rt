@@ -7,7 +7,7 @@ use cg_exchange::syn;
 use cg_expect::expect_eq;
 use cg_links::{Counted, CountingLink};
 use cg_messages::{Ack2, OwnerDelta, Syn};
-use cg_samples::{delta, endpoint, key, state};
+use cg_testing::{delta, endpoint, key, state};
 use cg_types::{StateText, TEXT_LIMIT};
 use std::alloc::Global;
 use std::test::Fail;

@@ -7,7 +7,7 @@ use cg_exchange::syn;
 use cg_expect::expect_eq;
 use cg_links::Counted;
 use cg_messages::{Ack2, OwnerDelta};
-use cg_samples::{A, B, delta, endpoint, key, state};
+use cg_testing::{A, B, delta, endpoint, key, state};
 use cg_types::{Cause, Fault, StateText};
 use std::alloc::Global;
 use std::test::Fail;

@@ -5,7 +5,7 @@ use cg_core::Node;
 use cg_engine::{NodeGate, syn_due};
 use cg_frames::decode;
 use cg_messages::Syn;
-use cg_samples::{A, B, endpoint, generation, settings};
+use cg_testing::{A, B, endpoint, generation, settings};
 use std::alloc::Global;
 use std::test::Fail;
 

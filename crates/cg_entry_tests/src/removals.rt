@@ -2,7 +2,7 @@
 
 use cg_entry::{Absorbed, Delta, Entry};
 use cg_expect::expect_eq;
-use cg_samples::{bare_delta, delta, entry_at_start, key, state};
+use cg_testing::{bare_delta, delta, entry_at_start, key, state};
 use cg_types::{Fault, StateKey, StateText, Version};
 use cg_version::Versions;
 use std::alloc::Global;

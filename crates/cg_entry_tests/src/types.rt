@@ -2,7 +2,7 @@
 //! memory.
 
 use cg_expect::{expect, expect_eq};
-use cg_samples::long_text;
+use cg_testing::long_text;
 use cg_types::laws::{keys_have_names_of_their_own, limits_have_their_values};
 use cg_types::{
     Cause, Cluster, Endpoint, Fault, Generation, Owned, StateKey, StateText, Version, cut,

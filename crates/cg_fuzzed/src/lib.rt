@@ -11,7 +11,7 @@ use cg_engine::{Broken, Ended, NodeGate, respond};
 use cg_exchange::syn;
 use cg_frames::{Feed, Message, decode, encode};
 use cg_links::Counted;
-use cg_samples::{B, endpoint, generation, settings};
+use cg_testing::{B, endpoint, generation, settings};
 use cg_types::Fault;
 use std::alloc::Global;
 

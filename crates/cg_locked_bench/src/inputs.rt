@@ -8,7 +8,7 @@ use cg_core::Event;
 use cg_entry::{Delta, State};
 use cg_history::History;
 use cg_messages::{Ack2, OwnerDelta};
-use cg_samples::{endpoint, generation, key, long_text, settings, version};
+use cg_testing::{endpoint, generation, key, long_text, settings, version};
 use cg_types::StateText;
 use std::alloc::Global;
 

@@ -2,7 +2,7 @@
 
 use crate::failure::Failure;
 use cg_entry::{Delta, State};
-use cg_samples::{generation, state, version};
+use cg_testing::{generation, state, version};
 use cg_tokens::{Token, token_of};
 use cg_types::{Fault, STATUS_KEY, TOKENS_KEY};
 use std::alloc::{AllocError, Global};

@@ -3,8 +3,8 @@
 use crate::failure::Failure;
 use cg_exchange::answer_syn;
 use cg_messages::{Ack, Syn};
-use cg_samples::cluster;
 use cg_table::Table;
+use cg_testing::cluster;
 use std::alloc::Global;
 
 /// Makes the SYN of a member that holds nothing.

@@ -3,8 +3,8 @@
 use crate::chance::Chance;
 use crate::failure::Failure;
 use cg_entry::{Delta, Entry, State};
-use cg_samples::{endpoint, generation, key, version};
 use cg_table::Table;
+use cg_testing::{endpoint, generation, key, version};
 use cg_types::{Fault, StateText};
 use std::alloc::Global;
 

@@ -4,7 +4,7 @@ use crate::nodes::{after, brings_one, set, started};
 use cg_core::{Event, Node};
 use cg_measure::{Failure, claiming, leaving, tokens_text};
 use cg_messages::{Ack, OwnerDelta};
-use cg_samples::endpoint;
+use cg_testing::endpoint;
 use cg_types::{STATUS_KEY, TOKENS_KEY};
 use std::alloc::Global;
 

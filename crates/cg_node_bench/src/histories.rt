@@ -4,7 +4,7 @@ use crate::nodes::{after, begun, heartbeat, others, started};
 use cg_core::{Event, Node, Reply};
 use cg_history::{History, Receipt};
 use cg_measure::{Failure, Shape};
-use cg_samples::version;
+use cg_testing::version;
 use cg_types::Fault;
 use std::alloc::{AllocError, Global};
 use std::hint::black_box;

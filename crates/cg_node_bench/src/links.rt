@@ -9,7 +9,7 @@ use cg_frames::encode;
 use cg_links::Counted;
 use cg_measure::{Failure, Shape};
 use cg_messages::{Ack, Ack2, Message, Syn};
-use cg_samples::cluster;
+use cg_testing::cluster;
 use std::alloc::{AllocError, Global};
 
 /// One side of an exchange: its node, and the bytes that it reads.

@@ -5,7 +5,7 @@ use cg_entry::Delta;
 use cg_history::History;
 use cg_measure::{Failure, Held, Shape, bringing, table};
 use cg_messages::{Ack, Ack2, OwnerDelta};
-use cg_samples::{endpoint, generation, key, settings, version};
+use cg_testing::{endpoint, generation, key, settings, version};
 use cg_types::{Fault, StateText};
 use std::alloc::{AllocError, Global};
 

@@ -1,7 +1,7 @@
 //! Three starts, done by `World::run`. From outside it is counted how often a refused request for memory loses the world.
 
 use cg_measure::Failure;
-use cg_samples::{endpoint, generation, settings};
+use cg_testing::{endpoint, generation, settings};
 use cg_types::Fault;
 use cg_world::{Action, Shown, World};
 use std::alloc::Global;

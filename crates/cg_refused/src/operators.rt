@@ -8,7 +8,7 @@ use crate::trials::Outcome;
 use cg_links::Counted;
 use cg_locked::{Name, SeatGate, Shared};
 use cg_operator::operate;
-use cg_samples::key;
+use cg_testing::key;
 use cg_types::Fault;
 use cg_views::Pass;
 use std::alloc::Global;

@@ -4,7 +4,7 @@ use crate::answers::Answer;
 use crate::samples::{action, world};
 use crate::texts::add_world;
 use crate::trials::{Outcome, Seen, Trial, compared, compared_or_kept, tried};
-use cg_samples::settings;
+use cg_testing::settings;
 use cg_types::Fault;
 use cg_world::{Action, World, is_out_of_memory};
 use std::alloc::Global;

@@ -6,7 +6,7 @@ ghost use Rattle.cg_locked.specs.Seats.{GoesOn, IsOperatorFault};
 use cg_core::{Event, Reply};
 use cg_engine::Gate;
 use cg_locked::{Name, SeatGate};
-use cg_samples::key;
+use cg_testing::key;
 use cg_types::{Fault, StateText, Version};
 use cg_views::Pass;
 use std::alloc::Global;

@@ -3,7 +3,7 @@
 ghost use Rattle.std.specs.Prelude.{◌≡◌, [], IfOk};
 
 use cg_history::History;
-use cg_samples::{A, endpoint, generation, settings};
+use cg_testing::{A, endpoint, generation, settings};
 use std::alloc::Global;
 use std::test::Fail;
 

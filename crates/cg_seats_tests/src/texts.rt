@@ -2,7 +2,7 @@
 
 use cg_expect::expect_eq;
 use cg_operator::add_unpublished;
-use cg_samples::version;
+use cg_testing::version;
 use std::test::Fail;
 
 #[test]

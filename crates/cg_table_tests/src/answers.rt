@@ -3,7 +3,7 @@
 use crate::samples::{only, syn_of, table_alone};
 use cg_exchange::{Ack, Syn, answer_syn};
 use cg_expect::expect_eq;
-use cg_samples::{B, cluster, endpoint};
+use cg_testing::{B, cluster, endpoint};
 use cg_types::{Endpoint, Fault};
 use std::alloc::Global;
 use std::test::Fail;

@@ -2,8 +2,8 @@
 
 use cg_expect::expect_eq;
 use cg_map::{Row, SharedMap};
-use cg_samples::endpoint;
 use cg_table::push_some;
+use cg_testing::endpoint;
 use cg_types::owners_rise;
 use std::alloc::Global;
 use std::test::Fail;

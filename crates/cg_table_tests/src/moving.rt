@@ -2,8 +2,8 @@
 
 use crate::ring::{Claiming, table};
 use cg_expect::{expect, expect_eq};
-use cg_samples::endpoint;
 use cg_table::{Puts, Table};
+use cg_testing::endpoint;
 use cg_tokens::Ring;
 use cg_types::{Endpoint, endpoints_rise};
 use std::alloc::Global;

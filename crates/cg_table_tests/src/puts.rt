@@ -2,8 +2,8 @@
 
 use cg_entry::Entry;
 use cg_expect::expect_eq;
-use cg_samples::{bare_entry, endpoint};
 use cg_table::{Puts, puts_rise};
+use cg_testing::{bare_entry, endpoint};
 use cg_types::Endpoint;
 use std::alloc::Global;
 use std::test::Fail;

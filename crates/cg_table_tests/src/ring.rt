@@ -3,8 +3,8 @@
 use crate::tokens::token;
 use cg_entry::{Delta, Entry, State};
 use cg_expect::{expect, expect_eq};
-use cg_samples::{endpoint, entry_at_start, state};
 use cg_table::Table;
+use cg_testing::{endpoint, entry_at_start, state};
 use cg_tokens::{Ring, TOKEN_LIMIT, keeps_claims};
 use cg_types::Endpoint;
 use std::alloc::Global;
@@ -22,7 +22,7 @@ pub(crate) type Claiming = (u32, &'static str, &'static str);
 // The delta that an endpoint with these claims sends of itself.
 fn delta(alloc: Global, (at, status, tokens): Claiming) -> Result<Delta, Fail> {
     let states = vec![in alloc; state(alloc, 1, 1, status)?, state(alloc, 2, 1, tokens)?]?;
-    cg_samples::delta((at, 0, 1), states)
+    cg_testing::delta((at, 0, 1), states)
 }
 
 /// A table of these owners, and of endpoint 9, which claims nothing.
@@ -170,7 +170,7 @@ fn holding_any(
     tokens: Option<&'static str>,
 ) -> Result<Table, Fail> {
     let states = vec![in alloc; state_of(alloc, 1, status)?, state_of(alloc, 2, tokens)?]?;
-    let delta = cg_samples::delta((5, 0, 1), states)?;
+    let delta = cg_testing::delta((5, 0, 1), states)?;
     Ok(table(alloc, &[])?.put_delta(alloc, endpoint(1), &delta)?.0)
 }
 

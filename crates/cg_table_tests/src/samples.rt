@@ -2,8 +2,8 @@
 
 use cg_entry::Digest;
 use cg_messages::{Ack, Ack2, OwnerDelta, Request, Syn};
-use cg_samples::{bare_delta, endpoint, entry_at_start, generation, version};
 use cg_table::Table;
+use cg_testing::{bare_delta, endpoint, entry_at_start, generation, version};
 use cg_types::Cluster;
 use std::alloc::Global;
 use std::test::Fail;

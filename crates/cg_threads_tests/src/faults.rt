@@ -5,7 +5,7 @@ use crate::nodes::{Side, acks, kinds, ran};
 use crate::operators::{Fails, Quits};
 use cg_expect::expect;
 use cg_links::FailingLink;
-use cg_samples::{A, B, endpoint};
+use cg_testing::{A, B, endpoint};
 use cg_threads::{Dial, Listen, Operate, Ran};
 use cg_types::{Endpoint, Fault};
 use std::alloc::Global;

@@ -1,8 +1,8 @@
 //! Entries of A, 10.0.0.1:7000, at generation 9, and tables of it.
 
 use cg_entry::Entry;
-use cg_samples::{A, bare_entry, endpoint};
 use cg_table::{Puts, Table};
+use cg_testing::{A, bare_entry, endpoint};
 use std::alloc::Global;
 use std::test::Fail;
 

@@ -2,7 +2,7 @@
 
 use cg_core::Peers;
 use cg_messages::Syn;
-use cg_samples::{cluster, endpoint};
+use cg_testing::{cluster, endpoint};
 use cg_workers::Round;
 use std::alloc::Global;
 use std::test::Fail;

@@ -2,7 +2,7 @@
 
 use crate::samples::{SYN, SYN_AND_ACK2, Standing, owners, started};
 use cg_expect::expect_eq;
-use cg_samples::B;
+use cg_testing::B;
 use cg_types::Fault;
 use cg_workers::{Listen, receiver};
 use std::alloc::Global;

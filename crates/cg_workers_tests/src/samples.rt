@@ -4,7 +4,7 @@
 
 use cg_core::Node;
 use cg_engine::NodeGate;
-use cg_samples::{endpoint, generation, settings};
+use cg_testing::{endpoint, generation, settings};
 use cg_workers::Milliseconds;
 use std::alloc::Global;
 use std::test::Fail;

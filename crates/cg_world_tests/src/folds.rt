@@ -6,7 +6,7 @@
 use cg_core::{Event, Reply};
 use cg_expect::expect_eq;
 use cg_history::{History, Receipt};
-use cg_samples::{A, endpoint, generation, key, settings, version};
+use cg_testing::{A, endpoint, generation, key, settings, version};
 use cg_types::StateText;
 use std::alloc::Global;
 use std::test::Fail;

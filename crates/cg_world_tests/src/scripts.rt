@@ -1,7 +1,7 @@
 //! Sample lists of actions, and the entries that nodes hold after them.
 
 use cg_core::Node;
-use cg_samples::{A, B, C, endpoint, generation, key, settings};
+use cg_testing::{A, B, C, endpoint, generation, key, settings};
 use cg_types::{Fault, StateText};
 use cg_world::{Action, LocalEvent, Shown, World};
 use std::alloc::{AllocError, Global};

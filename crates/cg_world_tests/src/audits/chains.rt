@@ -8,7 +8,7 @@ use cg_core::{Event, Reply};
 use cg_expect::expect_eq;
 use cg_history::{History, Receipt};
 use cg_messages::{Message, Syn};
-use cg_samples::{endpoint, generation};
+use cg_testing::{endpoint, generation};
 use std::alloc::Global;
 use std::test::Fail;
 

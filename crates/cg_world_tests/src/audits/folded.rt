@@ -7,7 +7,7 @@ use cg_audit::Lives;
 use cg_core::Event;
 use cg_expect::expect_eq;
 use cg_history::History;
-use cg_samples::{A, B, endpoint};
+use cg_testing::{A, B, endpoint};
 use std::alloc::Global;
 use std::test::Fail;
 

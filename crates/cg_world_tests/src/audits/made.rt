@@ -2,7 +2,7 @@
 
 use cg_audit::{AuditFault, Lives, audit, endpoints_differ};
 use cg_history::History;
-use cg_samples::{endpoint, generation, settings};
+use cg_testing::{endpoint, generation, settings};
 use std::alloc::Global;
 use std::test::Fail;
 

@@ -5,7 +5,7 @@
 use cg_audit::SentMessages;
 use cg_expect::expect_eq;
 use cg_messages::{Ack2, Message, OwnerDelta};
-use cg_samples::{A, B, bare_delta, endpoint};
+use cg_testing::{A, B, bare_delta, endpoint};
 use std::alloc::{AllocError, Global};
 use std::test::Fail;
 

@@ -1,7 +1,7 @@
 //! Sample settings of a node.
 
 ghost use Rattle.std.specs.Prelude.{◌≡◌, IfOk};
-ghost use Rattle.cg_samples.specs.Settings.{sample_settings};
+ghost use Rattle.cg_testing.specs.Settings.{sample_settings};
 
 use crate::texts::cluster;
 use cg_core::Settings;

@@ -4,7 +4,7 @@ ghost use Rattle.std.specs.Prelude.{◌≡◌, Some, IfOk};
 ghost use Rattle.std.specs.FinMap as map;
 ghost use Rattle.cg_entry.specs.Entry.{starting_entry};
 ghost use Rattle.cg_entry.specs.State.{pairs};
-ghost use Rattle.cg_samples.specs.Nearest.{nearest_number, nearest_key};
+ghost use Rattle.cg_testing.specs.Nearest.{nearest_number, nearest_key};
 
 use crate::numbers::{generation, key, version};
 use cg_entry::{Delta, Entry, State};

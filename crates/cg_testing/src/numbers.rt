@@ -2,7 +2,7 @@
 
 ghost use Rattle.std.specs.Prelude.{◌≡◌, ◌+◌};
 ghost use Rattle.cg_types.specs.Numbers.{endpoint_of};
-ghost use Rattle.cg_samples.specs.Nearest.{nearest_number, nearest_key};
+ghost use Rattle.cg_testing.specs.Nearest.{nearest_number, nearest_key};
 
 use cg_types::{Endpoint, Generation, NUMBER_LIMIT, STATE_LIMIT, StateKey, Version};
 
