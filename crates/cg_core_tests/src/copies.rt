@@ -3,9 +3,8 @@
 use crate::samples::{ack_event, comes, node, set_event, syn_event};
 use cg_core::{Event, Outcomes, Peers, Reply};
 use cg_entry::Took;
-use cg_expect::{expect, expect_eq};
 use cg_messages::Outcome;
-use cg_testing::{A, B, endpoint, version};
+use cg_testing::{A, B, endpoint, expect, expect_eq, version};
 use std::alloc::{AllocError, Global};
 use std::test::Fail;
 

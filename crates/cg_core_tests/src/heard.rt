@@ -2,9 +2,8 @@
 
 use crate::samples::{ack_event, comes, node};
 use cg_core::Node;
-use cg_expect::expect_eq;
 use cg_silence::Verdict;
-use cg_testing::{A, B, C, endpoint};
+use cg_testing::{A, B, C, endpoint, expect_eq};
 use std::alloc::Global;
 use std::test::Fail;
 

@@ -2,9 +2,8 @@
 
 use crate::samples::{about, node, set_event};
 use cg_core::{Event, Node};
-use cg_expect::expect_eq;
 use cg_messages::{Ack2, OwnerDelta};
-use cg_testing::{A, B, C, delta, endpoint, state};
+use cg_testing::{A, B, C, delta, endpoint, expect_eq, state};
 use std::alloc::Global;
 use std::test::Fail;
 

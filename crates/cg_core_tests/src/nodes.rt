@@ -3,10 +3,9 @@
 use crate::samples::{about, ack2_event, comes, held, node, refusal, set_event, syn_event};
 use cg_core::{Event, Node, Reply};
 use cg_entry::Took;
-use cg_expect::expect_eq;
 use cg_messages::{Ack2, OwnerDelta};
 use cg_silence::Verdict;
-use cg_testing::{A, B, C, delta, endpoint, key, state};
+use cg_testing::{A, B, C, delta, endpoint, expect_eq, key, state};
 use cg_types::{Endpoint, Fault, MEMBER_LIMIT};
 use std::alloc::Global;
 use std::test::Fail;

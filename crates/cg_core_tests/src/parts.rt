@@ -2,10 +2,9 @@
 
 use cg_core::choose_peers;
 use cg_entry::Took;
-use cg_expect::{expect, expect_eq};
 use cg_messages::Outcome;
 use cg_silence::{Silence, Verdict, Windows, any_taken, was_taken};
-use cg_testing::{B, C, endpoint};
+use cg_testing::{B, C, endpoint, expect, expect_eq};
 use std::alloc::Global;
 use std::test::Fail;
 

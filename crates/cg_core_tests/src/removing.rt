@@ -2,8 +2,7 @@
 
 use crate::samples::{held, node, refusal, set_event};
 use cg_core::{Event, Node, Reply};
-use cg_expect::expect_eq;
-use cg_testing::{A, key};
+use cg_testing::{A, expect_eq, key};
 use cg_types::Fault;
 use std::alloc::Global;
 use std::test::Fail;

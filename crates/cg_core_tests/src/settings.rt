@@ -1,9 +1,8 @@
 //! Settings of a node: their faults, the words for these, and copies.
 
 use cg_core::{SEED_LIMIT, Settings, SettingsFault};
-use cg_expect::{expect, expect_eq};
 use cg_silence::Silence;
-use cg_testing::{A, B, cluster, endpoint};
+use cg_testing::{A, B, cluster, endpoint, expect, expect_eq};
 use cg_types::{Cluster, Endpoint};
 use std::alloc::Global;
 use std::test::Fail;

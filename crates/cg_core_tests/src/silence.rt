@@ -1,10 +1,10 @@
 //! Verdicts at worked times, settings of silence and their faults, and each call once with ample memory.
 
-use cg_expect::expect_eq;
 use cg_silence::{
     DEFAULT_INITIAL_GAP, DEFAULT_MAX_GAP, DEFAULT_THRESHOLD, DEFAULT_WINDOW, GAP_LIMIT, Silence,
     SilenceFault, THRESHOLD_LIMIT, Verdict, WINDOW_LIMIT, Window,
 };
+use cg_testing::expect_eq;
 use std::alloc::Global;
 use std::test::Fail;
 

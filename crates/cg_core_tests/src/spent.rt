@@ -3,9 +3,8 @@
 use crate::samples::{node, refusal, set_event};
 use cg_core::{Event, Node, Reply};
 use cg_entry::Entry;
-use cg_expect::{expect, expect_eq};
 use cg_messages::Message;
-use cg_testing::{A, bare_entry, delta, key, state};
+use cg_testing::{A, bare_entry, delta, expect, expect_eq, key, state};
 use cg_types::Fault;
 use std::alloc::Global;
 use std::test::Fail;

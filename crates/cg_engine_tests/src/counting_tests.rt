@@ -1,7 +1,7 @@
 //! Calls, failures, idle writes and unflushed bytes as `Counted` counts them, beside links that count their own calls.
 
-use cg_expect::{expect, expect_eq};
 use cg_links::{Counted, CountingLink, FailingLink, FullLink, write_bytes};
+use cg_testing::{expect, expect_eq};
 use cg_types::Fault;
 use std::alloc::Global;
 use std::io::{Read, Write};

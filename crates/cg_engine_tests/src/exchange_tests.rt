@@ -4,8 +4,8 @@ use crate::samples::{
     ACK_IN, ACK_OUT, ACK2_IN, ACK2_OUT, SYN_IN, SYN_OUT, a, b, front, joined, syn,
 };
 use cg_engine::{Broken, Ended, initiate, respond};
-use cg_expect::{expect, expect_eq};
 use cg_links::{Counted, CountingLink, FailingLink};
+use cg_testing::{expect, expect_eq};
 use cg_types::{Cause, Fault};
 use std::alloc::Global;
 use std::test::Fail;

@@ -1,8 +1,8 @@
 //! Streams in chunks: the bytes that a feed wants, its answers once it has found a fault, and the longest message.
 
 use crate::frame_tests::is_written_as;
-use cg_expect::{expect, expect_eq};
 use cg_frames::{Feed, Message};
+use cg_testing::{expect, expect_eq};
 use cg_types::{Cause, Fault};
 use std::alloc::{AllocError, Global};
 use std::test::Fail;

@@ -1,7 +1,7 @@
 //! Messages read from frames and written back, and frames of which bytes are missing.
 
-use cg_expect::expect_eq;
 use cg_frames::{Message, decode, encode, encode_lent, every_message_fits};
+use cg_testing::expect_eq;
 use cg_types::{Cause, Fault};
 use std::alloc::Global;
 use std::test::Fail;

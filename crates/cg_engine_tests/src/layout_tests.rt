@@ -3,10 +3,10 @@
 ghost use Rattle.cg_frames.specs.Choosing.{AreLayouts, AreRead};
 ghost use Rattle.cg_engine_tests.specs.declared.layout_tests.TheConstants.{FOUR};
 
-use cg_expect::{expect, expect_eq};
 use cg_frames::{
     LAYOUT_1, LAYOUT_2, LAYOUT_3, LAYOUTS, Layout, decode_among, decode_in, encode_in,
 };
+use cg_testing::{expect, expect_eq};
 use cg_types::{Cause, Fault, MEMBER_LIMIT, TEXT_LIMIT};
 use std::alloc::Global;
 use std::test::Fail;

@@ -2,7 +2,7 @@
 
 use crate::samples::{ACK_IN, ACK_OUT, ACK2_IN, ACK2_OUT, SYN_IN, SYN_OUT, a, b, joined, syn};
 use cg_engine::{Broken, Counted, Ended, FailingLink, FullLink, SlowLink, initiate, respond};
-use cg_expect::{expect, expect_eq};
+use cg_testing::{expect, expect_eq};
 use cg_types::Fault;
 use std::alloc::Global;
 use std::test::Fail;

@@ -1,7 +1,7 @@
 //! `read_all` and `write_bytes` over links of which each call fails in turn, and over links that move a byte a call.
 
-use cg_expect::expect_eq;
 use cg_links::{Counted, CountingLink, FailingLink, SlowLink, read_all, write_bytes};
+use cg_testing::expect_eq;
 use cg_types::Fault;
 use std::alloc::Global;
 use std::io::Write;

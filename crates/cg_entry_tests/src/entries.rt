@@ -2,8 +2,10 @@
 //! not.
 
 use cg_entry::{Absorbed, Delta, Entry, State, meet};
-use cg_expect::{expect, expect_eq};
-use cg_testing::{bare_delta, bare_entry, delta, entry_at_start, generation, key, state, version};
+use cg_testing::{
+    bare_delta, bare_entry, delta, entry_at_start, expect, expect_eq, generation, key, state,
+    version,
+};
 use cg_types::{Cause, Fault, StateKey, StateText};
 use cg_version::Versions;
 use std::alloc::Global;

@@ -1,8 +1,7 @@
 //! Removals: a tombstone takes a text's place, travels as a state, and gives way to a later set.
 
 use cg_entry::{Absorbed, Delta, Entry};
-use cg_expect::expect_eq;
-use cg_testing::{bare_delta, delta, entry_at_start, key, state};
+use cg_testing::{bare_delta, delta, entry_at_start, expect_eq, key, state};
 use cg_types::{Fault, StateKey, StateText, Version};
 use cg_version::Versions;
 use std::alloc::Global;

@@ -1,8 +1,7 @@
 //! Endpoints, numbers, texts, clusters and faults: their texts as a user reads them, and each call once with ample
 //! memory.
 
-use cg_expect::{expect, expect_eq};
-use cg_testing::long_text;
+use cg_testing::{expect, expect_eq, long_text};
 use cg_types::laws::{keys_have_names_of_their_own, limits_have_their_values};
 use cg_types::{
     Cause, Cluster, Endpoint, Fault, Generation, Owned, StateKey, StateText, Version, cut,

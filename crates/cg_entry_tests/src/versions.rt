@@ -1,6 +1,6 @@
 //! Versions and generations of starts: the worked examples, and each call once.
 
-use cg_expect::{expect, expect_eq};
+use cg_testing::{expect, expect_eq};
 use cg_types::{Fault, Generation, Version};
 use cg_version::{Versions, next_generation};
 use std::test::Fail;

@@ -1,6 +1,6 @@
 //! Words of the command line that name a job, that don't, and that ask for help.
 
-use cg_expect::expect;
+use cg_testing::expect;
 use cg_tool::{Subcommand, job_of};
 use std::alloc::{AllocError, Global};
 use std::test::Fail;

@@ -2,11 +2,10 @@
 
 use crate::settings_tests::FEW;
 use cg_core::Event;
-use cg_expect::{expect, expect_eq};
 use cg_history::History;
 use cg_host::{SETTINGS_MOST, next_life, settings_telling, try_journal, write_journal_to};
 use cg_life_samples::{generation_of, journal_of, remove_file, write_file};
-use cg_testing::{A, endpoint, generation, settings};
+use cg_testing::{A, endpoint, expect, expect_eq, generation, settings};
 use cg_types::Fault;
 use std::alloc::Global;
 use std::fs::File;

@@ -1,11 +1,11 @@
 //! Settings at both ends of their ranges, past them and of another type, and keys that are missing or unknown.
 
 use crate::samples::{NEEDED, fault_with, text_with};
-use cg_expect::{expect, expect_eq};
 use cg_settings_file::laws::{limits_have_their_values, seeds_rise_and_are_those_listed};
 use cg_settings_file::{
     DEFAULT_INTERVAL, DEFAULT_RANDOM, INTERVAL_LIMIT, TURN_LIMIT, settings_or_key,
 };
+use cg_testing::{expect, expect_eq};
 use cg_types::Fault;
 use std::alloc::{AllocError, Global};
 use std::test::Fail;

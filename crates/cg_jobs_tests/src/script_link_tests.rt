@@ -1,8 +1,8 @@
 //! Scripts over links that fail at one of their calls, and over links that move a byte a call.
 
-use cg_expect::{expect, expect_eq};
 use cg_links::{Counted, FailingLink, SlowLink};
 use cg_sim::sim;
+use cg_testing::{expect, expect_eq};
 use std::alloc::Global;
 use std::test::Fail;
 

@@ -1,8 +1,8 @@
 //! Scripts of ten megabytes, over links that don't fail.
 
-use cg_expect::expect;
 use cg_links::Counted;
 use cg_sim::sim;
+use cg_testing::expect;
 use std::alloc::{AllocError, Global};
 use std::test::Fail;
 

@@ -1,8 +1,8 @@
 //! Seeds that are sorted and made distinct.
 
 use crate::samples::text_with;
-use cg_expect::expect;
 use cg_settings_file::settings_of;
+use cg_testing::expect;
 use std::alloc::Global;
 use std::test::Fail;
 

@@ -1,7 +1,7 @@
 //! The settings of a small file and of a full one, and bytes that are no settings.
 
-use cg_expect::expect_eq;
 use cg_settings_file::{ServeSettings, Turns, settings_of, settings_of_bytes};
+use cg_testing::expect_eq;
 use cg_types::Fault;
 use std::alloc::Global;
 use std::test::Fail;

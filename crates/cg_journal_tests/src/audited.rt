@@ -1,7 +1,7 @@
 //! `audit_files` over texts, with the status: one run, a stuck one, lives that do not rise, an unreadable line.
 
-use cg_expect::expect_eq;
 use cg_links::Counted;
+use cg_testing::expect_eq;
 use cg_tool::audit_files;
 use std::alloc::Global;
 use std::test::Fail;

@@ -1,9 +1,9 @@
 //! Journals of histories of which records are folded: they are not written.
 
 use crate::audited::A;
-use cg_expect::expect_eq;
 use cg_journal::{read_journal, write_journal};
 use cg_links::Counted;
+use cg_testing::expect_eq;
 use cg_types::Fault;
 use std::alloc::Global;
 use std::test::Fail;

@@ -5,10 +5,10 @@
 
 use crate::audited::{A, A_2, A_3, B, B_2, B_3};
 use cg_core::Event;
-use cg_expect::expect_eq;
 use cg_history::History;
 use cg_journal::{every_event_fits, every_history_fits, read_journal, write_journal};
 use cg_links::Counted;
+use cg_testing::expect_eq;
 use std::alloc::Global;
 use std::test::Fail;
 

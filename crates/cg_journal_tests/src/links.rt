@@ -1,9 +1,9 @@
 //! Journals and audits over links that move a byte a call, of which each call fails in turn.
 
 use crate::audited::{A, B, ONE_RUN};
-use cg_expect::expect_eq;
 use cg_journal::{read_journal, read_journal_telling, write_journal};
 use cg_links::{Counted, FailingLink, SlowLink};
+use cg_testing::expect_eq;
 use cg_tool::audit_files;
 use std::alloc::Global;
 use std::test::Fail;

@@ -7,10 +7,11 @@
 
 use cg_core::{Event, Reply};
 use cg_exchange::syn;
-use cg_expect::expect_eq;
 use cg_history::{History, Item, Receipt, Stray, confirms};
 use cg_messages::{Ack2, OwnerDelta};
-use cg_testing::{A, B, bare_delta, cluster, endpoint, generation, key, settings, version};
+use cg_testing::{
+    A, B, bare_delta, cluster, endpoint, expect_eq, generation, key, settings, version,
+};
 use cg_types::{Cluster, Fault, StateText};
 use std::alloc::Global;
 use std::test::Fail;

@@ -1,8 +1,8 @@
 //! Lines of journals that can't be read, and the number and the fault that are reported of each.
 
-use cg_expect::expect_eq;
 use cg_journal::{Unread, read_journal, read_journal_telling};
 use cg_links::Counted;
+use cg_testing::expect_eq;
 use cg_tool::Journals;
 use cg_types::Fault;
 use std::alloc::Global;

@@ -4,11 +4,10 @@ ghost use Rattle.std.specs.Prelude.{◌≡◌, true, []};
 
 use crate::history::{counted, new_history};
 use cg_core::Event;
-use cg_expect::expect_eq;
 use cg_history::History;
 use cg_locked::{Board, Fresh, Name, Seat, Shared};
 use cg_table::Table;
-use cg_testing::key;
+use cg_testing::{expect_eq, key};
 use cg_types::StateText;
 use cg_views::{Opened, Pass, views};
 use std::alloc::Global;

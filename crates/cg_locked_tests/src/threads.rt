@@ -4,11 +4,10 @@ ghost use Rattle.std.specs.Prelude.{◌≡◌, []};
 
 use crate::history::new_history;
 use crate::reading::change_and_read;
-use cg_expect::expect_eq;
 use cg_history::{History, Receipt};
 use cg_locked::{Fresh, Name, Seat, Shared, Unconfirmed};
 use cg_table::Table;
-use cg_testing::key;
+use cg_testing::{expect_eq, key};
 use cg_types::StateText;
 use cg_views::{Opened, Pass, views};
 use std::alloc::Global;

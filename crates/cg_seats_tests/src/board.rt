@@ -4,12 +4,11 @@ ghost use Rattle.std.specs.Prelude.{◌≡◌, []};
 
 use crate::board_operators::{Enters, IsRefused, LearnsTwice, RemovesTwice};
 use crate::history::new_history;
-use cg_expect::expect_eq;
 use cg_history::{History, Receipt};
 use cg_locked::{Fresh, Name, Operate, Seat, SeatGate, Shared, operator};
 use cg_operator::Console;
 use cg_table::Table;
-use cg_testing::version;
+use cg_testing::{expect_eq, version};
 use cg_types::Fault;
 use cg_views::{Opened, Pass, views};
 use std::alloc::Global;

@@ -2,8 +2,8 @@
 
 use crate::board::{Left, left_after};
 use crate::board_operators::DoesLines;
-use cg_expect::{expect, expect_eq};
 use cg_links::{Counted, FailingLink, SlowLink};
+use cg_testing::{expect, expect_eq};
 use cg_types::Fault;
 use std::alloc::Global;
 use std::sync::Wait;

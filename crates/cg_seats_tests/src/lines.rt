@@ -2,8 +2,8 @@
 
 use crate::board::{Left, left_after};
 use crate::board_operators::DoesLines;
-use cg_expect::expect;
 use cg_links::Counted;
+use cg_testing::expect;
 use std::alloc::Global;
 use std::sync::Wait;
 use std::test::Fail;

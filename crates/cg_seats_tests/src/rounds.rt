@@ -5,10 +5,10 @@ ghost use Rattle.cg_workers.specs.Ends.{PutsWhere, TakesWhere};
 
 use crate::history::new_history;
 use cg_core::Event;
-use cg_expect::expect_eq;
 use cg_history::{History, Receipt};
 use cg_locked::{Fresh, Name, Seat, SeatGate, Shared};
 use cg_table::Table;
+use cg_testing::expect_eq;
 use cg_threads::SeatLeft;
 use cg_views::{Opened, views};
 use cg_workers::{Milliseconds, Putting, Stop, Taking, Ticked, generator, rounds, ticker};

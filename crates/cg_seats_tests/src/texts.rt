@@ -1,8 +1,7 @@
 //! The text of a change that readers do not see yet.
 
-use cg_expect::expect_eq;
 use cg_operator::add_unpublished;
-use cg_testing::version;
+use cg_testing::{expect_eq, version};
 use std::test::Fail;
 
 #[test]

@@ -3,10 +3,10 @@
 ghost use Rattle.std.specs.Prelude.{◌≡◌, false, []};
 
 use crate::history::new_history;
-use cg_expect::expect_eq;
 use cg_history::History;
 use cg_locked::{Fresh, Name};
 use cg_table::Table;
+use cg_testing::expect_eq;
 use cg_threads::{
     Begun, NotRun, Ran, SeatLeft, SenderLeft, TickerLeft, WORKERS, WorkersLeft, begin, finish,
 };

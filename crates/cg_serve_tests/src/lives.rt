@@ -1,11 +1,11 @@
 //! Lives of a node that serves alone, and lives that settings, files or a port in use prevent.
 
-use cg_expect::{expect, expect_eq};
 use cg_life_samples::{
     free_port, generation_of, journal_of, remove_file, write_file, write_settings,
 };
 use cg_links::Counted;
 use cg_serve::serve;
+use cg_testing::{expect, expect_eq};
 use cg_types::{Endpoint, Fault, Generation};
 use std::alloc::Global;
 use std::fs;

@@ -2,8 +2,7 @@
 
 use crate::samples::{only, syn_of, table_alone};
 use cg_exchange::{Ack, Syn, answer_syn};
-use cg_expect::expect_eq;
-use cg_testing::{B, cluster, endpoint};
+use cg_testing::{B, cluster, endpoint, expect_eq};
 use cg_types::{Endpoint, Fault};
 use std::alloc::Global;
 use std::test::Fail;

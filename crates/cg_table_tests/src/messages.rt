@@ -2,9 +2,8 @@
 
 use crate::samples::{ack_of, ack2_of, below, syn_of};
 use cg_exchange::{Message, Request};
-use cg_expect::expect_eq;
 use cg_messages::{Ack, Ack2, Kind, Syn};
-use cg_testing::{A, B, C, cluster, endpoint, generation};
+use cg_testing::{A, B, C, cluster, endpoint, expect_eq, generation};
 use cg_types::{MEMBER_LIMIT, NUMBER_LIMIT};
 use std::alloc::{AllocError, Global};
 use std::test::Fail;

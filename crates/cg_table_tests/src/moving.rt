@@ -1,9 +1,8 @@
 //! Rings that are moved, each against the ring of the table after the move.
 
 use crate::ring::{Claiming, table};
-use cg_expect::{expect, expect_eq};
 use cg_table::{Puts, Table};
-use cg_testing::endpoint;
+use cg_testing::{endpoint, expect, expect_eq};
 use cg_tokens::Ring;
 use cg_types::{Endpoint, endpoints_rise};
 use std::alloc::Global;

@@ -1,9 +1,8 @@
 //! Puts: lists of owners with whole entries, compared and copied.
 
 use cg_entry::Entry;
-use cg_expect::expect_eq;
 use cg_table::{Puts, puts_rise};
-use cg_testing::{bare_entry, endpoint};
+use cg_testing::{bare_entry, endpoint, expect_eq};
 use cg_types::Endpoint;
 use std::alloc::Global;
 use std::test::Fail;

@@ -2,9 +2,8 @@
 
 use crate::tokens::token;
 use cg_entry::{Delta, Entry, State};
-use cg_expect::{expect, expect_eq};
 use cg_table::Table;
-use cg_testing::{endpoint, entry_at_start, state};
+use cg_testing::{endpoint, entry_at_start, expect, expect_eq, state};
 use cg_tokens::{Ring, TOKEN_LIMIT, keeps_claims};
 use cg_types::Endpoint;
 use std::alloc::Global;

@@ -2,10 +2,9 @@
 
 use crate::samples::{ack_of, ack2_of, below, only, table_alone};
 use cg_exchange::{Ack, Ack2, Outcome, answer_syn, syn, take_ack, take_ack2};
-use cg_expect::{expect, expect_eq};
 use cg_messages::OwnerDelta;
 use cg_table::{Table, Took};
-use cg_testing::{A, B, bare_delta, cluster, endpoint};
+use cg_testing::{A, B, bare_delta, cluster, endpoint, expect, expect_eq};
 use cg_types::{Cluster, Fault};
 use std::alloc::Global;
 use std::test::Fail;

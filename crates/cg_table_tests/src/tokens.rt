@@ -1,6 +1,6 @@
 //! Tokens of RFC 1321's test suite, and texts of tokens.
 
-use cg_expect::{expect, expect_eq};
+use cg_testing::{expect, expect_eq};
 use cg_tokens::{TOKEN_LIMIT, Token, first_piece, read_tokens, token_of, tokens_in};
 use cg_types::Fault;
 use std::alloc::{AllocError, Global};

@@ -3,9 +3,8 @@
 use crate::links::Nobody;
 use crate::nodes::{Side, acks, kinds, ran};
 use crate::operators::{Fails, Quits};
-use cg_expect::expect;
 use cg_links::FailingLink;
-use cg_testing::{A, B, endpoint};
+use cg_testing::{A, B, endpoint, expect};
 use cg_threads::{Dial, Listen, Operate, Ran};
 use cg_types::{Endpoint, Fault};
 use std::alloc::Global;

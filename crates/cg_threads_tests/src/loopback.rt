@@ -5,8 +5,7 @@
 use crate::links::{Dialing, Listening, Nobody, bound};
 use crate::nodes::{Side, kinds, ran, rounds, were_one_run};
 use crate::operators::{ChangesAndReads, ReadsOnce};
-use cg_expect::expect_eq;
-use cg_testing::{A, endpoint};
+use cg_testing::{A, endpoint, expect_eq};
 use cg_threads::Ran;
 use std::alloc::Global;
 use std::net::{Net, TcpListener, TcpStream};

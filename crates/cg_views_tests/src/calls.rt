@@ -4,8 +4,8 @@ ghost use Rattle.std.specs.Prelude.{◌≡◌};
 
 use crate::appending::append;
 use crate::entries::{heartbeat, opening, put};
-use cg_expect::expect_eq;
 use cg_table::{Puts, Table};
+use cg_testing::expect_eq;
 use cg_types::Fault;
 use cg_views::{Naming, Opened, Pass, Publisher, Told, views};
 use std::alloc::Global;

@@ -2,9 +2,8 @@
 
 use crate::appending::{Work, answers, append};
 use cg_entry::Entry;
-use cg_expect::expect_eq;
 use cg_table::Puts;
-use cg_testing::{A, bare_entry, delta, endpoint, key, state};
+use cg_testing::{A, bare_entry, delta, endpoint, expect_eq, key, state};
 use cg_types::{Fault, StateText};
 use cg_version::Versions;
 use cg_views::{Naming, Pass, Publisher};

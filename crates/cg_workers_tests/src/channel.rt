@@ -1,7 +1,7 @@
 //! The channel of rounds in one thread: rounds taken in their order, one handed back, and room for 16.
 
 use crate::numbered::{round, shown};
-use cg_expect::expect_eq;
+use cg_testing::expect_eq;
 use cg_workers::laws::room_has_its_value;
 use cg_workers::{ROOM, rounds};
 use std::alloc::Global;

@@ -1,6 +1,6 @@
 //! Clocks: one that fails shows its last time, one that never ran 0; whole seconds; the system's own.
 
-use cg_expect::{expect, expect_eq};
+use cg_testing::{expect, expect_eq};
 use cg_workers::{HostClock, Milliseconds, seconds_since_1970};
 use std::rt::Clock;
 use std::sync::atomic::{AtomicU64, Ordering};

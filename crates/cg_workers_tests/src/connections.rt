@@ -1,8 +1,8 @@
 //! Connections over the loopback: an answer, an endpoint in use, nobody there, silent and slow peers.
 
 use crate::ports::free_endpoint;
-use cg_expect::expect;
 use cg_host::{Dialer, Listener};
+use cg_testing::expect;
 use cg_types::{Endpoint, Fault};
 use cg_workers::{Dial, Listen};
 use std::alloc::Global;

@@ -1,8 +1,8 @@
 //! Files read and replaced: whole, half written, too long, missing; and the generations that they keep.
 
-use cg_expect::{expect, expect_eq};
 use cg_host::{Replacement, read_file, replace, store_generation, stored_generation};
 use cg_links::write_bytes;
+use cg_testing::{expect, expect_eq};
 use cg_types::{Fault, Generation};
 use std::alloc::Global;
 use std::fs;

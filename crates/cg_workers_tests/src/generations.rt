@@ -1,7 +1,7 @@
 //! Texts that are a generation, and texts that are none.
 
-use cg_expect::expect_eq;
 use cg_host::{generation_in, generation_text};
+use cg_testing::expect_eq;
 use cg_types::Generation;
 use std::test::Fail;
 

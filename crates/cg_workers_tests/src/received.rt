@@ -1,8 +1,7 @@
 //! Connections that come in: exchanges answered or broken, and the end of the receiver's work.
 
 use crate::samples::{SYN, SYN_AND_ACK2, Standing, owners, started};
-use cg_expect::expect_eq;
-use cg_testing::B;
+use cg_testing::{B, expect_eq};
 use cg_types::Fault;
 use cg_workers::{Listen, receiver};
 use std::alloc::Global;

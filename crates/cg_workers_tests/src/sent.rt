@@ -3,10 +3,9 @@
 use crate::samples::{ACK, SYN, Standing, owners, started};
 use cg_core::Peers;
 use cg_engine::{NodeGate, syn_due};
-use cg_expect::{expect, expect_eq};
 use cg_frames::decode;
 use cg_messages::Syn;
-use cg_testing::{A, B, endpoint};
+use cg_testing::{A, B, endpoint, expect, expect_eq};
 use cg_types::{Endpoint, Fault};
 use cg_workers::{Dial, Round, rounds, sender};
 use std::alloc::Global;

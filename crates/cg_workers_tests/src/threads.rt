@@ -1,7 +1,7 @@
 //! Rounds that one thread puts in and another takes: all of them, and until the taker leaves.
 
 use crate::numbered::{round, shown};
-use cg_expect::{expect, expect_eq};
+use cg_testing::{expect, expect_eq};
 use cg_workers::{Putting, Taking, rounds};
 use std::alloc::Global;
 use std::sync::Wait;

@@ -2,7 +2,7 @@
 //!
 //! The expected words come from another program, which follows PCG's and rand's own description.
 
-use cg_expect::expect_eq;
+use cg_testing::expect_eq;
 use cg_workers::laws::words_are_the_generators;
 use cg_workers::{generator, next_words};
 use std::test::Fail;

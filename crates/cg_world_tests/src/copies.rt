@@ -3,8 +3,7 @@
 //! Each call is tried once, with ample memory.
 
 use crate::scripts::{deliver, local, set_status, start};
-use cg_expect::expect_eq;
-use cg_testing::{A, B, endpoint, key};
+use cg_testing::{A, B, endpoint, expect_eq, key};
 use cg_types::Fault;
 use cg_world::{Action, LocalEvent, is_out_of_memory};
 use std::alloc::Global;

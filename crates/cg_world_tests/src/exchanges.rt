@@ -6,8 +6,7 @@ ghost use Rattle.cg_world.specs.World.{starts};
 ghost use Rattle.cg_world.specs.Exchange.{NeverStarts};
 
 use crate::scripts::{deliver, held_by, local, start, world_of};
-use cg_expect::expect_eq;
-use cg_testing::{A, B, endpoint};
+use cg_testing::{A, B, endpoint, expect_eq};
 use cg_types::{Endpoint, Fault};
 use cg_world::{Action, LocalEvent, World, exchange_reaches_join};
 use std::alloc::Global;

@@ -4,9 +4,8 @@
 //! from then on.
 
 use cg_core::{Event, Reply};
-use cg_expect::expect_eq;
 use cg_history::{History, Receipt};
-use cg_testing::{A, endpoint, generation, key, settings, version};
+use cg_testing::{A, endpoint, expect_eq, generation, key, settings, version};
 use cg_types::StateText;
 use std::alloc::Global;
 use std::test::Fail;

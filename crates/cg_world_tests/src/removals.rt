@@ -5,9 +5,8 @@
 
 use crate::scripts::{act_all, deliver, local, remove, set, set_status, start, world_of};
 use cg_core::{Node, Reply};
-use cg_expect::expect_eq;
 use cg_messages::Message;
-use cg_testing::{A, B, endpoint, key, settings};
+use cg_testing::{A, B, endpoint, expect_eq, key, settings};
 use cg_types::Fault;
 use cg_world::{LocalEvent, Shown, World, equal_digests};
 use std::alloc::Global;

@@ -1,10 +1,9 @@
 //! The messages, nodes, merged tables and compared digests of a world, and runs that memory may end.
 
 use crate::scripts::{act_all, deliver, local, start, three_nodes};
-use cg_expect::{expect, expect_eq};
 use cg_messages::Message;
 use cg_table::Table;
-use cg_testing::{A, B, C, endpoint, settings};
+use cg_testing::{A, B, C, endpoint, expect, expect_eq, settings};
 use cg_types::{Endpoint, Fault};
 use cg_world::{Action, LocalEvent, Shown, World, equal_digests, merge_is_join};
 use std::alloc::Global;

@@ -5,10 +5,9 @@
 use crate::audits::made::{begun, said};
 use cg_audit::{LifeItem, Lives, audit, endpoints_differ};
 use cg_core::{Event, Reply};
-use cg_expect::expect_eq;
 use cg_history::{History, Receipt};
 use cg_messages::{Message, Syn};
-use cg_testing::{endpoint, generation};
+use cg_testing::{endpoint, expect_eq, generation};
 use std::alloc::Global;
 use std::test::Fail;
 

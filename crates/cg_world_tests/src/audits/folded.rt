@@ -5,9 +5,8 @@
 use crate::audits::made::{begun, said};
 use cg_audit::Lives;
 use cg_core::Event;
-use cg_expect::expect_eq;
 use cg_history::History;
-use cg_testing::{A, B, endpoint};
+use cg_testing::{A, B, endpoint, expect_eq};
 use std::alloc::Global;
 use std::test::Fail;
 

@@ -3,9 +3,8 @@
 //! They are ACK2s about A, 10.0.0.1:7000, or B, 10.0.0.2:7000, with one delta that has a heartbeat alone.
 
 use cg_audit::SentMessages;
-use cg_expect::expect_eq;
 use cg_messages::{Ack2, Message, OwnerDelta};
-use cg_testing::{A, B, bare_delta, endpoint};
+use cg_testing::{A, B, bare_delta, endpoint, expect_eq};
 use std::alloc::{AllocError, Global};
 use std::test::Fail;
 

@@ -4,8 +4,7 @@
 
 use crate::audits::made::{begun, said};
 use cg_audit::Lives;
-use cg_expect::expect_eq;
-use cg_testing::{A, B, endpoint};
+use cg_testing::{A, B, endpoint, expect_eq};
 use cg_types::Endpoint;
 use std::alloc::Global;
 use std::test::Fail;
