@@ -10,7 +10,7 @@ use Rattle.std.specs.FinMap.Entries.{find}
 use Rattle.std.proofs.lemmas.Option.{same_Some}
 use Rattle.cg_types.specs.Rising.{rise_past, Rises}
 use Rattle.cg_types.proofs.RisingLemmas.{same_tied}
-use Rattle.cg_map.specs.Map.{put_each}
+use Rattle.cg_types.specs.Map.{put_each}
 use Rattle.cg_entry.specs.declared.entry.Absorbed.{Absorbed}
 use Rattle.cg_entry.specs.declared.entry.Absorbed.TheVariants as absorbed
 use Rattle.cg_entry.specs.Values.{EntryValue, DeltaValue}

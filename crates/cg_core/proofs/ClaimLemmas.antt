@@ -12,7 +12,7 @@ use Rattle.std.proofs.lemmas.List.{get_or-map, length-map}
 use Rattle.cg_types.specs.Rising.{Rises}
 use Rattle.cg_types.proofs.RisingLemmas.{both, first_of, second_of}
 use Rattle.cg_types.specs.declared.limits.TheConstants.{STATUS_KEY, TOKENS_KEY}
-use Rattle.cg_map.specs.Map.{put_each}
+use Rattle.cg_types.specs.Map.{put_each}
 use Rattle.cg_entry.specs.declared.entry.Absorbed.{Absorbed}
 use Rattle.cg_entry.specs.declared.entry.Absorbed.TheVariants as absorbed
 use Rattle.cg_entry.specs.declared.took.Took.TheVariants as took

@@ -9,7 +9,7 @@ use Rattle.std.specs.FinMap.Entries.{find}
 use Rattle.std.proofs.lemmas.Bool.{ltb-true}
 use Rattle.cg_types.specs.Rising.{is_past, rise_past}
 use Rattle.cg_types.proofs.RisingLemmas.{keys_of, both, first_of, second_of, past_trans, other_key, rise_sorted}
-use Rattle.cg_map.proofs.PastLemmas.{AgreePast, still_agree, agree_later}
+use Rattle.cg_types.proofs.PastLemmas.{AgreePast, still_agree, agree_later}
 use Rattle.cg_entry.specs.Values.{EntryValue}
 use Rattle.cg_table.specs.Values.{TableValue}
 use Rattle.cg_table.specs.Merge.{is_ahead, later_of, merge_of}

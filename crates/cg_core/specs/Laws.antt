@@ -3,7 +3,7 @@ use Rattle.std.specs.Prelude.{◌≡◌, ◌≤◌, ℕ, Bool, true, false, List
 use Rattle.std.specs.FinMap as map
 use Rattle.cg_types.specs.Rising.{Rises}
 use Rattle.cg_types.specs.declared.limits.TheConstants.{MEMBER_LIMIT}
-use Rattle.cg_map.specs.Rows.{keys_of}
+use Rattle.cg_types.specs.Rows.{keys_of}
 use Rattle.cg_entry.specs.Entry.{newest, entry_after_beat, with_state}
 use Rattle.cg_table.specs.Values.{TableValue}
 use Rattle.cg_table.specs.Own.{own_entry, with_own}

@@ -13,8 +13,8 @@ use Rattle.std.specs.FinMap.Entries.{find}
 use Rattle.cg_entry.specs.State.{pair, pairs, value_at_key, KeysRise}
 use Rattle.cg_entry.proofs.StateLemmas.{pairs_rise, entries-pairs}
 use Rattle.std.proofs.lemmas.Option.{slice_get-get_or}
-use Rattle.cg_map.specs.Rows.{IsRowAt, IsGapAt}
-use Rattle.cg_map.proofs.RowLemmas.{searched, find_row}
+use Rattle.cg_types.specs.Rows.{IsRowAt, IsGapAt}
+use Rattle.cg_types.proofs.RowLemmas.{searched, find_row}
 use Rattle.cg_entry.specs.Versioned.{Versioned, States}
 use Rattle.cg_entry.proofs.DeltaLemmas.{len-pairs}
 use Rattle.cg_entry.specs.Block.{no_state, state_at, picked, lowered, bumped}

@@ -14,9 +14,9 @@ use Rattle.std.proofs.lemmas.List.Quantifiers.{all_pairs_push, all_pairs_remove}
 use Rattle.std.proofs.lemmas.List.Sums.{sum_by-set, sum_by-insert, sum_by-remove}
 use Rattle.cg_types.specs.declared.limits.TheConstants.{STATE_LIMIT}
 use Rattle.cg_types.specs.Rising.{is_among}
-use Rattle.cg_map.specs.Rows.{IsRowAt, IsGapAt}
-use Rattle.cg_map.proofs.PutLemmas.{put_less, put_same, put_greater}
-use Rattle.cg_map.proofs.RowLemmas.{keys_lt}
+use Rattle.cg_types.specs.Rows.{IsRowAt, IsGapAt}
+use Rattle.cg_types.proofs.PutLemmas.{put_less, put_same, put_greater}
+use Rattle.cg_types.proofs.RowLemmas.{keys_lt}
 use Rattle.cg_entry.specs.declared.state.State.{State}
 use Rattle.cg_entry.specs.Contents.{IsState}
 use Rattle.cg_entry.specs.Entry.{text_size}

@@ -8,7 +8,7 @@ use Rattle.std.proofs.lemmas.List.{get_or-map}
 use Rattle.std.proofs.lemmas.List.FromFn.{fill_by_all}
 use Rattle.std.proofs.lemmas.List.Sorted.{IsNonDecreasingBy-from_all_adjacent}
 use Rattle.cg_types.specs.Rising.{is_among}
-use Rattle.cg_map.proofs.RowLemmas.{keys_lt}
+use Rattle.cg_types.proofs.RowLemmas.{keys_lt}
 use Rattle.cg_entry.specs.declared.state.State.{State}
 use Rattle.cg_entry.specs.Contents.{IsState}
 use Rattle.cg_entry.specs.State.{pair, pairs, listed_bytes, KeysRise, IsStateList}

@@ -12,7 +12,7 @@ use Rattle.std.proofs.lemmas.List.{drop_all}
 use Rattle.std.proofs.lemmas.List.Folds.{list_any_at}
 use Rattle.cg_types.specs.Rising.{is_among}
 use Rattle.cg_types.proofs.RisingLemmas.{same_tied, get_rising}
-use Rattle.cg_map.proofs.RowLemmas.{find_row}
+use Rattle.cg_types.proofs.RowLemmas.{find_row}
 use Rattle.cg_entry.specs.declared.state.State.{State}
 use Rattle.cg_entry.specs.Entry.{overlay}
 use Rattle.cg_entry.specs.State.{pair, pairs, value_at_key, KeysRise}

@@ -9,7 +9,7 @@ use Rattle.std.proofs.lemmas.Bool.{le-leb, ltb-true, ltb-false, le-ltb, or_cases
 use Rattle.std.proofs.lemmas.Bool.Decides.{nat_tests}
 use Rattle.std.proofs.lemmas.List.{take_more, get_or-drop}
 use Rattle.std.proofs.lemmas.List.{map-append}
-use Rattle.cg_map.proofs.RowLemmas.{keys_lt}
+use Rattle.cg_types.proofs.RowLemmas.{keys_lt}
 use Rattle.cg_types.specs.Rising.{is_among, is_past, rise_past}
 use Rattle.cg_types.proofs.RisingLemmas.{rise_earlier, first_of, second_of, both, from_sorted-none}
 use Rattle.cg_entry.specs.declared.state.State.{State}

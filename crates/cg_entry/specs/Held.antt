@@ -1,4 +1,4 @@
--- The states of an entry, by the way they are kept.
+-- The states of a delta, by the way they are kept.
 use Rattle.std.specs.Arc.{arc_value}
 use Rattle.cg_entry.specs.declared.held.Kept.{Kept}
 use Rattle.cg_entry.specs.declared.held.Kept.TheVariants.{Own, Shared}

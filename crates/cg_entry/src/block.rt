@@ -15,7 +15,7 @@ ghost use Rattle.cg_entry.specs.Versioned.{States};
 ghost use Rattle.cg_entry.specs.Block.{bytes_at, picked, put_all, state_at};
 ghost use Rattle.cg_entry.specs.Newer.{newer_states};
 ghost use Rattle.cg_entry.specs.declared.block.Newer.TheVariants.{Nothing};
-ghost use Rattle.cg_map.specs.Rows.{IsGapAt, IsRowAt};
+ghost use Rattle.cg_types.specs.Rows.{IsGapAt, IsRowAt};
 
 use crate::by_key::ByKey;
 use crate::places::Places;

@@ -10,7 +10,7 @@ use Rattle.cg_types.specs.declared.limits.TheConstants.{MEMBER_LIMIT}
 use Rattle.cg_entry.specs.Values.{EntryValue, DeltaValue}
 use Rattle.cg_entry.specs.Entry.{newest}
 use Rattle.cg_entry.specs.declared.digest.Digest.{Digest}
-use Rattle.cg_map.specs.Rows.{keys_of}
+use Rattle.cg_types.specs.Rows.{keys_of}
 use Rattle.cg_table.specs.Values.{Entries}
 use Rattle.cg_messages.specs.declared.owner_delta.OwnerDelta.{OwnerDelta}
 use Rattle.cg_messages.specs.Values.{RequestValue}

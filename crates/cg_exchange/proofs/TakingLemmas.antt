@@ -6,9 +6,9 @@ use Rattle.std.specs.FinMap.{get, insert, len, contains_key}
 use Rattle.cg_types.specs.declared.limits.TheConstants.{MEMBER_LIMIT}
 use Rattle.cg_types.specs.Rising.{is_past, rise_past, Rises}
 use Rattle.cg_types.proofs.RisingLemmas.{first_of, second_of, rise_mapped}
-use Rattle.cg_map.specs.Rows.{keys_of}
-use Rattle.cg_map.specs.Map.{put_each}
-use Rattle.cg_map.proofs.PastLemmas.{AgreePast, still_agree, agree_later}
+use Rattle.cg_types.specs.Rows.{keys_of}
+use Rattle.cg_types.specs.Map.{put_each}
+use Rattle.cg_types.proofs.PastLemmas.{AgreePast, still_agree, agree_later}
 use Rattle.cg_entry.specs.declared.entry.Absorbed.{Absorbed}
 use Rattle.cg_entry.specs.declared.entry.Absorbed.TheVariants as absorbed
 use Rattle.cg_entry.specs.Values.{EntryValue, DeltaValue}

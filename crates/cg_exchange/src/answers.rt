@@ -9,10 +9,9 @@ ghost use Rattle.cg_exchange.specs.Walking.{of_member, row_request, row_delta};
 
 use crate::walking::next;
 use cg_entry::{Delta, Digest, Entry};
-use cg_map::Row;
 use cg_messages::{Ack, OwnerDelta, Request, Syn};
 use cg_table::{Table, push_some, push_some_with_room};
-use cg_types::{Cluster, Fault};
+use cg_types::{Cluster, Fault, Row};
 use std::alloc::{AllocError, Global};
 
 // The request to the sender of a digest, by the entry held of its endpoint.

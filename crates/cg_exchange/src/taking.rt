@@ -10,10 +10,9 @@ ghost use Rattle.cg_exchange.specs.Changes.{changed_by as changed_by_of, row_cha
 
 use crate::walking::{first_about, rising_from};
 use cg_entry::{Delta, Entry, Took};
-use cg_map::Row;
 use cg_messages::{Ack, Ack2, Outcome, OwnerDelta, Request};
 use cg_table::{Table, push_some};
-use cg_types::{Fault, MEMBER_LIMIT};
+use cg_types::{Fault, MEMBER_LIMIT, Row};
 use std::alloc::{AllocError, Global};
 
 // Counts the endpoints that would be held after the deltas.

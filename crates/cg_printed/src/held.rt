@@ -7,10 +7,9 @@ ghost use Rattle.cg_printed.specs.Printed.{state_line, owner_line, generation_li
 
 use crate::numbers::add_numbers;
 use cg_entry::Entry;
-use cg_map::Row;
 use cg_table::Table;
 use cg_tokens::{Ring, Token};
-use cg_types::{Endpoint, Generation, StateKey, StateText, Version};
+use cg_types::{Endpoint, Generation, Row, StateKey, StateText, Version};
 use std::alloc::{AllocError, Global};
 use std::fmt::Write;
 

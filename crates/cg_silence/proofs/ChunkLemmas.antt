@@ -10,9 +10,9 @@ use Rattle.std.proofs.lemmas.Bool.{ltb-true, ltb-false, lt-ltb}
 use Rattle.std.proofs.lemmas.List.{drop_more, flat_map_more, append-nil, drop_all, take_rest, take-append-drop}
 use Rattle.cg_types.specs.Rising.{is_past, rise_past, Rises}
 use Rattle.cg_types.proofs.RisingLemmas.{both, first_of, second_of, rise_earlier, other_key, find-before}
-use Rattle.cg_map.specs.Rows.{keys_of, IsRowAt}
-use Rattle.cg_map.proofs.RowLemmas.{find_row}
-use Rattle.cg_map.proofs.PutLemmas.{UpTo}
+use Rattle.cg_types.specs.Rows.{keys_of, IsRowAt}
+use Rattle.cg_types.proofs.RowLemmas.{find_row}
+use Rattle.cg_types.proofs.PutLemmas.{UpTo}
 use Rattle.cg_messages.specs.Members.{endpoints_of_outcomes}
 use Rattle.cg_messages.specs.declared.outcome.Outcome.{Outcome}
 use Rattle.cg_silence.specs.Values.{WindowValue}

@@ -7,9 +7,9 @@ use Rattle.std.specs.Cmp.{nat_cmp_total}
 use Rattle.std.specs.FinMap.{FinMap, get, insert, empty, entries, entries_sorted, get-entries, get-insert, get-empty, same_map, nat_cmp-IsAntisymmetric}
 use Rattle.cg_types.specs.Rising.{is_past, rise_past, Rises}
 use Rattle.cg_types.proofs.RisingLemmas.{rise_sorted, rise_mapped, get_rising, first_of, second_of}
-use Rattle.cg_map.specs.Rows.{keys_of}
-use Rattle.cg_map.specs.Map.{put_each}
-use Rattle.cg_map.proofs.PastLemmas.{AgreePast, still_agree, agree_later}
+use Rattle.cg_types.specs.Rows.{keys_of}
+use Rattle.cg_types.specs.Map.{put_each}
+use Rattle.cg_types.proofs.PastLemmas.{AgreePast, still_agree, agree_later}
 use Rattle.cg_entry.proofs.KeyLemmas.{find-map}
 use Rattle.cg_messages.specs.declared.outcome.Outcome.{Outcome}
 use Rattle.cg_messages.specs.Members.{endpoints_of_outcomes}

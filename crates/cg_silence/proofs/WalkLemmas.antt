@@ -11,8 +11,8 @@ use Rattle.std.proofs.lemmas.List.{drop_more}
 use Rattle.std.proofs.Math.Seq.{set-append_seam}
 use Rattle.cg_types.specs.Rising.{is_past, rise_past, Rises}
 use Rattle.cg_types.proofs.RisingLemmas.{first_of, second_of, rise_earlier, past_trans, other_key, get_rising}
-use Rattle.cg_map.specs.Rows.{keys_of, before, after, walk}
-use Rattle.cg_map.proofs.PutLemmas.{UpTo}
+use Rattle.cg_types.specs.Rows.{keys_of, before, after, walk}
+use Rattle.cg_types.proofs.PutLemmas.{UpTo}
 use Rattle.cg_messages.specs.Members.{endpoints_of_outcomes}
 use Rattle.cg_messages.specs.declared.outcome.Outcome.{Outcome}
 use Rattle.cg_silence.specs.Values.{SilenceValue, WindowValue}

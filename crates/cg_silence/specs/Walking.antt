@@ -6,7 +6,7 @@ use Rattle.std.specs.List.{flat_map, AllByRecursion}
 use Rattle.std.specs.Ordering.{nat_cmp}
 use Rattle.std.specs.FinMap.Entries.{find}
 use Rattle.cg_types.specs.Rising.{rise_past}
-use Rattle.cg_map.specs.Rows.{before, after}
+use Rattle.cg_types.specs.Rows.{before, after}
 use Rattle.cg_messages.specs.Members.{endpoints_of_outcomes}
 use Rattle.cg_messages.specs.declared.outcome.Outcome.{Outcome}
 use Rattle.cg_silence.specs.Values.{SilenceValue, Shown, WindowValue, silence_code, shown_code}

@@ -6,8 +6,8 @@ ghost use Rattle.std.specs.Ordering.{nat_cmp};
 ghost use Rattle.std.specs.FinMap as map;
 ghost use Rattle.std.specs.FinMap.Entries.{find};
 ghost use Rattle.cg_types.specs.Rising.{Rises};
-ghost use Rattle.cg_map.specs.Rows.{keys_of};
-ghost use Rattle.cg_map.specs.Map.{put_each};
+ghost use Rattle.cg_types.specs.Rows.{keys_of};
+ghost use Rattle.cg_types.specs.Map.{put_each};
 ghost use Rattle.cg_messages.specs.Members.{endpoints_of_outcomes};
 ghost use Rattle.cg_silence.specs.Windows.{AllJudge, arrival, shown_in};
 ghost use Rattle.cg_silence.specs.Walking.{last_key, ends_before, flat, walk_heard, ArePart};
@@ -85,7 +85,7 @@ impl Model for Chunks {
     ghost use Rattle.std.specs.Ordering.{nat_cmp};
     ghost use Rattle.std.specs.FinMap as map;
     ghost use Rattle.cg_types.specs.Rising.{Rises};
-    ghost use Rattle.cg_map.specs.Rows.{keys_of};
+    ghost use Rattle.cg_types.specs.Rows.{keys_of};
     ghost use Rattle.cg_silence.specs.Values.{WindowValue};
     ghost use Rattle.cg_silence.specs.Walking.{flat, chunks_code};
 

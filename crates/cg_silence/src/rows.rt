@@ -5,7 +5,7 @@ ghost use Rattle.std.specs.List.{AllWithin, HoldsAt};
 ghost use Rattle.std.specs.Ordering.{nat_cmp};
 ghost use Rattle.std.specs.FinMap.Entries.{find};
 ghost use Rattle.cg_types.specs.Rising.{Rises};
-ghost use Rattle.cg_map.specs.Rows.{keys_of, before, after, IsRowAt, IsGapAt};
+ghost use Rattle.cg_types.specs.Rows.{keys_of, before, after, IsRowAt, IsGapAt};
 ghost use Rattle.cg_silence.specs.Walking.{last_key, heard_from, walk_heard};
 
 use crate::outcomes::was_taken;

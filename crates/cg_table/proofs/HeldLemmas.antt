@@ -5,7 +5,7 @@ use Rattle.std.specs.Ordering.{nat_cmp, eq_by_cmp}
 use Rattle.std.specs.Cmp.{nat_cmp_total}
 use Rattle.std.specs.FinMap.{empty, get, insert, get-insert, get-empty}
 use Rattle.cg_types.proofs.RisingLemmas.{same_tied}
-use Rattle.cg_map.specs.Map.{put_each}
+use Rattle.cg_types.specs.Map.{put_each}
 use Rattle.cg_entry.specs.Values.{EntryValue}
 use Rattle.cg_table.specs.Values.{Entries, IsOwnerEntry, IsOwnerRow, AreOwnerEntries}
 

@@ -12,8 +12,8 @@ use Rattle.std.proofs.lemmas.Bool.Decides.{nat_tests}
 use Rattle.std.proofs.lemmas.Map.Entries.{option_filter}
 use Rattle.cg_types.specs.Rising.{is_past, rise_past, Rises}
 use Rattle.cg_types.proofs.RisingLemmas.{first_of, second_of, both, rise_sorted, rise_mapped, entries_rising, get_rising, find_past}
-use Rattle.cg_map.specs.Rows.{keys_of}
-use Rattle.cg_map.specs.Map.{put_each}
+use Rattle.cg_types.specs.Rows.{keys_of}
+use Rattle.cg_types.specs.Map.{put_each}
 use Rattle.cg_entry.specs.Values.{EntryValue}
 use Rattle.cg_entry.specs.Entry.{is_later}
 use Rattle.cg_entry.proofs.KeyLemmas.{find-filter}

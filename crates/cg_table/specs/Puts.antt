@@ -5,8 +5,8 @@ use Rattle.std.specs.List.{list_all, filter_map}
 use Rattle.std.specs.Option.{option_map}
 use Rattle.std.specs.FinMap as map
 use Rattle.cg_types.specs.Rising.{rise_past}
-use Rattle.cg_map.specs.Rows.{keys_of}
-use Rattle.cg_map.specs.Map.{put_each}
+use Rattle.cg_types.specs.Rows.{keys_of}
+use Rattle.cg_types.specs.Map.{put_each}
 use Rattle.cg_entry.specs.Versioned.{Versioned, States}
 use Rattle.cg_entry.specs.Values.{EntryValue, entry_code}
 use Rattle.cg_table.specs.Values.{TableValue, Entries}

@@ -2,14 +2,13 @@
 
 ghost use Rattle.std.specs.Prelude.{◌≡◌, ◌↔◌, ◌∷◌, [], false, None, Ok, IsTrue, IfOk, option_copied};
 ghost use Rattle.cg_types.specs.Rising.{Rises, rise_past};
-ghost use Rattle.cg_map.specs.Rows.{keys_of};
+ghost use Rattle.cg_types.specs.Rows.{keys_of};
 ghost use Rattle.cg_table.specs.Puts.{rows_at, rising_puts};
 
 use crate::push::push_some;
 use crate::table::{Table, are_same_rows};
 use cg_entry::Entry;
-use cg_map::Row;
-use cg_types::Endpoint;
+use cg_types::{Endpoint, Row};
 use std::alloc::{AllocError, Global};
 use std::marker::Model;
 
@@ -23,7 +22,7 @@ pub struct Puts {
 impl Model for Puts {
     ghost use Rattle.std.specs.Prelude.{List};
     ghost use Rattle.cg_types.specs.Rising.{Rises};
-    ghost use Rattle.cg_map.specs.Rows.{keys_of};
+    ghost use Rattle.cg_types.specs.Rows.{keys_of};
     ghost use Rattle.cg_table.specs.Puts.{Put, puts_code};
 
     ghost Value = { List Put };

@@ -7,16 +7,15 @@ ghost use Rattle.cg_table.specs.Taking.{change_at as change_at_of, change_of, wi
 ghost use Rattle.std.specs.FinMap as table;
 ghost use Rattle.std.specs.List.{AllByRecursion};
 ghost use Rattle.cg_types.specs.Rising.{Rises};
-ghost use Rattle.cg_map.specs.Rows.{keys_of};
-ghost use Rattle.cg_map.specs.Map.{put_each};
+ghost use Rattle.cg_types.specs.Rows.{keys_of};
+ghost use Rattle.cg_types.specs.Map.{put_each};
 ghost use Rattle.cg_table.specs.Own.{own_entry as own_entry_of, with_own as with_own_of};
 ghost use Rattle.cg_table.specs.Puts.{row_at};
 ghost use Rattle.cg_table.specs.Table.{lone_table, digest_of, digests_of};
 ghost use Rattle.cg_table.specs.Values.{AreOwnerEntries, IsOwnerRow};
 
 use cg_entry::{Absorbed, Delta, Digest, Entry, Took, meet};
-use cg_map::{Row, SharedMap};
-use cg_types::{Endpoint, Fault, MEMBER_LIMIT};
+use cg_types::{Endpoint, Fault, MEMBER_LIMIT, Row, SharedMap};
 use std::alloc::{AllocError, Global};
 use std::marker::Model;
 

@@ -1,9 +1,8 @@
 //! Maps from endpoints to shared values, their rows, and lists that are made item by item.
 
-use cg_map::{Row, SharedMap};
 use cg_table::push_some;
 use cg_testing::{endpoint, expect_eq};
-use cg_types::owners_rise;
+use cg_types::{Row, SharedMap, owners_rise};
 use std::alloc::Global;
 use std::test::Fail;
 

@@ -1,10 +1,9 @@
 //! Tables: deltas put, tables merged, and the limit of owners.
 
 use cg_entry::{Delta, Entry};
-use cg_map::Row;
 use cg_table::{Digest, Table, Took, push_some};
 use cg_testing::{bare_delta, bare_entry, endpoint, entry_at_start, expect, expect_eq, generation};
-use cg_types::{Endpoint, Fault, Version, owners_rise};
+use cg_types::{Endpoint, Fault, Row, Version, owners_rise};
 use std::alloc::Global;
 use std::test::Fail;
 

@@ -17,7 +17,7 @@ use Rattle.std.proofs.lemmas.Bool.{eqb-true, eqb-false, false≢true, lt-ltb, lt
 use Rattle.std.proofs.lemmas.Bool.Decides.{nat_tests}
 use Rattle.cg_types.specs.Rising.{Rises, rise_past, is_past}
 use Rattle.cg_types.proofs.RisingLemmas.{both, get_rising, same_tied}
-use Rattle.cg_map.specs.Rows.{keys_of}
+use Rattle.cg_types.specs.Rows.{keys_of}
 use Rattle.cg_tokens.specs.declared.claims.Claim.{Claim}
 use Rattle.cg_tokens.specs.Claims.{beats, wins, position, rank, goes_before, is_last, first_claims}
 use Rattle.cg_tokens.specs.Moving.{AreTheSame}

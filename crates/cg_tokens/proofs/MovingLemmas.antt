@@ -12,7 +12,7 @@ use Rattle.std.proofs.lemmas.List.Sorted.{Contains-permutation, IsPermutation-sy
 use Rattle.std.proofs.lemmas.Bool.Decides.{nat_tests}
 use Rattle.cg_types.specs.Rising.{is_among, is_past, rise_past, Rises}
 use Rattle.cg_types.proofs.RisingLemmas.{both, first_of, second_of, find_past, rise_sorted, same_tied}
-use Rattle.cg_map.specs.Rows.{keys_of}
+use Rattle.cg_types.specs.Rows.{keys_of}
 use Rattle.cg_entry.specs.Values.{EntryValue}
 use Rattle.cg_table.specs.Values.{Entries}
 use Rattle.cg_tokens.specs.declared.claims.Claim.{Claim}

@@ -12,7 +12,7 @@ use Rattle.std.proofs.lemmas.List.Sorted.{searched}
 use Rattle.std.proofs.lemmas.List.{get_or_default}
 use Rattle.cg_types.specs.Rising.{is_among, is_past, rise_past, Rises}
 use Rattle.cg_types.proofs.RisingLemmas.{first_of, second_of, same_tied}
-use Rattle.cg_map.specs.Rows.{keys_of}
+use Rattle.cg_types.specs.Rows.{keys_of}
 use Rattle.cg_entry.specs.Values.{EntryValue}
 
 -- ---- a search by halving

@@ -10,8 +10,8 @@ use Rattle.std.proofs.lemmas.List.Sorted.{IsPartitionedBy-ltb}
 use Rattle.std.proofs.lemmas.Bool.{leb-true, leb-false, eqb-true}
 use Rattle.std.proofs.lemmas.Bool.Decides.{nat_tests}
 use Rattle.cg_types.specs.Rising.{Rises, is_among}
-use Rattle.cg_map.specs.Rows.{keys_of}
-use Rattle.cg_map.proofs.RowLemmas.{keys_lt, filter_none, filter_every}
+use Rattle.cg_types.specs.Rows.{keys_of}
+use Rattle.cg_types.proofs.RowLemmas.{keys_lt, filter_none, filter_every}
 use Rattle.cg_tokens.specs.Ring.{firsts_until, with_one, firsts, endpoints, walk, replicas}
 
 -- ---- around a token

@@ -9,4 +9,4 @@ pub mod RingLaws
 pub use Rattle.cg_types.specs.Answer
 pub use Rattle.cg_types.specs.Numbers
 pub use Rattle.cg_types.specs.Rising
-pub use Rattle.cg_map.specs.Rows
+pub use Rattle.cg_types.specs.Rows

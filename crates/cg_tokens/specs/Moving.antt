@@ -4,7 +4,7 @@ use Rattle.std.specs.List.{Contains}
 use Rattle.std.specs.List.Sorted.{IsSorted}
 use Rattle.std.specs.FinMap as table
 use Rattle.cg_types.specs.Rising.{is_among}
-use Rattle.cg_map.specs.Rows.{keys_of}
+use Rattle.cg_types.specs.Rows.{keys_of}
 use Rattle.cg_entry.specs.Values.{EntryValue}
 use Rattle.cg_table.specs.Values.{Entries}
 use Rattle.cg_tokens.specs.declared.claims.Claim.{Claim}

@@ -6,15 +6,14 @@ ghost use Rattle.std.specs.Str.{bytes_eq};
 ghost use Rattle.std.specs.List.Sorted.{IsPermutation, IsSorted};
 ghost use Rattle.cg_types.specs.Numbers.{IsKey};
 ghost use Rattle.cg_types.specs.Rising.{Rises, is_among};
-ghost use Rattle.cg_map.specs.Rows.{keys_of};
+ghost use Rattle.cg_types.specs.Rows.{keys_of};
 ghost use Rattle.cg_tokens.specs.Text.{is_comma};
 ghost use Rattle.cg_tokens.specs.Claims.{text_at, is_member as is_member_of, claimed_tokens, claim, claims_of, rank, goes_before as goes_before_of, without, before, behind, merge, keeps_claims as keeps_claims_of};
 
 use crate::text::{first_piece, tokens_in};
 use crate::token::Token;
 use cg_entry::Entry;
-use cg_map::Row;
-use cg_types::{Endpoint, Generation, STATUS_KEY, StateKey, TOKENS_KEY};
+use cg_types::{Endpoint, Generation, Row, STATUS_KEY, StateKey, TOKENS_KEY};
 use std::alloc::{AllocError, Global};
 use std::cmp::Reverse;
 

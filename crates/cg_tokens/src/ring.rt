@@ -4,7 +4,7 @@ ghost use Rattle.std.specs.Prelude.{◌≡◌, ◌≤◌, IfOk, OnOk, None, filt
 ghost use Rattle.std.specs.List.Sorted.{IsSorted};
 ghost use Rattle.std.specs.FinMap as map;
 ghost use Rattle.cg_types.specs.Rising.{Rises};
-ghost use Rattle.cg_map.specs.Rows.{keys_of};
+ghost use Rattle.cg_types.specs.Rows.{keys_of};
 ghost use Rattle.cg_table.specs.Values.{Entries};
 ghost use Rattle.cg_tokens.specs.Claims.{first_claims, rank};
 ghost use Rattle.cg_tokens.specs.Moving.{listed, IsRingOf, IsRingWith, AreMoved};
@@ -13,9 +13,8 @@ ghost use Rattle.cg_tokens.specs.Ring.{replicas, firsts_until, with_one, endpoin
 use crate::claims::{Claim, claims_by, claims_of_rows, keeps_claims, merged, owners_of};
 use crate::token::Token;
 use cg_entry::Entry;
-use cg_map::Row;
 use cg_table::Table;
-use cg_types::Endpoint;
+use cg_types::{Endpoint, Row};
 use std::alloc::{AllocError, Global};
 use std::marker::Model;
 use std::ops::Deref;

@@ -5,3 +5,7 @@ pub mod PlainLemmas
 pub mod NeighbourLemmas
 pub mod AnswerLemmas
 pub mod KeyLaws
+pub mod RowLemmas
+pub mod PutLemmas
+pub mod MapLemmas
+pub mod PastLemmas

@@ -12,3 +12,5 @@ pub mod ResultSteps
 pub mod ListPlace
 pub mod Equality
 pub mod Limits
+pub mod Rows
+pub mod Map

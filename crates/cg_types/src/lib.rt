@@ -1,4 +1,4 @@
-//! Names, limits and texts that the members of a cluster share.
+//! Names, limits and texts that the members of a cluster share, and maps from endpoints to values that copies share.
 #![tactic(auto)]
 
 mod endpoint;
@@ -7,7 +7,9 @@ mod generation;
 /// Laws of the limits.
 pub mod laws;
 mod limits;
+mod map;
 mod owned;
+mod rows;
 mod state_key;
 mod text;
 mod version;
@@ -20,7 +22,9 @@ pub use limits::{
     MEMBER_LIMIT, NAME_LIMIT, NUMBER_LIMIT, PARTITIONER, STATE_LIMIT, STATUS_KEY, TEXT_LIMIT,
     TOKENS_KEY,
 };
+pub use map::SharedMap;
 pub use owned::{Owned, endpoints_rise, owners_rise};
+pub use rows::Row;
 pub use state_key::StateKey;
 pub use text::{Cluster, StateText, is_plain};
 pub use version::Version;

@@ -6,7 +6,7 @@ use Rattle.std.specs.Cmp.{nat_cmp_total}
 use Rattle.std.specs.FinMap.{get, get-insert}
 use Rattle.cg_types.specs.Rising.{is_past, rise_past, Rises}
 use Rattle.cg_types.proofs.RisingLemmas.{first_of, second_of, past_trans, other_key}
-use Rattle.cg_map.specs.Rows.{keys_of}
+use Rattle.cg_types.specs.Rows.{keys_of}
 use Rattle.cg_table.specs.Values.{TableValue}
 use Rattle.cg_table.specs.Merge.{is_ahead}
 use Rattle.cg_table.specs.Puts.{Put, with_put, goes_on, is_in_order, keep_order}

@@ -8,7 +8,7 @@ pub use Rattle.left_right.specs.Sides
 pub use Rattle.logbook.specs.Pages
 pub use Rattle.cg_types.specs.Rising
 pub use Rattle.cg_entry.specs.Entry
-pub use Rattle.cg_map.specs.Rows
+pub use Rattle.cg_types.specs.Rows
 pub use Rattle.cg_table.specs.Puts
 pub use Rattle.cg_table.specs.Table
 pub use Rattle.cg_table.specs.Values

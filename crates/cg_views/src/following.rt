@@ -4,15 +4,14 @@ ghost use Rattle.std.specs.Prelude.{◌≡◌, ◌↔◌, IsTrue};
 ghost use Rattle.std.specs.FinMap as map;
 ghost use Rattle.std.specs.List.{list_all};
 ghost use Rattle.cg_types.specs.Rising.{Rises};
-ghost use Rattle.cg_map.specs.Rows.{keys_of};
+ghost use Rattle.cg_types.specs.Rows.{keys_of};
 ghost use Rattle.cg_table.specs.Puts.{is_held_from, keeps_keys as keeps_keys_of};
 ghost use Rattle.cg_table.specs.Puts.{is_in_order as is_in_order_of, keep_order as keep_order_of};
 ghost use Rattle.cg_views.specs.Lists.{MayFollow};
 
 use cg_entry::Entry;
-use cg_map::Row;
 use cg_table::{Puts, Table};
-use cg_types::{StateKey, Version};
+use cg_types::{Row, StateKey, Version};
 
 // Returns `true` if an entry has a state of this key, or its tombstone, at no smaller version.
 fn keeps_key(entry: &Entry, key: StateKey, version: Version) -> bool

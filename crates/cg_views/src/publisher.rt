@@ -3,7 +3,7 @@
 ghost use Rattle.std.specs.Prelude.{◌≡◌, ◌∷◌, ◌<◌, ◌≤◌, ◌↔◌, [], vec_len, IfOk, IfSome, IsTrue, OnOk, OnErr};
 ghost use Rattle.std.specs.List.{All};
 ghost use Rattle.cg_types.specs.Rising.{Rises};
-ghost use Rattle.cg_map.specs.Rows.{keys_of};
+ghost use Rattle.cg_types.specs.Rows.{keys_of};
 ghost use Rattle.left_right.specs.Sides.{view};
 ghost use Rattle.cg_views.specs.Lists.{MayAppend, appended, opened_with, all_published};
 

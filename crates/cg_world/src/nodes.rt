@@ -11,9 +11,8 @@ ghost use Rattle.cg_world.specs.World.{Start, Local, Deliver, new_world, act as 
 use crate::action::{Action, LocalEvent};
 use crate::world::Shown;
 use cg_core::{LentEvent, Node, Reply, Settings};
-use cg_map::SharedMap;
 use cg_messages::Message;
-use cg_types::{Endpoint, Fault, Generation, MEMBER_LIMIT};
+use cg_types::{Endpoint, Fault, Generation, MEMBER_LIMIT, SharedMap};
 use std::alloc::{AllocError, Global};
 use std::marker::Model;
 

@@ -1,6 +1,6 @@
 use Rattle.std.proofs.Common.{◌≡◌, ◌<◌, length, get_or, ◌∙◌, sym, ap, refl}
 use Rattle.std.specs.Prelude.{Some}
-use Rattle.cg_map.proofs.RowLemmas.{find_in_gap}
+use Rattle.cg_types.proofs.RowLemmas.{find_in_gap}
 use Rattle.cg_entry.specs.declared.state.State.{State}
 use Rattle.cg_entry.specs.State.{pairs, value_at_key}
 use Rattle.cg_entry.specs.Block.{picked, state_at}

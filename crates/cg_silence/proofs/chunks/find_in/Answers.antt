@@ -2,7 +2,7 @@ use Rattle.std.proofs.Common.{◌≡◌, ◌+◌, ◌∙◌, ℕ, drop, false, t
 use Rattle.std.specs.Ordering.{nat_cmp}
 use Rattle.std.specs.FinMap.Entries.{find}
 use Rattle.cg_types.specs.Rising.{Rises}
-use Rattle.cg_map.specs.Rows.{keys_of}
+use Rattle.cg_types.specs.Rows.{keys_of}
 use Rattle.cg_silence.specs.Values.{WindowValue}
 use Rattle.cg_silence.specs.Walking.{flat, ends_before}
 use Rattle.cg_silence.proofs.ChunkLemmas.{Rows, flat_at, rise_front, rise_back, find_after_chunk, find_in_chunk}

@@ -1,6 +1,6 @@
 use Rattle.std.proofs.Common.{◌++◌, ◌+◌, ◌∙◌, ℕ, drop, None, ap, sym, subst, arith, append_assoc}
 use Rattle.cg_types.specs.Rising.{Rises}
-use Rattle.cg_map.specs.Rows.{keys_of}
+use Rattle.cg_types.specs.Rows.{keys_of}
 use Rattle.cg_silence.specs.Values.{WindowValue}
 use Rattle.cg_silence.specs.Walking.{flat, last_key, walk_heard, ArePart}
 use Rattle.cg_silence.proofs.ChunkLemmas.{Rows, flat_at, rise_front, rise_back, later_rise}

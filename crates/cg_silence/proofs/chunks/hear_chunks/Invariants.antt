@@ -1,6 +1,6 @@
 use Rattle.std.proofs.Common.{◌≡◌, ◌++◌, drop}
 use Rattle.cg_types.specs.Rising.{Rises}
-use Rattle.cg_map.specs.Rows.{keys_of}
+use Rattle.cg_types.specs.Rows.{keys_of}
 use Rattle.cg_messages.specs.Members.{endpoints_of_outcomes}
 use Rattle.cg_silence.specs.Walking.{flat, walk_heard}
 use Rattle.cg_silence.proofs.chunks.hear_chunks.Given as goal

@@ -1,5 +1,5 @@
 use Rattle.std.proofs.Common.{◌∙◌, ◌+◌, sym}
-use Rattle.cg_map.proofs.RowLemmas.{before_row, after_row, before_gap, after_gap, rest_from, find_in_gap}
+use Rattle.cg_types.proofs.RowLemmas.{before_row, after_row, before_gap, after_gap, rest_from, find_in_gap}
 use Rattle.cg_silence.proofs.ChunkLemmas.{found_row}
 use Rattle.cg_silence.proofs.rows.around.Goals as goal
 

@@ -1,6 +1,6 @@
 use Rattle.std.proofs.Common.{rules}
 use Rattle.std.proofs.lemmas.List.Sorted.{answers_always}
-use Rattle.cg_map.proofs.RowLemmas.{searched}
+use Rattle.cg_types.proofs.RowLemmas.{searched}
 use Rattle.cg_silence.proofs.rows.halve.Goals as goal
 
 -- the closure gives a row's endpoint

@@ -1,5 +1,5 @@
 use Rattle.std.proofs.Common.{sym}
-use Rattle.cg_map.proofs.RowLemmas.{find_in_gap}
+use Rattle.cg_types.proofs.RowLemmas.{find_in_gap}
 use Rattle.cg_silence.proofs.ChunkLemmas.{found_row}
 use Rattle.cg_silence.proofs.rows.window_of.Goals as goal
 

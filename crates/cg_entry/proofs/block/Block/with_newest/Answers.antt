@@ -1,5 +1,5 @@
 use Rattle.std.proofs.Common.{subst, List, ℕ}
-use Rattle.cg_map.specs.Rows.{IsRowAt, IsGapAt}
+use Rattle.cg_types.specs.Rows.{IsRowAt, IsGapAt}
 use Rattle.cg_entry.specs.Versioned.{Versioned}
 use Rattle.cg_entry.proofs.BlockLemmas.{rows_of}
 use Rattle.cg_entry.proofs.block.Block.with_newest.Goals as goal

@@ -1,6 +1,6 @@
 use Rattle.std.proofs.Common.{◌∙◌, List, ap}
 use Rattle.std.specs.List.{filter_map}
-use Rattle.cg_map.proofs.MapLemmas.{walked_view, walked_valid}
+use Rattle.cg_types.proofs.MapLemmas.{walked_view, walked_valid}
 use Rattle.cg_silence.specs.Windows.{arrival}
 use Rattle.cg_silence.specs.Walking.{flat, walk_heard}
 use Rattle.cg_silence.proofs.ChunkLemmas.{Rows}

@@ -1,7 +1,7 @@
 use Rattle.std.proofs.Common.{◌≤◌, subst, sym}
 use Rattle.std.specs.FinMap as table
 use Rattle.cg_types.specs.declared.limits.TheConstants.{MEMBER_LIMIT}
-use Rattle.cg_map.specs.Map.{put_each}
+use Rattle.cg_types.specs.Map.{put_each}
 use Rattle.cg_table.specs.Values.{TableValue}
 use Rattle.cg_table.proofs.HeldLemmas.{put_each_held}
 use Rattle.cg_table.proofs.RoomLemmas.{put_each_valid}

@@ -2,7 +2,7 @@ use Rattle.std.proofs.Common.{ℕ, List, ◌∙◌, sym, ap, subst}
 use Rattle.std.specs.FinMap.{entries}
 use Rattle.cg_types.specs.Rising.{Rises}
 use Rattle.cg_types.proofs.RisingLemmas.{entries_rising}
-use Rattle.cg_map.specs.Rows.{keys_of}
+use Rattle.cg_types.specs.Rows.{keys_of}
 use Rattle.cg_tokens.specs.Values.{RingValue}
 use Rattle.cg_tokens.proofs.ClaimLemmas.{heads_valid}
 use Rattle.cg_tokens.proofs.ring.Listed.positions.Goals as goal

@@ -3,7 +3,7 @@ use Rattle.std.specs.List.Sorted.{IsSorted}
 use Rattle.std.proofs.lemmas.List.{nil_from_length}
 use Rattle.cg_tokens.specs.Claims.{rank}
 use Rattle.cg_tokens.proofs.MovingLemmas.{ring_shared, ring_moved_each, moved_sorted}
-use Rattle.cg_map.specs.Rows.{keys_of}
+use Rattle.cg_types.specs.Rows.{keys_of}
 use Rattle.cg_tokens.proofs.ring.Ring.moved_each.Goals as goal
 
 pub returns-then-is_empty : goal.returns-then-is_empty

@@ -1,6 +1,6 @@
 use Rattle.std.proofs.Common.{◌≡◌, List, Option, Some, None}
 use Rattle.cg_types.specs.Rising.{Rises}
-use Rattle.cg_map.specs.Rows.{keys_of}
+use Rattle.cg_types.specs.Rows.{keys_of}
 use Rattle.cg_table.specs.Puts.{Put, rising_puts}
 use Rattle.cg_table.proofs.PutsLemmas.{rising_is}
 use Rattle.cg_views.proofs.publisher.Publisher.append_all.Goals as goal
