@@ -21,5 +21,6 @@ mod writing;
 pub use fitting::every_event_fits;
 pub use history::every_history_fits;
 pub use reading::{read_journal, read_journal_telling};
+pub use text::event_text;
 pub use unread::Unread;
 pub use writing::write_journal;

@@ -208,7 +208,7 @@ fn add_event(alloc: Global, text: &mut String, event: &Event) -> Result<(), Allo
 }
 
 /// Writes the line of an event.
-pub(crate) fn event_text(alloc: Global, event: &Event) -> Result<String, AllocError>
+pub fn event_text(alloc: Global, event: &Event) -> Result<String, AllocError>
     ensures { IfOk result (λ text. string_bytes text ≡ event_line event.now) }
 {
     let mut text = String::new(alloc);

@@ -60,6 +60,7 @@ impl<N: Name> Board<N> {
         requires publisher { publisher ≡ opened_with history.base.table }
         requires book { book.total ≡ 0 }
         requires log { log ≡ [] }
+        ensures { (result.history ≡ history) × (result.log ≡ log) }
     {
         let _records = history.records();
         Board {
@@ -250,7 +251,8 @@ impl<N: Name> Board<N> {
 
     /// Takes the board apart: the history, the publisher, the book and the log.
     pub(crate) fn apart(self) -> (History, Publisher<N>, Book<N>, Log<N>)
-        ensures { (result.0.start ≡ N.start) × (result.2.total ≡ count_of result.0) × IsFoldOf result.3 result.0
+        ensures same { (result.0 ≡ self.history) × (result.3 ≡ self.log) }
+        ensures facts { (result.0.start ≡ N.start) × (result.2.total ≡ count_of result.0) × IsFoldOf result.3 result.0
             × (N.folds ≡ false → result.0.folded ≡ 0) }
     {
         let Board {

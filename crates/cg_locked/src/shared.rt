@@ -75,14 +75,9 @@ impl Fresh {
     }
 }
 
-/// One node's history behind a lock.
-pub struct Shared<N: Name> {
-    board: Mutex<Board<N>>,
-}
-
-impl<N: Name> Shared<N> {
-    /// Puts a new history and its publisher behind a lock, and makes `seats` seats, 1 to `SEAT_LIMIT`, of callers 1, 2,
-    /// and so on.
+impl<N: Name> Board<N> {
+    /// Begins the board of a new history and its publisher, which is behind no lock, and makes `seats` seats, 1 to
+    /// `SEAT_LIMIT`, of callers 1, 2, and so on.
     pub fn begin<R: Wait>(
         rt: &R,
         alloc: Global,
@@ -90,11 +85,12 @@ impl<N: Name> Shared<N> {
         publisher: Publisher<N>,
         fresh: Fresh,
         seats: usize,
-    ) -> Result<(Shared<N>, Vec<Seat<N>>), AllocError>
+    ) -> Result<(Board<N>, Vec<Seat<N>>), AllocError>
         requires fresh { (fresh.name ≡ N.name) × (fresh.parts ≡ N.parts) × (fresh.log ≡ N.log) × (N.parts ≡ seats) }
         requires seats { (0 < seats) × (seats ≤ SEAT_LIMIT) }
         requires history { (history.records ≡ []) × (history.folded ≡ 0) × (history.base ≡ N.start) }
         requires publisher { publisher ≡ opened_with history.base.table }
+        ensures history { IfOk result (λ r. (r.0.history ≡ history) × (r.0.log ≡ [])) }
         ensures seats { IfOk result (λ r. (vec_len r.1 ≡ seats) × (sum_by (λ s. s.parts) r.1.items ≡ N.parts)
             × (sum_by (λ s. s.amount) r.1.items ≡ 0)) }
         ensures callers { IfOk result (λ r. map (λ s. s.caller) r.1.items ≡ callers_up_to seats) }
@@ -113,7 +109,70 @@ impl<N: Name> Shared<N> {
         };
         let (book, rest) = blank.open::<N>();
         let made = cut(made, rest, &log, seats);
-        let board = Mutex::new(Board::new(history, publisher, book, log));
+        Ok((Board::new(history, publisher, book, log), made))
+    }
+
+    /// Ends the board with all its seats, and returns the history if it confirms the receipts, else the history with
+    /// the first receipt that it does not confirm. The history is a fold of the records that the log lists, as many as
+    /// the seats have counted, which begin with all that each seat has seen. Passes read nothing from then on.
+    pub fn finish<R: Wait>(
+        self,
+        rt: &R,
+        seats: Vec<Seat<N>>,
+        receipts: &[Receipt],
+    ) -> Result<History, Unconfirmed>
+        requires seats { (sum_by (λ s. s.parts) seats.items ≡ N.parts) × (0 < vec_len seats) }
+        ensures history { history_of result ≡ self.history }
+        ensures start { (history_of result).start ≡ N.start }
+        ensures whole { N.folds ≡ false → (history_of result).folded ≡ 0 }
+        ensures count { count_of (history_of result) ≡ sum_by (λ s. s.amount) seats.items }
+        ensures fold { IsFoldOf self.log (history_of result) }
+        ensures seen { All (λ s. IsPrefix s.seen self.log) seats.items }
+        ensures confirmed { MatchResult result (λ h. AreConfirmed h.folded h.records receipts.now)
+            (λ u. IsFirstStray u.history.folded u.history.records receipts.now (stray_of u)) }
+    {
+        let (history, publisher, mut book, mut log) = self.apart();
+        publisher.close(rt);
+        meet_all(&mut log, &seats);
+        let mut all = gathered(seats);
+        book.audit(&mut all);
+        match history.confirms(receipts) {
+            Ok(()) => Ok(history),
+            Err(stray) => Err(Unconfirmed {
+                history,
+                place: stray.place,
+                fault: stray.fault,
+            }),
+        }
+    }
+}
+
+/// One node's history behind a lock.
+pub struct Shared<N: Name> {
+    board: Mutex<Board<N>>,
+}
+
+impl<N: Name> Shared<N> {
+    /// Puts a new history and its publisher behind a lock, and makes `seats` seats, 1 to `SEAT_LIMIT`, of callers 1, 2,
+    /// and so on, by `Board::begin`.
+    pub fn begin<R: Wait>(
+        rt: &R,
+        alloc: Global,
+        history: History,
+        publisher: Publisher<N>,
+        fresh: Fresh,
+        seats: usize,
+    ) -> Result<(Shared<N>, Vec<Seat<N>>), AllocError>
+        requires fresh { (fresh.name ≡ N.name) × (fresh.parts ≡ N.parts) × (fresh.log ≡ N.log) × (N.parts ≡ seats) }
+        requires seats { (0 < seats) × (seats ≤ SEAT_LIMIT) }
+        requires history { (history.records ≡ []) × (history.folded ≡ 0) × (history.base ≡ N.start) }
+        requires publisher { publisher ≡ opened_with history.base.table }
+        ensures seats { IfOk result (λ r. (vec_len r.1 ≡ seats) × (sum_by (λ s. s.parts) r.1.items ≡ N.parts)
+            × (sum_by (λ s. s.amount) r.1.items ≡ 0)) }
+        ensures callers { IfOk result (λ r. map (λ s. s.caller) r.1.items ≡ callers_up_to seats) }
+    {
+        let (board, made) = Board::begin(rt, alloc, history, publisher, fresh, seats)?;
+        let board = Mutex::new(board);
         Ok((Shared { board }, made))
     }
 
@@ -150,7 +209,7 @@ impl<N: Name> Shared<N> {
         result
     }
 
-    /// Ends the board with all its seats, and returns the history if it confirms the receipts.
+    /// Ends the board with all its seats, by `Board::finish`, and returns the history if it confirms the receipts.
     ///
     /// Else it returns the history with the first receipt that it does not confirm. The history has counted as many
     /// records as the seats, and is a fold of records that begin with all that each seat has seen. If none is folded, it
@@ -172,19 +231,7 @@ impl<N: Name> Shared<N> {
             (λ u. IsFirstStray u.history.folded u.history.records receipts.now (stray_of u)) }
     {
         let Shared { board } = self;
-        let (history, publisher, mut book, mut log) = board.into_inner().apart();
-        publisher.close(rt);
-        meet_all(&mut log, &seats);
-        let mut all = gathered(seats);
-        book.audit(&mut all);
-        match history.confirms(receipts) {
-            Ok(()) => Ok(history),
-            Err(stray) => Err(Unconfirmed {
-                history,
-                place: stray.place,
-                fault: stray.fault,
-            }),
-        }
+        board.into_inner().finish(rt, seats, receipts)
     }
 }
 

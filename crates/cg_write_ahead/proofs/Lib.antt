@@ -1,0 +1,4 @@
+pub mod Entries
+pub mod OneMore
+pub mod Writing
+pub mod WeightLemmas
