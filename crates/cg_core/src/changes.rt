@@ -4,7 +4,8 @@ ghost use Rattle.std.specs.Prelude.{◌≡◌, IfOk};
 ghost use Rattle.cg_types.specs.Answer.{Answers};
 ghost use Rattle.cg_types.specs.Rising.{Rises};
 ghost use Rattle.cg_table.specs.Puts.{rows_at};
-ghost use Rattle.cg_core.specs.Changes.{step_with_puts, taken_owners as taken_owners_of, changed_owners as changed_owners_of};
+ghost use Rattle.cg_core.specs.Changes as spec;
+ghost use Rattle.cg_core.specs.Changes.{step_with_puts};
 
 use crate::event::Event;
 use crate::node::Node;
@@ -17,7 +18,7 @@ use std::alloc::{AllocError, Global};
 
 // The owners of the deltas that were taken.
 fn taken_owners(alloc: Global, outcomes: &Outcomes) -> Result<Vec<Endpoint>, AllocError>
-    ensures { IfOk result (λ v. v.items ≡ taken_owners_of outcomes.now) }
+    ensures { IfOk result (λ v. v.items ≡ spec.taken_owners outcomes.now) }
 {
     let outcomes = outcomes.as_slice();
     outcomes
@@ -29,7 +30,7 @@ fn taken_owners(alloc: Global, outcomes: &Outcomes) -> Result<Vec<Endpoint>, All
 
 // The owners whose entry a step changed, by its reply.
 fn changed_owners(alloc: Global, own: Endpoint, reply: &Reply) -> Result<Vec<Endpoint>, AllocError>
-    ensures { IfOk result (λ v. v.items ≡ changed_owners_of own reply.now) }
+    ensures { IfOk result (λ v. v.items ≡ spec.changed_owners own reply.now) }
 {
     match reply {
         Reply::Done(_) => Vec::from_slice(alloc, &[own]),
@@ -47,8 +48,8 @@ fn changed_rows(
     after: &Table,
     reply: &Reply,
 ) -> Result<Puts, AllocError>
-    requires { Rises (changed_owners_of own reply.now) }
-    ensures { IfOk result (λ p. p ≡ rows_at after.now.entries (changed_owners_of own reply.now)) }
+    requires { Rises (spec.changed_owners own reply.now) }
+    ensures { IfOk result (λ p. p ≡ rows_at after.now.entries (spec.changed_owners own reply.now)) }
 {
     let owners = changed_owners(alloc, own, reply)?;
     Puts::of_owners(alloc, after, &owners)

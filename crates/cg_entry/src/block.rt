@@ -2,14 +2,15 @@
 
 ghost use Rattle.std.specs.Prelude.{IsTrue, ◌≡◌, ◌<◌, ◌≤◌, ◌^◌, IfOk, IfErr, IfSome, IsOk, OnOk, OnErr, length, nat_lt, option_copied, remove, true, false, slice_get, Some, Ok, ◌++◌, ◌∷◌, []};
 ghost use Rattle.std.specs.FinMap as map;
-ghost use Rattle.std.specs.FinMap.Entries.{find as find_entry};
+ghost use Rattle.std.specs.FinMap.Entries as entries_spec;
 ghost use Rattle.std.specs.Option.{option_map};
 ghost use Rattle.std.specs.Arc.{arc_value};
 ghost use Rattle.std.specs.Ordering.{nat_cmp};
 ghost use Rattle.std.specs.List.{AllByRecursion, AllWithin};
 ghost use Rattle.std.specs.List.Sorted.{IsNonDecreasingBy};
 ghost use Rattle.cg_entry.specs.Contents.{AreStates, IsState};
-ghost use Rattle.cg_entry.specs.Entry.{greatest, newer_than, overlay, text_bytes as text_bytes_of, text_size as text_size_of};
+ghost use Rattle.cg_entry.specs.Entry as entry_spec;
+ghost use Rattle.cg_entry.specs.Entry.{greatest, newer_than, overlay};
 ghost use Rattle.cg_entry.specs.State.{IsStateList, KeysRise, pair, pairs, value_at_key};
 ghost use Rattle.cg_entry.specs.Versioned.{States};
 ghost use Rattle.cg_entry.specs.Block.{bytes_at, picked, put_all, state_at};
@@ -128,7 +129,7 @@ fn find<'a>(items: &'a [State], places: &[u8], key: StateKey) -> Option<&'a Stat
     requires rise { KeysRise (picked items.now places.now) }
     requires within { AllByRecursion (λ p. p < length items.now) places.now }
     ensures value { option_map value_at_key (option_copied result)
-        ≡ find_entry nat_cmp key (pairs (picked items.now places.now)) }
+        ≡ entries_spec.find nat_cmp key (pairs (picked items.now places.now)) }
     ensures key { IfSome result (λ s. s.now.key ≡ key) }
 {
     match number_of(items, places, key) {
@@ -149,7 +150,7 @@ fn show_state(state: &State)
 }
 
 fn text_size(state: &State) -> usize
-    ensures { result ≡ text_size_of state.now.text }
+    ensures { result ≡ entry_spec.text_size state.now.text }
 {
     match &state.text {
         Some(text) => text.as_str().len(),
@@ -159,7 +160,7 @@ fn text_size(state: &State) -> usize
 
 // The number of bytes of the text at a place; 0 at none.
 fn size_at(items: &[State], place: u8) -> usize
-    ensures { result ≡ text_size_of (state_at items.now place).text }
+    ensures { result ≡ entry_spec.text_size (state_at items.now place).text }
 {
     match items.get(place as usize) {
         Some(state) => text_size(state),
@@ -505,7 +506,7 @@ impl Block {
 
     // The number of bytes of the texts.
     pub(crate) fn text_bytes(&self) -> usize
-        ensures { result ≡ text_bytes_of self.now }
+        ensures { result ≡ entry_spec.text_bytes self.now }
     {
         self.text_bytes
     }

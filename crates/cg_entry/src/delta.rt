@@ -3,7 +3,8 @@
 ghost use Rattle.std.specs.Prelude.{◌≡◌, ◌↔◌, IsTrue, IfSome, IfOk, IsOk, is_some, nat_lt, [], Some, slice_get, length, ◌<◌};
 ghost use Rattle.std.specs.FinMap as map;
 ghost use Rattle.cg_types.specs.Numbers.{IsVersionHeld};
-ghost use Rattle.cg_entry.specs.State.{pair, all_newer as all_newer_of, delta_of_parts, makes_delta, delta_from};
+ghost use Rattle.cg_entry.specs.State as spec;
+ghost use Rattle.cg_entry.specs.State.{pair, delta_of_parts, makes_delta, delta_from};
 ghost use Rattle.cg_entry.specs.Contents.{IsDeltaOfEntry};
 ghost use Rattle.cg_entry.specs.Entry.{greatest, text_bytes, IsDelta};
 
@@ -41,7 +42,7 @@ impl Model for Delta {
 }
 
 fn all_newer(above: u32, items: &[State]) -> bool
-    ensures { result ≡ all_newer_of above items.now }
+    ensures { result ≡ spec.all_newer above items.now }
 {
     items.iter().all(|state| state.version.get() > above)
 }

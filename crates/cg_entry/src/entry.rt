@@ -6,9 +6,10 @@ ghost use Rattle.std.specs.Option.{option_map};
 ghost use Rattle.cg_types.specs.Answer.{Answers, AnswersExactly};
 ghost use Rattle.cg_version.specs.Version.{next_version};
 ghost use Rattle.cg_entry.specs.Contents.{IsEntry};
-ghost use Rattle.cg_entry.specs.Entry.{greatest, newest, newer_than, overlay, delta_above, starting_entry, entry_after_beat, with_state, has_text as has_text_of, text_standing, removal_of, is_later as is_later_of};
+ghost use Rattle.cg_entry.specs.Entry as spec;
+ghost use Rattle.cg_entry.specs.Entry.{greatest, newest, newer_than, overlay, delta_above, starting_entry, entry_after_beat, with_state, text_standing, removal_of};
 ghost use Rattle.cg_entry.specs.State.{value_at_key};
-ghost use Rattle.cg_entry.specs.Taking.{whole_entry, taken_or_gap, advanced_entry, absorption, is_taken, meeting as met_of, IsTakenEntry, IfTaken};
+ghost use Rattle.cg_entry.specs.Taking.{whole_entry, taken_or_gap, advanced_entry, absorption, is_taken, meeting, IsTakenEntry, IfTaken};
 
 use crate::block::Block;
 use crate::delta::Delta;
@@ -83,9 +84,9 @@ fn whole(alloc: Global, delta: &Delta) -> Result<Absorbed, AllocError>
 /// delta's if the delta brings each key that the entry has. `AllocError` only if the delta is to be taken and a new block
 /// finds no memory.
 pub fn meet(alloc: Global, held: Option<&Entry>, delta: &Delta) -> Result<Absorbed, AllocError>
-    ensures value { IfOk result (λ a. a ≡ met_of (option_copied held.entry) delta.now) }
+    ensures value { IfOk result (λ a. a ≡ meeting (option_copied held.entry) delta.now) }
     ensures each { IfOk result (λ a. IfTaken a (IsTakenEntry (option_copied held.entry) delta.now)) }
-    ensures refused { IfErr result (λ _. is_taken (met_of (option_copied held.entry) delta.now) ≡ true) }
+    ensures refused { IfErr result (λ _. is_taken (meeting (option_copied held.entry) delta.now) ≡ true) }
 {
     let Some(entry) = held else {
         return whole(alloc, delta);
@@ -209,7 +210,7 @@ impl Entry {
     pub fn get(&self, key: StateKey) -> Option<(&StateText, Version)>
         ensures value { option_map (λ s. record { text = Some s.0.now; version = s.1 }) result
             ≡ text_standing (map.get self.now.states key) }
-        ensures text { is_some result ≡ has_text_of key self.now }
+        ensures text { is_some result ≡ spec.has_text key self.now }
     {
         match self.state(key) {
             Some((Some(text), version)) => Some((text, version)),
@@ -218,7 +219,7 @@ impl Entry {
     }
 
     fn has_text(&self, key: StateKey) -> bool
-        ensures { result ≡ has_text_of key self.now }
+        ensures { result ≡ spec.has_text key self.now }
     {
         self.get(key).is_some()
     }
@@ -379,7 +380,7 @@ impl Entry {
     /// Tests whether the entry is later than another of this endpoint: of a greater generation, or of the same one with
     /// a greater newest version.
     pub fn is_later(&self, other: &Entry) -> bool
-        ensures { result ≡ is_later_of self.now other.now }
+        ensures { result ≡ spec.is_later self.now other.now }
     {
         other.generation < self.generation
             || (self.generation == other.generation && other.newest() < self.newest())

@@ -2,10 +2,11 @@
 
 ghost use Rattle.std.specs.Prelude.{◌≡◌, ◌↔◌, IsTrue, IfOk, IfSome, IsOk, option_copied};
 ghost use Rattle.std.specs.FinMap as map;
-ghost use Rattle.cg_entry.specs.Entry.{greatest, overlay, text_bytes as text_bytes_of};
+ghost use Rattle.cg_entry.specs.Entry as entry_spec;
+ghost use Rattle.cg_entry.specs.Entry.{greatest, overlay};
 ghost use Rattle.cg_entry.specs.State.{value_at_key};
 ghost use Rattle.cg_entry.specs.Block.{put_all};
-ghost use Rattle.cg_entry.specs.Versioned.{States as Map};
+ghost use Rattle.cg_entry.specs.Versioned as versioned_spec;
 ghost use Rattle.cg_entry.specs.Contents.{AreStates};
 ghost use Rattle.std.specs.Option.{option_map};
 ghost use Rattle.std.specs.Arc.{arc_value};
@@ -136,7 +137,7 @@ impl Held {
 
     // The number of bytes of the texts.
     pub(crate) fn text_bytes(&self) -> usize
-        ensures { result ≡ text_bytes_of self.now }
+        ensures { result ≡ entry_spec.text_bytes self.now }
     {
         match &self.kept {
             Kept::Own(states) => states.text_bytes(),
@@ -214,7 +215,7 @@ impl Held {
 
     // The states, in the order that they are kept in. Put one after the other, they are laid over others.
     pub(crate) fn as_slice(&self) -> &[State]
-        ensures { (old : Map) → put_all result.now old ≡ overlay old self.now }
+        ensures { (old : versioned_spec.States) → put_all result.now old ≡ overlay old self.now }
     {
         match &self.kept {
             Kept::Own(states) => states.as_slice(),

@@ -6,9 +6,11 @@ ghost use Rattle.std.specs.Option.{option_map};
 ghost use Rattle.std.specs.List.{AllByRecursion};
 ghost use Rattle.std.specs.List.Sorted.{IsNonDecreasingBy};
 ghost use Rattle.cg_entry.specs.Contents.{IsState, AreStates};
-ghost use Rattle.cg_entry.specs.Entry.{greatest, overlay, text_bytes as text_bytes_of, text_size as text_size_of};
-ghost use Rattle.cg_entry.specs.State.{KeysRise, keys_rise as keys_rise_of, pair, pairs, listed_bytes, value_at_key};
-ghost use Rattle.cg_entry.specs.Versioned.{States as Map};
+ghost use Rattle.cg_entry.specs.Entry as entry_spec;
+ghost use Rattle.cg_entry.specs.Entry.{greatest, overlay};
+ghost use Rattle.cg_entry.specs.State as state_spec;
+ghost use Rattle.cg_entry.specs.State.{KeysRise, pair, pairs, listed_bytes, value_at_key};
+ghost use Rattle.cg_entry.specs.Versioned as versioned_spec;
 ghost use Rattle.cg_entry.specs.Block.{put_all};
 
 use crate::block::Block;
@@ -43,7 +45,7 @@ impl Model for States {
 
 // Tests whether the keys rise strictly.
 pub(crate) fn keys_rise(items: &[State]) -> bool
-    ensures { result ≡ keys_rise_of items.now }
+    ensures { result ≡ state_spec.keys_rise items.now }
 {
     items.is_sorted_by(|state, next| state.key < next.key)
 }
@@ -83,7 +85,7 @@ fn show_states(items: &[State])
 }
 
 fn text_size(state: &State) -> usize
-    ensures { result ≡ text_size_of state.now.text }
+    ensures { result ≡ entry_spec.text_size state.now.text }
 {
     match &state.text {
         Some(text) => text.as_str().len(),
@@ -151,7 +153,7 @@ impl States {
 
     // The number of bytes of the texts.
     pub(crate) fn text_bytes(&self) -> usize
-        ensures { result ≡ text_bytes_of self.now }
+        ensures { result ≡ entry_spec.text_bytes self.now }
     {
         self.text_bytes
     }
@@ -209,7 +211,7 @@ impl States {
         ensures value { pairs result.now ≡ map.entries self.now }
         ensures rise { KeysRise result.now }
         ensures valid { AreStates self.now }
-        ensures laid { (old : Map) → put_all result.now old ≡ overlay old self.now }
+        ensures laid { (old : versioned_spec.States) → put_all result.now old ≡ overlay old self.now }
     {
         &self.items
     }

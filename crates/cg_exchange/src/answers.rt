@@ -4,7 +4,7 @@ ghost use Rattle.std.specs.Prelude.{◌≡◌, IfOk, option_copied};
 ghost use Rattle.cg_types.specs.Answer.{Answers};
 ghost use Rattle.cg_types.specs.Rising.{Rises};
 ghost use Rattle.cg_messages.specs.Members.{AreListed, endpoints_of_digests, endpoints_of_deltas};
-ghost use Rattle.cg_exchange.specs.Answering.{request_by, delta_by, requests_for as requests_of, deltas_for as deltas_of, answer_to_syn, syn_of};
+ghost use Rattle.cg_exchange.specs.Answering.{request_by, delta_by, requests_for, deltas_for, answer_to_syn, syn_of};
 ghost use Rattle.cg_exchange.specs.Walking.{of_member, row_request, row_delta};
 
 use crate::walking::next;
@@ -106,8 +106,8 @@ fn lists_for(
     digests: &[Digest],
 ) -> Result<(Vec<Request>, Vec<OwnerDelta>), AllocError>
     requires { Rises (endpoints_of_digests digests.now) }
-    ensures requests { IfOk result (λ x. x.0.items ≡ requests_of table.now.entries digests.now) }
-    ensures deltas { IfOk result (λ x. x.1.items ≡ deltas_of table.now.entries digests.now) }
+    ensures requests { IfOk result (λ x. x.0.items ≡ requests_for table.now.entries digests.now) }
+    ensures deltas { IfOk result (λ x. x.1.items ≡ deltas_for table.now.entries digests.now) }
     ensures listed { IfOk result (λ x. AreListed (endpoints_of_deltas x.1.items)) }
 {
     let mut requests = Vec::new(alloc);

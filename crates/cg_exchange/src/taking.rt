@@ -5,8 +5,10 @@ ghost use Rattle.std.specs.List.{filter_map};
 ghost use Rattle.cg_types.specs.Answer.{Answers};
 ghost use Rattle.cg_types.specs.Rising.{Rises};
 ghost use Rattle.cg_messages.specs.Members.{endpoints_of_deltas, endpoints_of_outcomes};
-ghost use Rattle.cg_exchange.specs.Taking.{table_after, outcome_of, outcomes_of, held_after as held_after_of, grant_of, delta_granted as delta_granted_of, deltas_granted as deltas_granted_of, taking_ack, taking_ack2};
-ghost use Rattle.cg_exchange.specs.Changes.{changed_by as changed_by_of, row_changed};
+ghost use Rattle.cg_exchange.specs.Taking as taking_spec;
+ghost use Rattle.cg_exchange.specs.Taking.{table_after, outcome_of, outcomes_of, grant_of, taking_ack, taking_ack2};
+ghost use Rattle.cg_exchange.specs.Changes as changes_spec;
+ghost use Rattle.cg_exchange.specs.Changes.{row_changed};
 
 use crate::walking::{first_about, rising_from};
 use cg_entry::{Delta, Entry, Took};
@@ -18,7 +20,7 @@ use std::alloc::{AllocError, Global};
 // Counts the endpoints that would be held after the deltas.
 fn held_after(table: &Table, deltas: &[OwnerDelta]) -> usize
     requires { length deltas.now ≤ MEMBER_LIMIT }
-    ensures { result ≡ held_after_of table.now deltas.now }
+    ensures { result ≡ taking_spec.held_after table.now deltas.now }
 {
     let owners = table.owners();
     let mut count = owners.len();
@@ -37,7 +39,7 @@ fn changed_by(
     sent: &OwnerDelta,
     row: Option<&Row<Entry>>,
 ) -> Result<(Option<Row<Entry>>, Took), AllocError>
-    ensures { IfOk result (λ x. x ≡ changed_by_of table.now sent.now (option_copied row.entry)) }
+    ensures { IfOk result (λ x. x ≡ changes_spec.changed_by table.now sent.now (option_copied row.entry)) }
 {
     match row {
         Some(row) => table.change_at(alloc, sent.endpoint, Some(row.value()), &sent.delta),
@@ -76,7 +78,7 @@ fn take_deltas(
     deltas: &[OwnerDelta],
 ) -> Result<(Table, Vec<Outcome>), AllocError>
     requires rise { Rises (endpoints_of_deltas deltas.now) }
-    requires room { held_after_of table.now deltas.now ≤ MEMBER_LIMIT }
+    requires room { taking_spec.held_after table.now deltas.now ≤ MEMBER_LIMIT }
     ensures after { IfOk result (λ x. x.0 ≡ table_after table.now deltas.now) }
     ensures outcomes { IfOk result (λ x. x.1.items ≡ outcomes_of table.now deltas.now) }
 {
@@ -107,7 +109,7 @@ fn delta_granted(
     near: usize,
     request: Request,
 ) -> Result<Option<OwnerDelta>, AllocError>
-    ensures { IfOk result (λ d. d ≡ delta_granted_of table.now.entries request) }
+    ensures { IfOk result (λ d. d ≡ taking_spec.delta_granted table.now.entries request) }
 {
     let endpoint = request.endpoint();
     match grant(alloc, request, table.get_near(near, endpoint))? {
@@ -121,7 +123,7 @@ fn deltas_granted(
     table: &Table,
     requests: &[Request],
 ) -> Result<Vec<OwnerDelta>, AllocError>
-    ensures { IfOk result (λ v. v.items ≡ deltas_granted_of table.now.entries requests.now) }
+    ensures { IfOk result (λ v. v.items ≡ taking_spec.deltas_granted table.now.entries requests.now) }
 {
     let mut deltas = Vec::new(alloc);
     for request in requests {

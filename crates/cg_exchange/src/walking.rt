@@ -2,13 +2,14 @@
 
 ghost use Rattle.std.specs.Prelude.{◌≡◌, map, option_copied};
 ghost use Rattle.cg_types.specs.Rising.{Rises};
-ghost use Rattle.cg_exchange.specs.Walking.{from_owner as from_owner_of, first_about as first_about_of, begin_before as begin_before_of, next_of, behind_next};
+ghost use Rattle.cg_exchange.specs.Walking as spec;
+ghost use Rattle.cg_exchange.specs.Walking.{next_of, behind_next};
 
 use cg_types::{Endpoint, Owned};
 
 // The members from an owner on. It looks at those that it leaves out, and at one more.
 fn from_owner<M: Owned>(members: &[M], owner: Endpoint) -> &[M]
-    ensures { result.now ≡ from_owner_of M.owner_of owner members.now }
+    ensures { result.now ≡ spec.from_owner M.owner_of owner members.now }
 {
     for i in 0..members.len() {
         if members[i].owner() >= owner {
@@ -21,7 +22,7 @@ fn from_owner<M: Owned>(members: &[M], owner: Endpoint) -> &[M]
 /// The members from an owner on, if owners rise. It looks at the first two, and then halves.
 pub(crate) fn rising_from<M: Owned>(members: &[M], owner: Endpoint) -> &[M]
     requires { Rises (map M.owner_of members.now) }
-    ensures { result.now ≡ from_owner_of M.owner_of owner members.now }
+    ensures { result.now ≡ spec.from_owner M.owner_of owner members.now }
 {
     if members.len() > 1 && members[1].owner() >= owner {
         return from_owner(members, owner);
@@ -31,7 +32,7 @@ pub(crate) fn rising_from<M: Owned>(members: &[M], owner: Endpoint) -> &[M]
 
 /// The first member, if it is about this owner.
 pub(crate) fn first_about<M: Owned>(members: &[M], owner: Endpoint) -> Option<&M>
-    ensures { option_copied result ≡ first_about_of M.owner_of owner members.now }
+    ensures { option_copied result ≡ spec.first_about M.owner_of owner members.now }
 {
     match members.first() {
         Some(first) if first.owner() == owner => Some(first),
@@ -41,7 +42,7 @@ pub(crate) fn first_about<M: Owned>(members: &[M], owner: Endpoint) -> Option<&M
 
 // Tests whether the first of the members is about an earlier owner.
 fn begin_before<M: Owned>(members: &[M], owner: Endpoint) -> bool
-    ensures { result ≡ begin_before_of M.owner_of owner members.now }
+    ensures { result ≡ spec.begin_before M.owner_of owner members.now }
 {
     match members.first() {
         Some(first) => first.owner() < owner,

@@ -1,8 +1,8 @@
 //! The bytes after the length of a frame: checked with no memory, and read.
 
 ghost use Rattle.std.specs.Prelude.{◌≡◌, Ok};
-ghost use Rattle.cg_types.specs.Text.{cluster_of as cluster_due};
-ghost use Rattle.cg_messages.specs.declared.message.Message.TheVariants as kinds;
+ghost use Rattle.cg_types.specs.Text.{cluster_of};
+ghost use Rattle.cg_messages.specs.declared.message.Message.TheVariants as messages;
 ghost use Rattle.cg_frames.specs.Layouts.{IsRead};
 ghost use Rattle.cg_frames.specs.Reading as spec;
 
@@ -55,7 +55,7 @@ fn check_ack2(layout: &Layout, reader: &mut Reader<'_>) -> Result<(), Misread>
 }
 
 fn check_whole_syn(layout: &Layout, reader: &mut Reader<'_>) -> Result<(), Misread>
-    ensures { spec.Checks result (spec.as_message kinds.Syn (spec.whole_field (spec.syn_at layout.now reader.old))) }
+    ensures { spec.Checks result (spec.as_message messages.Syn (spec.whole_field (spec.syn_at layout.now reader.old))) }
 {
     check_syn(layout, reader)?;
     reader.end()?;
@@ -63,7 +63,7 @@ fn check_whole_syn(layout: &Layout, reader: &mut Reader<'_>) -> Result<(), Misre
 }
 
 fn check_whole_ack(layout: &Layout, reader: &mut Reader<'_>) -> Result<(), Misread>
-    ensures { spec.Checks result (spec.as_message kinds.Ack (spec.whole_field (spec.ack_at layout.now reader.old))) }
+    ensures { spec.Checks result (spec.as_message messages.Ack (spec.whole_field (spec.ack_at layout.now reader.old))) }
 {
     check_ack(layout, reader)?;
     reader.end()?;
@@ -71,7 +71,8 @@ fn check_whole_ack(layout: &Layout, reader: &mut Reader<'_>) -> Result<(), Misre
 }
 
 fn check_whole_ack2(layout: &Layout, reader: &mut Reader<'_>) -> Result<(), Misread>
-    ensures { spec.Checks result (spec.as_message kinds.Ack2 (spec.whole_field (spec.ack2_at layout.now reader.old))) }
+    ensures { spec.Checks result (spec.as_message messages.Ack2
+        (spec.whole_field (spec.ack2_at layout.now reader.old))) }
 {
     check_ack2(layout, reader)?;
     reader.end()?;
@@ -92,8 +93,8 @@ pub(crate) fn check(layout: &Layout, inside: &[u8]) -> Result<(), Misread>
     }
 }
 
-fn cluster_of(alloc: Global, name: &str, partitioner: u8) -> Result<Cluster, ReadError>
-    requires { cluster_due name.now partitioner ≡ Ok (record { name = name.now; partitioner = partitioner }) }
+fn new_cluster(alloc: Global, name: &str, partitioner: u8) -> Result<Cluster, ReadError>
+    requires { cluster_of name.now partitioner ≡ Ok (record { name = name.now; partitioner = partitioner }) }
     ensures { spec.GivesWhole (λ c. c) result (Ok (record { name = name.now; partitioner = partitioner })) }
 {
     match Cluster::with(alloc, name, partitioner) {
@@ -112,7 +113,7 @@ fn syn_of(alloc: Global, layout: &Layout, reader: &mut Reader<'_>) -> Result<Syn
     let partitioner = reader.byte()?;
     let count = reader.count(layout)?;
     let digests = digests_of(alloc, reader, count)?;
-    let cluster = cluster_of(alloc, name, partitioner)?;
+    let cluster = new_cluster(alloc, name, partitioner)?;
     match Syn::new(cluster, digests) {
         Some(syn) => Ok(syn),
         None => unreachable!(),

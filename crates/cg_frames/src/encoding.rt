@@ -10,7 +10,7 @@ ghost use Rattle.cg_messages.specs.Lent.{lent_message};
 ghost use Rattle.cg_frames.specs.declared.layout.TheConstants.{WRITTEN};
 ghost use Rattle.cg_frames.specs.Fits.{Fits};
 ghost use Rattle.cg_frames.specs.Layouts.{IsLayout, IsWritten};
-ghost use Rattle.cg_frames.specs.Spelling as spelling;
+ghost use Rattle.cg_frames.specs.Spelling as spec;
 
 use crate::fits::message_fits;
 use crate::layout::{Layout, TOMBSTONE, WRITTEN};
@@ -23,14 +23,14 @@ use std::alloc::{AllocError, Global};
 
 #[tactic(auto, unfolding(crate::specs::Spelling::two_bytes))]
 fn put_two(out: &mut Vec<u8>, n: u16) -> Result<(), AllocError>
-    ensures { OnOk result (out.new.items ≡ out.old.items ++ spelling.two_bytes n) }
+    ensures { OnOk result (out.new.items ≡ out.old.items ++ spec.two_bytes n) }
 {
     out.put_u16(n)
 }
 
 #[tactic(auto, unfolding(crate::specs::Spelling::four_bytes))]
 fn put_four(out: &mut Vec<u8>, n: u32) -> Result<(), AllocError>
-    ensures { OnOk result (out.new.items ≡ out.old.items ++ spelling.four_bytes n) }
+    ensures { OnOk result (out.new.items ≡ out.old.items ++ spec.four_bytes n) }
 {
     out.put_u32(n)
 }
@@ -38,7 +38,7 @@ fn put_four(out: &mut Vec<u8>, n: u32) -> Result<(), AllocError>
 // The bytes of an endpoint and two numbers: put at once, they take a fraction of the time.
 #[tactic(auto, unfolding(crate::specs::Spelling::two_bytes, crate::specs::Spelling::four_bytes))]
 fn member_bytes(endpoint: Endpoint, first: u32, second: u32) -> [u8; 14]
-    ensures { result ≡ spelling.endpoint endpoint ++ spelling.four_bytes first ++ spelling.four_bytes second }
+    ensures { result ≡ spec.endpoint endpoint ++ spec.four_bytes first ++ spec.four_bytes second }
 {
     let mut bytes = [0u8; 14];
     bytes[..4].copy_from_slice(&endpoint.address());
@@ -49,7 +49,7 @@ fn member_bytes(endpoint: Endpoint, first: u32, second: u32) -> [u8; 14]
 }
 
 fn put_digest(out: &mut Vec<u8>, digest: &Digest) -> Result<(), AllocError>
-    ensures { OnOk result (out.new.items ≡ out.old.items ++ spelling.digest digest.now) }
+    ensures { OnOk result (out.new.items ≡ out.old.items ++ spec.digest digest.now) }
 {
     out.put_slice(&member_bytes(
         digest.endpoint,
@@ -59,7 +59,7 @@ fn put_digest(out: &mut Vec<u8>, digest: &Digest) -> Result<(), AllocError>
 }
 
 fn put_request(out: &mut Vec<u8>, request: Request) -> Result<(), AllocError>
-    ensures { OnOk result (out.new.items ≡ out.old.items ++ spelling.request request) }
+    ensures { OnOk result (out.new.items ≡ out.old.items ++ spec.request request) }
 {
     out.put_slice(&member_bytes(
         request.endpoint(),
@@ -69,7 +69,7 @@ fn put_request(out: &mut Vec<u8>, request: Request) -> Result<(), AllocError>
 }
 
 fn put_cluster(out: &mut Vec<u8>, cluster: &Cluster) -> Result<(), AllocError>
-    ensures { OnOk result (out.new.items ≡ out.old.items ++ spelling.cluster cluster.now) }
+    ensures { OnOk result (out.new.items ≡ out.old.items ++ spec.cluster cluster.now) }
 {
     out.put_u8(cluster.name().len() as u8)?;
     out.put_slice(cluster.name().as_bytes())?;
@@ -79,7 +79,7 @@ fn put_cluster(out: &mut Vec<u8>, cluster: &Cluster) -> Result<(), AllocError>
 
 fn put_digests(out: &mut Vec<u8>, digests: &[Digest]) -> Result<(), AllocError>
     requires { length digests.now < 2 ^ 16 }
-    ensures { OnOk result (out.new.items ≡ out.old.items ++ spelling.members spelling.digest digests.now) }
+    ensures { OnOk result (out.new.items ≡ out.old.items ++ spec.members spec.digest digests.now) }
 {
     put_two(out, digests.len() as u16)?;
     for digest in digests {
@@ -90,7 +90,7 @@ fn put_digests(out: &mut Vec<u8>, digests: &[Digest]) -> Result<(), AllocError>
 
 fn put_requests(out: &mut Vec<u8>, requests: &[Request]) -> Result<(), AllocError>
     requires { length requests.now < 2 ^ 16 }
-    ensures { OnOk result (out.new.items ≡ out.old.items ++ spelling.members spelling.request requests.now) }
+    ensures { OnOk result (out.new.items ≡ out.old.items ++ spec.members spec.request requests.now) }
 {
     put_two(out, requests.len() as u16)?;
     for request in requests {
@@ -102,7 +102,7 @@ fn put_requests(out: &mut Vec<u8>, requests: &[Request]) -> Result<(), AllocErro
 // The bytes before a state's text: the key, the version and the length.
 #[tactic(auto, unfolding(crate::specs::Spelling::two_bytes, crate::specs::Spelling::four_bytes))]
 fn state_head(key: u8, version: u32, size: u16) -> [u8; 7]
-    ensures { result ≡ key ∷ (spelling.four_bytes version ++ spelling.two_bytes size) }
+    ensures { result ≡ key ∷ (spec.four_bytes version ++ spec.two_bytes size) }
 {
     let mut bytes = [key; 7];
     bytes[1..5].copy_from_slice(&version.to_be_bytes());
@@ -111,7 +111,7 @@ fn state_head(key: u8, version: u32, size: u16) -> [u8; 7]
 }
 
 fn put_state(out: &mut Vec<u8>, state: &State) -> Result<(), AllocError>
-    ensures { OnOk result (out.new.items ≡ out.old.items ++ spelling.state (pair state.now)) }
+    ensures { OnOk result (out.new.items ≡ out.old.items ++ spec.state (pair state.now)) }
 {
     let key = state.key.get();
     let version = state.version.get();
@@ -129,7 +129,7 @@ fn put_state(out: &mut Vec<u8>, state: &State) -> Result<(), AllocError>
 // Writes the states of a delta, in the order of their keys.
 fn put_states(out: &mut Vec<u8>, delta: &Delta) -> Result<(), AllocError>
     ensures { OnOk result
-        (out.new.items ≡ out.old.items ++ flat_map spelling.state (map.entries delta.now.states)) }
+        (out.new.items ≡ out.old.items ++ flat_map spec.state (map.entries delta.now.states)) }
 {
     let states = delta.by_key();
     for place in 0..states.len() {
@@ -147,8 +147,8 @@ fn delta_head(
     heartbeat: u32,
     count: u8,
 ) -> [u8; 19]
-    ensures { result ≡ spelling.endpoint endpoint ++ (spelling.four_bytes generation ++ (spelling.four_bytes above
-        ++ (spelling.four_bytes heartbeat ++ (count ∷ [])))) }
+    ensures { result ≡ spec.endpoint endpoint ++ (spec.four_bytes generation ++ (spec.four_bytes above
+        ++ (spec.four_bytes heartbeat ++ (count ∷ [])))) }
 {
     let mut bytes = [count; 19];
     bytes[..4].copy_from_slice(&endpoint.address());
@@ -161,7 +161,7 @@ fn delta_head(
 
 fn put_delta(out: &mut Vec<u8>, delta: &OwnerDelta) -> Result<(), AllocError>
     requires { IsOwnerDelta delta.now }
-    ensures { OnOk result (out.new.items ≡ out.old.items ++ spelling.delta delta.now) }
+    ensures { OnOk result (out.new.items ≡ out.old.items ++ spec.delta delta.now) }
 {
     let count = delta.delta.count();
     out.put_slice(&delta_head(
@@ -178,7 +178,7 @@ fn put_delta(out: &mut Vec<u8>, delta: &OwnerDelta) -> Result<(), AllocError>
 fn put_deltas(out: &mut Vec<u8>, deltas: &[OwnerDelta]) -> Result<(), AllocError>
     requires few { length deltas.now < 2 ^ 16 }
     requires valid { AllByRecursion IsOwnerDelta deltas.now }
-    ensures { OnOk result (out.new.items ≡ out.old.items ++ spelling.members spelling.delta deltas.now) }
+    ensures { OnOk result (out.new.items ≡ out.old.items ++ spec.members spec.delta deltas.now) }
 {
     put_two(out, deltas.len() as u16)?;
     for delta in deltas {
@@ -189,7 +189,7 @@ fn put_deltas(out: &mut Vec<u8>, deltas: &[OwnerDelta]) -> Result<(), AllocError
 
 // Writes the kind and the body of a SYN.
 fn put_syn(out: &mut Vec<u8>, syn: &Syn) -> Result<(), AllocError>
-    ensures { OnOk result (out.new.items ≡ out.old.items ++ spelling.message (messages.Syn syn.now)) }
+    ensures { OnOk result (out.new.items ≡ out.old.items ++ spec.message (messages.Syn syn.now)) }
 {
     out.put_u8(1)?;
     put_cluster(out, syn.cluster())?;
@@ -198,7 +198,7 @@ fn put_syn(out: &mut Vec<u8>, syn: &Syn) -> Result<(), AllocError>
 }
 
 fn put_ack(out: &mut Vec<u8>, ack: &Ack) -> Result<(), AllocError>
-    ensures { OnOk result (out.new.items ≡ out.old.items ++ spelling.message (messages.Ack ack.now)) }
+    ensures { OnOk result (out.new.items ≡ out.old.items ++ spec.message (messages.Ack ack.now)) }
 {
     out.put_u8(2)?;
     put_requests(out, ack.requests())?;
@@ -207,7 +207,7 @@ fn put_ack(out: &mut Vec<u8>, ack: &Ack) -> Result<(), AllocError>
 }
 
 fn put_ack2(out: &mut Vec<u8>, ack2: &Ack2) -> Result<(), AllocError>
-    ensures { OnOk result (out.new.items ≡ out.old.items ++ spelling.message (messages.Ack2 ack2.now)) }
+    ensures { OnOk result (out.new.items ≡ out.old.items ++ spec.message (messages.Ack2 ack2.now)) }
 {
     out.put_u8(3)?;
     put_deltas(out, ack2.deltas())?;
@@ -215,7 +215,7 @@ fn put_ack2(out: &mut Vec<u8>, ack2: &Ack2) -> Result<(), AllocError>
 }
 
 fn put_message(out: &mut Vec<u8>, message: Lent<'_>) -> Result<(), AllocError>
-    ensures { OnOk result (out.new.items ≡ out.old.items ++ spelling.message (lent_message message.entry)) }
+    ensures { OnOk result (out.new.items ≡ out.old.items ++ spec.message (lent_message message.entry)) }
 {
     match message {
         Lent::Syn(syn) => put_syn(out, syn)?,
@@ -230,7 +230,7 @@ fn put_message(out: &mut Vec<u8>, message: Lent<'_>) -> Result<(), AllocError>
 pub fn encode_in(alloc: Global, layout: &Layout, message: Lent<'_>) -> Result<Bytes, AllocError>
     requires layout { IsLayout layout.now }
     requires written { IsWritten layout.now }
-    ensures written { IfOk result (λ b. b ≡ spelling.frame layout.now (lent_message message.entry)) }
+    ensures written { IfOk result (λ b. b ≡ spec.frame layout.now (lent_message message.entry)) }
     ensures fits { Fits layout.now (lent_message message.entry) }
 {
     message_fits(layout, message);
@@ -247,7 +247,7 @@ pub fn encode_in(alloc: Global, layout: &Layout, message: Lent<'_>) -> Result<By
 /// `AllocError` if memory is short, and no other refusal, since each message is short enough for its length. At most
 /// 33,628,678 bytes come after it (`laws::each_is_short`).
 pub fn encode(alloc: Global, message: &Message) -> Result<Bytes, AllocError>
-    ensures written { IfOk result (λ b. b ≡ spelling.frame WRITTEN message.now) }
+    ensures written { IfOk result (λ b. b ≡ spec.frame WRITTEN message.now) }
     // so a message that is written can be read again
     ensures fits { Fits WRITTEN message.now }
 {
@@ -256,7 +256,7 @@ pub fn encode(alloc: Global, message: &Message) -> Result<Bytes, AllocError>
 
 /// Writes a borrowed message as `encode` does: the holder of a message in another form writes it without a copy.
 pub fn encode_lent(alloc: Global, message: Lent<'_>) -> Result<Bytes, AllocError>
-    ensures written { IfOk result (λ b. b ≡ spelling.frame WRITTEN (lent_message message.entry)) }
+    ensures written { IfOk result (λ b. b ≡ spec.frame WRITTEN (lent_message message.entry)) }
     ensures fits { Fits WRITTEN (lent_message message.entry) }
 {
     encode_in(alloc, &WRITTEN, message)

@@ -3,7 +3,7 @@
 ghost use Rattle.std.specs.Prelude.{◌≡◌, ◌<◌, ◌+◌, ◌^◌, length};
 ghost use Rattle.cg_messages.specs.declared.message.Message.TheVariants as messages;
 ghost use Rattle.cg_messages.specs.Lent.{lent_message};
-ghost use Rattle.cg_frames.specs.Spelling as spelling;
+ghost use Rattle.cg_frames.specs.Spelling as spec;
 
 use cg_entry::Digest;
 use cg_messages::{Ack, Ack2, Lent, OwnerDelta, Request, Syn};
@@ -18,29 +18,29 @@ pub(crate) const DELTA_LEAST: usize = 19;
 pub(crate) const STATE_LEAST: usize = 7;
 
 fn digests_length(digests: &[Digest]) -> usize
-    requires { length (spelling.members spelling.digest digests.now) < 2 ^ 32 }
-    ensures { result ≡ length (spelling.members spelling.digest digests.now) }
+    requires { length (spec.members spec.digest digests.now) < 2 ^ 32 }
+    ensures { result ≡ length (spec.members spec.digest digests.now) }
 {
     2 + MEMBER_LENGTH * digests.len()
 }
 
 fn requests_length(requests: &[Request]) -> usize
-    requires { length (spelling.members spelling.request requests.now) < 2 ^ 32 }
-    ensures { result ≡ length (spelling.members spelling.request requests.now) }
+    requires { length (spec.members spec.request requests.now) < 2 ^ 32 }
+    ensures { result ≡ length (spec.members spec.request requests.now) }
 {
     2 + MEMBER_LENGTH * requests.len()
 }
 
 fn delta_length(delta: &OwnerDelta) -> usize
-    requires { length (spelling.delta delta.now) < 2 ^ 32 }
-    ensures { result ≡ length (spelling.delta delta.now) }
+    requires { length (spec.delta delta.now) < 2 ^ 32 }
+    ensures { result ≡ length (spec.delta delta.now) }
 {
     DELTA_LEAST + STATE_LEAST * delta.delta.count() + delta.delta.text_bytes()
 }
 
 fn deltas_length(deltas: &[OwnerDelta]) -> usize
-    requires { length (spelling.members spelling.delta deltas.now) < 2 ^ 32 }
-    ensures { result ≡ length (spelling.members spelling.delta deltas.now) }
+    requires { length (spec.members spec.delta deltas.now) < 2 ^ 32 }
+    ensures { result ≡ length (spec.members spec.delta deltas.now) }
 {
     let mut length = 2;
     for delta in deltas {
@@ -50,30 +50,30 @@ fn deltas_length(deltas: &[OwnerDelta]) -> usize
 }
 
 fn syn_length(syn: &Syn) -> usize
-    requires { length (spelling.message (messages.Syn syn.now)) < 2 ^ 32 }
-    ensures { result ≡ length (spelling.message (messages.Syn syn.now)) }
+    requires { length (spec.message (messages.Syn syn.now)) < 2 ^ 32 }
+    ensures { result ≡ length (spec.message (messages.Syn syn.now)) }
 {
     3 + syn.cluster().name().len() + digests_length(syn.digests())
 }
 
 fn ack_length(ack: &Ack) -> usize
-    requires { length (spelling.message (messages.Ack ack.now)) < 2 ^ 32 }
-    ensures { result ≡ length (spelling.message (messages.Ack ack.now)) }
+    requires { length (spec.message (messages.Ack ack.now)) < 2 ^ 32 }
+    ensures { result ≡ length (spec.message (messages.Ack ack.now)) }
 {
     1 + requests_length(ack.requests()) + deltas_length(ack.deltas())
 }
 
 fn ack2_length(ack2: &Ack2) -> usize
-    requires { length (spelling.message (messages.Ack2 ack2.now)) < 2 ^ 32 }
-    ensures { result ≡ length (spelling.message (messages.Ack2 ack2.now)) }
+    requires { length (spec.message (messages.Ack2 ack2.now)) < 2 ^ 32 }
+    ensures { result ≡ length (spec.message (messages.Ack2 ack2.now)) }
 {
     1 + deltas_length(ack2.deltas())
 }
 
 /// The length of the message with its kind: a byte may come before it.
 pub(crate) fn message_length(message: Lent<'_>) -> usize
-    requires { 1 + length (spelling.message (lent_message message)) < 2 ^ 32 }
-    ensures value { result ≡ length (spelling.message (lent_message message.entry)) }
+    requires { 1 + length (spec.message (lent_message message)) < 2 ^ 32 }
+    ensures value { result ≡ length (spec.message (lent_message message.entry)) }
     ensures short { 1 + result < 2 ^ 32 }
 {
     match message {

@@ -1,8 +1,8 @@
 //! Lines, one after the other, from a reader.
 
 ghost use Rattle.std.specs.Prelude.{◌≡◌, ◌≤◌, ◌+◌, ◌⊎◌, ℕ, List, [], ◌++◌, MatchResult, OnOk, IfErr};
-ghost use Rattle.cg_types.specs.declared.fault.Fault.{Fault as FaultValue};
-ghost use Rattle.cg_types.specs.declared.fault.Fault.TheVariants as fault;
+ghost use Rattle.cg_types.specs.declared.faults.Fault.{Fault as FaultValue};
+ghost use Rattle.cg_types.specs.declared.faults.Fault.TheVariants as faults;
 ghost use Rattle.cg_links.specs.Counted.{link_of, calls_of};
 ghost use Rattle.cg_links.specs.Lines.{ended_lines, open_line, last_line};
 ghost use Rattle.cg_links.specs.Taken.{Takes, Refuses, StopsAmong, TakesLines};
@@ -33,7 +33,7 @@ pub trait TakeLine {
 // Keeps bytes of a line that has not ended.
 fn hold(front: &mut Vec<u8>, part: &[u8]) -> Result<(), Fault>
     ensures ok { OnOk result (front.new.items ≡ front.old.items ++ part.now) }
-    ensures err { IfErr result (λ f. f ≡ fault.OutOfMemory) }
+    ensures err { IfErr result (λ f. f ≡ faults.OutOfMemory) }
 {
     match front.extend_from_slice(part) {
         Ok(()) => Ok(()),
@@ -52,7 +52,7 @@ fn take_ended<T: TakeLine>(
     ensures taken { MatchResult result
         (λ _. T.takes taker.old (front.old.items ++ part.now) taker.new)
         (λ f. T.refuses taker.old (front.old.items ++ part.now) taker.new f
-        ⊎ ((f ≡ fault.OutOfMemory) × (taker.new ≡ taker.old))) }
+        ⊎ ((f ≡ faults.OutOfMemory) × (taker.new ≡ taker.old))) }
     ensures none { OnOk result (front.new.items ≡ []) }
 {
     if front.is_empty() {

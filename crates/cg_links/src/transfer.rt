@@ -3,7 +3,7 @@
 ghost use Rattle.std.specs.Prelude.{◌≡◌, ◌≤◌, ◌+◌, ℕ, List, ◌⊎◌, take, OnOk, OnErr, IfOk, IfErr, Err};
 ghost use Rattle.std.specs.Io.KnownBytes.{Appends, Consumes, IsAtEnd};
 ghost use Rattle.cg_links.specs.Counted.{link_of, calls_of, KeepsCounts, CountsCalls, CountsFailed, CountsIdle, IsFlushed};
-ghost use Rattle.cg_types.specs.declared.fault.Fault.TheVariants as fault;
+ghost use Rattle.cg_types.specs.declared.faults.Fault.TheVariants as faults;
 
 use crate::counted::Counted;
 use cg_types::Fault;
@@ -17,7 +17,7 @@ pub fn write_bytes<W: Write>(writer: &mut Counted<W>, bytes: &[u8]) -> Result<()
     ensures kept { OnOk result (KeepsCounts writer.old writer.new) }
     ensures front { OnErr result ((n : ℕ)
         × Appends (W.contents (link_of writer.old)) (W.contents (link_of writer.new)) (take n bytes.now)) }
-    ensures fault { IfErr result (λ f. f ≡ fault.WriteFault) }
+    ensures fault { IfErr result (λ f. f ≡ faults.WriteFault) }
     ensures caused { OnErr result (CountsFailed writer.old writer.new ⊎ CountsIdle writer.old writer.new) }
 {
     let mut rest = bytes;
@@ -39,7 +39,7 @@ pub fn write_and_flush<W: Write>(writer: &mut Counted<W>, bytes: &[u8]) -> Resul
     ensures flushed { OnOk result (IsFlushed writer.new) }
     ensures front { OnErr result ((n : ℕ)
         × Appends (W.contents (link_of writer.old)) (W.contents (link_of writer.new)) (take n bytes.now)) }
-    ensures fault { IfErr result (λ f. f ≡ fault.WriteFault) }
+    ensures fault { IfErr result (λ f. f ≡ faults.WriteFault) }
     ensures caused { OnErr result (CountsFailed writer.old writer.new ⊎ CountsIdle writer.old writer.new) }
 {
     match write_bytes(writer, bytes) {
@@ -64,10 +64,10 @@ pub fn read_all<R: Read>(alloc: Global, reader: &mut Counted<R>) -> Result<Vec<u
     ensures taken { OnErr result ((bytes : List ℕ)
         × Consumes (R.remaining (link_of reader.old)) (R.remaining (link_of reader.new)) bytes) }
     ensures kept { OnOk result (KeepsCounts reader.old reader.new) }
-    ensures fault { IfErr result (λ f. (f ≡ fault.OutOfMemory) ⊎ (f ≡ fault.ReadFault)) }
+    ensures fault { IfErr result (λ f. (f ≡ faults.OutOfMemory) ⊎ (f ≡ faults.ReadFault)) }
     // a failed read is never reported as want of memory
-    ensures memory { (result ≡ Err fault.OutOfMemory) → KeepsCounts reader.old reader.new }
-    ensures caused { (result ≡ Err fault.ReadFault)
+    ensures memory { (result ≡ Err faults.OutOfMemory) → KeepsCounts reader.old reader.new }
+    ensures caused { (result ≡ Err faults.ReadFault)
         → CountsFailed reader.old reader.new ⊎ CountsCalls reader.old reader.new MOST_READS }
     ensures turns { calls_of reader.new ≤ calls_of reader.old + MOST_READS }
 {

@@ -1,21 +1,21 @@
 //! The outcomes that count as arrivals.
 
 ghost use Rattle.std.specs.Prelude.{◌≡◌};
-ghost use Rattle.cg_silence.specs.Windows.{was_taken as was_taken_of, any_taken as any_taken_of};
+ghost use Rattle.cg_silence.specs.Windows as spec;
 
 use cg_entry::Took;
 use cg_messages::Outcome;
 
 /// Tests whether a delta was taken.
 pub fn was_taken(outcome: &Outcome) -> bool
-    ensures { result ≡ was_taken_of outcome.now.took }
+    ensures { result ≡ spec.was_taken outcome.now.took }
 {
     matches!(outcome.took, Took::Taken)
 }
 
 /// Tests whether any delta was taken.
 pub fn any_taken(outcomes: &[Outcome]) -> bool
-    ensures { result ≡ any_taken_of outcomes.now }
+    ensures { result ≡ spec.any_taken outcomes.now }
 {
     outcomes.iter().any(was_taken)
 }

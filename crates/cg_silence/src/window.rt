@@ -2,7 +2,8 @@
 
 ghost use Rattle.std.specs.Prelude.{◌≡◌, ◌+◌, ◌*◌, ◌<◌, ◌≤◌, ◌^◌, ℕ, List, [], ◌∷◌, ◌++◌, length, sum, IfOk, Some};
 ghost use Rattle.circular_buffer.specs.Buffer.{buffer, keep_last};
-ghost use Rattle.cg_silence.specs.Silence.{Shows, after_arrival, gap as gap_of, latest as latest_of, verdict, judged as judged_of, is_over as is_over_of};
+ghost use Rattle.cg_silence.specs.Silence as spec;
+ghost use Rattle.cg_silence.specs.Silence.{Shows, after_arrival, verdict};
 
 use crate::limits::THRESHOLD_UNIT;
 use crate::silence::Silence;
@@ -34,7 +35,7 @@ impl Model for Window {
 
 // The gap that an arrival at `now` makes after the last one.
 pub(crate) fn gap(silence: Silence, last: Option<u64>, now: u64) -> u64
-    ensures { result ≡ gap_of silence last now }
+    ensures { result ≡ spec.gap silence last now }
 {
     match last {
         None => u64::from(silence.initial_gap()),
@@ -44,7 +45,7 @@ pub(crate) fn gap(silence: Silence, last: Option<u64>, now: u64) -> u64
 
 // The last arrival after one at `now`.
 pub(crate) fn latest(last: Option<u64>, now: u64) -> u64
-    ensures { result ≡ latest_of last now }
+    ensures { result ≡ spec.latest last now }
 {
     match last {
         None => now,
@@ -71,7 +72,7 @@ fn replace_oldest(gaps: &mut HeapCircularBuffer<u32>, total: u64, gap: u32) -> u
 // Tests whether a time without an arrival is over the threshold.
 fn is_over(threshold: u32, elapsed: u64, count: usize, total: u64) -> bool
     requires few { count < 2 ^ 32 }
-    ensures { result ≡ is_over_of threshold elapsed count total }
+    ensures { result ≡ spec.is_over threshold elapsed count total }
 {
     let weight = count as u64 * u64::from(THRESHOLD_UNIT);
     let waited = elapsed as u128 * weight as u128;
@@ -88,7 +89,7 @@ pub(crate) fn judged(
     now: u64,
 ) -> Verdict
     requires few { count < 2 ^ 32 }
-    ensures { result ≡ judged_of threshold last count total now }
+    ensures { result ≡ spec.judged threshold last count total now }
 {
     let Some(last) = last else {
         return Verdict::Unheard;

@@ -2,14 +2,16 @@
 
 ghost use Rattle.std.specs.Prelude.{◌≡◌, ◌≤◌, ◌↔◌, ℕ, true, false, IsTrue, IfOk, IfErr, is_some, length, option_copied};
 ghost use Rattle.cg_types.specs.Answer.{Answers};
-ghost use Rattle.cg_table.specs.Merge.{is_ahead as is_ahead_of, later_of, later_entries as later_entries_of, strangers as strangers_of, owners_together as owners_together_of, merging};
-ghost use Rattle.cg_table.specs.Taking.{change_at as change_at_of, change_of, with_row as with_row_of, needs_room as needs_room_for, putting_delta};
-ghost use Rattle.std.specs.FinMap as table;
+ghost use Rattle.cg_table.specs.Merge as merge_spec;
+ghost use Rattle.cg_table.specs.Merge.{later_of, merging};
+ghost use Rattle.cg_table.specs.Taking as taking_spec;
+ghost use Rattle.cg_table.specs.Taking.{change_of, putting_delta};
+ghost use Rattle.std.specs.FinMap as map;
 ghost use Rattle.std.specs.List.{AllByRecursion};
 ghost use Rattle.cg_types.specs.Rising.{Rises};
 ghost use Rattle.cg_types.specs.Rows.{keys_of};
 ghost use Rattle.cg_types.specs.Map.{put_each};
-ghost use Rattle.cg_table.specs.Own.{own_entry as own_entry_of, with_own as with_own_of};
+ghost use Rattle.cg_table.specs.Own as own_spec;
 ghost use Rattle.cg_table.specs.Puts.{row_at};
 ghost use Rattle.cg_table.specs.Table.{lone_table, digest_of, digests_of};
 ghost use Rattle.cg_table.specs.Values.{AreOwnerEntries, IsOwnerRow};
@@ -50,7 +52,7 @@ fn digest_of_row(row: &Row<Entry>) -> Digest
 
 // Tests whether an entry is later than what is held of its endpoint.
 fn is_ahead(held: Option<&Entry>, theirs: &Entry) -> bool
-    ensures { result ≡ is_ahead_of (option_copied held.entry) theirs.now }
+    ensures { result ≡ merge_spec.is_ahead (option_copied held.entry) theirs.now }
 {
     match held {
         None => true,
@@ -113,14 +115,14 @@ impl Table {
     /// The endpoint of the member that holds the table.
     pub fn own(&self) -> Endpoint
         ensures value { result ≡ self.now.own }
-        ensures own_held { is_some (table.get self.now.entries self.now.own) ≡ true }
+        ensures own_held { is_some (map.get self.now.entries self.now.own) ≡ true }
     {
         self.own
     }
 
     /// The entry of an endpoint, if it is held.
     pub fn get(&self, endpoint: Endpoint) -> Option<&Entry>
-        ensures { option_copied result ≡ table.get self.now.entries endpoint }
+        ensures { option_copied result ≡ map.get self.now.entries endpoint }
     {
         self.entries.get(endpoint)
     }
@@ -128,7 +130,7 @@ impl Table {
     /// The entry of an endpoint, as `get` gives it, whatever the place `near` is. It looks there first: in a walk over
     /// endpoints that rise, most are found at the place of the last one or the next.
     pub fn get_near(&self, near: usize, endpoint: Endpoint) -> Option<&Entry>
-        ensures { option_copied result ≡ table.get self.now.entries endpoint }
+        ensures { option_copied result ≡ map.get self.now.entries endpoint }
     {
         self.entries.get_near(near, endpoint)
     }
@@ -149,7 +151,7 @@ impl Table {
 
     /// The entry of the member's own endpoint, which every table holds.
     pub fn own_entry(&self) -> &Entry
-        ensures { result.now ≡ own_entry_of self.now }
+        ensures { result.now ≡ own_spec.own_entry self.now }
     {
         match self.get(self.own) {
             Some(entry) => entry,
@@ -159,7 +161,7 @@ impl Table {
 
     /// The rows of the endpoints that are held, each with its entry, rising by endpoint.
     pub fn owners(&self) -> &[Row<Entry>]
-        ensures value { result.now ≡ table.entries self.now.entries }
+        ensures value { result.now ≡ map.entries self.now.entries }
         ensures rise { Rises (keys_of result.now) }
         ensures few { length result.now ≤ MEMBER_LIMIT }
         ensures valid { AreOwnerEntries self.now.entries }
@@ -193,7 +195,7 @@ impl Table {
 
     // Counts the endpoints that are held.
     fn len(&self) -> usize
-        ensures value { result ≡ table.len self.now.entries }
+        ensures value { result ≡ map.len self.now.entries }
         ensures few { result ≤ MEMBER_LIMIT }
     {
         let owners = self.owners();
@@ -209,15 +211,16 @@ impl Table {
 
     /// Tests whether a delta needs room for one more endpoint: it is whole, and about one that is not held.
     pub fn needs_room(&self, endpoint: Endpoint, delta: &Delta) -> bool
-        ensures { result ≡ needs_room_for self.now.entries endpoint delta.now }
+        ensures { result ≡ taking_spec.needs_room self.now.entries endpoint delta.now }
     {
         delta.above() == 0 && self.get(endpoint).is_none()
     }
 
     // A table with a row put, if there is one, which shares all others.
     fn with_row(&self, alloc: Global, row: Option<Row<Entry>>) -> Result<Table, AllocError>
-        requires { table.len (with_row_of row self.now.entries) ≤ MEMBER_LIMIT }
-        ensures { IfOk result (λ t. t ≡ record { own = self.now.own; entries = with_row_of row self.now.entries }) }
+        requires { map.len (taking_spec.with_row row self.now.entries) ≤ MEMBER_LIMIT }
+        ensures { IfOk result (λ t.
+            t ≡ record { own = self.now.own; entries = taking_spec.with_row row self.now.entries }) }
     {
         let Some(row) = row else {
             return self.copy(alloc);
@@ -232,7 +235,7 @@ impl Table {
     /// Returns the table with another entry for its own endpoint. It shares all others. `AllocError` if the new row or
     /// the list of rows finds no memory.
     pub fn with_own(&self, alloc: Global, entry: Entry) -> Result<Table, AllocError>
-        ensures { IfOk result (λ t. t ≡ with_own_of entry self.now) }
+        ensures { IfOk result (λ t. t ≡ own_spec.with_own entry self.now) }
     {
         let row = Row::new(alloc, self.own, entry)?;
         self.with_row(alloc, Some(row))
@@ -249,10 +252,11 @@ impl Table {
         held: Option<&Entry>,
         delta: &Delta,
     ) -> Result<(Option<Row<Entry>>, Took), AllocError>
-        ensures value { IfOk result (λ x. x ≡ change_at_of self.now.own endpoint (option_copied held.entry) delta.now) }
+        ensures value { IfOk result (λ x.
+            x ≡ taking_spec.change_at self.now.own endpoint (option_copied held.entry) delta.now) }
         // Memory is short only if the delta is taken.
         ensures refused { IfErr result (λ _.
-            is_some (change_at_of self.now.own endpoint (option_copied held.entry) delta.now).0 ≡ true) }
+            is_some (taking_spec.change_at self.now.own endpoint (option_copied held.entry) delta.now).0 ≡ true) }
     {
         if endpoint == self.own {
             return Ok((None, Took::Own));
@@ -298,7 +302,7 @@ impl Table {
 
     // Counts the rows about endpoints that are not held.
     fn strangers(&self, rows: &[Row<Entry>]) -> usize
-        ensures value { result ≡ strangers_of self.now.entries rows.now }
+        ensures value { result ≡ merge_spec.strangers self.now.entries rows.now }
         ensures few { result ≤ length rows.now }
     {
         let mut count = 0;
@@ -312,7 +316,7 @@ impl Table {
 
     // Counts the endpoints that both tables hold together.
     fn owners_together(&self, other: &Table) -> usize
-        ensures { result ≡ owners_together_of self.now.entries other.now.entries }
+        ensures { result ≡ merge_spec.owners_together self.now.entries other.now.entries }
     {
         self.len() + self.strangers(other.owners())
     }
@@ -321,14 +325,14 @@ impl Table {
     /// have to rise by endpoint.
     pub fn has_room_for(&self, rows: &[Row<Entry>]) -> bool
         requires { Rises (keys_of rows.now) }
-        ensures { IsTrue result ↔ (table.len (put_each rows.now self.now.entries) ≤ MEMBER_LIMIT) }
+        ensures { IsTrue result ↔ (map.len (put_each rows.now self.now.entries) ≤ MEMBER_LIMIT) }
     {
         self.strangers(rows) <= MEMBER_LIMIT - self.len()
     }
 
     // The other table's rows that are later than what is held of their owners.
     fn later_entries(&self, alloc: Global, other: &Table) -> Result<Vec<Row<Entry>>, AllocError>
-        ensures { IfOk result (λ v. v.items ≡ later_entries_of self.now.entries other.now.entries) }
+        ensures { IfOk result (λ v. v.items ≡ merge_spec.later_entries self.now.entries other.now.entries) }
     {
         let owners = other.owners();
         let mut later = Vec::new(alloc);
@@ -345,7 +349,7 @@ impl Table {
     /// `owners_rise` of `cg_types` and `has_room_for` test that. `AllocError` if the list of rows finds no memory.
     pub fn put_rows(&self, alloc: Global, changes: Vec<Row<Entry>>) -> Result<Table, AllocError>
         requires rise { Rises (keys_of changes.items) }
-        requires room { table.len (put_each changes.items self.now.entries) ≤ MEMBER_LIMIT }
+        requires room { map.len (put_each changes.items self.now.entries) ≤ MEMBER_LIMIT }
         ensures { IfOk result (λ t.
             t ≡ record { own = self.now.own; entries = put_each changes.items self.now.entries }) }
     {
@@ -360,7 +364,7 @@ impl Table {
     /// if one of the two lists finds no memory.
     pub fn with_rows(&self, alloc: Global, changes: &[Row<Entry>]) -> Result<Table, AllocError>
         requires rise { Rises (keys_of changes.now) }
-        requires room { table.len (put_each changes.now self.now.entries) ≤ MEMBER_LIMIT }
+        requires room { map.len (put_each changes.now self.now.entries) ≤ MEMBER_LIMIT }
         ensures { IfOk result (λ t.
             t ≡ record { own = self.now.own; entries = put_each changes.now self.now.entries }) }
     {
@@ -376,8 +380,8 @@ impl Table {
     /// comes in its place, and is else the only refusal.
     pub fn merge(&self, alloc: Global, other: &Table) -> Result<Table, Fault>
         ensures due { Answers (λ t. t) (merging self.now other.now) result }
-        ensures each { IfOk result (λ t. (owner : ℕ) → table.get t.entries owner
-            ≡ later_of (table.get self.now.entries owner) (table.get other.now.entries owner)) }
+        ensures each { IfOk result (λ t. (owner : ℕ) → map.get t.entries owner
+            ≡ later_of (map.get self.now.entries owner) (map.get other.now.entries owner)) }
     {
         if self.owners_together(other) > MEMBER_LIMIT {
             return Err(Fault::TableFull);

@@ -8,7 +8,8 @@ ghost use Rattle.cg_types.specs.Numbers.{IsKey};
 ghost use Rattle.cg_types.specs.Rising.{Rises, is_among};
 ghost use Rattle.cg_types.specs.Rows.{keys_of};
 ghost use Rattle.cg_tokens.specs.Text.{is_comma};
-ghost use Rattle.cg_tokens.specs.Claims.{text_at, is_member as is_member_of, claimed_tokens, claim, claims_of, rank, goes_before as goes_before_of, without, before, behind, merge, keeps_claims as keeps_claims_of};
+ghost use Rattle.cg_tokens.specs.Claims as spec;
+ghost use Rattle.cg_tokens.specs.Claims.{text_at, claimed_tokens, claim, claims_of, rank, without, before, behind, merge};
 
 use crate::text::{first_piece, tokens_in};
 use crate::token::Token;
@@ -49,7 +50,7 @@ fn first_word(text: &[u8]) -> &[u8]
 
 // Tests whether an endpoint is a member of the ring by its status.
 fn is_member(entry: &Entry) -> bool
-    ensures { result ≡ is_member_of entry.now.states }
+    ensures { result ≡ spec.is_member entry.now.states }
 {
     let status = first_word(text_at(entry, STATUS_KEY));
     status == b"NORMAL".as_slice() || status == b"LEAVING".as_slice()
@@ -69,7 +70,7 @@ fn same_text(one: &Entry, other: &Entry, key: u8) -> bool
 /// (`laws::ring_stays`). It reads no token and takes no memory, so it answers `false` of other texts that claim the
 /// same.
 pub fn keeps_claims(held: Option<&Entry>, entry: &Entry) -> bool
-    ensures { result ≡ keeps_claims_of (option_copied held.entry) entry.now }
+    ensures { result ≡ spec.keeps_claims (option_copied held.entry) entry.now }
 {
     match held {
         None => !is_member(entry),
@@ -130,7 +131,7 @@ pub(crate) fn claims_by(
 
 // Tests whether one claim comes before another: by its token, or for one token by beating it.
 fn goes_before(one: &Claim, other: &Claim) -> bool
-    ensures { result ≡ goes_before_of one.now other.now }
+    ensures { result ≡ spec.goes_before one.now other.now }
 {
     if one.token != other.token {
         return one.token < other.token;

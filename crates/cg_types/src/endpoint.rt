@@ -7,7 +7,8 @@ ghost use Rattle.std.specs.Cmp.Rules.{comparing};
 ghost use Rattle.std.proofs.Common.{rules};
 ghost use Rattle.std.specs.Int.{w32, to_be_bytes, from_be_bytes};
 ghost use Rattle.cg_types.specs.Numbers.{IsEndpoint, endpoint_of, address_of, port_of};
-ghost use Rattle.cg_types.specs.EndpointText.{endpoint_text, endpoint_in, octet_before as text_octet_before, port_in as text_port_in};
+ghost use Rattle.cg_types.specs.EndpointText as spec;
+ghost use Rattle.cg_types.specs.EndpointText.{endpoint_text, endpoint_in};
 ghost use Rattle.cg_types.specs.declared.fault.Fault.TheVariants.{BadText};
 
 use crate::fault::Fault;
@@ -234,7 +235,7 @@ fn parts_in(text: &[u8]) -> Option<Endpoint>
 // Reads a number of at most 255 before the first byte `at`, and returns it with what follows that byte.
 #[tactic(auto, unfolding(crate::specs::EndpointText::octet_before))]
 fn octet_before(text: &[u8], at: u8) -> Option<(u8, &[u8])>
-    ensures { option_map (λ p. (p.0, p.1.now)) result ≡ text_octet_before at text.now }
+    ensures { option_map (λ p. (p.0, p.1.now)) result ≡ spec.octet_before at text.now }
 {
     let (part, rest) = cut(text, at)?;
     let octet = number(part, 255)?;
@@ -244,7 +245,7 @@ fn octet_before(text: &[u8], at: u8) -> Option<(u8, &[u8])>
 // A port, 1 to 65,535.
 #[tactic(auto, unfolding(crate::specs::EndpointText::port_in))]
 fn port_in(text: &[u8]) -> Option<u16>
-    ensures value { result ≡ text_port_in text.now }
+    ensures value { result ≡ spec.port_in text.now }
     ensures range { IfSome result (λ port. 0 < port) }
 {
     let port = number(text, 65535)?;

@@ -4,7 +4,8 @@ ghost use Rattle.std.specs.Prelude.{◌≡◌, ◌≢◌, ℕ, ◌≤◌, decima
 ghost use Rattle.std.specs.List.{list_all};
 ghost use Rattle.std.specs.Char.{is_ascii_digit};
 ghost use Rattle.std.specs.Str.Parse.{digits_value};
-ghost use Rattle.cg_types.specs.Words.{cut_at, number_of, number_between as text_number_between};
+ghost use Rattle.cg_types.specs.Words as spec;
+ghost use Rattle.cg_types.specs.Words.{cut_at, number_of};
 
 /// Cuts bytes at the first byte `at`: returns the part before it and the part after it, or `None` if there is no such
 /// byte.
@@ -30,7 +31,7 @@ pub fn number(text: &[u8], most: u64) -> Option<u64>
 
 /// Reads a number from `least` to `most` from its text, as `number` does.
 pub fn number_between(text: &[u8], least: u64, most: u64) -> Option<u64>
-    ensures value { result ≡ text_number_between least most text.now }
+    ensures value { result ≡ spec.number_between least most text.now }
     ensures some { IfSome result (λ n. (text.now ≡ decimal n) × (least ≤ n) × (n ≤ most)) }
     ensures none { IfNone result ((n : ℕ) → least ≤ n → n ≤ most → text.now ≢ decimal n) }
 {
@@ -39,7 +40,7 @@ pub fn number_between(text: &[u8], least: u64, most: u64) -> Option<u64>
 
 #[tactic(auto, unfolding(crate::specs::Words::number_between))]
 fn read_between(text: &[u8], least: u64, most: u64) -> Option<u64>
-    ensures { result ≡ text_number_between least most text.now }
+    ensures { result ≡ spec.number_between least most text.now }
 {
     let number = read_number(text, most)?;
     if number < least { None } else { Some(number) }

@@ -2,13 +2,14 @@
 
 ghost use Rattle.std.specs.Prelude.{◌≡◌};
 ghost use Rattle.cg_types.specs.Answer.{AnswersExactly};
-ghost use Rattle.cg_version.specs.Version.{generation_after as text_generation_after, generation_at_start};
+ghost use Rattle.cg_version.specs.Version as spec;
+ghost use Rattle.cg_version.specs.Version.{generation_at_start};
 
 use cg_types::{Fault, Generation};
 
 // Returns one more than the stored generation, or 1 if none is stored.
 fn generation_after(stored: Option<Generation>) -> u32
-    ensures { result ≡ text_generation_after stored }
+    ensures { result ≡ spec.generation_after stored }
 {
     match stored {
         None => 1,

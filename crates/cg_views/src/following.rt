@@ -5,8 +5,8 @@ ghost use Rattle.std.specs.FinMap as map;
 ghost use Rattle.std.specs.List.{list_all};
 ghost use Rattle.cg_types.specs.Rising.{Rises};
 ghost use Rattle.cg_types.specs.Rows.{keys_of};
-ghost use Rattle.cg_table.specs.Puts.{is_held_from, keeps_keys as keeps_keys_of};
-ghost use Rattle.cg_table.specs.Puts.{is_in_order as is_in_order_of, keep_order as keep_order_of};
+ghost use Rattle.cg_table.specs.Puts as spec;
+ghost use Rattle.cg_table.specs.Puts.{is_held_from};
 ghost use Rattle.cg_views.specs.Lists.{MayFollow};
 
 use cg_entry::Entry;
@@ -24,7 +24,7 @@ fn keeps_key(entry: &Entry, key: StateKey, version: Version) -> bool
 }
 
 fn keeps_keys(before: &Entry, after: &Entry) -> bool
-    ensures { result ≡ keeps_keys_of before.now.states after.now.states }
+    ensures { result ≡ spec.keeps_keys before.now.states after.now.states }
 {
     let states = before.by_key();
     for place in 0..states.len() {
@@ -38,7 +38,7 @@ fn keeps_keys(before: &Entry, after: &Entry) -> bool
 
 // Returns `true` if a row is later than what is held and, if it is the table's own, goes on from it.
 fn is_in_order(table: &Table, row: &Row<Entry>) -> bool
-    ensures { result ≡ is_in_order_of table.now row.now }
+    ensures { result ≡ spec.is_in_order table.now row.now }
 {
     let is_own = row.endpoint() == table.own();
     let after = row.value();
@@ -50,7 +50,7 @@ fn is_in_order(table: &Table, row: &Row<Entry>) -> bool
 }
 
 fn each_is_in_order(table: &Table, rows: &[Row<Entry>]) -> bool
-    ensures { result ≡ list_all (is_in_order_of table.now) rows.now }
+    ensures { result ≡ list_all (spec.is_in_order table.now) rows.now }
 {
     rows.iter().all(|row| is_in_order(table, row))
 }
@@ -58,7 +58,7 @@ fn each_is_in_order(table: &Table, rows: &[Row<Entry>]) -> bool
 // Since the rows rise, the entry held before each is the one that the table holds.
 fn keep_order(table: &Table, rows: &[Row<Entry>]) -> bool
     requires { Rises (keys_of rows.now) }
-    ensures { result ≡ keep_order_of table.now rows.now }
+    ensures { result ≡ spec.keep_order table.now rows.now }
 {
     each_is_in_order(table, rows)
 }

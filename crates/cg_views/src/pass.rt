@@ -87,7 +87,7 @@ pub struct Pass<N: Naming> {
 impl<N: Naming> Model for Pass<N> {
     ghost use Rattle.std.specs.Prelude.{◌≡◌, List, IfSome};
     ghost use mathlib.Core.List.{IsPrefix};
-    ghost use Rattle.left_right.specs.Sides.{view as seen_from};
+    ghost use Rattle.left_right.specs.Sides as spec;
     ghost use Rattle.cg_table.specs.Puts.{Put, puts_code};
     ghost use Rattle.cg_views.specs.Lists.{joined};
 
@@ -97,7 +97,7 @@ impl<N: Naming> Model for Pass<N> {
 
     ghost view = { λ p. joined p.known.all };
 
-    ghost invariant = { λ p. (p.known.of ≡ N.book) × IfSome p.reader (λ r. IsPrefix (seen_from r.place) p.known.all) };
+    ghost invariant = { λ p. (p.known.of ≡ N.book) × IfSome p.reader (λ r. IsPrefix (spec.view r.place) p.known.all) };
 }
 
 impl<N: Naming> Pass<N> {
