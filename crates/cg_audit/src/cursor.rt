@@ -2,9 +2,11 @@
 
 ghost use Rattle.std.specs.Prelude.{◌≡◌, ◌+◌, ◌≤◌, ℕ, IfOk, length, option_copied, slice_get};
 ghost use Rattle.std.specs.Option.{option_map, option_to_list};
-ghost use Rattle.cg_audit.specs.Turns.{rest, first as first_of};
+ghost use Rattle.cg_audit.specs.Turns as turns_spec;
+ghost use Rattle.cg_audit.specs.Turns.{rest};
 ghost use Rattle.cg_audit.specs.Steps.{run_item};
-ghost use Rattle.cg_audit.specs.Tracks.{IsHere, advanced as advanced_of, first_cursors, item_here, left_at, track_at};
+ghost use Rattle.cg_audit.specs.Tracks as tracks_spec;
+ghost use Rattle.cg_audit.specs.Tracks.{IsHere, first_cursors, item_here, left_at, track_at};
 
 use crate::lives::Lives;
 use crate::step::{Step, item_in};
@@ -50,7 +52,7 @@ fn item_at(endpoint: Endpoint, histories: &[History], cursor: Cursor) -> Option<
 }
 
 fn first_in(endpoint: Endpoint, histories: &[History], cursor: Cursor) -> Option<Step<'_>>
-    ensures { option_to_list (option_map run_item result) ≡ first_of (left_at endpoint histories.now cursor) }
+    ensures { option_to_list (option_map run_item result) ≡ turns_spec.first (left_at endpoint histories.now cursor) }
 {
     let at = settled(histories, cursor);
     item_at(endpoint, histories, at)
@@ -58,7 +60,7 @@ fn first_in(endpoint: Endpoint, histories: &[History], cursor: Cursor) -> Option
 
 /// Returns the next item of some lives, if one is left.
 pub(crate) fn first(lives: &Lives, cursor: Cursor) -> Option<Step<'_>>
-    ensures { option_to_list (option_map run_item result) ≡ first_of (track_at lives.now cursor).left }
+    ensures { option_to_list (option_map run_item result) ≡ turns_spec.first (track_at lives.now cursor).left }
 {
     first_in(lives.endpoint(), lives.histories(), cursor)
 }
@@ -94,7 +96,7 @@ fn advanced_in(histories: &[History], cursor: Cursor) -> Cursor
 
 /// Returns the cursor after the next item of some lives has gone, if one is left.
 pub(crate) fn advanced(lives: &Lives, cursor: Cursor) -> Cursor
-    ensures { track_at lives.now result ≡ advanced_of (track_at lives.now cursor) }
+    ensures { track_at lives.now result ≡ tracks_spec.advanced (track_at lives.now cursor) }
 {
     advanced_in(lives.histories(), cursor)
 }

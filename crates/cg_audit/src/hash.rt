@@ -2,7 +2,8 @@
 
 ghost use Rattle.std.specs.Prelude.{◌≡◌, fold};
 ghost use Rattle.cg_messages.specs.Lent.{lent_message};
-ghost use Rattle.cg_audit.specs.Hash.{mixed as mixed_of, endpoint_number as endpoint_number_of, with_digest, with_request, with_delta, hash_of as hash_of_lem};
+ghost use Rattle.cg_audit.specs.Hash as spec;
+ghost use Rattle.cg_audit.specs.Hash.{with_digest, with_request, with_delta};
 
 use cg_entry::Digest;
 use cg_messages::{Ack, Ack2, Lent, OwnerDelta, Request, Syn};
@@ -12,13 +13,13 @@ use cg_types::Endpoint;
 const FACTOR: u64 = 0x9e37_79b9_7f4a_7c15;
 
 fn mixed(hash: u64, number: u32) -> u64
-    ensures { result ≡ mixed_of hash number }
+    ensures { result ≡ spec.mixed hash number }
 {
     hash.wrapping_mul(FACTOR).wrapping_add(u64::from(number))
 }
 
 fn endpoint_number(endpoint: Endpoint) -> u32
-    ensures { result ≡ endpoint_number_of endpoint }
+    ensures { result ≡ spec.endpoint_number endpoint }
 {
     u32::from_be_bytes(endpoint.address()).wrapping_add(u32::from(endpoint.port()))
 }
@@ -61,7 +62,7 @@ fn deltas_in(mut hash: u64, deltas: &[OwnerDelta]) -> u64
 
 /// Returns the hash of a message's content.
 pub(crate) fn hash_of(message: Lent<'_>) -> u64
-    ensures { result ≡ hash_of_lem (lent_message message.entry) }
+    ensures { result ≡ spec.hash_of (lent_message message.entry) }
 {
     match message {
         Lent::Syn(syn) => digests_in(1, syn.digests()),

@@ -2,7 +2,7 @@
 
 ghost use Rattle.std.specs.Prelude.{◌≡◌, ◌<◌, ◌+◌, ◌%◌, ◌↔◌, ◌∷◌, ◌++◌, [], IsTrue, IfOk, Contains, Some, length, map, slice_get};
 ghost use Rattle.cg_messages.specs.Lent.{lent_message};
-ghost use Rattle.cg_audit.specs.Hash.{hash_of as hash_of_lem};
+ghost use Rattle.cg_audit.specs.Hash as spec;
 ghost use Rattle.cg_audit.specs.Index.{IsIndex, HaveTheSame};
 
 use crate::hash::hash_of;
@@ -59,8 +59,8 @@ fn count_of(hashes: &[u64]) -> usize
 // Returns `true` if this message is at a place.
 fn is_at(messages: &[Lent<'_>], hashes: &[u64], place: usize, wanted: Lent<'_>, hash: u64) -> bool
     requires place { place < length hashes.now }
-    requires wanted { hash ≡ hash_of_lem (lent_message wanted) }
-    requires hashed { map hash_of_lem (map lent_message messages.now) ≡ hashes.now }
+    requires wanted { hash ≡ spec.hash_of (lent_message wanted) }
+    requires hashed { map spec.hash_of (map lent_message messages.now) ≡ hashes.now }
     ensures { IsTrue result
         ↔ (slice_get (map lent_message messages.now) place ≡ Some (lent_message wanted.entry)) }
 {

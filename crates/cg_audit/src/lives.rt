@@ -5,8 +5,9 @@ ghost use Rattle.std.specs.Bool.{OnTrue};
 ghost use Rattle.cg_types.specs.Rising.{rise_past};
 ghost use Rattle.std.specs.List.{list_any, AllByRecursion};
 ghost use Rattle.cg_audit.specs.Items.{LivesValue, IsLife, AreLives, generation_of};
-ghost use Rattle.cg_audit.specs.LivesCode.{are_of as are_of_lem};
-ghost use Rattle.cg_audit.specs.Lives.{differ, all_rise as all_rise_lem, lone_life, then_life, none_folded as none_folded_lem, are_whole as are_whole_lem};
+ghost use Rattle.cg_audit.specs.LivesCode as lives_code_spec;
+ghost use Rattle.cg_audit.specs.Lives as lives_spec;
+ghost use Rattle.cg_audit.specs.Lives.{differ, lone_life, then_life};
 
 use cg_history::History;
 use cg_types::{Endpoint, Generation};
@@ -52,7 +53,7 @@ fn show_life(endpoint: Endpoint, history: &History)
 
 // Returns `true` if each history began with a node of the endpoint; each is then a life of it.
 fn are_of(endpoint: Endpoint, histories: &[History]) -> bool
-    ensures value { result ≡ are_of_lem endpoint histories.now }
+    ensures value { result ≡ lives_code_spec.are_of endpoint histories.now }
     ensures lives { OnTrue result (AllByRecursion (IsLife endpoint) histories.now) }
 {
     let mut rest = histories;
@@ -92,21 +93,21 @@ fn rise(histories: &[History]) -> bool
 
 /// Returns `true` if the generations of each endpoint rise.
 pub(crate) fn all_rise(lives: &[Lives]) -> bool
-    ensures { result ≡ all_rise_lem lives.now }
+    ensures { result ≡ lives_spec.all_rise lives.now }
 {
     lives.iter().all(|one| rise(one.histories()))
 }
 
 // Returns `true` if no record of these histories is folded.
 fn none_folded(histories: &[History]) -> bool
-    ensures { result ≡ none_folded_lem histories.now }
+    ensures { result ≡ lives_spec.none_folded histories.now }
 {
     histories.iter().all(|history| history.folded() == 0)
 }
 
 /// Returns `true` if no record of any life is folded.
 pub(crate) fn are_whole(lives: &[Lives]) -> bool
-    ensures { result ≡ are_whole_lem lives.now }
+    ensures { result ≡ lives_spec.are_whole lives.now }
 {
     lives.iter().all(|one| none_folded(one.histories()))
 }
@@ -135,7 +136,7 @@ pub fn endpoints_differ(lives: &[Lives]) -> bool
 impl Lives {
     /// Makes the lives of an endpoint; `None` if a history did not begin with a node of the endpoint.
     pub fn new(endpoint: Endpoint, histories: Vec<History>) -> Option<Lives>
-        ensures when { IsSome result ↔ IsTrue (are_of_lem endpoint histories.items) }
+        ensures when { IsSome result ↔ IsTrue (lives_code_spec.are_of endpoint histories.items) }
         ensures value { IfSome result (λ l. l ≡ record { endpoint = endpoint; histories = histories.items }) }
     {
         if !are_of(endpoint, &histories) {

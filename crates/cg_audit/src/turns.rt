@@ -8,7 +8,8 @@ ghost use Rattle.cg_audit.specs.Index.{HaveTheSame};
 ghost use Rattle.cg_audit.specs.Steps.{run_item};
 ghost use Rattle.cg_audit.specs.Audit.{life_item};
 ghost use Rattle.cg_audit.specs.Lives.{differ};
-ghost use Rattle.cg_audit.specs.Tracks.{IsFound, IsNext, better_place, found_of, goes, heads_left, is_before as is_before_lem, is_ready as is_ready_lem, ready_item, track_at, track_of, tracks};
+ghost use Rattle.cg_audit.specs.Tracks as spec;
+ghost use Rattle.cg_audit.specs.Tracks.{IsFound, IsNext, better_place, found_of, goes, heads_left, ready_item, track_at, track_of, tracks};
 
 use crate::cursor::{Cursor, advanced, cursors, first};
 use crate::index::SentMessages;
@@ -55,7 +56,7 @@ fn is_less(one: Endpoint, other: Endpoint) -> bool
 fn is_before(lives: &[Lives], place: usize, chosen: Option<usize>) -> bool
     requires place { place < length lives.now }
     requires chosen { IfSome chosen (λ c. c < length lives.now) }
-    ensures { result ≡ is_before_lem (endpoints_of lives.now) place chosen }
+    ensures { result ≡ spec.is_before (endpoints_of lives.now) place chosen }
 {
     match chosen {
         None => true,
@@ -81,7 +82,7 @@ fn cursor_at(cursors: &[Cursor], place: usize) -> Cursor
 fn is_ready_at(lives: &[Lives], cursors: &[Cursor], sent: &SentMessages<'_>, place: usize) -> bool
     requires count { length cursors.now ≡ length lives.now }
     requires place { place < length lives.now }
-    ensures { result ≡ is_ready_lem sent.now (tracks lives.now cursors.now) place }
+    ensures { result ≡ spec.is_ready sent.now (tracks lives.now cursors.now) place }
 {
     let one = lives_at(lives, place);
     let cursor = cursor_at(cursors, place);
@@ -100,8 +101,8 @@ fn is_better(
     requires place { place < length lives.now }
     requires chosen { IfSome chosen (λ c. c < length lives.now) }
     ensures { result
-        ≡ (is_before_lem (endpoints_of lives.now) place chosen
-        && is_ready_lem sent.now (tracks lives.now cursors.now) place) }
+        ≡ (spec.is_before (endpoints_of lives.now) place chosen
+        && spec.is_ready sent.now (tracks lives.now cursors.now) place) }
 {
     is_before(lives, place, chosen) && is_ready_at(lives, cursors, sent, place)
 }

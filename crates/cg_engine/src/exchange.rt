@@ -5,7 +5,7 @@ ghost use Rattle.cg_messages.specs.declared.message.Message.TheVariants as messa
 ghost use Rattle.cg_frames.specs.declared.layout.TheConstants.{WRITTEN};
 ghost use Rattle.cg_frames.specs.Spelling.{frame};
 ghost use Rattle.cg_links.specs.Counted.{link_of, failed_of, idle_of};
-ghost use Rattle.cg_messages.specs.declared.kind.Kind.TheVariants as message_kind;
+ghost use Rattle.cg_messages.specs.declared.kind.Kind.TheVariants as message_kinds;
 ghost use Rattle.cg_engine.specs.Exchanged.{Exchanges};
 
 use crate::gate::Gate;
@@ -86,7 +86,7 @@ pub fn respond<G: Gate, R: Read, W: Write>(
     requires read { failed_of reader.old ≡ 0 }
     requires written { failed_of writer.old ≡ 0 }
     requires taken { idle_of writer.old ≡ 0 }
-    ensures { Exchanges G.does G.refuses G.stays (message_kind.Syn ∷ (message_kind.Ack2 ∷ [])) now []
+    ensures { Exchanges G.does G.refuses G.stays (message_kinds.Syn ∷ (message_kinds.Ack2 ∷ [])) now []
         (R.remaining (link_of reader.old)) (R.remaining (link_of reader.new))
         (W.contents (link_of writer.old)) (W.contents (link_of writer.new))
         reader.old reader.new writer.old writer.new gate.old gate.new result }
@@ -106,7 +106,7 @@ pub fn initiate<G: Gate, R: Read, W: Write>(
     requires read { failed_of reader.old ≡ 0 }
     requires written { failed_of writer.old ≡ 0 }
     requires taken { idle_of writer.old ≡ 0 }
-    ensures { Exchanges G.does G.refuses G.stays (message_kind.Ack ∷ []) now (frame WRITTEN (messages.Syn syn.now))
+    ensures { Exchanges G.does G.refuses G.stays (message_kinds.Ack ∷ []) now (frame WRITTEN (messages.Syn syn.now))
         (R.remaining (link_of reader.old)) (R.remaining (link_of reader.new))
         (W.contents (link_of writer.old)) (W.contents (link_of writer.new))
         reader.old reader.new writer.old writer.new gate.old gate.new result }

@@ -3,7 +3,8 @@
 ghost use Rattle.std.specs.Prelude.{◌≡◌, IfSome};
 ghost use Rattle.cg_links.specs.Counted.{link_of};
 ghost use Rattle.cg_engine.specs.Sent.{Sends};
-ghost use Rattle.cg_engine.specs.Events.{event_due as event_due_of, written_for};
+ghost use Rattle.cg_engine.specs.Events as spec;
+ghost use Rattle.cg_engine.specs.Events.{written_for};
 ghost use Rattle.cg_engine.specs.Turns.{TakesEvent};
 
 use crate::due::{ack_due, ack2_due, syn_due};
@@ -19,7 +20,7 @@ use std::io::{Read, Write};
 
 // Makes the event of a message of the expected kind, which comes at a time.
 fn event_due(kind: Kind, now: u64, message: Message) -> Result<Event, Fault>
-    ensures { result ≡ event_due_of kind now message }
+    ensures { result ≡ spec.event_due kind now message }
 {
     match kind {
         Kind::Syn => match syn_due(message) {

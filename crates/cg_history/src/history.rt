@@ -4,7 +4,8 @@ ghost use Rattle.std.specs.Prelude.{◌≡◌, ◌<◌, ◌≤◌, IfOk, IsOk, M
 ghost use Rattle.cg_types.specs.Answer.{Answers};
 ghost use Rattle.cg_core.specs.Step.{after_event};
 ghost use Rattle.cg_history.specs.Confirming.{AreConfirmed, IsFirstStray};
-ghost use Rattle.cg_history.specs.History.{IsReplayed, IsFoldOf, LAST_NUMBER, count_of, new_history, receipt_of, with_record, apply as apply_of, node_after, with_folded, unfolded};
+ghost use Rattle.cg_history.specs.History as spec;
+ghost use Rattle.cg_history.specs.History.{IsReplayed, IsFoldOf, LAST_NUMBER, count_of, new_history, receipt_of, with_record, node_after, with_folded, unfolded};
 
 use crate::confirming::confirms;
 use crate::item::{Item, Receipt, Stray};
@@ -132,7 +133,7 @@ impl History {
         caller: u32,
         event: Event,
     ) -> Result<(Node, Item, Receipt), Fault>
-        ensures { Answers (λ x. (with_record self.now x.0 x.1, x.2)) (apply_of self.now caller event) result }
+        ensures { Answers (λ x. (with_record self.now x.0 x.1, x.2)) (spec.apply self.now caller event) result }
     {
         if self.folded + self.items.len() as u64 == u64::MAX {
             return Err(Fault::VersionsSpent);
@@ -154,7 +155,7 @@ impl History {
     /// `VersionsSpent` for every event, before all else, if the history has the record of the last number, 2^64 - 1.
     /// Else the refusals of `Node::stepped`, and `OutOfMemory` for every event.
     pub fn apply(&mut self, alloc: Global, caller: u32, event: Event) -> Result<Receipt, Fault>
-        ensures due { Answers (λ receipt. (self.new, receipt)) (apply_of self.old caller event) result }
+        ensures due { Answers (λ receipt. (self.new, receipt)) (spec.apply self.old caller event) result }
         ensures err { OnErr result (self.new ≡ self.old) }
     {
         let (node, item, receipt) = self.record(alloc, caller, event)?;
@@ -175,9 +176,9 @@ impl History {
         event: Event,
     ) -> Result<Receipt, Fault>
         requires { IsFoldOf (L.told log.old) self.old }
-        ensures due { Answers (λ receipt. (self.new, receipt)) (apply_of self.old caller event) result }
+        ensures due { Answers (λ receipt. (self.new, receipt)) (spec.apply self.old caller event) result }
         ensures whole { Answers (λ receipt. (unfolded (L.told log.new) self.new, receipt))
-            (apply_of (unfolded (L.told log.old) self.old) caller event) result }
+            (spec.apply (unfolded (L.told log.old) self.old) caller event) result }
         ensures err { OnErr result (self.new ≡ self.old) }
         ensures told { IsFoldOf (L.told log.new) self.new }
         ensures log { OnErr result (log.new ≡ log.old) }

@@ -4,7 +4,8 @@ ghost use Rattle.std.specs.Prelude.{◌≡◌, ◌⊎◌, IfOk, IfErr, OnOk, Mat
 ghost use Rattle.cg_types.specs.declared.fault.Fault.TheVariants as faults;
 ghost use Rattle.cg_host.specs.Disk.{Replaces, Unreplaced};
 ghost use Rattle.cg_host.specs.Storing.{Holds, HoldsNone, Stored, Unstored};
-ghost use Rattle.cg_host.specs.Generation.{generation_in as generation_of, text_of};
+ghost use Rattle.cg_host.specs.Generation as spec;
+ghost use Rattle.cg_host.specs.Generation.{text_of};
 
 use crate::disk::Disk;
 use crate::reading::read_file;
@@ -19,7 +20,7 @@ const MOST: u32 = 11;
 /// Reads a generation in bytes: one decimal number with no leading zero, and perhaps a line feed.
 #[tactic(auto, unfolding(crate::specs::Generation::generation_in))]
 pub fn generation_in(bytes: &[u8]) -> Option<Generation>
-    ensures { result ≡ generation_of bytes.now }
+    ensures { result ≡ spec.generation_in bytes.now }
 {
     let Some((digits, rest)) = cut(bytes, b'\n') else {
         return Generation::from_bytes(bytes);

@@ -4,8 +4,8 @@ ghost use Rattle.std.specs.Prelude.{◌≡◌};
 ghost use Rattle.cg_frames.specs.declared.layout.TheConstants.{LAYOUTS};
 ghost use Rattle.cg_frames.specs.Choosing.{frame_among};
 ghost use Rattle.cg_script.specs.Gives.{readable, Finds};
-ghost use Rattle.cg_script.specs.Words.{state_text_in as text_state_text_in};
-ghost use Rattle.cg_journal.specs.Reading as spec;
+ghost use Rattle.cg_script.specs.Words as words_spec;
+ghost use Rattle.cg_journal.specs.Reading as reading_spec;
 
 use cg_core::Event;
 use cg_engine::{ack_due, ack2_due, syn_due};
@@ -16,7 +16,7 @@ use std::alloc::Global;
 
 // Reads the message whose frame is all of the bytes.
 fn whole_message(alloc: Global, bytes: &[u8]) -> Result<Message, Fault>
-    ensures { Finds (λ m. m) result (spec.whole_message bytes.now (frame_among LAYOUTS bytes.now)) }
+    ensures { Finds (λ m. m) result (reading_spec.whole_message bytes.now (frame_among LAYOUTS bytes.now)) }
 {
     match decode(alloc, bytes) {
         Ok(Some((message, size))) => {
@@ -35,7 +35,7 @@ fn whole_message(alloc: Global, bytes: &[u8]) -> Result<Message, Fault>
 // Reads the message of a frame in hexadecimal digits.
 #[tactic(auto, unfolding(crate::specs::Reading::message_in))]
 fn message_in(alloc: Global, digits: &[u8]) -> Result<Message, Fault>
-    ensures { Finds (λ m. m) result (spec.message_in digits.now) }
+    ensures { Finds (λ m. m) result (reading_spec.message_in digits.now) }
 {
     let bytes = bytes_in(alloc, digits)?;
     whole_message(alloc, &bytes)
@@ -44,7 +44,7 @@ fn message_in(alloc: Global, digits: &[u8]) -> Result<Message, Fault>
 // Reads the bytes of a text in hexadecimal digits; the empty one is `-`.
 #[tactic(auto, unfolding(crate::specs::Reading::text_bytes_in))]
 fn text_bytes_in(alloc: Global, digits: &[u8]) -> Result<Vec<u8>, Fault>
-    ensures { Finds (λ v. v.items) result (spec.text_bytes_in digits.now) }
+    ensures { Finds (λ v. v.items) result (reading_spec.text_bytes_in digits.now) }
 {
     if is_word(digits, "-") {
         return Ok(Vec::new(alloc));
@@ -57,7 +57,7 @@ fn text_bytes_in(alloc: Global, digits: &[u8]) -> Result<Vec<u8>, Fault>
 
 // Reads the text of a state.
 fn state_text(alloc: Global, bytes: &[u8]) -> Result<StateText, Fault>
-    ensures { Finds (λ t. t) result (readable (text_state_text_in bytes.now)) }
+    ensures { Finds (λ t. t) result (readable (words_spec.state_text_in bytes.now)) }
 {
     match state_text_in(alloc, bytes) {
         Ok(text) => Ok(text),
@@ -68,7 +68,7 @@ fn state_text(alloc: Global, bytes: &[u8]) -> Result<StateText, Fault>
 
 #[tactic(auto, unfolding(crate::specs::Reading::set_in))]
 fn set_in(alloc: Global, words: &[u8]) -> Result<Event, Fault>
-    ensures { Finds (λ e. e) result (spec.set_in words.now) }
+    ensures { Finds (λ e. e) result (reading_spec.set_in words.now) }
 {
     let Some((key, digits)) = key_before(words) else {
         return Err(Fault::BadText);
@@ -80,7 +80,7 @@ fn set_in(alloc: Global, words: &[u8]) -> Result<Event, Fault>
 
 #[tactic(auto, unfolding(crate::specs::Reading::remove_in))]
 fn remove_in(words: &[u8]) -> Result<Event, Fault>
-    ensures { Finds (λ e. e) result (spec.remove_in words.now) }
+    ensures { Finds (λ e. e) result (reading_spec.remove_in words.now) }
 {
     let Some(key) = StateKey::from_bytes(words) else {
         return Err(Fault::BadText);
@@ -90,7 +90,7 @@ fn remove_in(words: &[u8]) -> Result<Event, Fault>
 
 #[tactic(auto, unfolding(crate::specs::Reading::tick_in))]
 fn tick_in(words: &[u8]) -> Result<Event, Fault>
-    ensures { Finds (λ e. e) result (spec.tick_in words.now) }
+    ensures { Finds (λ e. e) result (reading_spec.tick_in words.now) }
 {
     let Some((now, rest)) = count_before(words) else {
         return Err(Fault::BadText);
@@ -103,7 +103,7 @@ fn tick_in(words: &[u8]) -> Result<Event, Fault>
 
 #[tactic(auto, unfolding(crate::specs::Reading::syn_in))]
 fn syn_in(alloc: Global, words: &[u8]) -> Result<Event, Fault>
-    ensures { Finds (λ e. e) result (spec.syn_in words.now) }
+    ensures { Finds (λ e. e) result (reading_spec.syn_in words.now) }
 {
     let message = message_in(alloc, words)?;
     match syn_due(message) {
@@ -114,7 +114,7 @@ fn syn_in(alloc: Global, words: &[u8]) -> Result<Event, Fault>
 
 #[tactic(auto, unfolding(crate::specs::Reading::ack_in))]
 fn ack_in(alloc: Global, words: &[u8]) -> Result<Event, Fault>
-    ensures { Finds (λ e. e) result (spec.ack_in words.now) }
+    ensures { Finds (λ e. e) result (reading_spec.ack_in words.now) }
 {
     let Some((now, digits)) = count_before(words) else {
         return Err(Fault::BadText);
@@ -128,7 +128,7 @@ fn ack_in(alloc: Global, words: &[u8]) -> Result<Event, Fault>
 
 #[tactic(auto, unfolding(crate::specs::Reading::ack2_in))]
 fn ack2_in(alloc: Global, words: &[u8]) -> Result<Event, Fault>
-    ensures { Finds (λ e. e) result (spec.ack2_in words.now) }
+    ensures { Finds (λ e. e) result (reading_spec.ack2_in words.now) }
 {
     let Some((now, digits)) = count_before(words) else {
         return Err(Fault::BadText);
@@ -143,7 +143,7 @@ fn ack2_in(alloc: Global, words: &[u8]) -> Result<Event, Fault>
 // Reads a line of one word.
 #[tactic(auto, unfolding(crate::specs::Reading::bare_event))]
 fn bare_event(word: &[u8]) -> Result<Event, Fault>
-    ensures { Finds (λ e. e) result (spec.bare_event word.now) }
+    ensures { Finds (λ e. e) result (reading_spec.bare_event word.now) }
 {
     if is_word(word, "beat") {
         return Ok(Event::Beat);
@@ -157,7 +157,7 @@ fn bare_event(word: &[u8]) -> Result<Event, Fault>
 // Reads a line of more words, after the first one.
 #[tactic(auto, unfolding(crate::specs::Reading::event_behind))]
 fn event_behind(alloc: Global, word: &[u8], words: &[u8]) -> Result<Event, Fault>
-    ensures { Finds (λ e. e) result (spec.event_behind word.now words.now) }
+    ensures { Finds (λ e. e) result (reading_spec.event_behind word.now words.now) }
 {
     if is_word(word, "set") {
         return set_in(alloc, words);
@@ -183,7 +183,7 @@ fn event_behind(alloc: Global, word: &[u8], words: &[u8]) -> Result<Event, Fault
 /// Reads the event of a line.
 #[tactic(auto, unfolding(crate::specs::Reading::event_in))]
 pub(crate) fn event_in(alloc: Global, line: &[u8]) -> Result<Event, Fault>
-    ensures { Finds (λ e. e) result (spec.event_in line.now) }
+    ensures { Finds (λ e. e) result (reading_spec.event_in line.now) }
 {
     match cut(line, b' ') {
         Some((word, words)) => event_behind(alloc, word, words),

@@ -6,7 +6,8 @@ ghost use Rattle.cg_links.specs.Counts.{one_more};
 ghost use Rattle.cg_links.specs.Counted.{link_of, calls_of};
 ghost use Rattle.cg_links.specs.declared.transfer.TheConstants.{MOST_READS};
 ghost use Rattle.cg_history.specs.History.{HistoryValue};
-ghost use Rattle.cg_journal.specs.Reading.{event_in as text_event_in, history_after, after_line};
+ghost use Rattle.cg_journal.specs.Reading as spec;
+ghost use Rattle.cg_journal.specs.Reading.{history_after, after_line};
 ghost use Rattle.cg_journal.specs.Read.{Reads, ReadsUntold};
 
 use crate::event::event_in;
@@ -29,9 +30,9 @@ pub(crate) struct Progress {
 // Has the node of a history do the event of a line, for caller 0.
 fn apply_line(alloc: Global, history: &mut History, line: &[u8]) -> Result<(), Fault>
     ensures { MatchResult result
-        (λ _. history_after history.old (text_event_in line.now) ≡ Some history.new)
+        (λ _. history_after history.old (spec.event_in line.now) ≡ Some history.new)
         (λ f. (f ≡ faults.OutOfMemory)
-        ⊎ ((f ≡ faults.BadText) × (history_after history.old (text_event_in line.now) ≡ None))) }
+        ⊎ ((f ≡ faults.BadText) × (history_after history.old (spec.event_in line.now) ≡ None))) }
 {
     let event = event_in(alloc, line)?;
     match history.apply(alloc, 0, event) {

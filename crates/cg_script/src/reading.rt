@@ -1,13 +1,9 @@
 //! Reading a line, word by word.
 
 ghost use Rattle.std.specs.Prelude.{◌≡◌, option_map};
-ghost use Rattle.cg_script.specs.Words.{count_in as text_count_in};
-ghost use Rattle.cg_script.specs.Words.{endpoint_before as text_endpoint_before, count_before as text_count_before, key_before as text_key_before};
-ghost use Rattle.cg_script.specs.Words.{text_in as text_of_bytes, state_text_in as text_state_text_in};
-ghost use Rattle.cg_script.specs.Script.{seeds_line as seeds_of, start_line as start_of, beat_line as beat_of, set_line as set_of};
-ghost use Rattle.cg_script.specs.Script.{remove_line as remove_of, open_line as open_of, tick_line as tick_of, four_in as four_of, deliver_line as deliver_of};
-ghost use Rattle.cg_script.specs.Script.{gossipinfo_line as gossipinfo_of, ring_line as ring_of, digests_line as digests_of};
-ghost use Rattle.cg_script.specs.Script.{replicas_line as replicas_of, line_of_word as line_of_word_of, line_in, or_unreadable as read_or_refused};
+ghost use Rattle.cg_script.specs.Words as words_spec;
+ghost use Rattle.cg_script.specs.Script as script_spec;
+ghost use Rattle.cg_script.specs.Script.{line_in};
 ghost use Rattle.cg_script.specs.Gives.{Gives};
 
 use crate::line::{GREATEST, Line, View};
@@ -22,7 +18,7 @@ use std::alloc::Global;
 /// Reads a time in milliseconds, a random word, or a number of replicas or of a message.
 #[tactic(auto, unfolding(crate::specs::Words::count_in))]
 pub fn count_in(text: &[u8]) -> Option<u64>
-    ensures { result ≡ text_count_in text.now }
+    ensures { result ≡ words_spec.count_in text.now }
 {
     number(text, GREATEST)
 }
@@ -30,7 +26,7 @@ pub fn count_in(text: &[u8]) -> Option<u64>
 /// Reads an endpoint, and returns it with the text after the space that follows it.
 #[tactic(auto, unfolding(crate::specs::Words::endpoint_before))]
 pub fn endpoint_before(words: &[u8]) -> Option<(Endpoint, &[u8])>
-    ensures { option_map (λ p. (p.0, p.1.now)) result ≡ text_endpoint_before words.now }
+    ensures { option_map (λ p. (p.0, p.1.now)) result ≡ words_spec.endpoint_before words.now }
 {
     let Some((word, rest)) = cut(words, b' ') else {
         return None;
@@ -42,7 +38,7 @@ pub fn endpoint_before(words: &[u8]) -> Option<(Endpoint, &[u8])>
 /// Reads a number of at most `GREATEST`, and returns it with the text after the space that follows it.
 #[tactic(auto, unfolding(crate::specs::Words::count_before))]
 pub fn count_before(words: &[u8]) -> Option<(u64, &[u8])>
-    ensures { option_map (λ p. (p.0, p.1.now)) result ≡ text_count_before words.now }
+    ensures { option_map (λ p. (p.0, p.1.now)) result ≡ words_spec.count_before words.now }
 {
     let Some((word, rest)) = cut(words, b' ') else {
         return None;
@@ -54,7 +50,7 @@ pub fn count_before(words: &[u8]) -> Option<(u64, &[u8])>
 /// Reads a key, and returns it with the text after the space that follows it.
 #[tactic(auto, unfolding(crate::specs::Words::key_before))]
 pub fn key_before(words: &[u8]) -> Option<(StateKey, &[u8])>
-    ensures { option_map (λ p. (p.0, p.1.now)) result ≡ text_key_before words.now }
+    ensures { option_map (λ p. (p.0, p.1.now)) result ≡ words_spec.key_before words.now }
 {
     let Some((word, rest)) = cut(words, b' ') else {
         return None;
@@ -65,7 +61,7 @@ pub fn key_before(words: &[u8]) -> Option<(StateKey, &[u8])>
 
 // A text that is UTF-8.
 fn text_in(text: &[u8]) -> Option<&str>
-    ensures { option_map (λ t. t.now) result ≡ text_of_bytes text.now }
+    ensures { option_map (λ t. t.now) result ≡ words_spec.text_in text.now }
 {
     match std::str::from_utf8(text) {
         Ok(text) => Some(text),
@@ -76,7 +72,7 @@ fn text_in(text: &[u8]) -> Option<&str>
 /// Reads the text of a state: it has to be UTF-8 first of all, then not too long, then with no control characters.
 #[tactic(auto, unfolding(crate::specs::Words::state_text_in))]
 pub fn state_text_in(alloc: Global, text: &[u8]) -> Result<StateText, Fault>
-    ensures { Gives (λ t. t) result (text_state_text_in text.now) }
+    ensures { Gives (λ t. t) result (words_spec.state_text_in text.now) }
 {
     match text_in(text) {
         Some(text) => StateText::new(alloc, text),
@@ -86,7 +82,7 @@ pub fn state_text_in(alloc: Global, text: &[u8]) -> Result<StateText, Fault>
 
 #[tactic(auto, unfolding(crate::specs::Script::start_line))]
 fn start_line(words: &[u8]) -> Option<Line>
-    ensures { result ≡ start_of words.now }
+    ensures { result ≡ script_spec.start_line words.now }
 {
     let Some((node, rest)) = endpoint_before(words) else {
         return None;
@@ -97,7 +93,7 @@ fn start_line(words: &[u8]) -> Option<Line>
 
 #[tactic(auto, unfolding(crate::specs::Script::beat_line))]
 fn beat_line(words: &[u8]) -> Option<Line>
-    ensures { result ≡ beat_of words.now }
+    ensures { result ≡ script_spec.beat_line words.now }
 {
     let node = Endpoint::from_bytes(words)?;
     Some(Line::Act(Action::Local(node, LocalEvent::Beat)))
@@ -105,7 +101,7 @@ fn beat_line(words: &[u8]) -> Option<Line>
 
 #[tactic(auto, unfolding(crate::specs::Script::remove_line))]
 fn remove_line(words: &[u8]) -> Option<Line>
-    ensures { result ≡ remove_of words.now }
+    ensures { result ≡ script_spec.remove_line words.now }
 {
     let Some((node, rest)) = endpoint_before(words) else {
         return None;
@@ -116,7 +112,7 @@ fn remove_line(words: &[u8]) -> Option<Line>
 
 #[tactic(auto, unfolding(crate::specs::Script::open_line))]
 fn open_line(words: &[u8]) -> Option<Line>
-    ensures { result ≡ open_of words.now }
+    ensures { result ≡ script_spec.open_line words.now }
 {
     let node = Endpoint::from_bytes(words)?;
     Some(Line::Act(Action::Local(node, LocalEvent::Opening)))
@@ -125,7 +121,7 @@ fn open_line(words: &[u8]) -> Option<Line>
 /// Reads four numbers.
 #[tactic(auto, unfolding(crate::specs::Script::four_in))]
 pub fn four_in(words: &[u8]) -> Option<[u64; 4]>
-    ensures { result ≡ four_of words.now }
+    ensures { result ≡ script_spec.four_in words.now }
 {
     let (a, rest) = count_before(words)?;
     let (b, rest) = count_before(rest)?;
@@ -136,7 +132,7 @@ pub fn four_in(words: &[u8]) -> Option<[u64; 4]>
 
 #[tactic(auto, unfolding(crate::specs::Script::tick_line))]
 fn tick_line(text: &[u8]) -> Option<Line>
-    ensures { result ≡ tick_of text.now }
+    ensures { result ≡ script_spec.tick_line text.now }
 {
     let Some((node, rest)) = endpoint_before(text) else {
         return None;
@@ -148,7 +144,7 @@ fn tick_line(text: &[u8]) -> Option<Line>
 
 #[tactic(auto, unfolding(crate::specs::Script::deliver_line))]
 fn deliver_line(words: &[u8]) -> Option<Line>
-    ensures { result ≡ deliver_of words.now }
+    ensures { result ≡ script_spec.deliver_line words.now }
 {
     let (number, rest) = count_before(words)?;
     let Some((to, rest)) = endpoint_before(rest) else {
@@ -160,7 +156,7 @@ fn deliver_line(words: &[u8]) -> Option<Line>
 
 #[tactic(auto, unfolding(crate::specs::Script::gossipinfo_line))]
 fn gossipinfo_line(words: &[u8]) -> Option<Line>
-    ensures { result ≡ gossipinfo_of words.now }
+    ensures { result ≡ script_spec.gossipinfo_line words.now }
 {
     let node = Endpoint::from_bytes(words)?;
     Some(Line::Show(node, View::Gossipinfo))
@@ -168,7 +164,7 @@ fn gossipinfo_line(words: &[u8]) -> Option<Line>
 
 #[tactic(auto, unfolding(crate::specs::Script::ring_line))]
 fn ring_line(words: &[u8]) -> Option<Line>
-    ensures { result ≡ ring_of words.now }
+    ensures { result ≡ script_spec.ring_line words.now }
 {
     let node = Endpoint::from_bytes(words)?;
     Some(Line::Show(node, View::Ring))
@@ -176,7 +172,7 @@ fn ring_line(words: &[u8]) -> Option<Line>
 
 #[tactic(auto, unfolding(crate::specs::Script::digests_line))]
 fn digests_line(words: &[u8]) -> Option<Line>
-    ensures { result ≡ digests_of words.now }
+    ensures { result ≡ script_spec.digests_line words.now }
 {
     let node = Endpoint::from_bytes(words)?;
     Some(Line::Show(node, View::Digests))
@@ -184,7 +180,7 @@ fn digests_line(words: &[u8]) -> Option<Line>
 
 #[tactic(auto, unfolding(crate::specs::Script::replicas_line))]
 fn replicas_line(words: &[u8]) -> Option<Line>
-    ensures { result ≡ replicas_of words.now }
+    ensures { result ≡ script_spec.replicas_line words.now }
 {
     let Some((node, rest)) = endpoint_before(words) else {
         return None;
@@ -197,7 +193,7 @@ fn replicas_line(words: &[u8]) -> Option<Line>
 
 #[tactic(auto, unfolding(crate::specs::Script::set_line))]
 fn set_line(alloc: Global, words: &[u8]) -> Result<Line, Fault>
-    ensures { Gives (λ l. l) result (set_of words.now) }
+    ensures { Gives (λ l. l) result (script_spec.set_line words.now) }
 {
     let Some((node, rest)) = endpoint_before(words) else {
         return Err(Fault::BadText);
@@ -212,7 +208,7 @@ fn set_line(alloc: Global, words: &[u8]) -> Result<Line, Fault>
 }
 
 fn seeds_line(alloc: Global, words: &[u8]) -> Result<Line, Fault>
-    ensures { Gives (λ l. l) result (read_or_refused (seeds_of words.now)) }
+    ensures { Gives (λ l. l) result (script_spec.or_unreadable (script_spec.seeds_line words.now)) }
 {
     let Some(seeds) = endpoints_in(alloc, b' ', words)? else {
         return Err(Fault::BadText);
@@ -225,7 +221,7 @@ fn seeds_line(alloc: Global, words: &[u8]) -> Result<Line, Fault>
 
 // Returns the line that was read without memory, or BadText if there is none.
 fn or_unreadable(line: Option<Line>) -> Result<Line, Fault>
-    ensures { result ≡ read_or_refused line }
+    ensures { result ≡ script_spec.or_unreadable line }
 {
     match line {
         Some(line) => Ok(line),
@@ -235,7 +231,7 @@ fn or_unreadable(line: Option<Line>) -> Result<Line, Fault>
 
 // Reads the words after the first one.
 fn line_of_word(alloc: Global, word: Word, words: &[u8]) -> Result<Line, Fault>
-    ensures { Gives (λ l. l) result (line_of_word_of word words.now) }
+    ensures { Gives (λ l. l) result (script_spec.line_of_word word words.now) }
 {
     match word {
         Word::Seeds => seeds_line(alloc, words),

@@ -2,7 +2,7 @@
 
 ghost use Rattle.std.specs.Prelude.{◌≡◌, IfOk, option_map};
 ghost use Rattle.cg_core.specs.declared.limits.TheConstants.{SEED_LIMIT};
-ghost use Rattle.cg_script.specs.Words.{endpoints_in as endpoints_of};
+ghost use Rattle.cg_script.specs.Words as spec;
 
 use cg_core::SEED_LIMIT;
 use cg_types::{Endpoint, cut};
@@ -11,7 +11,8 @@ use std::alloc::{AllocError, Global};
 /// Reads endpoints with the byte `at` between them: at least one, and at most `SEED_LIMIT`. `None` if a word is not an
 /// endpoint, or if there are more.
 pub fn endpoints_in(alloc: Global, at: u8, text: &[u8]) -> Result<Option<Vec<Endpoint>>, AllocError>
-    ensures { IfOk result (λ endpoints. option_map (λ v. v.items) endpoints ≡ endpoints_of at SEED_LIMIT text.now) }
+    ensures { IfOk result (λ endpoints.
+        option_map (λ v. v.items) endpoints ≡ spec.endpoints_in at SEED_LIMIT text.now) }
 {
     let mut endpoints = Vec::new(alloc);
     let mut rest = text;

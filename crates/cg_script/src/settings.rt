@@ -3,7 +3,7 @@
 ghost use Rattle.std.specs.Prelude.{◌≡◌, ◌↔◌, IfOk, IsSome, IfSome, codes};
 ghost use Rattle.cg_types.specs.declared.limits.TheConstants.{PARTITIONER};
 ghost use Rattle.cg_core.specs.SettingsValues.{IsSettings};
-ghost use Rattle.cg_script.specs.Script.{settings_with as settings_of_seeds};
+ghost use Rattle.cg_script.specs.Script as spec;
 
 use cg_core::Settings;
 use cg_silence::Silence;
@@ -23,8 +23,8 @@ fn cluster(alloc: Global) -> Result<Cluster, AllocError>
 /// Returns the settings of a script's nodes: the cluster `sim`, these seeds, and the default settings of silence.
 /// `None` if the seeds don't rise strictly, or are more than `SEED_LIMIT`.
 pub fn settings_with(alloc: Global, seeds: Vec<Endpoint>) -> Result<Option<Settings>, AllocError>
-    ensures valid { IfOk result (λ s. IsSome s ↔ IsSettings (settings_of_seeds seeds.items)) }
-    ensures value { IfOk result (λ s. IfSome s (λ s. s ≡ settings_of_seeds seeds.items)) }
+    ensures valid { IfOk result (λ s. IsSome s ↔ IsSettings (spec.settings_with seeds.items)) }
+    ensures value { IfOk result (λ s. IfSome s (λ s. s ≡ spec.settings_with seeds.items)) }
 {
     let cluster = cluster(alloc)?;
     Ok(Settings::new(cluster, seeds, Silence::default()))

@@ -1,7 +1,7 @@
 //! The first words of lines.
 
 ghost use Rattle.std.specs.Prelude.{◌≡◌, bytes_eq};
-ghost use Rattle.cg_script.specs.Words.{word_named as named};
+ghost use Rattle.cg_script.specs.Words as spec;
 
 /// The first word of a line.
 #[derive(Clone, Copy, Debug, PartialEq, Eq)]
@@ -30,7 +30,7 @@ pub fn is_word(name: &[u8], word: &str) -> bool
 /// Returns the word that these letters spell.
 #[tactic(auto, unfolding(crate::specs::Words::word_named))]
 pub(crate) fn word_named(name: &[u8]) -> Option<Word>
-    ensures { result ≡ named name.now }
+    ensures { result ≡ spec.word_named name.now }
 {
     if is_word(name, "deliver") {
         return Some(Word::Deliver);

@@ -4,9 +4,9 @@ ghost use Rattle.std.specs.Prelude.{◌≡◌, IfOk, Err, codes, option_map};
 ghost use Rattle.toml.specs.Data.{get_member};
 ghost use Rattle.toml.specs.View.{table_view, view};
 ghost use Rattle.cg_silence.specs.Values.{silence_of};
-ghost use Rattle.cg_settings_file.specs.Values.{cluster_from as told_cluster};
-ghost use Rattle.cg_settings_file.specs.Seeds.{seeds_in as told_seeds};
-ghost use Rattle.cg_settings_file.specs.Settings.{silence_key as told_key, silence_by as told_judgement, silence_from as told_silence, node_from as told_node};
+ghost use Rattle.cg_settings_file.specs.Values as values_spec;
+ghost use Rattle.cg_settings_file.specs.Seeds as seeds_spec;
+ghost use Rattle.cg_settings_file.specs.Settings as settings_spec;
 ghost use Rattle.cg_settings_file.specs.Seen.{Finds, Reads, Names};
 
 use crate::seeds::{distinct, endpoints_in};
@@ -23,7 +23,7 @@ use toml::{Table, Value};
 
 #[tactic(auto, unfolding(crate::specs::Values::cluster_from))]
 fn cluster_in(alloc: Global, table: &Table) -> Result<Cluster, Fault>
-    ensures { Finds (λ c. c) result (told_cluster (table_view table.now)) }
+    ensures { Finds (λ c. c) result (values_spec.cluster_from (table_view table.now)) }
 {
     let Some(name) = text_at(table, "cluster") else {
         return Err(Fault::BadText);
@@ -37,7 +37,7 @@ fn cluster_in(alloc: Global, table: &Table) -> Result<Cluster, Fault>
 
 #[tactic(auto, unfolding(crate::specs::Seeds::seeds_in))]
 fn seeds_in(alloc: Global, value: Option<&Value>) -> Result<Vec<Endpoint>, Fault>
-    ensures { Finds (λ v. v.items) result (told_seeds (option_map (λ v. view v.now) value.entry)) }
+    ensures { Finds (λ v. v.items) result (seeds_spec.seeds_in (option_map (λ v. view v.now) value.entry)) }
 {
     let Some(value) = value else {
         return Ok(Vec::new(alloc));
@@ -54,7 +54,7 @@ fn seeds_in(alloc: Global, value: Option<&Value>) -> Result<Vec<Endpoint>, Fault
 // Returns the key of a number that is out of its range, by the fault of silence and the initial gap in the table. One
 // that is not there is right, so the greatest gap is not.
 fn silence_key(in_table: Option<&Value>, fault: SilenceFault) -> &'static str
-    ensures { result.now ≡ told_key (option_map (λ v. view v.now) in_table.entry) fault }
+    ensures { result.now ≡ settings_spec.silence_key (option_map (λ v. view v.now) in_table.entry) fault }
 {
     match (fault, in_table) {
         (SilenceFault::Window, _) => "window",
@@ -73,7 +73,8 @@ fn silence_by(
     gaps: (u32, u32),
     threshold: u32,
 ) -> Result<Silence, &'static str>
-    ensures { Names (λ s. s) result (told_judgement (option_map (λ v. view v.now) in_table.entry) (silence_of window gaps.0 gaps.1 threshold)) }
+    ensures { Names (λ s. s) result (settings_spec.silence_by (option_map (λ v. view v.now) in_table.entry)
+        (silence_of window gaps.0 gaps.1 threshold)) }
 {
     match Silence::try_new(window as usize, gaps.0, gaps.1, threshold) {
         Ok(silence) => Ok(silence),
@@ -83,7 +84,7 @@ fn silence_by(
 
 #[tactic(auto, unfolding(crate::specs::Settings::silence_from))]
 fn silence_in(table: &Table) -> Result<Silence, &'static str>
-    ensures { Names (λ s. s) result (told_silence (table_view table.now)) }
+    ensures { Names (λ s. s) result (settings_spec.silence_from (table_view table.now)) }
 {
     let default_window = DEFAULT_WINDOW as u32;
     let window = number_or_key(table, "window", WINDOW_LIMIT as u32, Some(default_window))?;
@@ -101,7 +102,7 @@ fn silence_in(table: &Table) -> Result<Silence, &'static str>
 /// Reads the settings of the node itself.
 #[tactic(auto, unfolding(crate::specs::Settings::node_from))]
 pub(crate) fn node_in(alloc: Global, table: &Table) -> Result<Settings, Stop<'static>>
-    ensures { Reads (λ s. s) result (told_node (table_view table.now)) }
+    ensures { Reads (λ s. s) result (settings_spec.node_from (table_view table.now)) }
 {
     let cluster = match cluster_in(alloc, table) {
         Ok(cluster) => cluster,

@@ -2,7 +2,7 @@
 
 ghost use Rattle.std.specs.Prelude.{◌≡◌, IfOk, option_map};
 ghost use Rattle.toml.specs.View.{array_view, table_view};
-ghost use Rattle.cg_settings_file.specs.Seeds.{endpoints_in as listed_endpoints, distinct as sorted_distinct};
+ghost use Rattle.cg_settings_file.specs.Seeds as spec;
 
 use crate::values::endpoint_in_value;
 use cg_types::Endpoint;
@@ -15,7 +15,7 @@ pub(crate) fn endpoints_in(
     alloc: Global,
     items: &Array,
 ) -> Result<Option<Vec<Endpoint>>, AllocError>
-    ensures { IfOk result (λ found. option_map (λ v. v.items) found ≡ listed_endpoints (array_view items.now)) }
+    ensures { IfOk result (λ found. option_map (λ v. v.items) found ≡ spec.endpoints_in (array_view items.now)) }
 {
     let mut endpoints = Vec::new(alloc);
     for item in items {
@@ -30,7 +30,7 @@ pub(crate) fn endpoints_in(
 /// Returns the same endpoints, rising, each once.
 #[tactic(auto, unfolding(crate::specs::Seeds::distinct))]
 pub(crate) fn distinct(alloc: Global, endpoints: &[Endpoint]) -> Result<Vec<Endpoint>, AllocError>
-    ensures { IfOk result (λ seeds. seeds.items ≡ sorted_distinct endpoints.now) }
+    ensures { IfOk result (λ seeds. seeds.items ≡ spec.distinct endpoints.now) }
 {
     let mut seeds = BTreeSet::new(alloc);
     for endpoint in endpoints {

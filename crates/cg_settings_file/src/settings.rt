@@ -2,7 +2,8 @@
 
 ghost use Rattle.std.specs.Prelude.{◌≡◌, IfOk, Ok, Err, option_map, codes};
 ghost use Rattle.toml.specs.View.{table_view};
-ghost use Rattle.cg_settings_file.specs.Settings.{turns_from as told_turns, random_from as told_random, paths_from as told_paths, settings_from as told_settings, settings_or_key as told_settings_or_key, settings_in, text_in as text_of_bytes, settings_or_key_in_bytes, settings_in_bytes};
+ghost use Rattle.cg_settings_file.specs.Settings as spec;
+ghost use Rattle.cg_settings_file.specs.Settings.{settings_in, settings_or_key_in_bytes, settings_in_bytes};
 ghost use Rattle.cg_settings_file.specs.Seen.{Finds, Reads, Names, Tells, IsUnsetBy, turns_view, settings_view};
 
 use crate::keys::unknown_in;
@@ -35,7 +36,7 @@ pub struct ServeSettings {
 
 #[tactic(auto, unfolding(crate::specs::Settings::turns_from))]
 fn turns_in(table: &Table) -> Result<Turns, &'static str>
-    ensures { Names turns_view result (told_turns (table_view table.now)) }
+    ensures { Names turns_view result (spec.turns_from (table_view table.now)) }
 {
     let rounds = number_or_key(table, "rounds", TURN_LIMIT, None)?;
     let exchanges = number_or_key(table, "exchanges", TURN_LIMIT, None)?;
@@ -49,7 +50,7 @@ fn turns_in(table: &Table) -> Result<Turns, &'static str>
 
 #[tactic(auto, unfolding(crate::specs::Settings::random_from))]
 fn random_in(table: &Table) -> Option<u64>
-    ensures { result ≡ told_random (table_view table.now) }
+    ensures { result ≡ spec.random_from (table_view table.now) }
 {
     match value_at(table, "random") {
         Some(value) => number_in(value),
@@ -59,7 +60,7 @@ fn random_in(table: &Table) -> Option<u64>
 
 #[tactic(auto, unfolding(crate::specs::Settings::paths_from))]
 fn paths_in(table: &Table) -> Result<(&str, &str), &'static str>
-    ensures { Names (λ p. (p.0.now, p.1.now)) result (told_paths (table_view table.now)) }
+    ensures { Names (λ p. (p.0.now, p.1.now)) result (spec.paths_from (table_view table.now)) }
 {
     let generation_file = text_or_key(table, "generation_file")?;
     let journal = text_or_key(table, "journal")?;
@@ -69,7 +70,7 @@ fn paths_in(table: &Table) -> Result<(&str, &str), &'static str>
 // Reads the settings of a table, or the first key that is refused: by its value, or else since it has no meaning.
 #[tactic(auto, unfolding(crate::specs::Settings::settings_from))]
 fn settings_in_table(alloc: Global, table: &Table) -> Result<ServeSettings, Stop<'_>>
-    ensures { Reads settings_view result (told_settings (table_view table.now)) }
+    ensures { Reads settings_view result (spec.settings_from (table_view table.now)) }
 {
     let node = node_in(alloc, table)?;
     let Some(listen) = endpoint_at(table, "listen") else {
@@ -117,7 +118,7 @@ fn unset(alloc: Global, stop: Stop<'_>) -> Unset
 
 #[tactic(auto, unfolding(crate::specs::Settings::settings_or_key))]
 fn settings_in_text(alloc: Global, text: &str) -> Result<ServeSettings, Unset>
-    ensures { Tells settings_view result (told_settings_or_key text.now) }
+    ensures { Tells settings_view result (spec.settings_or_key text.now) }
 {
     let table = match toml::table_from_str(alloc, text) {
         Ok(table) => table,
@@ -138,7 +139,7 @@ fn settings_in_text(alloc: Global, text: &str) -> Result<ServeSettings, Unset>
 // Returns the text that bytes are, if they are UTF-8.
 #[tactic(auto, unfolding(crate::specs::Settings::text_in))]
 fn text_in(bytes: &[u8]) -> Option<&str>
-    ensures { option_map (λ t. t.now) result ≡ text_of_bytes bytes.now }
+    ensures { option_map (λ t. t.now) result ≡ spec.text_in bytes.now }
 {
     match std::str::from_utf8(bytes) {
         Ok(text) => Some(text),

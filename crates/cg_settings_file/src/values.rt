@@ -3,9 +3,7 @@
 ghost use Rattle.std.specs.Prelude.{◌≡◌, Ok, Err, option_map};
 ghost use Rattle.toml.specs.Data.{get_member};
 ghost use Rattle.toml.specs.View.{table_view, view};
-ghost use Rattle.cg_settings_file.specs.Values.{text_at as table_text_at, endpoint_in_value as value_endpoint, number_in as value_number};
-ghost use Rattle.cg_settings_file.specs.Values.{small_number_in as value_small_number, endpoint_at as table_endpoint_at, number_at as table_number_at};
-ghost use Rattle.cg_settings_file.specs.Values.{text_or_key as table_text_or_key, number_or_key as table_number_or_key};
+ghost use Rattle.cg_settings_file.specs.Values as spec;
 ghost use Rattle.cg_settings_file.specs.Seen.{Names};
 
 use cg_types::Endpoint;
@@ -21,7 +19,7 @@ pub(crate) fn value_at<'a>(table: &'a Table, key: &str) -> Option<&'a Value>
 /// The text at a key.
 #[tactic(auto, unfolding(crate::specs::Values::text_at))]
 pub(crate) fn text_at<'a>(table: &'a Table, key: &str) -> Option<&'a str>
-    ensures { option_map (λ t. t.now) result ≡ table_text_at key.now (table_view table.now) }
+    ensures { option_map (λ t. t.now) result ≡ spec.text_at key.now (table_view table.now) }
 {
     match value_at(table, key) {
         Some(value) => value.as_str(),
@@ -32,7 +30,7 @@ pub(crate) fn text_at<'a>(table: &'a Table, key: &str) -> Option<&'a str>
 /// The endpoint whose text a value is.
 #[tactic(auto, unfolding(crate::specs::Values::endpoint_in_value))]
 pub(crate) fn endpoint_in_value(value: &Value) -> Option<Endpoint>
-    ensures { result ≡ value_endpoint (view value.now) }
+    ensures { result ≡ spec.endpoint_in_value (view value.now) }
 {
     match value.as_str() {
         Some(text) => Endpoint::from_bytes(text.as_bytes()),
@@ -43,7 +41,7 @@ pub(crate) fn endpoint_in_value(value: &Value) -> Option<Endpoint>
 /// The endpoint at a key.
 #[tactic(auto, unfolding(crate::specs::Values::endpoint_at))]
 pub(crate) fn endpoint_at(table: &Table, key: &str) -> Option<Endpoint>
-    ensures { result ≡ table_endpoint_at key.now (table_view table.now) }
+    ensures { result ≡ spec.endpoint_at key.now (table_view table.now) }
 {
     match value_at(table, key) {
         Some(value) => endpoint_in_value(value),
@@ -54,7 +52,7 @@ pub(crate) fn endpoint_at(table: &Table, key: &str) -> Option<Endpoint>
 /// The whole number from 0 on that a value is.
 #[tactic(auto, unfolding(crate::specs::Values::number_in))]
 pub(crate) fn number_in(value: &Value) -> Option<u64>
-    ensures { result ≡ value_number (view value.now) }
+    ensures { result ≡ spec.number_in (view value.now) }
 {
     let number = value.as_integer()?;
     match u64::try_from(number) {
@@ -66,7 +64,7 @@ pub(crate) fn number_in(value: &Value) -> Option<u64>
 // The whole number from 0 to `most` that a value is.
 #[tactic(auto, unfolding(crate::specs::Values::small_number_in))]
 fn small_number_in(value: &Value, most: u32) -> Option<u32>
-    ensures { result ≡ value_small_number most (view value.now) }
+    ensures { result ≡ spec.small_number_in most (view value.now) }
 {
     let number = number_in(value)?;
     if number <= u64::from(most) {
@@ -79,7 +77,7 @@ fn small_number_in(value: &Value, most: u32) -> Option<u32>
 /// The whole number from 0 to `most` at a key; if the key is missing, the default, if there is one.
 #[tactic(auto, unfolding(crate::specs::Values::number_at))]
 fn number_at(table: &Table, key: &str, most: u32, default: Option<u32>) -> Option<u32>
-    ensures { result ≡ table_number_at key.now most default (table_view table.now) }
+    ensures { result ≡ spec.number_at key.now most default (table_view table.now) }
 {
     match value_at(table, key) {
         Some(value) => small_number_in(value, most),
@@ -94,7 +92,7 @@ pub(crate) fn number_or_key<'k>(
     most: u32,
     default: Option<u32>,
 ) -> Result<u32, &'k str>
-    ensures { Names (λ n. n) result (table_number_or_key key.now most default (table_view table.now)) }
+    ensures { Names (λ n. n) result (spec.number_or_key key.now most default (table_view table.now)) }
 {
     match number_at(table, key, most, default) {
         Some(number) => Ok(number),
@@ -104,7 +102,7 @@ pub(crate) fn number_or_key<'k>(
 
 /// The text at a key, or the key.
 pub(crate) fn text_or_key<'a, 'k>(table: &'a Table, key: &'k str) -> Result<&'a str, &'k str>
-    ensures { Names (λ t. t.now) result (table_text_or_key key.now (table_view table.now)) }
+    ensures { Names (λ t. t.now) result (spec.text_or_key key.now (table_view table.now)) }
 {
     match text_at(table, key) {
         Some(text) => Ok(text),

@@ -3,7 +3,7 @@
 ghost use Rattle.std.specs.Prelude.{◌≡◌, ◌++◌, OnOk, IfOk, string_bytes};
 ghost use Rattle.std.specs.FinMap as map;
 ghost use Rattle.cg_types.specs.Fault.{fault_text};
-ghost use Rattle.cg_world.specs.World.{act as act_of};
+ghost use Rattle.cg_world.specs.World as spec;
 ghost use Rattle.cg_world.specs.Acting.{showing};
 ghost use Rattle.cg_sim.specs.Script.{first_play, action_lines, view_lines, after_line, line_text, text_of, world_after};
 
@@ -37,7 +37,7 @@ fn act(
 ) -> Result<(), AllocError>
     ensures text { OnOk result (string_bytes text.new
         ≡ string_bytes text.old ++ action_lines action.now (showing world.old action.now)) }
-    ensures after { OnOk result (world.new ≡ act_of world.old action.now) }
+    ensures after { OnOk result (world.new ≡ spec.act world.old action.now) }
 {
     match world.act(alloc, action) {
         Ok(shown) => add_shown(text, action, &shown),

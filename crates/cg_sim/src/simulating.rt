@@ -2,7 +2,7 @@
 
 ghost use Rattle.std.specs.Prelude.{◌≡◌, ◌≤◌, ◌+◌, ◌⊎◌, MatchResult, IfSome};
 ghost use Rattle.cg_links.specs.Counted.{link_of, calls_of, failed_of, idle_of, CountsFewer};
-ghost use Rattle.cg_types.specs.declared.fault.Fault.TheVariants as fault;
+ghost use Rattle.cg_types.specs.declared.fault.Fault.TheVariants as faults;
 ghost use Rattle.cg_types.specs.Fault.{fault_text};
 ghost use Rattle.cg_sim.specs.Simulated.{IsPlayed, Fails, WritesLine, Simulates, PlaysAll, SaysOutOfMemory};
 ghost use Rattle.cg_links.specs.declared.transfer.TheConstants.{MOST_READS};
@@ -54,7 +54,7 @@ fn say<W: Write>(writer: &mut Counted<W>, line: &[u8])
 fn say_out_of_memory<W: Write>(writer: &mut Counted<W>)
     ensures { WritesLine
         (W.contents (link_of writer.old)) (W.contents (link_of writer.new))
-        writer.old writer.new (fault_text fault.OutOfMemory) }
+        writer.old writer.new (fault_text faults.OutOfMemory) }
 {
     say(writer, b"fault 1 OutOfMemory\n")
 }
@@ -62,7 +62,7 @@ fn say_out_of_memory<W: Write>(writer: &mut Counted<W>)
 fn say_read_fault<W: Write>(writer: &mut Counted<W>)
     ensures { WritesLine
         (W.contents (link_of writer.old)) (W.contents (link_of writer.new))
-        writer.old writer.new (fault_text fault.ReadFault) }
+        writer.old writer.new (fault_text faults.ReadFault) }
 {
     say(writer, b"fault 14 ReadFault\n")
 }

@@ -2,7 +2,7 @@
 
 ghost use Rattle.std.specs.Prelude.{◌≡◌, ◌≤◌, IfOk, map, count_by, not};
 ghost use Rattle.std.specs.Str.Lines.{lines};
-ghost use Rattle.cg_vectors.specs.Vector.{is_remark as is_remark_line};
+ghost use Rattle.cg_vectors.specs.Vector as spec;
 
 use crate::subject::{Subject, expected, found};
 use crate::vector::{Vector, is_remark, is_same, vector_in};
@@ -85,7 +85,7 @@ pub fn check_lines<R: Files + Print + Alloc<A = Global>>(
     lines: &[&str],
 ) -> Tally
     // No vector is passed over.
-    ensures all { result.all ≡ count_by (λ line. not (is_remark_line line.now)) lines.now }
+    ensures all { result.all ≡ count_by (λ line. not (spec.is_remark line.now)) lines.now }
     ensures held { result.held ≤ result.all }
 {
     let mut tally = Tally { held: 0, all: 0 };

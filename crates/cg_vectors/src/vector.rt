@@ -1,7 +1,8 @@
 //! One line of a file of vectors.
 
 ghost use Rattle.std.specs.Prelude.{◌≡◌, ◌↔◌, ◌≤◌, ℕ, List, IsTrue, IfSome, IfNone, length};
-ghost use Rattle.cg_vectors.specs.Vector.{is_remark as is_remark_line, IsVector};
+ghost use Rattle.cg_vectors.specs.Vector as spec;
+ghost use Rattle.cg_vectors.specs.Vector.{IsVector};
 
 // The separator between the input of a vector and its expected text.
 const EQUALS: &[u8] = b" = ";
@@ -15,7 +16,7 @@ pub struct Vector<'a> {
 
 /// Tests whether a line has no vector: it is empty, or a remark.
 pub fn is_remark(line: &[u8]) -> bool
-    ensures { result ≡ is_remark_line line.now }
+    ensures { result ≡ spec.is_remark line.now }
 {
     match line.first() {
         None => true,

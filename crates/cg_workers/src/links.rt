@@ -1,7 +1,7 @@
 //! Sources of links: listeners and dialers.
 
 ghost use Rattle.std.specs.Prelude.{ℕ, Option, Result, IfErr};
-ghost use Rattle.cg_types.specs.declared.fault.Fault.{Fault as Error};
+ghost use Rattle.cg_types.specs.declared.fault.Fault.{Fault as FaultValue};
 ghost use Rattle.cg_workers.specs.Workers.{IsLinkFault};
 
 use cg_types::{Endpoint, Fault};
@@ -16,7 +16,7 @@ pub trait Listen {
     type Writer: Write + Drop;
 
     // a listener, its answer, and the listener after it
-    ghost accepts: { Self → Result (Option (Self.Reader × Self.Writer)) Error → Self → Type 0 } = { λ l r m. Unit {0} };
+    ghost accepts: { Self → Result (Option (Self.Reader × Self.Writer)) FaultValue → Self → Type 0 } = { λ l r m. Unit {0} };
 
     /// Returns the next connection, for which it may wait; `None` if no further one comes. Its faults are `OutOfMemory`
     /// and `ReadFault` alone.
@@ -34,7 +34,7 @@ pub trait Dial {
     type Writer: Write + Drop;
 
     // a dialer, the endpoint that it is to reach, its answer, and the dialer after it
-    ghost dials: { Self → ℕ → Result (Self.Reader × Self.Writer) Error → Self → Type 0 } = { λ d p r e. Unit {0} };
+    ghost dials: { Self → ℕ → Result (Self.Reader × Self.Writer) FaultValue → Self → Type 0 } = { λ d p r e. Unit {0} };
 
     /// Makes a connection to an endpoint. Its faults are `OutOfMemory` and `ReadFault` alone.
     fn dial(&mut self, peer: Endpoint) -> Result<(Self::Reader, Self::Writer), Fault>

@@ -3,7 +3,8 @@
 ghost use Rattle.std.specs.Prelude.{◌≡◌, IfOk, IfErr, OnOk, map};
 ghost use Rattle.cg_types.specs.declared.fault.Fault.TheVariants as faults;
 ghost use Rattle.cg_types.specs.Answer.{Answers};
-ghost use Rattle.cg_world.specs.World.{act as after_act, run_from};
+ghost use Rattle.cg_world.specs.World as spec;
+ghost use Rattle.cg_world.specs.World.{run_from};
 ghost use Rattle.cg_places.specs.Exchange.{after_last_delivery};
 ghost use Rattle.cg_world.specs.Exchange.{by_nodes, exchange_among, exchanging, JoinsBoth, StartsNeither};
 
@@ -14,7 +15,7 @@ use std::alloc::Global;
 
 // Does an action. A refused one changes nothing, but OutOfMemory ends the call.
 fn act(alloc: Global, world: &mut World, action: &Action) -> Result<(), Fault>
-    ensures ok { OnOk result (world.new ≡ after_act world.old action.now) }
+    ensures ok { OnOk result (world.new ≡ spec.act world.old action.now) }
     ensures err { IfErr result (λ f. f ≡ faults.OutOfMemory) }
 {
     let answer = world.act(alloc, action);

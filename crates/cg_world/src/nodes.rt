@@ -6,7 +6,8 @@ ghost use Rattle.std.specs.FinMap as map;
 ghost use Rattle.cg_types.specs.Answer.{Answers};
 ghost use Rattle.cg_entry.specs.History.{at_place};
 ghost use Rattle.cg_world.specs.Acting.{showing};
-ghost use Rattle.cg_world.specs.World.{Start, Local, Deliver, new_world, act as after_act, with_node, with_sent, message_of as message_of_reply, generation_held, has_room as has_room_in};
+ghost use Rattle.cg_world.specs.World as spec;
+ghost use Rattle.cg_world.specs.World.{Start, Local, Deliver, new_world, with_node, with_sent, generation_held};
 
 use crate::action::{Action, LocalEvent};
 use crate::world::Shown;
@@ -36,7 +37,7 @@ impl Model for Nodes {
 
 // The message that a reply sends, if it sends one.
 fn message_of(alloc: Global, reply: &Reply) -> Result<Option<Message>, AllocError>
-    ensures { IfOk result (λ m. m ≡ message_of_reply reply.now) }
+    ensures { IfOk result (λ m. m ≡ spec.message_of reply.now) }
 {
     match reply.message() {
         Some(message) => Ok(Some(message.copy(alloc)?)),
@@ -109,7 +110,7 @@ impl Nodes {
 
     // Returns `true` if the node runs, or there may be one more.
     fn has_room(&self, endpoint: Endpoint) -> bool
-        ensures { result ≡ has_room_in self.now endpoint }
+        ensures { result ≡ spec.has_room self.now endpoint }
     {
         match self.node(endpoint) {
             Some(_) => true,
@@ -125,7 +126,7 @@ impl Nodes {
         generation: Generation,
     ) -> Result<Shown, Fault>
         ensures shown { Answers (λ s. s) (showing self.old (Start endpoint generation)) result }
-        ensures done { OnOk result (self.new ≡ after_act self.old (Start endpoint generation)) }
+        ensures done { OnOk result (self.new ≡ spec.act self.old (Start endpoint generation)) }
         ensures err { OnErr result (self.new ≡ self.old) }
     {
         if generation.get() <= self.generation_held(endpoint) {
@@ -145,8 +146,8 @@ impl Nodes {
 
     // Keeps the message that a reply sends, if any, and returns its number.
     fn send(&mut self, alloc: Global, reply: &Reply) -> Result<Option<u64>, AllocError>
-        ensures ok { IfOk result (λ number. (self.new ≡ with_sent self.old (message_of_reply reply.now))
-            × (number ≡ option_map (λ m. length self.old.sent + 1) (message_of_reply reply.now))) }
+        ensures ok { IfOk result (λ number. (self.new ≡ with_sent self.old (spec.message_of reply.now))
+            × (number ≡ option_map (λ m. length self.old.sent + 1) (spec.message_of reply.now))) }
         ensures err { OnErr result (self.new ≡ self.old) }
     {
         match message_of(alloc, reply)? {
@@ -167,10 +168,10 @@ impl Nodes {
         reply: Reply,
     ) -> Result<Shown, AllocError>
         ensures ok { IfOk result (λ shown.
-            (self.new ≡ with_sent (with_node self.old endpoint after) (message_of_reply reply))
+            (self.new ≡ with_sent (with_node self.old endpoint after) (spec.message_of reply))
             × (shown ≡ record {
               reply = Some reply;
-              sent = option_map (λ m. length self.old.sent + 1) (message_of_reply reply);
+              sent = option_map (λ m. length self.old.sent + 1) (spec.message_of reply);
             })) }
         ensures err { OnErr result (self.new ≡ self.old) }
     {
@@ -191,7 +192,7 @@ impl Nodes {
         event: &LocalEvent,
     ) -> Result<Shown, Fault>
         ensures shown { Answers (λ s. s) (showing self.old (Local endpoint event.now)) result }
-        ensures done { OnOk result (self.new ≡ after_act self.old (Local endpoint event.now)) }
+        ensures done { OnOk result (self.new ≡ spec.act self.old (Local endpoint event.now)) }
         ensures err { OnErr result (self.new ≡ self.old) }
     {
         let Some(node) = self.node(endpoint) else {
@@ -210,7 +211,7 @@ impl Nodes {
         now: u64,
     ) -> Result<Shown, Fault>
         ensures shown { Answers (λ s. s) (showing self.old (Deliver number to now)) result }
-        ensures done { OnOk result (self.new ≡ after_act self.old (Deliver number to now)) }
+        ensures done { OnOk result (self.new ≡ spec.act self.old (Deliver number to now)) }
         ensures err { OnErr result (self.new ≡ self.old) }
     {
         let Some(message) = self.message(number) else {
@@ -227,7 +228,7 @@ impl Nodes {
     /// Does an action; a refused one changes nothing.
     pub(crate) fn act(&mut self, alloc: Global, action: &Action) -> Result<Shown, Fault>
         ensures shown { Answers (λ s. s) (showing self.old action.now) result }
-        ensures done { OnOk result (self.new ≡ after_act self.old action.now) }
+        ensures done { OnOk result (self.new ≡ spec.act self.old action.now) }
         ensures err { OnErr result (self.new ≡ self.old) }
     {
         match action {

@@ -6,7 +6,8 @@ ghost use Rattle.cg_types.specs.declared.fault.Fault.TheVariants as faults;
 ghost use Rattle.cg_types.specs.Answer.{Answers};
 ghost use Rattle.cg_entry.specs.History.{at_place};
 ghost use Rattle.cg_world.specs.Acting.{showing, found_no_memory, done_of, Ran};
-ghost use Rattle.cg_world.specs.World.{new_world, act as after_act};
+ghost use Rattle.cg_world.specs.World as spec;
+ghost use Rattle.cg_world.specs.World.{new_world};
 ghost use Rattle.cg_world.specs.Consistent.{IsConsistent, IsConsistentWorld};
 
 use crate::action::Action;
@@ -126,7 +127,7 @@ impl World {
     /// (`laws::deliveries_find_room`). Else at most `OutOfMemory`.
     pub fn act(&mut self, alloc: Global, action: &Action) -> Result<Shown, Fault>
         ensures shown { Answers (λ s. s) (showing self.old action.now) result }
-        ensures done { OnOk result (self.new ≡ after_act self.old action.now) }
+        ensures done { OnOk result (self.new ≡ spec.act self.old action.now) }
         ensures err { OnErr result (self.new ≡ self.old) }
         // after each list of actions that leads here, the tables are joins, and their entries whole
         ensures consistent { IsConsistentWorld self.new }
