@@ -12,6 +12,7 @@ use Rattle.cg_world.specs.declared.world.Shown.{Shown}
 use Rattle.cg_world.specs.Acting.{shown_by, showing, found_no_memory, Ran, done_of}
 use Rattle.cg_world.specs.World.{Action, WorldValue, acting, act, or_unchanged, new_world, run_from, run}
 use Rattle.cg_world.specs.WorldLaws.{IsReached}
+use Rattle.cg_world.specs.Headline.{Headline}
 use Rattle.cg_world.specs.Consistent.{IsConsistent, IsConsistentWorld}
 use Rattle.cg_world.proofs.HeadlineLaws.{headline}
 use Rattle.cg_world.proofs.WorldLaws.{reached_worlds, nodes_spell_places, tables_are_the_join, equal_sets_give_equal_tables}
@@ -68,10 +69,12 @@ ran_leads c d (action ∷ actions) (answer ∷ answers) ran = go (ran_leads (act
 
 -- ---- properties after actions
 
+pub headline_after : (settings : SettingsValue) (actions : List Action) (c : WorldValue) → c ≡ run settings actions → Headline settings actions c
+headline_after settings actions c is = subst (Headline settings actions) (sym is) (headline settings actions)
+
 pub consistent_after : (settings : SettingsValue) (actions : List Action) (c : WorldValue) → c ≡ run settings actions → IsConsistent settings actions c
 consistent_after settings actions c is = subst (IsConsistent settings actions) (sym is) (record {
   led = refl;
-  headline = headline settings actions;
   spelled = nodes_spell_places settings actions;
   told = λ earlier later whole. outcomes_tell_what_is_taken settings earlier;
   joined = tables_are_the_join settings actions;
@@ -79,9 +82,17 @@ consistent_after settings actions c is = subst (IsConsistent settings actions) (
 })
 
 pub consistent_reached : (c : WorldValue) → IsReached c → IsConsistentWorld c
-consistent_reached c reached = record { reached = reached; consistent = λ actions is. consistent_after c.settings actions c is }
+consistent_reached c reached = record {
+  reached = reached;
+  headline = λ actions is. headline_after c.settings actions c is;
+  consistent = λ actions is. consistent_after c.settings actions c is;
+}
 
 -- a world after a run, and after the actions that were done
+pub headline_ran : (settings : SettingsValue) (actions : List Action) (answers : List (Result Shown Fault)) (c : WorldValue) → Ran (new_world settings) actions answers c
+    → Headline settings (done_of actions answers) c
+headline_ran settings actions answers c ran = headline_after settings (done_of actions answers) c (ran_leads (new_world settings) c actions answers ran)
+
 pub consistent_ran : (settings : SettingsValue) (actions : List Action) (answers : List (Result Shown Fault)) (c : WorldValue) → Ran (new_world settings) actions answers c
     → IsConsistent settings (done_of actions answers) c
 consistent_ran settings actions answers c ran = consistent_after settings (done_of actions answers) c (ran_leads (new_world settings) c actions answers ran)

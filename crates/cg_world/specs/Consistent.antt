@@ -1,4 +1,5 @@
--- Properties of the nodes that run after a list of actions.
+-- Properties of the nodes that run after a list of actions, by the places of these; the headline says what is so of nodes,
+-- replies and messages.
 use Rattle.std.specs.Prelude.{ℕ, ◌≡◌, ◌++◌, List}
 use Rattle.cg_core.specs.SettingsValues.{SettingsValue}
 use Rattle.cg_core.specs.Values.{NodeValue}
@@ -13,8 +14,6 @@ use Rattle.cg_world.specs.Headline.{Headline}
 pub record IsConsistent (settings : SettingsValue) (actions : List Action) (c : WorldValue) : Type 0 where
   -- the actions lead here
   pub led : c ≡ run settings actions
-  -- the headline, over nodes, replies and messages; the next parts tie it to the places of the actions
-  pub headline : Headline settings actions c
   -- the nodes hold and have sent what the places of the actions say: so each action that may be done is done, and each
   -- node's table is that of its own endpoint
   pub spelled : SpellsWorld c (place_world actions)
@@ -27,7 +26,9 @@ pub record IsConsistent (settings : SettingsValue) (actions : List Action) (c : 
       → ((owner : ℕ) → SamePlaces (sources (place_world actions) a owner) (sources (place_world actions) b owner))
       → AreEqual one.table.entries other.table.entries
 
--- A world is one that some actions lead to, and consistent after each list of actions that leads to it.
+-- A world is one that some actions lead to. After each list of actions that leads to it the headline holds of these, and it
+-- is consistent.
 pub record IsConsistentWorld (c : WorldValue) : Type 0 where
   pub reached : IsReached c
+  pub headline : (actions : List Action) → c ≡ run c.settings actions → Headline c.settings actions c
   pub consistent : (actions : List Action) → c ≡ run c.settings actions → IsConsistent c.settings actions c

@@ -8,6 +8,7 @@ ghost use Rattle.cg_entry.specs.History.{at_place};
 ghost use Rattle.cg_world.specs.Acting.{showing, found_no_memory, done_of, Ran};
 ghost use Rattle.cg_world.specs.World as spec;
 ghost use Rattle.cg_world.specs.World.{new_world};
+ghost use Rattle.cg_world.specs.Headline.{Headline};
 ghost use Rattle.cg_world.specs.Consistent.{IsConsistent, IsConsistentWorld};
 
 use crate::action::Action;
@@ -90,7 +91,7 @@ impl World {
     /// The node of an endpoint, if it runs.
     pub fn node(&self, endpoint: Endpoint) -> Option<&Node>
         ensures value { option_copied result ≡ map.get self.now.nodes endpoint }
-        // after each list of actions that leads here, the tables are joins, and their entries whole
+        // the headline holds of each list of actions that leads here, and the nodes hold what their places say
         ensures consistent { IsConsistentWorld self.now }
     {
         self.nodes.node(endpoint)
@@ -129,7 +130,7 @@ impl World {
         ensures shown { Answers (λ s. s) (showing self.old action.now) result }
         ensures done { OnOk result (self.new ≡ spec.act self.old action.now) }
         ensures err { OnErr result (self.new ≡ self.old) }
-        // after each list of actions that leads here, the tables are joins, and their entries whole
+        // the headline holds of each list of actions that leads here, and the nodes hold what their places say
         ensures consistent { IsConsistentWorld self.new }
     {
         self.nodes.act(alloc, action)
@@ -148,8 +149,11 @@ impl World {
         actions: &[Action],
     ) -> Result<(World, Vec<Result<Shown, Fault>>), Fault>
         ensures ran { IfOk result (λ x. Ran (new_world settings) actions.now x.1.items x.0) }
+        // the headline holds of the actions before the first that finds no memory
+        ensures headline { IfOk result (λ x. Headline settings (done_of actions.now x.1.items) x.0) }
+        // their places say what the nodes hold
         ensures consistent { IfOk result (λ x. IsConsistent settings (done_of actions.now x.1.items) x.0) }
-        // after each list of actions that leads to this world, the headline holds of that list
+        // both hold of each list of actions that leads to this world
         ensures world { IfOk result (λ x. IsConsistentWorld x.0) }
         ensures err { IfErr result (λ f. f ≡ faults.OutOfMemory) }
         // no room is needed for no answers
@@ -169,6 +173,7 @@ impl World {
     ) -> (World, Vec<Result<Shown, Fault>>)
         requires { length actions.now ≤ vec_capacity answers }
         ensures ran { Ran (new_world settings) actions.now result.1.items result.0 }
+        ensures headline { Headline settings (done_of actions.now result.1.items) result.0 }
         ensures consistent { IsConsistent settings (done_of actions.now result.1.items) result.0 }
         ensures world { IsConsistentWorld result.0 }
     {

@@ -4,7 +4,7 @@ use Rattle.cg_types.specs.declared.fault.Fault.{Fault}
 use Rattle.cg_world.specs.declared.world.Shown.{Shown}
 use Rattle.cg_world.specs.Acting.{found_no_memory, Ran}
 use Rattle.cg_world.specs.World.{new_world}
-use Rattle.cg_world.proofs.ActingLemmas.{RunsOn, runs_next, runs_out, runs_end, split_at, consistent_ran, consistent_world_ran}
+use Rattle.cg_world.proofs.ActingLemmas.{RunsOn, runs_next, runs_out, runs_end, split_at, headline_ran, consistent_ran, consistent_world_ran}
 use Rattle.cg_world.proofs.world.World.run_in.Goals as goal
 
 pub loop-action-preserved : goal.loop-action-preserved
@@ -37,6 +37,9 @@ ran_short c =
 pub returns-then-ends-clause-ran : goal.returns-then-ends-clause-ran
 returns-then-ends-clause-ran c = ran_short c
 
+pub returns-then-ends-clause-headline : goal.returns-then-ends-clause-headline
+returns-then-ends-clause-headline c = headline_ran c.args.settings c.args.actions.now c.push_reserved.new.self.items c.act-answer.new.self (ran_short c)
+
 pub returns-then-ends-clause-consistent : goal.returns-then-ends-clause-consistent
 returns-then-ends-clause-consistent c = consistent_ran c.args.settings c.args.actions.now c.push_reserved.new.self.items c.act-answer.new.self (ran_short c)
 
@@ -48,6 +51,9 @@ returns-clause-ran c =
     let at = c.loop-action.action-index in
     let actions = c.args.actions.now in
     runs_end (new_world c.args.settings) c.loop-action.world actions (drop at actions) c.loop-action.answers.items c.loop-action.invariant.0 (drop_all at actions c.loop-action-test.false)
+
+pub returns-clause-headline : goal.returns-clause-headline
+returns-clause-headline c = headline_ran c.args.settings c.args.actions.now c.loop-action.answers.items c.loop-action.world (returns-clause-ran c)
 
 pub returns-clause-consistent : goal.returns-clause-consistent
 returns-clause-consistent c = consistent_ran c.args.settings c.args.actions.now c.loop-action.answers.items c.loop-action.world (returns-clause-ran c)
