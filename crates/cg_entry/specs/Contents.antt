@@ -1,12 +1,18 @@
--- The contents of entries and deltas: numbers in their ranges, and plain and short texts.
+-- The contents of digests, entries and deltas: numbers in their ranges, and plain and short texts.
 use Rattle.std.specs.Prelude.{ℕ, IfSome}
 use Rattle.std.specs.List.{AllByRecursion}
 use Rattle.std.specs.FinMap as map
-use Rattle.cg_types.specs.Numbers.{IsGeneration, IsVersion, IsVersionHeld, IsKey}
+use Rattle.cg_types.specs.Numbers.{IsEndpoint, IsGeneration, IsVersion, IsVersionHeld, IsKey}
 use Rattle.cg_types.specs.Text.{IsStateText}
+use Rattle.cg_entry.specs.declared.digest.Digest.{Digest}
 use Rattle.cg_entry.specs.Values.{EntryValue, DeltaValue}
 use Rattle.cg_entry.specs.Versioned.{Versioned, States}
 use Rattle.cg_entry.specs.Entry.{IsDelta}
+
+pub record IsDigest (d : Digest) : Type 0 where
+  pub endpoint : IsEndpoint d.endpoint
+  pub generation : IsGeneration d.generation
+  pub newest : IsVersion d.newest
 
 -- a state with its key; a tombstone has no text
 pub record IsState (s : ℕ × Versioned) : Type 0 where

@@ -22,7 +22,7 @@ use crate::by_key::ByKey;
 use crate::places::Places;
 use crate::state::State;
 use crate::states::versions_rise;
-use cg_types::{STATE_LIMIT, StateKey, Version};
+use cg_types::{STATE_LIMIT, Shows, StateKey, Version};
 use std::alloc::{AllocError, Global};
 use std::marker::Model;
 use std::sync::Arc;
@@ -58,6 +58,17 @@ impl Model for Block {
     ghost view = { λ b. map.from_sorted (pairs (picked b.items.items b.places)) };
 
     ghost invariant = { λ b. IsBlock b.items.items b.places b.text_bytes };
+}
+
+impl Shows for Block {
+    ghost use Rattle.cg_entry.specs.Contents.{AreStates};
+
+    ghost Shown = { AreStates };
+
+    #[inline(always)]
+    fn show(&self) {
+        self.places.as_slice();
+    }
 }
 
 // The first place whose state is newer than `above`. The ends are looked at before it is halved: mostly no state is
@@ -135,17 +146,6 @@ fn find<'a>(items: &'a [State], places: &[u8], key: StateKey) -> Option<&'a Stat
     match number_of(items, places, key) {
         Ok(at) => Some(&items[places[at] as usize]),
         Err(_) => None,
-    }
-}
-
-// Reads a state; the read shows that it is in range.
-fn show_state(state: &State)
-    ensures { IsState (pair state.now) }
-{
-    let _key = state.key.get();
-    let _version = state.version.get();
-    if let Some(text) = &state.text {
-        let _text = text.as_str();
     }
 }
 
@@ -237,7 +237,7 @@ impl Block {
         ensures ok { OnOk result (self.new ≡ map.insert self.old state.key (value_at_key state)) }
         ensures err { OnErr result (self.new ≡ self.old) }
     {
-        show_state(&state);
+        state.show();
         let size = text_size(&state);
         let count = self.items.as_slice().len();
         let at = first_above(&self.items, state.version.get());
@@ -283,7 +283,7 @@ impl Block {
         requires gap { IsGapAt (map.entries self) state.key number }
         ensures { IfOk result (λ b. b ≡ map.insert self state.key (value_at_key state)) }
     {
-        show_state(&state);
+        state.show();
         let size = text_size(&state);
         let last = self.items.as_slice().len();
         let mut items = self.items;
@@ -301,7 +301,7 @@ impl Block {
         requires row { IsRowAt (map.entries self) state.key number }
         ensures { IfOk result (λ b. b ≡ map.insert self state.key (value_at_key state)) }
     {
-        show_state(&state);
+        state.show();
         let size = text_size(&state);
         let last = self.items.as_slice().len() - 1;
         let at = self.places.as_slice()[number];
@@ -339,7 +339,7 @@ impl Block {
         requires row { IsRowAt (map.entries self.now) state.key number }
         ensures { IfOk result (λ b. b ≡ map.insert self.now state.key (value_at_key state)) }
     {
-        show_state(&state);
+        state.show();
         let size = text_size(&state);
         let last = self.items.as_slice().len() - 1;
         let at = self.places.as_slice()[number];
@@ -441,7 +441,7 @@ impl Block {
     fn one(alloc: Global, state: &State) -> Result<Block, AllocError>
         ensures { IfOk result (λ b. b ≡ map.from_sorted (pair state.now ∷ [])) }
     {
-        show_state(state);
+        state.show();
         let mut items = Vec::with_capacity(alloc, 1)?;
         items.push(state.copy()?)?;
         Ok(Block::in_order(items, text_size(state)))
@@ -520,12 +520,5 @@ impl Block {
             return heartbeat;
         }
         heartbeat.max(items[items.len() - 1].version)
-    }
-
-    // Reads the states; the read shows that they are in range.
-    pub(crate) fn show(&self)
-        ensures { AreStates self.now }
-    {
-        let _count = self.places.as_slice().len();
     }
 }

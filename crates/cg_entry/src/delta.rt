@@ -12,7 +12,7 @@ use crate::by_key::ByKey;
 use crate::held::Held;
 use crate::state::State;
 use crate::states::{States, keys_rise};
-use cg_types::{Cause, Generation, Version};
+use cg_types::{Cause, Generation, Shows, Version};
 use std::alloc::{AllocError, Global};
 use std::marker::Model;
 
@@ -39,6 +39,19 @@ impl Model for Delta {
         record { generation = d.generation; above = d.above; heartbeat = d.heartbeat; states = d.states } };
 
     ghost invariant = { λ d. IsVersionHeld d.above × IsDelta d.above d.heartbeat d.states };
+}
+
+impl Shows for Delta {
+    ghost use Rattle.cg_entry.specs.Contents.{IsDeltaOfEntry};
+
+    ghost Shown = { IsDeltaOfEntry };
+
+    #[inline(always)]
+    fn show(&self) {
+        self.generation.show();
+        self.heartbeat.show();
+        self.states.show();
+    }
 }
 
 fn all_newer(above: u32, items: &[State]) -> bool
@@ -179,9 +192,7 @@ impl Delta {
         ensures value { result ≡ length (map.entries self.now.states) }
         ensures valid { IsDeltaOfEntry self.now }
     {
-        let _generation = self.generation.get();
-        let _heartbeat = self.heartbeat.get();
-        self.states.show();
+        self.show();
         self.states.len()
     }
 

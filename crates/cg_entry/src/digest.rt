@@ -1,6 +1,6 @@
 //! Digests.
 
-use cg_types::{Endpoint, Generation, Owned, Version};
+use cg_types::{Endpoint, Generation, Owned, Shows, Version};
 
 /// A digest: the generation held of an endpoint, and the greatest version held of that generation (Apache Cassandra's
 /// `GossipDigest`).
@@ -16,5 +16,18 @@ impl Owned for Digest {
 
     fn owner(&self) -> Endpoint {
         self.endpoint
+    }
+}
+
+impl Shows for Digest {
+    ghost use Rattle.cg_entry.specs.Contents.{IsDigest};
+
+    ghost Shown = { IsDigest };
+
+    #[inline(always)]
+    fn show(&self) {
+        self.endpoint.show();
+        self.generation.show();
+        self.newest.show();
     }
 }

@@ -18,7 +18,7 @@ use crate::lent::LentStates;
 use crate::removals::Removals;
 use crate::standing::Standing;
 use crate::state::State;
-use cg_types::{Fault, Generation, StateKey, StateText, Version};
+use cg_types::{Fault, Generation, Shows, StateKey, StateText, Version};
 use cg_version::Versions;
 use std::alloc::{AllocError, Global};
 use std::marker::Model;
@@ -57,6 +57,20 @@ impl Model for Entry {
     ghost use Rattle.cg_entry.specs.Entry.{greatest};
 
     ghost invariant = { λ e. e.newest ≡ greatest e.heartbeat (with_tombstones e.removals e.states) };
+}
+
+impl Shows for Entry {
+    ghost use Rattle.cg_entry.specs.Contents.{IsEntry};
+
+    ghost Shown = { IsEntry };
+
+    #[inline(always)]
+    fn show(&self) {
+        self.generation.show();
+        self.heartbeat.show();
+        self.states.show();
+        self.removals.show();
+    }
 }
 
 /// The outcome of a delta: the entry that it led to, or why it was not taken. `Old` brings nothing new; at a `Gap` the
@@ -244,10 +258,7 @@ impl Entry {
         ensures value { result ≡ length (map.entries self.now.states) }
         ensures valid { IsEntry self.now }
     {
-        let _generation = self.generation.get();
-        let _heartbeat = self.heartbeat.get();
-        self.states.show();
-        self.removals.show();
+        self.show();
         self.states.len()
     }
 
@@ -289,7 +300,7 @@ impl Entry {
     fn settled(&self, alloc: Global) -> Result<Standing, AllocError>
         ensures { IfOk result (λ s. s ≡ self.now.states) }
     {
-        let _count = self.count();
+        self.show();
         let block = self.newer_block(alloc, 0)?;
         Standing::of(alloc, block)
     }

@@ -16,7 +16,7 @@ use crate::by_key::ByKey;
 use crate::standing::Standing;
 use crate::state::State;
 use crate::states::States;
-use cg_types::{StateKey, Version};
+use cg_types::{Shows, StateKey, Version};
 use std::alloc::{AllocError, Global};
 use std::marker::Model;
 use std::ops::Deref;
@@ -45,6 +45,20 @@ impl Model for Held {
     ghost coded = { states_code };
 
     ghost view = { λ h. held_states h.kept };
+}
+
+impl Shows for Held {
+    ghost use Rattle.cg_entry.specs.Contents.{AreStates};
+
+    ghost Shown = { AreStates };
+
+    #[inline(always)]
+    fn show(&self) {
+        match &self.kept {
+            Kept::Own(states) => states.show(),
+            Kept::Shared(block) => block.deref().show(),
+        }
+    }
 }
 
 fn is_same_state(ours: &State, theirs: &State) -> bool
@@ -142,16 +156,6 @@ impl Held {
         match &self.kept {
             Kept::Own(states) => states.text_bytes(),
             Kept::Shared(block) => block.deref().text_bytes(),
-        }
-    }
-
-    // Reads the states; the read shows that they are in range.
-    pub(crate) fn show(&self)
-        ensures { AreStates self.now }
-    {
-        match &self.kept {
-            Kept::Own(states) => states.show(),
-            Kept::Shared(block) => block.deref().show(),
         }
     }
 

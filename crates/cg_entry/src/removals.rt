@@ -5,7 +5,7 @@ ghost use Rattle.std.specs.List.{AllByRecursion};
 ghost use Rattle.cg_types.specs.Numbers.{IsVersionHeld};
 ghost use Rattle.cg_entry.specs.Removals.{removal_at, version_if_any};
 
-use cg_types::{StateKey, Version};
+use cg_types::{Shows, StateKey, Version};
 use std::marker::Model;
 
 // The version of each key's removal, in the order of the keys; 0 at a key that was not removed.
@@ -32,6 +32,19 @@ impl Model for Removals {
     ghost invariant = { λ r. AllByRecursion IsVersionHeld r.versions };
 }
 
+// Each version is in range.
+impl Shows for Removals {
+    ghost use Rattle.std.specs.List.{AllByRecursion};
+    ghost use Rattle.cg_types.specs.Numbers.{IsVersionHeld};
+
+    ghost Shown = { AllByRecursion IsVersionHeld };
+
+    #[inline(always)]
+    fn show(&self) {
+        self.any;
+    }
+}
+
 impl Removals {
     pub(crate) fn none() -> Removals
         ensures { result ≡ [] }
@@ -56,13 +69,6 @@ impl Removals {
             any: self.any,
             versions: self.versions,
         }
-    }
-
-    // Shows that each version is in range.
-    pub(crate) fn show(&self)
-        ensures { AllByRecursion IsVersionHeld self.now }
-    {
-        let _any = self.any;
     }
 
     // The version of a key's removal, if there is one.

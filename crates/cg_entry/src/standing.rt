@@ -13,7 +13,7 @@ use crate::by_key::ByKey;
 use crate::held::Held;
 use crate::state::State;
 use crate::states::States;
-use cg_types::{STATE_LIMIT, StateKey, Version};
+use cg_types::{STATE_LIMIT, Shows, StateKey, Version};
 use std::alloc::{AllocError, Global};
 use std::marker::Model;
 use std::ops::Deref;
@@ -43,6 +43,20 @@ impl Model for Standing {
     ghost coded = { states_code };
 
     ghost view = { λ s. standing_states s.kept };
+}
+
+impl Shows for Standing {
+    ghost use Rattle.cg_entry.specs.Contents.{AreStates};
+
+    ghost Shown = { AreStates };
+
+    #[inline(always)]
+    fn show(&self) {
+        match &self.kept {
+            Kept::Bare => {}
+            Kept::Shared(block) => block.deref().show(),
+        }
+    }
 }
 
 fn newer_of_block(alloc: Global, block: &Arc<Block, Global>, above: u32) -> Result<Held, AllocError>
@@ -125,16 +139,6 @@ impl Standing {
         match &self.kept {
             Kept::Bare => heartbeat,
             Kept::Shared(block) => block.deref().greatest(heartbeat),
-        }
-    }
-
-    // Reads the states; the read shows that they are in range.
-    pub(crate) fn show(&self)
-        ensures { AreStates self.now }
-    {
-        match &self.kept {
-            Kept::Bare => {}
-            Kept::Shared(block) => block.deref().show(),
         }
     }
 

@@ -2,7 +2,7 @@
 
 ghost use Rattle.std.specs.Prelude.{◌≡◌, IfOk, option_copied};
 
-use cg_types::{StateKey, StateText, Version};
+use cg_types::{Shows, StateKey, StateText, Version};
 use std::alloc::AllocError;
 
 /// A state: a key's text, and the version that set it (Apache Cassandra's `VersionedValue` at its `ApplicationState`). A
@@ -12,6 +12,20 @@ pub struct State {
     pub key: StateKey,
     pub version: Version,
     pub text: Option<StateText>,
+}
+
+impl Shows for State {
+    ghost use Rattle.cg_entry.specs.Contents.{IsState};
+    ghost use Rattle.cg_entry.specs.State.{pair};
+
+    ghost Shown = { λ s. IsState (pair s) };
+
+    #[inline(always)]
+    fn show(&self) {
+        self.key.show();
+        self.version.show();
+        self.text.show();
+    }
 }
 
 // The same text, shared; none of a tombstone.

@@ -16,7 +16,7 @@ ghost use Rattle.cg_entry.specs.Block.{put_all};
 use crate::block::Block;
 use crate::by_key::ByKey;
 use crate::state::State;
-use cg_types::{StateKey, Version};
+use cg_types::{Shows, StateKey, Version};
 use std::alloc::{AllocError, Global};
 use std::marker::Model;
 
@@ -43,6 +43,17 @@ impl Model for States {
     ghost invariant = { λ s. IsStateList s.items.items s.text_bytes };
 }
 
+impl Shows for States {
+    ghost use Rattle.cg_entry.specs.Contents.{AreStates};
+
+    ghost Shown = { AreStates };
+
+    #[inline(always)]
+    fn show(&self) {
+        self.as_slice();
+    }
+}
+
 // Tests whether the keys rise strictly.
 pub(crate) fn keys_rise(items: &[State]) -> bool
     ensures { result ≡ state_spec.keys_rise items.now }
@@ -65,22 +76,11 @@ fn state_of(items: &[State], key: StateKey) -> Option<&State>
     items.iter().find(|state| state.key == key)
 }
 
-// Reads a state; the read shows that it is in range.
-fn show_state(state: &State)
-    ensures { IsState (pair state.now) }
-{
-    let _key = state.key.get();
-    let _version = state.version.get();
-    if let Some(text) = &state.text {
-        let _text = text.as_str();
-    }
-}
-
 fn show_states(items: &[State])
     ensures { AllByRecursion IsState (pairs items.now) }
 {
     for state in items {
-        show_state(state);
+        state.show();
     }
 }
 
@@ -156,13 +156,6 @@ impl States {
         ensures { result ≡ entry_spec.text_bytes self.now }
     {
         self.text_bytes
-    }
-
-    // Reads the states; the read shows that they are in range.
-    pub(crate) fn show(&self)
-        ensures { AreStates self.now }
-    {
-        let _states = self.as_slice();
     }
 
     // The state of a key, if there is one.

@@ -12,7 +12,8 @@ use Rattle.cg_messages.specs.declared.message.Message.{Message}
 use Rattle.cg_messages.specs.declared.message.Message.TheVariants.{Syn, Ack, Ack2}
 use Rattle.cg_messages.specs.Values.{SynValue, AckValue, Ack2Value}
 use Rattle.cg_messages.specs.Members.{endpoints_of_digests, endpoints_of_requests, endpoints_of_deltas}
-use Rattle.cg_messages.specs.Contents.{IsDigest, IsRequest}
+use Rattle.cg_entry.specs.Contents.{IsDigest}
+use Rattle.cg_messages.specs.Contents.{IsRequest}
 use Rattle.cg_frames.specs.declared.layout.Layout.{Layout}
 
 -- a plain and short text, or a tombstone, if the layout has them

@@ -23,7 +23,8 @@ use Rattle.cg_frames.specs.Lists.{digest_at, request_at, delta_at, listed_reques
 use Rattle.cg_frames.specs.Reading.{syn_at, ack_at, ack2_at, whole_field, as_message, layout_at, kind_from, kind_at, of_kind, inside_at, frame_at}
 use Rattle.cg_frames.specs.Choosing.{due, frame_among, IsOneOf, AreRead}
 use Rattle.cg_frames.specs.Spelling.{four_bytes, digest, request, delta, cluster, members, number_of_kind, kind, body, inside, frame}
-use Rattle.cg_messages.specs.Contents.{IsDigest, IsRequest}
+use Rattle.cg_entry.specs.Contents.{IsDigest}
+use Rattle.cg_messages.specs.Contents.{IsRequest}
 use Rattle.cg_frames.specs.Layouts.{IsRead}
 use Rattle.cg_frames.proofs.FitsFields.{FitsFields, FitsDelta, FitsSyn, FitsAck, FitsAck2}
 use Rattle.cg_frames.proofs.FitsLemmas.{fits_of}

@@ -21,7 +21,7 @@ use Rattle.cg_types.specs.ResultSteps.{◌>>=◌}
 use Rattle.cg_frames.specs.Fields.{Field, bytes_at, number_at, endpoint_at, ranged_at, plain_at, name_at, count_at}
 use Rattle.cg_frames.specs.Lists.{digest_at, rising_at}
 use Rattle.cg_frames.specs.Spelling.{two_bytes, four_bytes, endpoint, digest, members}
-use Rattle.cg_messages.specs.Contents.{IsDigest}
+use Rattle.cg_entry.specs.Contents.{IsDigest}
 use Rattle.cg_frames.proofs.FitsFields.{FitsMembers}
 use Rattle.cg_frames.specs.Laws.{AreBytes}
 use Rattle.cg_frames.proofs.ReadIsSpelledParts.{bind_ok, ok_is, goes_by, goes_on_by, endpoint_parts, digest_parts, rising_parts, none_read, rising_taken, count_within, counted_parts}

@@ -22,7 +22,7 @@ use Rattle.cg_types.specs.ResultSteps.{◌>>=◌}
 use Rattle.cg_frames.specs.Fields.{Field, bytes_at, number_at, endpoint_from, endpoint_at, ranged_at, count_at, plain_at, name_at}
 use Rattle.cg_frames.specs.Lists.{digest_at, rising_at}
 use Rattle.cg_frames.specs.Reading.{syn_at}
-use Rattle.cg_messages.specs.Contents.{IsDigest}
+use Rattle.cg_entry.specs.Contents.{IsDigest}
 use Rattle.cg_frames.proofs.FitsFields.{FitsSyn}
 use Rattle.cg_frames.proofs.ReadIsSpelledParts.{syn_made, after_count, after_partitioner, after_name}
 use Rattle.cg_frames.specs.Spelling.{two_bytes, four_bytes, endpoint, digest, members, body}

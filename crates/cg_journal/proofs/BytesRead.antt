@@ -14,7 +14,8 @@ use Rattle.cg_entry.specs.declared.digest.Digest.{Digest}
 use Rattle.cg_messages.specs.declared.owner_delta.OwnerDelta.{OwnerDelta}
 use Rattle.cg_messages.specs.declared.message.Message.{Message}
 use Rattle.cg_messages.specs.declared.message.Message.TheVariants.{Syn, Ack, Ack2}
-use Rattle.cg_messages.specs.Contents.{IsDigest, IsRequest}
+use Rattle.cg_entry.specs.Contents.{IsDigest}
+use Rattle.cg_messages.specs.Contents.{IsRequest}
 use Rattle.cg_messages.specs.Values.{RequestValue}
 use Rattle.cg_frames.specs.declared.layout.Layout.{Layout}
 use Rattle.cg_frames.specs.declared.layout.TheConstants.{TOMBSTONE}

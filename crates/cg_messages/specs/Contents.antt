@@ -1,17 +1,11 @@
 -- The contents of each message: numbers in their ranges, plain and short texts, and lists that rise and are few.
 use Rattle.std.specs.List.{AllByRecursion}
-use Rattle.cg_types.specs.Numbers.{IsEndpoint, IsGeneration, IsVersion, IsVersionHeld}
+use Rattle.cg_types.specs.Numbers.{IsEndpoint, IsGeneration, IsVersionHeld}
 use Rattle.cg_types.specs.Text.{IsCluster}
-use Rattle.cg_entry.specs.Contents.{IsDeltaOfEntry}
-use Rattle.cg_entry.specs.declared.digest.Digest.{Digest}
+use Rattle.cg_entry.specs.Contents.{IsDigest, IsDeltaOfEntry}
 use Rattle.cg_messages.specs.declared.owner_delta.OwnerDelta.{OwnerDelta}
 use Rattle.cg_messages.specs.Values.{RequestValue, SynValue, AckValue, Ack2Value}
 use Rattle.cg_messages.specs.Members.{AreListed, endpoints_of_digests, endpoints_of_requests, endpoints_of_deltas}
-
-pub record IsDigest (d : Digest) : Type 0 where
-  pub endpoint : IsEndpoint d.endpoint
-  pub generation : IsGeneration d.generation
-  pub newest : IsVersion d.newest
 
 pub record IsRequest (r : RequestValue) : Type 0 where
   pub endpoint : IsEndpoint r.endpoint

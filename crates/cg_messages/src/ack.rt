@@ -6,8 +6,8 @@ ghost use Rattle.cg_messages.specs.Contents.{IsAck};
 
 use crate::owned::are_listed;
 use crate::owner_delta::{OwnerDelta, copies};
-use crate::parts::show_all;
 use crate::request::Request;
+use cg_types::{Shows, show_all};
 use std::alloc::{AllocError, Global};
 use std::marker::Model;
 
@@ -53,6 +53,17 @@ impl Eq for Ack {
     ghost use Rattle.cg_types.specs.Equality.{same_by-laws};
 
     ghost laws = { same_by-laws ack_code };
+}
+
+impl Shows for Ack {
+    ghost use Rattle.cg_messages.specs.Contents.{IsAck};
+
+    ghost Shown = { IsAck };
+
+    #[inline(always)]
+    fn show(&self) {
+        self.deltas();
+    }
 }
 
 impl Ack {

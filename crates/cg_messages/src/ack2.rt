@@ -6,7 +6,7 @@ ghost use Rattle.cg_messages.specs.Contents.{IsAck2};
 
 use crate::owned::are_listed;
 use crate::owner_delta::{OwnerDelta, copies};
-use crate::parts::show_all;
+use cg_types::{Shows, show_all};
 use std::alloc::{AllocError, Global};
 use std::marker::Model;
 
@@ -51,6 +51,17 @@ impl Eq for Ack2 {
     ghost use Rattle.cg_types.specs.Equality.{same_by-laws};
 
     ghost laws = { same_by-laws ack2_code };
+}
+
+impl Shows for Ack2 {
+    ghost use Rattle.cg_messages.specs.Contents.{IsAck2};
+
+    ghost Shown = { IsAck2 };
+
+    #[inline(always)]
+    fn show(&self) {
+        self.deltas();
+    }
 }
 
 impl Ack2 {

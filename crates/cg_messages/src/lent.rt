@@ -8,6 +8,7 @@ use crate::ack::Ack;
 use crate::ack2::Ack2;
 use crate::message::Message;
 use crate::opening::Syn;
+use cg_types::Shows;
 use std::alloc::{AllocError, Global};
 
 /// A borrowed message of any kind.
@@ -16,6 +17,22 @@ pub enum Lent<'a> {
     Syn(&'a Syn),
     Ack(&'a Ack),
     Ack2(&'a Ack2),
+}
+
+impl Shows for Lent<'_> {
+    ghost use Rattle.cg_messages.specs.Lent.{lent_message};
+    ghost use Rattle.cg_messages.specs.Messages.{IsMessage};
+
+    ghost Shown = { λ m. IsMessage (lent_message m) };
+
+    #[inline(always)]
+    fn show(&self) {
+        match self {
+            Lent::Syn(syn) => syn.show(),
+            Lent::Ack(ack) => ack.show(),
+            Lent::Ack2(ack2) => ack2.show(),
+        }
+    }
 }
 
 impl Lent<'_> {

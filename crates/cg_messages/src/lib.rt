@@ -14,7 +14,6 @@ mod opening;
 mod outcome;
 mod owned;
 mod owner_delta;
-mod parts;
 mod request;
 
 pub use ack::Ack;

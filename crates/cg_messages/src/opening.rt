@@ -5,9 +5,8 @@ ghost use Rattle.cg_messages.specs.Members.{AreListed, is_member_list, endpoints
 ghost use Rattle.cg_messages.specs.Contents.{IsSyn};
 
 use crate::owned::are_listed;
-use crate::parts::show_all;
 use cg_entry::Digest;
-use cg_types::Cluster;
+use cg_types::{Cluster, Shows, show_all};
 use std::alloc::{AllocError, Global};
 use std::marker::Model;
 
@@ -51,6 +50,17 @@ impl Eq for Syn {
     ghost use Rattle.cg_types.specs.Equality.{same_by-laws};
 
     ghost laws = { same_by-laws syn_code };
+}
+
+impl Shows for Syn {
+    ghost use Rattle.cg_messages.specs.Contents.{IsSyn};
+
+    ghost Shown = { IsSyn };
+
+    #[inline(always)]
+    fn show(&self) {
+        self.digests();
+    }
 }
 
 impl Syn {

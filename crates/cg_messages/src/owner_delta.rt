@@ -3,7 +3,7 @@
 ghost use Rattle.std.specs.Prelude.{◌≡◌, ◌↔◌, IsTrue, IfOk};
 
 use cg_entry::Delta;
-use cg_types::Endpoint;
+use cg_types::{Endpoint, Shows};
 use std::alloc::{AllocError, Global};
 
 /// A delta, and the endpoint that it is about. It is a member of the map from endpoints to their `EndpointState` in
@@ -35,6 +35,18 @@ impl Eq for OwnerDelta {
     ghost use Rattle.cg_types.specs.Equality.{same_by-laws};
 
     ghost laws = { same_by-laws owner_delta_code };
+}
+
+impl Shows for OwnerDelta {
+    ghost use Rattle.cg_messages.specs.Contents.{IsOwnerDelta};
+
+    ghost Shown = { IsOwnerDelta };
+
+    #[inline(always)]
+    fn show(&self) {
+        self.endpoint.show();
+        self.delta.show();
+    }
 }
 
 impl OwnerDelta {

@@ -3,7 +3,7 @@
 ghost use Rattle.std.specs.Prelude.{◌≡◌, ◌↔◌, IsSome, IfSome};
 ghost use Rattle.cg_types.specs.Numbers.{IsVersionHeld};
 
-use cg_types::{Endpoint, Generation, NUMBER_LIMIT};
+use cg_types::{Endpoint, Generation, NUMBER_LIMIT, Shows};
 use std::marker::Model;
 
 /// A request for the part of an endpoint's entry above a version of a generation, or for the whole entry at version 0.
@@ -26,6 +26,19 @@ impl Model for Request {
     ghost invariant = { λ r. IsVersionHeld r.version };
 
     ghost inverse = { λ r. record { endpoint = r.endpoint; generation = r.generation; version = r.version } };
+}
+
+impl Shows for Request {
+    ghost use Rattle.cg_messages.specs.Contents.{IsRequest};
+
+    ghost Shown = { IsRequest };
+
+    #[inline(always)]
+    fn show(&self) {
+        self.endpoint.show();
+        self.generation.show();
+        self.version();
+    }
 }
 
 impl Request {

@@ -7,17 +7,16 @@ ghost use Rattle.cg_table.specs.Merge.{later_of, merging};
 ghost use Rattle.cg_table.specs.Taking as taking_spec;
 ghost use Rattle.cg_table.specs.Taking.{change_of, putting_delta};
 ghost use Rattle.std.specs.FinMap as map;
-ghost use Rattle.std.specs.List.{AllByRecursion};
 ghost use Rattle.cg_types.specs.Rising.{Rises};
 ghost use Rattle.cg_types.specs.Rows.{keys_of};
 ghost use Rattle.cg_types.specs.Map.{put_each};
 ghost use Rattle.cg_table.specs.Own as own_spec;
 ghost use Rattle.cg_table.specs.Puts.{row_at};
 ghost use Rattle.cg_table.specs.Table.{lone_table, digest_of, digests_of};
-ghost use Rattle.cg_table.specs.Values.{AreOwnerEntries, IsOwnerRow};
+ghost use Rattle.cg_table.specs.Values.{AreOwnerEntries};
 
 use cg_entry::{Absorbed, Delta, Digest, Entry, Took, meet};
-use cg_types::{Endpoint, Fault, MEMBER_LIMIT, Row, SharedMap};
+use cg_types::{Endpoint, Fault, MEMBER_LIMIT, Row, SharedMap, Shows, show_all};
 use std::alloc::{AllocError, Global};
 use std::marker::Model;
 
@@ -75,23 +74,6 @@ pub(crate) fn are_same_rows(ours: &[Row<Entry>], theirs: &[Row<Entry>]) -> bool
     true
 }
 
-// Reads a row; the read shows that it is in range.
-fn show(row: &Row<Entry>)
-    ensures { IsOwnerRow row.now }
-{
-    let _port = row.endpoint().port();
-    let _count = row.value().count();
-}
-
-// Shows that each row is in range. It takes no memory and changes nothing.
-fn show_all(rows: &[Row<Entry>])
-    ensures { AllByRecursion IsOwnerRow rows.now }
-{
-    for row in rows {
-        show(row);
-    }
-}
-
 fn is_same_row(ours: &Row<Entry>, theirs: &Row<Entry>) -> bool
     ensures { IsTrue result ↔ (ours.now ≡ theirs.now) }
 {
@@ -104,7 +86,7 @@ impl Table {
         ensures { IfOk result (λ t. t ≡ lone_table own entry) }
     {
         let row = Row::new(alloc, own, entry)?;
-        show(&row);
+        row.show();
         let none = SharedMap::new(alloc);
         Ok(Table {
             own,
@@ -225,7 +207,7 @@ impl Table {
         let Some(row) = row else {
             return self.copy(alloc);
         };
-        show(&row);
+        row.show();
         Ok(Table {
             own: self.own,
             entries: self.entries.put_row(alloc, row)?,

@@ -12,6 +12,7 @@ ghost use Rattle.cg_types.specs.EndpointText.{endpoint_text, endpoint_in};
 ghost use Rattle.cg_types.specs.declared.fault.Fault.TheVariants.{BadText};
 
 use crate::fault::Fault;
+use crate::shows::Shows;
 use crate::words::{cut, number};
 use itoa::write_digits;
 use std::alloc::AllocError;
@@ -82,6 +83,17 @@ impl Ord for Endpoint {
 
     fn cmp(&self, other: &Endpoint) -> Ordering {
         self.number().cmp(&other.number())
+    }
+}
+
+impl Shows for Endpoint {
+    ghost use Rattle.cg_types.specs.Numbers.{IsEndpoint};
+
+    ghost Shown = { IsEndpoint };
+
+    #[inline(always)]
+    fn show(&self) {
+        self.port();
     }
 }
 

@@ -10,6 +10,7 @@ mod limits;
 mod map;
 mod owned;
 mod rows;
+mod shows;
 mod state_key;
 mod text;
 mod version;
@@ -25,6 +26,7 @@ pub use limits::{
 pub use map::SharedMap;
 pub use owned::{Owned, endpoints_rise, owners_rise};
 pub use rows::Row;
+pub use shows::{Shows, show_all};
 pub use state_key::StateKey;
 pub use text::{Cluster, StateText, is_plain};
 pub use version::Version;

@@ -4,7 +4,7 @@ ghost use Rattle.std.specs.Prelude.{◌≡◌, ◌++◌, IsTrue, IfOk, IfErr, On
 ghost use Rattle.cg_types.specs.Rising.{Rises};
 ghost use Rattle.cg_types.specs.Rows.{keys_of, before, after, walk, IsRowAt, IsGapAt};
 
-use crate::{Endpoint, Owned};
+use crate::{Endpoint, Owned, Shows};
 use std::alloc::{AllocError, Global};
 use std::marker::Model;
 use std::ops::Deref;
@@ -74,6 +74,18 @@ impl<T> Owned for Row<T> {
 
     fn owner(&self) -> Endpoint {
         self.endpoint
+    }
+}
+
+impl<T: Shows> Shows for Row<T> {
+    ghost use Rattle.cg_types.specs.Numbers.{IsEndpoint};
+
+    ghost Shown = { λ r. IsEndpoint r.0 × T.Shown r.1 };
+
+    #[inline(always)]
+    fn show(&self) {
+        self.endpoint.show();
+        self.value.deref().show();
     }
 }
 

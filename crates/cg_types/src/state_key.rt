@@ -6,6 +6,7 @@ ghost use Rattle.cg_types.specs.Words.{key_in};
 ghost use Rattle.cg_types.specs.Key.{key_name};
 
 use crate::limits::{STATE_LIMIT, STATUS_KEY, TOKENS_KEY};
+use crate::shows::Shows;
 use crate::words::number_between;
 use std::marker::Model;
 
@@ -26,6 +27,17 @@ impl Model for StateKey {
     ghost invariant = { λ k. IsKey k.number };
 
     ghost inverse = { λ n. record { number = n } };
+}
+
+impl Shows for StateKey {
+    ghost use Rattle.cg_types.specs.Numbers.{IsKey};
+
+    ghost Shown = { IsKey };
+
+    #[inline(always)]
+    fn show(&self) {
+        self.get();
+    }
 }
 
 impl StateKey {

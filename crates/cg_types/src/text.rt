@@ -7,6 +7,7 @@ ghost use Rattle.cg_types.specs.declared.limits.TheConstants.{PARTITIONER};
 
 use crate::fault::Fault;
 use crate::limits::{NAME_LIMIT, PARTITIONER, TEXT_LIMIT};
+use crate::shows::Shows;
 use std::alloc::{AllocError, Global};
 use std::marker::Model;
 use std::sync::ArcStr;
@@ -69,6 +70,17 @@ impl Eq for StateText {
     ghost use Rattle.std.specs.Cmp.Lexicographic.{nat_list_eq_equiv};
 
     ghost laws = { nat_list_eq_equiv };
+}
+
+impl Shows for StateText {
+    ghost use Rattle.cg_types.specs.Text.{IsStateText};
+
+    ghost Shown = { IsStateText };
+
+    #[inline(always)]
+    fn show(&self) {
+        self.as_str();
+    }
 }
 
 impl StateText {
@@ -158,6 +170,17 @@ impl Eq for Cluster {
     ghost use Rattle.std.proofs.Common.{rules};
 
     ghost laws = { Prim.search (comparing, rules) };
+}
+
+impl Shows for Cluster {
+    ghost use Rattle.cg_types.specs.Text.{IsCluster};
+
+    ghost Shown = { IsCluster };
+
+    #[inline(always)]
+    fn show(&self) {
+        self.name();
+    }
 }
 
 impl Cluster {

@@ -5,6 +5,7 @@ ghost use Rattle.cg_types.specs.Numbers.{IsVersion};
 ghost use Rattle.cg_types.specs.Words.{generation_in};
 
 use crate::limits::NUMBER_LIMIT;
+use crate::shows::Shows;
 use crate::words::number_between;
 use std::marker::Model;
 
@@ -25,6 +26,17 @@ impl Model for Version {
     ghost invariant = { λ v. IsVersion v.number };
 
     ghost inverse = { λ n. record { number = n } };
+}
+
+impl Shows for Version {
+    ghost use Rattle.cg_types.specs.Numbers.{IsVersion};
+
+    ghost Shown = { IsVersion };
+
+    #[inline(always)]
+    fn show(&self) {
+        self.get();
+    }
 }
 
 impl Version {

@@ -3,4 +3,4 @@ use Rattle.cg_frames.proofs.FitsLemmas.{message_fits}
 use Rattle.cg_frames.proofs.fits.message_fits.Goals as goal
 
 pub returns : goal.returns
-returns c = message_fits c.args.layout.now c.requires (lent_message c.args.message) c.show_message.ensures
+returns c = message_fits c.args.layout.now c.requires (lent_message c.args.message) c.show.ensures

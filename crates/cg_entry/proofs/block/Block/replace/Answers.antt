@@ -8,53 +8,53 @@ use Rattle.cg_entry.proofs.block.Block.replace.Goals as goal
 
 pub overflow_sub-last : goal.overflow_sub-last
 overflow_sub-last c =
-    let r = replace_room c.self.inside.items.items c.self.inside.places c.self.inside.text_bytes c.args.number c.args.state c.args.self c.self.invariant c.self.view_is c.show_state.ensures c.requires.newest c.requires.row in
+    let r = replace_room c.self.inside.items.items c.self.inside.places c.self.inside.text_bytes c.args.number c.args.state c.args.self c.self.invariant c.self.view_is c.show.ensures c.requires.newest c.requires.row in
     omega (arith, r.1, ap (λ (xs : List State). length xs) c.as_slice.ensures.value)
 
 pub bounds-as_slice-number : goal.bounds-as_slice-number
 bounds-as_slice-number c =
-    let r = replace_room c.self.inside.items.items c.self.inside.places c.self.inside.text_bytes c.args.number c.args.state c.args.self c.self.invariant c.self.view_is c.show_state.ensures c.requires.newest c.requires.row in
+    let r = replace_room c.self.inside.items.items c.self.inside.places c.self.inside.text_bytes c.args.number c.args.state c.args.self c.self.invariant c.self.view_is c.show.ensures c.requires.newest c.requires.row in
     omega (arith, r.0, ap length c.as_slice-2.ensures.value)
 
 pub remove-old-requires : goal.remove-old-requires
 remove-old-requires c =
-    let r = replace_room c.self.inside.items.items c.self.inside.places c.self.inside.text_bytes c.args.number c.args.state c.args.self c.self.invariant c.self.view_is c.show_state.ensures c.requires.newest c.requires.row in
+    let r = replace_room c.self.inside.items.items c.self.inside.places c.self.inside.text_bytes c.args.number c.args.state c.args.self c.self.invariant c.self.view_is c.show.ensures c.requires.newest c.requires.row in
     rw c.as_slice-2.ensures.value (omega (arith, r.1, c.as_slice.ensures.len, ap (λ (xs : List State). length xs) c.as_slice.ensures.value))
 
 pub overflow_cast-last : goal.overflow_cast-last
 overflow_cast-last c =
-    let r = replace_room c.self.inside.items.items c.self.inside.places c.self.inside.text_bytes c.args.number c.args.state c.args.self c.self.invariant c.self.view_is c.show_state.ensures c.requires.newest c.requires.row in
+    let r = replace_room c.self.inside.items.items c.self.inside.places c.self.inside.text_bytes c.args.number c.args.state c.args.self c.self.invariant c.self.view_is c.show.ensures c.requires.newest c.requires.row in
     rw c.as_slice.ensures.value (omega (arith, r.2, r.3))
 
 pub moved-requires : goal.moved-requires
 moved-requires c =
-    (replace_room c.self.inside.items.items c.self.inside.places c.self.inside.text_bytes c.args.number c.args.state c.args.self c.self.invariant c.self.view_is c.show_state.ensures c.requires.newest c.requires.row).0
+    (replace_room c.self.inside.items.items c.self.inside.places c.self.inside.text_bytes c.args.number c.args.state c.args.self c.self.invariant c.self.view_is c.show.ensures c.requires.newest c.requires.row).0
 
 pub overflow_sub-result : goal.overflow_sub-result
 overflow_sub-result c =
-    let r = replace_room c.self.inside.items.items c.self.inside.places c.self.inside.text_bytes c.args.number c.args.state c.args.self c.self.invariant c.self.view_is c.show_state.ensures c.requires.newest c.requires.row in
+    let r = replace_room c.self.inside.items.items c.self.inside.places c.self.inside.text_bytes c.args.number c.args.state c.args.self c.self.invariant c.self.view_is c.show.ensures c.requires.newest c.requires.row in
     let here : state_at c.self.inside.items.items (get_or c.self.inside.places c.args.number 0) ≡ c.remove-old.result = read_at c.self.inside.items.items (get_or c.self.inside.places c.args.number 0) _ c.remove-old.result c.remove-old.ensures.value (ap (λ (ps : List ℕ). get_or ps c.args.number 0) c.as_slice-2.ensures.value) r.1 in
     let size : c.text_size.result ≡ text_size (state_at c.self.inside.items.items (get_or c.self.inside.places c.args.number 0)).text = c.text_size.ensures ∙ ap (λ (s : State). text_size s.text) (sym here) in
-    omega (arith, size, old_bytes c.self.inside.items.items c.self.inside.places c.self.inside.text_bytes c.args.number c.args.state c.args.self c.self.invariant c.self.view_is c.show_state.ensures c.requires.newest c.requires.row)
+    omega (arith, size, old_bytes c.self.inside.items.items c.self.inside.places c.self.inside.text_bytes c.args.number c.args.state c.args.self c.self.invariant c.self.view_is c.show.ensures c.requires.newest c.requires.row)
 
 pub overflow_add-result : goal.overflow_add-result
 overflow_add-result c =
-    let r = replace_room c.self.inside.items.items c.self.inside.places c.self.inside.text_bytes c.args.number c.args.state c.args.self c.self.invariant c.self.view_is c.show_state.ensures c.requires.newest c.requires.row in
-    let p = replaced c.self.inside.items.items c.self.inside.places c.self.inside.text_bytes c.args.number c.args.state c.args.self c.self.invariant c.self.view_is c.show_state.ensures c.requires.newest c.requires.row in
+    let r = replace_room c.self.inside.items.items c.self.inside.places c.self.inside.text_bytes c.args.number c.args.state c.args.self c.self.invariant c.self.view_is c.show.ensures c.requires.newest c.requires.row in
+    let p = replaced c.self.inside.items.items c.self.inside.places c.self.inside.text_bytes c.args.number c.args.state c.args.self c.self.invariant c.self.view_is c.show.ensures c.requires.newest c.requires.row in
     let here : state_at c.self.inside.items.items (get_or c.self.inside.places c.args.number 0) ≡ c.remove-old.result = read_at c.self.inside.items.items (get_or c.self.inside.places c.args.number 0) _ c.remove-old.result c.remove-old.ensures.value (ap (λ (ps : List ℕ). get_or ps c.args.number 0) c.as_slice-2.ensures.value) r.1 in
     let size : c.text_size.result ≡ text_size (state_at c.self.inside.items.items (get_or c.self.inside.places c.args.number 0)).text = c.text_size.ensures ∙ ap (λ (s : State). text_size s.text) (sym here) in
     omega (arith, size, c.text_size-size.ensures, p.few_bytes)
 
 pub invariant_of-result : goal.invariant_of-result
 invariant_of-result c =
-    let r = replace_room c.self.inside.items.items c.self.inside.places c.self.inside.text_bytes c.args.number c.args.state c.args.self c.self.invariant c.self.view_is c.show_state.ensures c.requires.newest c.requires.row in
-    let p = replaced c.self.inside.items.items c.self.inside.places c.self.inside.text_bytes c.args.number c.args.state c.args.self c.self.invariant c.self.view_is c.show_state.ensures c.requires.newest c.requires.row in
+    let r = replace_room c.self.inside.items.items c.self.inside.places c.self.inside.text_bytes c.args.number c.args.state c.args.self c.self.invariant c.self.view_is c.show.ensures c.requires.newest c.requires.row in
+    let p = replaced c.self.inside.items.items c.self.inside.places c.self.inside.text_bytes c.args.number c.args.state c.args.self c.self.invariant c.self.view_is c.show.ensures c.requires.newest c.requires.row in
     let here : state_at c.self.inside.items.items (get_or c.self.inside.places c.args.number 0) ≡ c.remove-old.result = read_at c.self.inside.items.items (get_or c.self.inside.places c.args.number 0) _ c.remove-old.result c.remove-old.ensures.value (ap (λ (ps : List ℕ). get_or ps c.args.number 0) c.as_slice-2.ensures.value) r.1 in
     let size : c.text_size.result ≡ text_size (state_at c.self.inside.items.items (get_or c.self.inside.places c.args.number 0)).text = c.text_size.ensures ∙ ap (λ (s : State). text_size s.text) (sym here) in
     rw (c.in_ok-push.ensures.items, c.moved.ensures, c.as_slice.ensures.value, c.remove-old.ensures.items, c.as_slice-2.ensures.value, r.3, size, c.text_size-size.ensures) p.block
 
 pub returns : goal.returns
 returns c =
-    let r = replace_room c.self.inside.items.items c.self.inside.places c.self.inside.text_bytes c.args.number c.args.state c.args.self c.self.invariant c.self.view_is c.show_state.ensures c.requires.newest c.requires.row in
-    let p = replaced c.self.inside.items.items c.self.inside.places c.self.inside.text_bytes c.args.number c.args.state c.args.self c.self.invariant c.self.view_is c.show_state.ensures c.requires.newest c.requires.row in
+    let r = replace_room c.self.inside.items.items c.self.inside.places c.self.inside.text_bytes c.args.number c.args.state c.args.self c.self.invariant c.self.view_is c.show.ensures c.requires.newest c.requires.row in
+    let p = replaced c.self.inside.items.items c.self.inside.places c.self.inside.text_bytes c.args.number c.args.state c.args.self c.self.invariant c.self.view_is c.show.ensures c.requires.newest c.requires.row in
     rw (c.in_ok-push.ensures.items, c.moved.ensures, c.as_slice.ensures.value, c.remove-old.ensures.items, c.as_slice-2.ensures.value, r.3) p.view

@@ -5,4 +5,4 @@ use Rattle.cg_entry.proofs.entry.Entry.settled.Goals as goal
 
 pub returns : goal.returns
 returns c =
-    subst (λ (m : States). IfOk c.of.result (λ h. h ≡ m)) (c.in_ok-block.ensures.value ∙ newer_than-zero c.args.self.now.states c.count-count.ensures.valid.states) c.of.ensures
+    subst (λ (m : States). IfOk c.of.result (λ h. h ≡ m)) (c.in_ok-block.ensures.value ∙ newer_than-zero c.args.self.now.states c.show.ensures.states) c.of.ensures

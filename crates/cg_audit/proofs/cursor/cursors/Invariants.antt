@@ -1,6 +1,0 @@
-use Rattle.std.proofs.Common.{◌≡◌, take}
-use Rattle.cg_audit.specs.Tracks.{first_cursors}
-use Rattle.cg_audit.proofs.cursor.cursors.Given as goal
-
-abbrev pub invariant-loop-one : goal.invariant-loop-one
-invariant-loop-one l = l.cursors.items ≡ first_cursors (take l.one-index l.lives)
