@@ -23,9 +23,9 @@ use Rattle.cg_frames.specs.Choosing.{frame_among}
 use Rattle.cg_frames.proofs.LawLemmas.{layouts_are_read}
 use Rattle.cg_frames.proofs.ReadIsSpelledFrames.{all_found}
 use Rattle.cg_engine.specs.Due.{syn_due, ack_due, ack2_due}
-use Rattle.cg_script.specs.Gives.{readable}
-use Rattle.cg_script.specs.Words.{count_in, count_before, key_before, state_text_in, text_in, state_text_of_utf8}
-use Rattle.cg_script.specs.Script.{four_in}
+use Rattle.cg_text.specs.Gives.{readable}
+use Rattle.cg_text.specs.Words.{count_in, count_before, key_before, state_text_in, text_in, state_text_of_utf8}
+use Rattle.cg_text.specs.Words.{four_in}
 use Rattle.cg_journal.specs.Reading.{whole_message, message_in, text_bytes_in, set_in, remove_in, tick_in, syn_in, ack_in, ack2_in, bare_event, event_behind, event_of_parts, event_in}
 use Rattle.cg_journal.specs.Contents.{IsCount, AreWords, IsEvent}
 

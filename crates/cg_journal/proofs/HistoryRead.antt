@@ -12,7 +12,7 @@ use Rattle.cg_history.specs.declared.item.Item.{Item}
 use Rattle.cg_history.specs.History.{record_of, HistoryValue, Replays, LAST_NUMBER, count_of, new_history, with_record, with_step}
 use Rattle.cg_history.proofs.Replaying.{base_is_start}
 use Rattle.cg_links.specs.Lines.{lines_of}
-use Rattle.cg_script.specs.Gives.{readable}
+use Rattle.cg_text.specs.Gives.{readable}
 use Rattle.cg_journal.specs.Text.{life_line, event_line, event_lines, joined}
 use Rattle.cg_journal.specs.Reading.{history_after, on_line, after_lines, journal_in}
 use Rattle.cg_journal.specs.Contents.{IsEvent, MayStart}

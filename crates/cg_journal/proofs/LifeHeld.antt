@@ -26,8 +26,8 @@ use Rattle.cg_core.specs.declared.limits.TheConstants.{SEED_LIMIT}
 use Rattle.cg_core.specs.Settings.{settings_or_fault}
 use Rattle.cg_core.specs.SettingsValues.{SettingsValue, IsSettings, settings_of}
 use Rattle.cg_history.specs.History.{new_history}
-use Rattle.cg_script.specs.Gives.{readable}
-use Rattle.cg_script.specs.Words.{endpoint_before, endpoints_by, endpoints_in}
+use Rattle.cg_text.specs.Gives.{readable}
+use Rattle.cg_text.specs.Words.{endpoint_before, endpoints_by, endpoints_in}
 use Rattle.cg_journal.specs.Reading.{generation_before, setting_before, silence_before, seeds_in, settings_in, life_behind, life_of_parts, life_in}
 use Rattle.cg_journal.specs.Contents.{IsWritable}
 use Rattle.cg_journal.proofs.EventsHeld.{held_bind, held_cond, held_weaker, held_any}

@@ -11,8 +11,8 @@ use Rattle.cg_core.specs.Step.{Step, node_step}
 use Rattle.cg_history.specs.declared.item.Item.{Item}
 use Rattle.cg_history.specs.Items.{events_of}
 use Rattle.cg_history.specs.History.{record_of, HistoryValue, LAST_NUMBER, count_of, with_record, with_step, new_history}
-use Rattle.cg_script.specs.Gives.{readable}
-use Rattle.cg_script.specs.Words.{endpoint_before}
+use Rattle.cg_text.specs.Gives.{readable}
+use Rattle.cg_text.specs.Words.{endpoint_before}
 use Rattle.cg_links.specs.Lines.{lines_of}
 use Rattle.cg_journal.specs.Reading.{generation_before, settings_in, life_in, life_behind, life_of_parts, event_in, history_after, after_line, on_line, after_lines, journal_in}
 use Rattle.cg_journal.specs.Laws.{IsOfItsLines}

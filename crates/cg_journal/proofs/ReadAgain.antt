@@ -7,7 +7,7 @@ use Rattle.cg_history.specs.declared.item.Item.{Item}
 use Rattle.cg_history.specs.declared.item.Receipt.{Receipt}
 use Rattle.cg_history.specs.History.{HistoryValue, apply}
 use Rattle.cg_links.specs.Lines.{lines_of}
-use Rattle.cg_script.specs.Gives.{readable}
+use Rattle.cg_text.specs.Gives.{readable}
 use Rattle.cg_journal.specs.Reading.{life_in, event_in, history_after, on_line, after_lines, journal_in}
 use Rattle.cg_journal.specs.Contents.{IsEvent, IsWritable}
 use Rattle.cg_journal.specs.Laws.{for_caller_0, uncalled, ReadHistoriesAreReadAgain}

@@ -8,8 +8,8 @@ pub use Rattle.hex.specs.Hex
 pub use Rattle.cg_table.specs.Own
 pub use Rattle.cg_messages.specs.Lent
 pub use Rattle.cg_history.specs.History
-pub use Rattle.cg_script.specs.Gives
-pub use Rattle.cg_script.specs.Words
+pub use Rattle.cg_text.specs.Gives
+pub use Rattle.cg_text.specs.Words
 pub use Rattle.cg_frames.specs.Choosing
 pub use Rattle.cg_links.specs.Counted
 pub use Rattle.cg_links.specs.Counts

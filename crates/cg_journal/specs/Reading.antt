@@ -17,9 +17,9 @@ use Rattle.cg_core.specs.Settings.{settings_or_fault}
 use Rattle.cg_frames.specs.declared.layout.TheConstants.{LAYOUTS}
 use Rattle.cg_frames.specs.Choosing.{frame_among}
 use Rattle.cg_engine.specs.Due.{syn_due, ack_due, ack2_due}
-use Rattle.cg_script.specs.Gives.{readable}
-use Rattle.cg_script.specs.Words.{endpoint_before, endpoints_in, count_before, key_before, state_text_in}
-use Rattle.cg_script.specs.Script.{four_in}
+use Rattle.cg_text.specs.Gives.{readable}
+use Rattle.cg_text.specs.Words.{endpoint_before, endpoints_in, count_before, key_before, state_text_in}
+use Rattle.cg_text.specs.Words.{four_in}
 use Rattle.cg_history.specs.History.{HistoryValue, new_history, apply}
 use Rattle.cg_links.specs.Lines.{lines_of}
 use Rattle.cg_journal.specs.declared.life.TheConstants.{GREATEST_SETTING}

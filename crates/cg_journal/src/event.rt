@@ -3,14 +3,14 @@
 ghost use Rattle.std.specs.Prelude.{◌≡◌};
 ghost use Rattle.cg_frames.specs.declared.layout.TheConstants.{LAYOUTS};
 ghost use Rattle.cg_frames.specs.Choosing.{frame_among};
-ghost use Rattle.cg_script.specs.Gives.{readable, Finds};
-ghost use Rattle.cg_script.specs.Words as words_spec;
+ghost use Rattle.cg_text.specs.Gives.{readable, Finds};
+ghost use Rattle.cg_text.specs.Words as words_spec;
 ghost use Rattle.cg_journal.specs.Reading as reading_spec;
 
 use cg_core::Event;
 use cg_engine::{ack_due, ack2_due, syn_due};
 use cg_frames::{Message, decode};
-use cg_script::{bytes_in, count_before, four_in, is_word, key_before, state_text_in};
+use cg_text::{bytes_in, count_before, four_in, is_word, key_before, state_text_in};
 use cg_types::{Fault, StateKey, StateText, cut};
 use std::alloc::Global;
 

@@ -1,13 +1,13 @@
 //! The first line of a journal.
 
 ghost use Rattle.std.specs.Prelude.{◌≡◌, option_map};
-ghost use Rattle.cg_script.specs.Gives.{Finds};
+ghost use Rattle.cg_text.specs.Gives.{Finds};
 ghost use Rattle.cg_journal.specs.Reading as spec;
 
 use cg_core::Settings;
 use cg_history::History;
-use cg_script::{cluster_named, endpoint_before, endpoints_in, is_word};
 use cg_silence::Silence;
+use cg_text::{cluster_named, endpoint_before, endpoints_in, is_word};
 use cg_types::{Endpoint, Fault, Generation, cut, number};
 use std::alloc::Global;
 

@@ -2,8 +2,7 @@
 
 use cg_links::Counted;
 use cg_measure::Failure;
-use cg_script::{Line, read_line, settings_with};
-use cg_sim::sim;
+use cg_sim::{Line, read_line, settings_with, sim};
 use cg_testing::endpoint;
 use cg_world::{Action, World};
 use std::alloc::{AllocError, Global};

@@ -5,7 +5,7 @@ use Rattle.cg_core.specs.declared.reply.Reply.{Reply}
 use Rattle.cg_core.specs.declared.reply.Reply.TheVariants as reply
 use Rattle.cg_core.specs.Replies.{IsDone}
 use Rattle.cg_views.specs.Lists.{StartsWith}
-use Rattle.cg_printed.specs.Printed.{version_line}
+use Rattle.cg_text.specs.Printed.{version_line}
 use Rattle.cg_operator.specs.Shown.{unpublished_line}
 use Rattle.cg_operator.specs.Doing.{TellsChange}
 

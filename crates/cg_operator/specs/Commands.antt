@@ -5,8 +5,8 @@ use Rattle.cg_types.specs.declared.fault.Fault.TheVariants.{BadText}
 use Rattle.cg_types.specs.OptionSteps.{◌>>=◌}
 use Rattle.cg_types.specs.Words.{cut_at, key_in}
 use Rattle.cg_tokens.specs.Tokens.{token_of}
-use Rattle.cg_script.specs.declared.line.View.TheVariants as view
-use Rattle.cg_script.specs.Words.{count_before, key_before, text_in, state_text_in}
+use Rattle.cg_text.specs.declared.view.View.TheVariants as view
+use Rattle.cg_text.specs.Words.{count_before, key_before, text_in, state_text_in}
 use Rattle.cg_operator.specs.declared.command.OperatorCommand.{OperatorCommand}
 use Rattle.cg_operator.specs.declared.command.OperatorCommand.TheVariants.{Show, Set, Remove, Quit}
 

@@ -10,9 +10,9 @@ use Rattle.cg_core.specs.declared.event.Event.TheVariants as event
 use Rattle.cg_core.specs.declared.reply.Reply.TheVariants as reply
 use Rattle.cg_core.specs.Values.{NodeValue}
 use Rattle.cg_views.specs.Lists.{StartsWith}
-use Rattle.cg_printed.specs.Printed.{version_line}
+use Rattle.cg_text.specs.Printed.{version_line}
 use Rattle.cg_locked.specs.Seats.{SeatValue, with_told, Enters, Refuses}
-use Rattle.cg_script.specs.declared.line.View.{View}
+use Rattle.cg_text.specs.declared.view.View.{View}
 use Rattle.cg_operator.specs.declared.command.OperatorCommand.{OperatorCommand}
 use Rattle.cg_operator.specs.declared.command.OperatorCommand.TheVariants.{Show, Set, Remove, Quit}
 use Rattle.cg_operator.specs.Shown.{table_lines, unpublished_line}

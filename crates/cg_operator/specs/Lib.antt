@@ -7,5 +7,5 @@ pub use Rattle.cg_links.specs.Counted
 pub use Rattle.cg_locked.specs.Seats
 pub use Rattle.cg_table.specs.Puts
 pub use Rattle.cg_views.specs.Lists
-pub use Rattle.cg_script.specs.Gives
-pub use Rattle.cg_script.specs.Words
+pub use Rattle.cg_text.specs.Gives
+pub use Rattle.cg_text.specs.Words

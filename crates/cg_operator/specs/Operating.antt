@@ -10,7 +10,7 @@ use Rattle.cg_links.specs.declared.counted.Counted.{Counted}
 use Rattle.cg_links.specs.Counted.{link_of, KeepsCounts, CountsFailed, CountsIdle, IsFlushed}
 use Rattle.cg_links.specs.Lines.{ended_lines, lines_of}
 use Rattle.cg_links.specs.Taken.{Takes, TakesAll, Fails}
-use Rattle.cg_script.specs.declared.line.View.{View}
+use Rattle.cg_text.specs.declared.view.View.{View}
 use Rattle.cg_locked.specs.Seats.{SeatValue}
 use Rattle.cg_operator.specs.declared.command.OperatorCommand.TheVariants.{Show, Quit}
 use Rattle.cg_operator.specs.Commands.{command_in}

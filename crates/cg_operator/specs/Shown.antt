@@ -2,9 +2,9 @@
 use Rattle.std.specs.Prelude.{ℕ, List, ◌++◌, codes, decimal}
 use Rattle.cg_table.specs.Values.{TableValue}
 use Rattle.cg_tokens.specs.Ring.{ring}
-use Rattle.cg_printed.specs.Printed.{gossipinfo, digest_lines, ring_lines, replica_lines}
-use Rattle.cg_script.specs.declared.line.View.{View}
-use Rattle.cg_script.specs.declared.line.View.TheVariants as view
+use Rattle.cg_text.specs.Printed.{gossipinfo, digest_lines, ring_lines, replica_lines}
+use Rattle.cg_text.specs.declared.view.View.{View}
+use Rattle.cg_text.specs.declared.view.View.TheVariants as view
 
 -- the text of a view of a table
 abbrev pub table_lines : TableValue → View → List ℕ

@@ -1,6 +1,6 @@
 //! The commands of an operator.
 
-use cg_script::View;
+use cg_text::View;
 use cg_types::{StateKey, StateText};
 
 /// A command of the operator: the request of one line.

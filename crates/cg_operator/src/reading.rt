@@ -1,29 +1,18 @@
 //! Reading a line of the operator.
 
-ghost use Rattle.std.specs.Prelude.{◌≡◌, option_map};
-ghost use Rattle.cg_script.specs.Gives.{Gives};
-ghost use Rattle.cg_script.specs.Words as words_spec;
-ghost use Rattle.cg_operator.specs.Commands as commands_spec;
+ghost use Rattle.std.specs.Prelude.{◌≡◌};
+ghost use Rattle.cg_text.specs.Gives.{Gives};
+ghost use Rattle.cg_operator.specs.Commands as spec;
 
 use crate::command::OperatorCommand;
-use cg_script::{View, count_before, is_word, key_before, state_text_in};
+use cg_text::{View, count_before, is_word, key_before, state_text_in, text_in};
 use cg_tokens::token_of;
 use cg_types::{Fault, StateKey, cut};
 use std::alloc::Global;
 
-// A text that is UTF-8.
-fn text_in(text: &[u8]) -> Option<&str>
-    ensures { option_map (λ t. t.now) result ≡ words_spec.text_in text.now }
-{
-    match std::str::from_utf8(text) {
-        Ok(text) => Some(text),
-        Err(_) => None,
-    }
-}
-
 #[tactic(auto, unfolding(crate::specs::Commands::replicas_line))]
 fn replicas_line(words: &[u8]) -> Option<OperatorCommand>
-    ensures { result ≡ commands_spec.replicas_line words.now }
+    ensures { result ≡ spec.replicas_line words.now }
 {
     let (rf, rest) = count_before(words)?;
     let text = text_in(rest)?;
@@ -33,7 +22,7 @@ fn replicas_line(words: &[u8]) -> Option<OperatorCommand>
 
 #[tactic(auto, unfolding(crate::specs::Commands::set_line))]
 fn set_line(alloc: Global, words: &[u8]) -> Result<OperatorCommand, Fault>
-    ensures { Gives (λ o. o) result (commands_spec.set_line words.now) }
+    ensures { Gives (λ o. o) result (spec.set_line words.now) }
 {
     let Some((key, text)) = key_before(words) else {
         return Err(Fault::BadText);
@@ -46,7 +35,7 @@ fn set_line(alloc: Global, words: &[u8]) -> Result<OperatorCommand, Fault>
 
 #[tactic(auto, unfolding(crate::specs::Commands::remove_line))]
 fn remove_line(words: &[u8]) -> Option<OperatorCommand>
-    ensures { result ≡ commands_spec.remove_line words.now }
+    ensures { result ≡ spec.remove_line words.now }
 {
     let key = StateKey::from_bytes(words)?;
     Some(OperatorCommand::Remove { key })
@@ -55,7 +44,7 @@ fn remove_line(words: &[u8]) -> Option<OperatorCommand>
 // Reads the command of a line of one word.
 #[tactic(auto, unfolding(crate::specs::Commands::bare_command))]
 fn bare_command(word: &[u8]) -> Option<OperatorCommand>
-    ensures { result ≡ commands_spec.bare_command word.now }
+    ensures { result ≡ spec.bare_command word.now }
 {
     if is_word(word, "gossipinfo") {
         return Some(OperatorCommand::Show(View::Gossipinfo));
@@ -74,7 +63,7 @@ fn bare_command(word: &[u8]) -> Option<OperatorCommand>
 
 // Returns the command of a line that takes no memory, or `BadText` if there is none.
 fn or_unreadable(command: Option<OperatorCommand>) -> Result<OperatorCommand, Fault>
-    ensures { result ≡ commands_spec.or_unreadable command }
+    ensures { result ≡ spec.or_unreadable command }
 {
     match command {
         Some(command) => Ok(command),
@@ -85,7 +74,7 @@ fn or_unreadable(command: Option<OperatorCommand>) -> Result<OperatorCommand, Fa
 // Reads the command of a line of more words: its first word, and the words after it.
 #[tactic(auto, unfolding(crate::specs::Commands::command_behind))]
 fn command_behind(alloc: Global, word: &[u8], words: &[u8]) -> Result<OperatorCommand, Fault>
-    ensures { Gives (λ o. o) result (commands_spec.command_behind word.now words.now) }
+    ensures { Gives (λ o. o) result (spec.command_behind word.now words.now) }
 {
     if is_word(word, "replicas") {
         return or_unreadable(replicas_line(words));
@@ -107,7 +96,7 @@ fn command_behind(alloc: Global, word: &[u8], words: &[u8]) -> Result<OperatorCo
 /// UTF-8. `OutOfMemory` if the text finds no memory.
 #[tactic(auto, unfolding(crate::specs::Commands::command_in))]
 pub fn read_command(alloc: Global, line: &[u8]) -> Result<OperatorCommand, Fault>
-    ensures { Gives (λ o. o) result (commands_spec.command_in line.now) }
+    ensures { Gives (λ o. o) result (spec.command_in line.now) }
 {
     match cut(line, b' ') {
         Some((word, words)) => command_behind(alloc, word, words),

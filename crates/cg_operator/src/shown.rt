@@ -3,9 +3,8 @@
 ghost use Rattle.std.specs.Prelude.{◌≡◌, ◌++◌, IfOk, OnOk, string_bytes};
 ghost use Rattle.cg_operator.specs.Shown.{table_lines, unpublished_line};
 
-use cg_printed::{add_digests, add_gossipinfo, add_replicas, add_ring};
-use cg_script::View;
 use cg_table::Table;
+use cg_text::{View, add_digests, add_gossipinfo, add_replicas, add_ring};
 use cg_tokens::{Ring, Token};
 use cg_types::Version;
 use std::alloc::{AllocError, Global};

@@ -6,7 +6,7 @@ use cg_core::{Event, Node};
 use cg_entry::Delta;
 use cg_history::History;
 use cg_messages::{Ack2, Message, OwnerDelta};
-use cg_script::{Line, read_line};
+use cg_sim::{Line, read_line};
 use cg_testing::{A, endpoint, generation, key, settings, version};
 use cg_types::{Fault, StateText};
 use cg_world::{Action, World};

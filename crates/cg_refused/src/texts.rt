@@ -2,8 +2,8 @@
 
 use cg_core::Node;
 use cg_history::{History, Item};
-use cg_printed::{add_digests, add_gossipinfo, add_ring};
 use cg_table::{Puts, Table};
+use cg_text::{add_digests, add_gossipinfo, add_ring};
 use cg_world::World;
 use std::alloc::{AllocError, Global};
 use std::fmt::Write;

@@ -1,4 +1,4 @@
 pub mod Lives
 pub use Rattle.cg_links.specs.Counted
-pub use Rattle.cg_printed.specs.Written
+pub use Rattle.cg_text.specs.Written
 pub use Rattle.cg_host.specs.Kept

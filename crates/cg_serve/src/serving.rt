@@ -2,14 +2,14 @@
 
 ghost use Rattle.std.specs.Prelude.{◌≡◌, ◌++◌, ℕ, List, IsSome, OnOk, OnErr, IfOk, string_bytes};
 ghost use Rattle.cg_links.specs.Counted.{link_of};
-ghost use Rattle.cg_printed.specs.Written.{WroteOut};
+ghost use Rattle.cg_text.specs.Written.{WroteOut};
 ghost use Rattle.cg_serve.specs.Lives.{Lives, fault_lines, text_after, status_after, Says, Ends, WritesJournal, Serves};
 
 use crate::node::{Birth, LifeLeft, run};
 use cg_history::History;
 use cg_host::{Disk, next_life, settings_telling, try_journal, write_journal_to};
 use cg_links::Counted;
-use cg_printed::written;
+use cg_text::written;
 use cg_settings_file::{ServeSettings, Unset};
 use cg_types::Fault;
 use std::alloc::{AllocError, Global};

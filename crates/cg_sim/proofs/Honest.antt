@@ -8,8 +8,8 @@ use Rattle.cg_links.specs.declared.transfer.TheConstants.{MOST_READS}
 use Rattle.cg_links.specs.Counted.{failed_of, idle_of, CountsFewer}
 use Rattle.cg_links.specs.Lines.{ended_lines, open_line, last_line, lines_of}
 use Rattle.cg_sim.specs.Script.{first_play, lines_text, script_text}
-use Rattle.cg_printed.specs.Written.{WroteAll}
-use Rattle.cg_printed.proofs.LinkLemmas.{all_read, never_unread, never_broken, all_written}
+use Rattle.cg_text.specs.Written.{WroteAll}
+use Rattle.cg_text.proofs.LinkLemmas.{all_read, never_unread, never_broken, all_written}
 use Rattle.cg_sim.specs.Simulated.{IsDue, Simulates, PlaysAll, SaysOutOfMemory}
 use Rattle.cg_links.proofs.LineLemmas.{ended_lines-append}
 use Rattle.cg_sim.proofs.TextLemmas.{take_front}

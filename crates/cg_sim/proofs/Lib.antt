@@ -1,3 +1,4 @@
+pub mod SeedsLine
 pub mod TextLemmas
 pub mod ToldLemmas
 pub mod StepLemmas

@@ -5,9 +5,9 @@ use Rattle.cg_world.specs.declared.action.Action.{Action}
 use Rattle.cg_world.specs.World.{WorldValue, run_from, run}
 use Rattle.cg_world.specs.Headline.{Headline}
 use Rattle.cg_world.proofs.HeadlineLaws.{headline}
-use Rattle.cg_script.specs.declared.line.Line.{Line}
-use Rattle.cg_script.specs.declared.line.Line.TheVariants.{Seeds, Act, Show}
-use Rattle.cg_script.specs.Script.{line_in}
+use Rattle.cg_sim.specs.declared.line.Line.{Line}
+use Rattle.cg_sim.specs.declared.line.Line.TheVariants.{Seeds, Act, Show}
+use Rattle.cg_sim.specs.ScriptLines.{line_in}
 use Rattle.cg_sim.specs.declared.play.Play.{Play}
 use Rattle.cg_sim.specs.Script.{first_play, world_after, after_line, after_lines}
 use Rattle.cg_sim.specs.Runs.{settings_by, settings_of, asked_by, actions_of, IsRun}

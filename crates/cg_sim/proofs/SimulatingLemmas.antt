@@ -12,7 +12,7 @@ use Rattle.cg_links.proofs.Counts.{KeepsCounts-trans}
 use Rattle.cg_links.specs.Lines.{ended_lines, lines_of}
 use Rattle.cg_sim.specs.Script.{first_play, lines_text, script_text}
 use Rattle.cg_sim.specs.Told.{BreaksOff}
-use Rattle.cg_printed.specs.Written.{WroteFront, Wrote}
+use Rattle.cg_text.specs.Written.{WroteFront, Wrote}
 use Rattle.cg_sim.specs.Simulated.{IsPlayed, Fails, WritesLine, Simulates}
 use Rattle.cg_sim.proofs.ToldLemmas.{caused_later}
 

@@ -5,9 +5,9 @@ use Rattle.cg_core.specs.SettingsValues.{SettingsValue}
 use Rattle.cg_world.specs.declared.action.Action.{Action}
 use Rattle.cg_world.specs.World.{WorldValue, run}
 use Rattle.cg_world.specs.Headline.{Headline}
-use Rattle.cg_script.specs.declared.line.Line.{Line}
-use Rattle.cg_script.specs.declared.line.Line.TheVariants.{Seeds, Act, Show}
-use Rattle.cg_script.specs.Script.{line_in, settings_with}
+use Rattle.cg_sim.specs.declared.line.Line.{Line}
+use Rattle.cg_sim.specs.declared.line.Line.TheVariants.{Seeds, Act, Show}
+use Rattle.cg_sim.specs.ScriptLines.{line_in, settings_with}
 use Rattle.cg_sim.specs.Script.{first_play, after_lines}
 
 -- the nodes' settings by a first line: the seeds that it has, or none

@@ -16,12 +16,12 @@ use Rattle.cg_places.specs.Step.{message_of}
 use Rattle.cg_world.specs.declared.action.Action.TheVariants.{Start, Local, Deliver}
 use Rattle.cg_world.specs.Acting.{showing}
 use Rattle.cg_world.specs.declared.world.Shown.{Shown}
-use Rattle.cg_printed.specs.Printed.{started_line, version_line, message_line, round_line, outcome_lines, gossipinfo, digest_lines, ring_lines, replica_lines}
-use Rattle.cg_script.specs.declared.line.Line.{Line}
-use Rattle.cg_script.specs.declared.line.Line.TheVariants.{Seeds, Act, Show}
-use Rattle.cg_script.specs.declared.line.View.{View}
-use Rattle.cg_script.specs.declared.line.View.TheVariants.{Gossipinfo, Ring, Digests, Replicas}
-use Rattle.cg_script.specs.Script.{line_in, settings_with}
+use Rattle.cg_text.specs.Printed.{started_line, version_line, message_line, round_line, outcome_lines, gossipinfo, digest_lines, ring_lines, replica_lines}
+use Rattle.cg_sim.specs.declared.line.Line.{Line}
+use Rattle.cg_sim.specs.declared.line.Line.TheVariants.{Seeds, Act, Show}
+use Rattle.cg_text.specs.declared.view.View.{View}
+use Rattle.cg_text.specs.declared.view.View.TheVariants.{Gossipinfo, Ring, Digests, Replicas}
+use Rattle.cg_sim.specs.ScriptLines.{line_in, settings_with}
 use Rattle.cg_sim.specs.declared.play.Play.{Play}
 use Rattle.cg_links.specs.Lines.{lines_of}
 

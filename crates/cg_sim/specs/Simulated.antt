@@ -7,7 +7,7 @@ use Rattle.cg_types.specs.Fault.{fault_text}
 use Rattle.cg_links.specs.declared.counted.Counted.{Counted}
 use Rattle.cg_links.specs.Counted.{KeepsCounts, CountsCalls, CountsFailed, CountsIdle}
 use Rattle.cg_links.specs.declared.transfer.TheConstants.{MOST_READS}
-use Rattle.cg_printed.specs.Written.{WroteFront, Wrote}
+use Rattle.cg_text.specs.Written.{WroteFront, Wrote}
 use Rattle.cg_links.specs.Lines.{ended_lines, lines_of}
 use Rattle.cg_sim.specs.Script.{first_play, lines_text, script_text}
 use Rattle.cg_sim.specs.Told.{RunsOut, BreaksOff}

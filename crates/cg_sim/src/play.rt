@@ -7,8 +7,11 @@ ghost use Rattle.cg_world.specs.World as spec;
 ghost use Rattle.cg_world.specs.Acting.{showing};
 ghost use Rattle.cg_sim.specs.Script.{first_play, action_lines, view_lines, after_line, line_text, text_of, world_after};
 
+use crate::line::Line;
 use crate::printing::{add_shown, add_view};
-use cg_script::{Line, View, read_line, settings_with};
+use crate::reading::read_line;
+use crate::settings::settings_with;
+use cg_text::View;
 use cg_types::{Endpoint, Fault};
 use cg_world::{Action, World};
 use std::alloc::{AllocError, Global};

@@ -7,11 +7,10 @@ ghost use Rattle.cg_sim.specs.Script.{reply_lines, sent_lines, answer_lines, sho
 
 use cg_core::{Node, Reply};
 use cg_messages::Kind;
-use cg_printed::{
-    add_digests, add_gossipinfo, add_message, add_outcomes, add_replicas, add_ring, add_round,
-    add_started, add_version,
+use cg_text::{
+    View, add_digests, add_gossipinfo, add_message, add_outcomes, add_replicas, add_ring,
+    add_round, add_started, add_version,
 };
-use cg_script::View;
 use cg_world::{Action, Shown};
 use std::alloc::{AllocError, Global};
 

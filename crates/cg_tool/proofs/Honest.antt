@@ -5,8 +5,8 @@ use Rattle.cg_links.specs.declared.counted.Counted.{Counted}
 use Rattle.cg_links.specs.Counted.{failed_of, idle_of, CountsFewer}
 use Rattle.cg_links.specs.declared.transfer.TheConstants.{MOST_READS}
 use Rattle.cg_tool.specs.Answer.{answer_to, text_of, status_of}
-use Rattle.cg_printed.specs.Written.{WroteOut}
-use Rattle.cg_printed.proofs.LinkLemmas.{all_read, never_unread, all_written, wrote_out}
+use Rattle.cg_text.specs.Written.{WroteOut}
+use Rattle.cg_text.proofs.LinkLemmas.{all_read, never_unread, all_written, wrote_out}
 use Rattle.cg_tool.specs.Answered.{IsDue, AnswersAll, SaysOutOfMemory}
 
 pub honest : {R W : Type 0} (before after held holds : Option (List ℕ)) (r0 r1 : Counted R) (w0 w1 : Counted W) (text : List ℕ) (status result : ℕ)

@@ -3,7 +3,7 @@ use Rattle.std.specs.Prelude.{ℕ, List, ◌++◌, codes, Result, Ok, Err}
 use Rattle.std.specs.List.{flat_map}
 use Rattle.cg_types.specs.declared.fault.Fault.TheVariants as fault
 use Rattle.cg_types.specs.Fault.{fault_text}
-use Rattle.cg_printed.specs.Printed.{item_line, stuck_line}
+use Rattle.cg_text.specs.Printed.{item_line, stuck_line}
 use Rattle.cg_audit.specs.declared.item.LifeItem.{LifeItem}
 use Rattle.cg_audit.specs.declared.item.Order.{Order}
 use Rattle.cg_audit.specs.declared.item.AuditFault.{AuditFault}

@@ -6,7 +6,7 @@ use Rattle.cg_types.specs.Words.{cut_at, generation_in}
 use Rattle.cg_types.specs.OptionSteps.{◌>>=◌}
 use Rattle.cg_types.specs.EndpointText.{endpoint_in}
 use Rattle.cg_types.specs.Text.{cluster_of}
-use Rattle.cg_script.specs.Gives.{readable}
+use Rattle.cg_text.specs.Gives.{readable}
 use Rattle.cg_tool.specs.declared.request.Header.{Header}
 
 -- a node's endpoint, its generation and the name of its cluster, with single spaces

@@ -2,11 +2,11 @@
 
 ghost use Rattle.std.specs.Prelude.{◌≡◌, ◌≤◌, ◌+◌, ◌⊎◌, ℕ, List, Some, None, Ok, IfOk, IfSome, length, string_bytes};
 ghost use Rattle.cg_types.specs.declared.fault.Fault.TheVariants as fault;
-ghost use Rattle.cg_script.specs.Gives.{Gives};
+ghost use Rattle.cg_text.specs.Gives.{Gives};
 ghost use Rattle.cg_links.specs.declared.transfer.TheConstants.{MOST_READS};
 ghost use Rattle.cg_links.specs.Counted.{link_of, calls_of, failed_of, idle_of, CountsFewer};
 ghost use Rattle.cg_tool.specs.Answer.{syn_in as text_syn_in, answer_to_frame, answer_to, text_of, status_of};
-ghost use Rattle.cg_printed.specs.Written.{WroteOut};
+ghost use Rattle.cg_text.specs.Written.{WroteOut};
 ghost use Rattle.cg_tool.specs.Answered.{IsDue, AnswersAll, SaysOutOfMemory};
 
 use crate::request::{Header, request};
@@ -17,8 +17,8 @@ use cg_exchange::answer_syn;
 use cg_frames::{decode, encode};
 use cg_links::{Counted, read_all};
 use cg_messages::{Message, Syn};
-use cg_printed::written;
 use cg_table::Table;
+use cg_text::written;
 use cg_types::{Cause, Fault};
 use std::alloc::{AllocError, Global};
 use std::io::{Read, Write};

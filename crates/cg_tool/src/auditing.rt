@@ -2,7 +2,7 @@
 
 ghost use Rattle.std.specs.Prelude.{◌≡◌, ◌⊎◌, ℕ, List, [], MatchResult, string_bytes};
 ghost use Rattle.cg_links.specs.Counted.{link_of};
-ghost use Rattle.cg_printed.specs.Written.{WroteOut};
+ghost use Rattle.cg_text.specs.Written.{WroteOut};
 ghost use Rattle.cg_tool.specs.Gathered.{GathersAll, StopsAt};
 ghost use Rattle.cg_tool.specs.Audited.{IsDue, IsReport, IsFault, LacksMemory};
 
@@ -11,7 +11,7 @@ use crate::reporting::report;
 use crate::source::Source;
 use cg_journal::Unread;
 use cg_links::Counted;
-use cg_printed::written;
+use cg_text::written;
 use cg_types::Fault;
 use std::alloc::Global;
 use std::io::Write;

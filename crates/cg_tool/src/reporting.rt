@@ -5,7 +5,7 @@ ghost use Rattle.std.specs.List.{flat_map};
 ghost use Rattle.cg_tool.specs.Report.{line_of, stuck_line_of, run_text as text_of_run, stuck_text as text_of_stuck, report_text, report_status};
 
 use cg_audit::{AuditFault, LifeItem, Order};
-use cg_printed::{add_item, add_stuck};
+use cg_text::{add_item, add_stuck};
 use cg_types::Fault;
 use std::alloc::{AllocError, Global};
 

@@ -1,10 +1,10 @@
 //! The input of `answer`: a line with the node, and a line with a frame.
 
 ghost use Rattle.std.specs.Prelude.{◌≡◌, option_map};
-ghost use Rattle.cg_script.specs.Gives.{Finds};
+ghost use Rattle.cg_text.specs.Gives.{Finds};
 ghost use Rattle.cg_tool.specs.Request.{header_in, last_line as text_last_line, request_in};
 
-use cg_script::{bytes_in, cluster_named};
+use cg_text::{bytes_in, cluster_named};
 use cg_types::{Cluster, Endpoint, Fault, Generation, cut};
 use std::alloc::Global;
 

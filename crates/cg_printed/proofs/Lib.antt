@@ -1,3 +1,0 @@
-pub mod LinkLemmas
-pub mod FaultLines
-mod NumberLemmas

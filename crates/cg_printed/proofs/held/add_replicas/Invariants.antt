@@ -1,7 +1,0 @@
-use Rattle.std.proofs.Common.{◌≡◌, ◌++◌, take, string_bytes}
-use Rattle.std.specs.List.{flat_map}
-use Rattle.cg_printed.specs.Printed.{endpoint_line}
-use Rattle.cg_printed.proofs.held.add_replicas.Given as goal
-
-abbrev pub invariant-loop-endpoint : goal.invariant-loop-endpoint
-invariant-loop-endpoint l = string_bytes l.text ≡ string_bytes l.initial.text ++ flat_map endpoint_line (take l.endpoint-index l.endpoint-items)

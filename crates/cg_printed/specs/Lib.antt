@@ -1,3 +1,0 @@
-pub mod Printed
-pub mod Written
-pub use Rattle.cg_links.specs.Counted

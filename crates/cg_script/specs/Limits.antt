@@ -1,6 +1,0 @@
--- The values of the limits.
-use Rattle.std.specs.Prelude.{◌≡◌, ◌-◌, ◌^◌}
-use Rattle.cg_script.specs.declared.line.TheConstants.{GREATEST}
-
-pub record LimitValues : Type 0 where
-  pub greatest : GREATEST ≡ 2 ^ 64 - 1
