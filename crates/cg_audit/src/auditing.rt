@@ -6,9 +6,9 @@ ghost use Rattle.cg_audit.specs.Audit.{IsAudited};
 
 use crate::item::{AuditFault, Order};
 use crate::laws::{heads_can_not_go, orders_are_runs, stuck_lives_are_no_run};
-use crate::lives::{Lives, all_rise, are_whole, show_lives};
+use crate::lives::{Lives, all_rise, are_whole};
 use crate::turns::by_turns;
-use cg_types::Fault;
+use cg_types::{Fault, show_all};
 use std::alloc::Global;
 
 /// Returns an order in which the lives of all endpoints can have been one run, or the heads that are left if there is
@@ -31,7 +31,7 @@ pub fn audit(alloc: Global, lives: &[Lives]) -> Result<Order, AuditFault>
     if !are_whole(lives) {
         return Err(AuditFault::Other(Fault::Folded));
     }
-    show_lives(lives);
+    show_all(lives);
     orders_are_runs();
     stuck_lives_are_no_run();
     heads_can_not_go();

@@ -65,12 +65,12 @@ pub(crate) fn first(lives: &Lives, cursor: Cursor) -> Option<Step<'_>>
     first_in(lives.endpoint(), lives.histories(), cursor)
 }
 
+// Returns the next number. It is that of a slice's length, so that it can't overflow.
 fn past(records: &[Item], number: usize) -> usize
     requires { number ≤ length records.now }
     ensures { result ≡ number + 1 }
 {
-    let _count = records.len();
-    number + 1
+    records[..number].len() + 1
 }
 
 // Returns the cursor one item further, if the life has an item of the number.
@@ -105,10 +105,8 @@ pub(crate) fn advanced(lives: &Lives, cursor: Cursor) -> Cursor
 pub(crate) fn cursors(alloc: Global, lives: &[Lives]) -> Result<Vec<Cursor>, AllocError>
     ensures { IfOk result (λ v. v.items ≡ first_cursors lives.now) }
 {
-    let mut cursors = Vec::with_capacity(alloc, lives.len())?;
-    for one in lives {
-        let _one = one;
-        cursors.push(Cursor { life: 0, number: 0 })?;
-    }
-    Ok(cursors)
+    lives
+        .iter()
+        .map(|_| Cursor { life: 0, number: 0 })
+        .collect(alloc)
 }

@@ -4,13 +4,13 @@ ghost use Rattle.std.specs.Prelude.{◌≡◌, ◌↔◌, ◌==◌, map, None, I
 ghost use Rattle.std.specs.Bool.{OnTrue};
 ghost use Rattle.cg_types.specs.Rising.{rise_past};
 ghost use Rattle.std.specs.List.{list_any, AllByRecursion};
-ghost use Rattle.cg_audit.specs.Items.{LivesValue, IsLife, AreLives, generation_of};
+ghost use Rattle.cg_audit.specs.Items.{LivesValue, IsLife, generation_of};
 ghost use Rattle.cg_audit.specs.LivesCode as lives_code_spec;
 ghost use Rattle.cg_audit.specs.Lives as lives_spec;
 ghost use Rattle.cg_audit.specs.Lives.{differ, lone_life, then_life};
 
 use cg_history::History;
-use cg_types::{Endpoint, Generation};
+use cg_types::{Endpoint, Generation, Shows};
 use std::alloc::{AllocError, Global};
 use std::marker::Model;
 
@@ -36,6 +36,18 @@ impl Model for Lives {
     ghost invariant = { λ l. AllByRecursion (IsLife l.endpoint) l.histories.items };
 }
 
+impl Shows for Lives {
+    ghost use Rattle.std.specs.List.{AllByRecursion};
+    ghost use Rattle.cg_audit.specs.Items.{IsLife};
+
+    ghost Shown = { λ l. AllByRecursion (IsLife l.endpoint) l.histories };
+
+    #[inline(always)]
+    fn show(&self) {
+        self.histories();
+    }
+}
+
 fn is_of(endpoint: Endpoint, history: &History) -> bool
     ensures value { result ≡ (history.now.base.table.own == endpoint) }
     ensures life { OnTrue result (IsLife endpoint history.now) }
@@ -48,7 +60,7 @@ fn show_life(endpoint: Endpoint, history: &History)
     requires { history.now.base.table.own ≡ endpoint }
     ensures { IsLife endpoint history.now }
 {
-    let _base = history.base();
+    history.show();
 }
 
 // Returns `true` if each history began with a node of the endpoint; each is then a life of it.
@@ -64,17 +76,6 @@ fn are_of(endpoint: Endpoint, histories: &[History]) -> bool
         rest = others;
     }
     true
-}
-
-/// Finds that each history of these lives is a life of its endpoint. It takes no memory.
-pub(crate) fn show_lives(lives: &[Lives])
-    ensures { AreLives lives.now }
-{
-    let mut rest = lives;
-    while let Some((first, others)) = rest.split_first() {
-        let _histories = first.histories();
-        rest = others;
-    }
 }
 
 /// Returns the generation of a life.

@@ -13,7 +13,7 @@ use crate::outcomes::Outcomes;
 use crate::reply::Reply;
 use cg_silence::was_taken;
 use cg_table::{Puts, Table};
-use cg_types::{Endpoint, Fault};
+use cg_types::{Endpoint, Fault, Shows};
 use std::alloc::{AllocError, Global};
 
 // The owners of the deltas that were taken.
@@ -67,7 +67,7 @@ impl Node {
         ensures { Answers (λ x. x) (step_with_puts self.now event.now) result }
     {
         let (node, reply) = self.stepped(alloc, event)?;
-        let _deltas = event.deltas();
+        event.show();
         let puts = changed_rows(alloc, self.table().own(), node.table(), &reply)?;
         Ok((node, reply, puts))
     }

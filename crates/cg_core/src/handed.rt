@@ -7,6 +7,21 @@ ghost use Rattle.cg_core.specs.Handed.{deltas_in};
 
 use crate::event::Event;
 use cg_messages::OwnerDelta;
+use cg_types::Shows;
+
+// The deltas rise by owner.
+impl Shows for Event {
+    ghost use Rattle.cg_types.specs.Rising.{Rises};
+    ghost use Rattle.cg_messages.specs.Members.{endpoints_of_deltas};
+    ghost use Rattle.cg_core.specs.Handed.{deltas_in};
+
+    ghost Shown = { λ event. Rises (endpoints_of_deltas (deltas_in event)) };
+
+    #[inline(always)]
+    fn show(&self) {
+        self.deltas();
+    }
+}
 
 impl Event {
     /// The deltas that the event brings a node, rising by owner: those of an ACK or an ACK2.

@@ -11,7 +11,7 @@ use crate::confirming::confirms;
 use crate::item::{Item, Receipt, Stray};
 use crate::log::Log;
 use cg_core::{Event, Node, Reply, Settings};
-use cg_types::{Endpoint, Fault, Generation};
+use cg_types::{Endpoint, Fault, Generation, Shows};
 use std::alloc::{AllocError, Global};
 use std::marker::Model;
 
@@ -53,6 +53,17 @@ fn after(alloc: Global, node: &Node, event: &Event) -> Result<Node, AllocError>
     }
 }
 
+impl Shows for History {
+    ghost use Rattle.cg_history.specs.History.{IsReplayed};
+
+    ghost Shown = { IsReplayed };
+
+    #[inline(always)]
+    fn show(&self) {
+        self.records();
+    }
+}
+
 impl History {
     /// Begins the history of a node that starts. It has no records.
     pub fn begin(
@@ -63,7 +74,7 @@ impl History {
     ) -> Result<History, AllocError>
         ensures { IfOk result (λ h. h ≡ new_history own generation settings) }
     {
-        let _generation = generation.get();
+        generation.show();
         let node = Node::start(alloc, own, generation, settings)?;
         Ok(History {
             start: node.copy()?,

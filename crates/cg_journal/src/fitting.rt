@@ -4,6 +4,7 @@ ghost use Rattle.std.specs.List.{AllByRecursion};
 ghost use Rattle.cg_journal.specs.Contents.{IsCount, AreWords, IsEvent};
 
 use cg_core::Event;
+use cg_types::Shows;
 
 fn show_count(count: u64)
     ensures { IsCount count }
@@ -27,26 +28,22 @@ pub fn every_event_fits(event: &Event)
     match event {
         Event::Beat | Event::Opening => {}
         Event::Set { key, text } => {
-            let _key = key.get();
-            let _text = text.as_str();
+            key.show();
+            text.show();
         }
-        Event::Remove { key } => {
-            let _key = key.get();
-        }
+        Event::Remove { key } => key.show(),
         Event::Tick { now, words } => {
             show_count(*now);
             show_words(words);
         }
-        Event::Syn { m } => {
-            let _digests = m.digests();
-        }
+        Event::Syn { m } => m.show(),
         Event::Ack { now, m } => {
             show_count(*now);
-            let _deltas = m.deltas();
+            m.show();
         }
         Event::Ack2 { now, m } => {
             show_count(*now);
-            let _deltas = m.deltas();
+            m.show();
         }
     }
 }

@@ -2,36 +2,21 @@
 
 ghost use Rattle.std.specs.Prelude.{◌≡◌};
 ghost use Rattle.std.specs.List.{AllByRecursion};
-ghost use Rattle.cg_types.specs.Numbers.{IsEndpoint};
 ghost use Rattle.cg_journal.specs.Contents.{IsEvent, MayStart, IsWritable};
 
 use crate::fitting::every_event_fits;
 use cg_core::Node;
 use cg_history::{History, Item};
-use cg_types::Endpoint;
-
-fn show_endpoint(endpoint: Endpoint)
-    ensures { IsEndpoint endpoint }
-{
-    let _port = endpoint.port();
-}
-
-fn show_endpoints(endpoints: &[Endpoint])
-    ensures { AllByRecursion IsEndpoint endpoints.now }
-{
-    for endpoint in endpoints {
-        show_endpoint(*endpoint);
-    }
-}
+use cg_types::{Shows, show_all};
 
 fn show_start(node: &Node)
     ensures { MayStart node.now.table.own node.now.settings }
 {
     let settings = node.settings();
-    show_endpoint(node.table().own());
-    show_endpoints(settings.seeds());
-    let _partitioner = settings.cluster().name();
-    let _window = settings.silence().window();
+    node.table().own().show();
+    show_all(settings.seeds());
+    settings.cluster().show();
+    settings.silence().show();
 }
 
 fn show_events(records: &[Item])

@@ -20,7 +20,7 @@ use crate::seat::Seat;
 use cg_core::Event;
 use cg_history::{History, Receipt};
 use cg_table::Puts;
-use cg_types::Fault;
+use cg_types::{Fault, Shows};
 use cg_views::{Publisher, Told};
 use std::alloc::{AllocError, Global};
 use std::sync::Wait;
@@ -62,7 +62,7 @@ impl<N: Name> Board<N> {
         requires log { log ≡ [] }
         ensures { (result.history ≡ history) × (result.log ≡ log) }
     {
-        let _records = history.records();
+        history.show();
         Board {
             history,
             publisher,
@@ -148,7 +148,7 @@ impl<N: Name> Board<N> {
         ensures err { OnErr result (self.new.appended ≡ self.old.appended) }
     {
         let puts = self.next_puts(alloc)?;
-        let _records = self.history.records();
+        self.history.show();
         let Board {
             publisher,
             appended,
@@ -241,7 +241,7 @@ impl<N: Name> Board<N> {
             × (self.new.appended ≡ self.old.appended) × (self.new.published ≡ self.old.published)) }
         ensures seat { (seat.new.caller ≡ seat.old.caller) × (seat.new.parts ≡ seat.old.parts) }
     {
-        let _records = self.history.records();
+        self.history.show();
         let receipt = self.enter(alloc, seat, event)?;
         match self.catch_up(rt, alloc) {
             Ok(told) => Ok((receipt, Some(told))),

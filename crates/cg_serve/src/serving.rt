@@ -11,7 +11,7 @@ use cg_host::{Disk, next_life, settings_telling, try_journal, write_journal_to};
 use cg_links::Counted;
 use cg_text::written;
 use cg_settings_file::{ServeSettings, Unset};
-use cg_types::Fault;
+use cg_types::{Fault, OUT_OF_MEMORY_LINE};
 use std::alloc::{AllocError, Global};
 use std::io::{Eprint, Input, Print, Write};
 use std::net::{Net, TcpListener, TcpStream};
@@ -151,7 +151,7 @@ fn told<W: Write>(
 {
     match end_text(alloc, stray, unwritten) {
         Ok(text) => written(writer, text.as_bytes(), status_of(stray, unwritten)),
-        Err(_) => written(writer, b"fault 1 OutOfMemory\n", 1),
+        Err(_) => written(writer, OUT_OF_MEMORY_LINE, 1),
     }
 }
 

@@ -9,6 +9,7 @@ use crate::limits::{
     DEFAULT_INITIAL_GAP, DEFAULT_MAX_GAP, DEFAULT_THRESHOLD, DEFAULT_WINDOW, GAP_LIMIT,
     THRESHOLD_LIMIT, WINDOW_LIMIT,
 };
+use cg_types::Shows;
 use std::marker::Model;
 
 /// Settings by which silence is judged. Gaps are in milliseconds, and the threshold is in thousandths of the mean gap.
@@ -31,6 +32,17 @@ impl Model for Silence {
 
     ghost inverse = { λ s.
         record { window = s.window; initial_gap = s.initial_gap; max_gap = s.max_gap; threshold = s.threshold } };
+}
+
+impl Shows for Silence {
+    ghost use Rattle.cg_silence.specs.Values.{IsSilence};
+
+    ghost Shown = { IsSilence };
+
+    #[inline(always)]
+    fn show(&self) {
+        self.window();
+    }
 }
 
 impl Silence {

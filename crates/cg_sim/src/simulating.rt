@@ -10,7 +10,7 @@ ghost use Rattle.cg_links.specs.declared.transfer.TheConstants.{MOST_READS};
 use crate::play::Play;
 use crate::telling::{Telling, tell_lines};
 use cg_links::{Counted, write_and_flush};
-use cg_types::Fault;
+use cg_types::{Fault, OUT_OF_MEMORY_LINE, READ_FAULT_LINE};
 use std::alloc::Global;
 use std::io::{Read, Write};
 
@@ -56,7 +56,7 @@ fn say_out_of_memory<W: Write>(writer: &mut Counted<W>)
         (W.contents (link_of writer.old)) (W.contents (link_of writer.new))
         writer.old writer.new (fault_text faults.OutOfMemory) }
 {
-    say(writer, b"fault 1 OutOfMemory\n")
+    say(writer, OUT_OF_MEMORY_LINE)
 }
 
 fn say_read_fault<W: Write>(writer: &mut Counted<W>)
@@ -64,7 +64,7 @@ fn say_read_fault<W: Write>(writer: &mut Counted<W>)
         (W.contents (link_of writer.old)) (W.contents (link_of writer.new))
         writer.old writer.new (fault_text faults.ReadFault) }
 {
-    say(writer, b"fault 14 ReadFault\n")
+    say(writer, READ_FAULT_LINE)
 }
 
 fn sim_links<R: Read, W: Write>(

@@ -13,7 +13,7 @@ use crate::left::{SenderLeft, TickerLeft, WorkersLeft};
 use crate::ran::{NotRun, Ran};
 use cg_history::{History, Receipt};
 use cg_locked::{Name, Seat, Shared, Unconfirmed};
-use cg_types::Fault;
+use cg_types::{Fault, Shows};
 use std::sync::Wait;
 
 // Has a history confirm further receipts, which come after `before` others.
@@ -27,7 +27,7 @@ fn confirm_behind(
     ensures confirmed { MatchResult result (λ h. AreConfirmed h.folded h.records receipts.now)
         (λ u. IsStrayBehind before u.history.folded u.history.records receipts.now (stray_of u)) }
 {
-    let _records = history.records();
+    history.show();
     match history.confirms(receipts) {
         Ok(()) => Ok(history),
         Err(stray) => Err(Unconfirmed {
@@ -132,14 +132,14 @@ pub fn finish<N: Name, R: Wait>(
     }
     match left {
         Ok(history) => {
-            let _led = history.node();
+            history.show();
             Ok(Ran {
                 history,
                 rounds: numbers,
             })
         }
         Err(left) => {
-            let _led = left.history.node();
+            left.history.show();
             Err(NotRun::Unconfirmed(left))
         }
     }

@@ -19,7 +19,7 @@ use cg_links::{Counted, read_all};
 use cg_messages::{Message, Syn};
 use cg_table::Table;
 use cg_text::written;
-use cg_types::{Cause, Fault};
+use cg_types::{Cause, Fault, OUT_OF_MEMORY_LINE, READ_FAULT_LINE};
 use std::alloc::{AllocError, Global};
 use std::io::{Read, Write};
 
@@ -94,11 +94,11 @@ fn answer_links<R: Read, W: Write>(
     match read_all(alloc, reader) {
         Ok(input) => match text_due(alloc, &input) {
             Ok((text, status)) => written(writer, text.as_bytes(), status),
-            Err(_) => written(writer, b"fault 1 OutOfMemory\n", 1),
+            Err(_) => written(writer, OUT_OF_MEMORY_LINE, 1),
         },
         Err(fault) => match fault {
-            Fault::ReadFault => written(writer, b"fault 14 ReadFault\n", 1),
-            _ => written(writer, b"fault 1 OutOfMemory\n", 1),
+            Fault::ReadFault => written(writer, READ_FAULT_LINE, 1),
+            _ => written(writer, OUT_OF_MEMORY_LINE, 1),
         },
     }
 }

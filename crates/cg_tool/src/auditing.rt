@@ -12,7 +12,7 @@ use crate::source::Source;
 use cg_journal::Unread;
 use cg_links::Counted;
 use cg_text::written;
-use cg_types::Fault;
+use cg_types::{Fault, OUT_OF_MEMORY_LINE};
 use std::alloc::Global;
 use std::io::Write;
 
@@ -43,7 +43,7 @@ fn write_report<W: Write>(alloc: Global, journals: &Journals, writer: &mut Count
 {
     match report(alloc, &journals.audit(alloc)) {
         Ok((text, status)) => written(writer, text.as_bytes(), status),
-        Err(_) => written(writer, b"fault 1 OutOfMemory\n", 1),
+        Err(_) => written(writer, OUT_OF_MEMORY_LINE, 1),
     }
 }
 
@@ -55,7 +55,7 @@ fn write_unread<W: Write>(alloc: Global, unread: Unread, writer: &mut Counted<W>
 {
     match unread.fault.line(alloc) {
         Ok(line) => written(writer, line.as_bytes(), 1),
-        Err(_) => written(writer, b"fault 1 OutOfMemory\n", 1),
+        Err(_) => written(writer, OUT_OF_MEMORY_LINE, 1),
     }
 }
 

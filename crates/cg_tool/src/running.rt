@@ -48,7 +48,7 @@ fn texts(alloc: Global, words: &[String]) -> Result<Vec<&str>, AllocError> {
 
 // Prints that memory was short before the work began, if it can be printed.
 fn out_of_memory<R: Print>(rt: &R) -> u8 {
-    let _ = println!(rt; "fault 1 OutOfMemory");
+    let _ = println!(rt; "fault {}", Fault::OutOfMemory);
     FAILED
 }
 

@@ -4,6 +4,7 @@ pub mod EndpointLaws
 pub mod PlainLemmas
 pub mod NeighbourLemmas
 pub mod AnswerLemmas
+pub mod FaultLines
 pub mod KeyLaws
 pub mod RowLemmas
 pub mod PutLemmas

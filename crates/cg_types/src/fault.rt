@@ -88,6 +88,12 @@ pub enum Fault {
     NoSuchKey,
 }
 
+/// The line of `OutOfMemory`, with its line feed. It takes no memory, as `Fault::line` does.
+pub const OUT_OF_MEMORY_LINE: &[u8] = b"fault 1 OutOfMemory\n";
+
+/// The line of `ReadFault`, with its line feed. It takes no memory, as `Fault::line` does.
+pub const READ_FAULT_LINE: &[u8] = b"fault 14 ReadFault\n";
+
 impl fmt::Display for Cause {
     ghost output = { λ c. Some (cause_name c) };
 

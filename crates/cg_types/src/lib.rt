@@ -17,7 +17,7 @@ mod version;
 mod words;
 
 pub use endpoint::Endpoint;
-pub use fault::{Cause, Fault};
+pub use fault::{Cause, Fault, OUT_OF_MEMORY_LINE, READ_FAULT_LINE};
 pub use generation::Generation;
 pub use limits::{
     MEMBER_LIMIT, NAME_LIMIT, NUMBER_LIMIT, PARTITIONER, STATE_LIMIT, STATUS_KEY, TEXT_LIMIT,

@@ -13,6 +13,6 @@ returns-then-not-are_whole c = (
 
 pub returns : goal.returns
 returns c =
-    audited c.args.lives.now c.show_lives.ensures (they_rise c.args.lives.now (sym c.all_rise.ensures ∙ c.if-not-all_rise.false))
+    audited c.args.lives.now c.show_all.ensures (they_rise c.args.lives.now (sym c.all_rise.ensures ∙ c.if-not-all_rise.false))
     (they_are_whole c.args.lives.now (sym c.are_whole.ensures ∙ c.if-not-are_whole.false))
     c.orders_are_runs.ensures c.stuck_lives_are_no_run.ensures c.heads_can_not_go.ensures c.by_turns.result c.by_turns.ensures

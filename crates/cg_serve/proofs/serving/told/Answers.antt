@@ -1,5 +1,5 @@
 use Rattle.std.proofs.Common.{codes, inr, refl, sym}
-use Rattle.cg_text.proofs.FaultLines.{out_of_memory_line}
+use Rattle.cg_types.proofs.FaultLines.{out_of_memory_line}
 use Rattle.cg_serve.proofs.serving.told.Goals as goal
 
 pub returns-in-Err : goal.returns-in-Err

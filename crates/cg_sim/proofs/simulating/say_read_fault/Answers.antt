@@ -1,7 +1,7 @@
 use Rattle.std.proofs.Common.{ℕ, List, subst}
 use Rattle.cg_links.specs.Counted.{link_of}
 use Rattle.cg_sim.specs.Simulated.{WritesLine}
-use Rattle.cg_text.proofs.FaultLines.{read_fault_line}
+use Rattle.cg_types.proofs.FaultLines.{read_fault_line}
 use Rattle.cg_sim.proofs.simulating.say_read_fault.Goals as goal
 
 pub returns : goal.returns

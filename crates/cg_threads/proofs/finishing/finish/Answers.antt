@@ -11,7 +11,7 @@ returns-in-Ok-clause-ran g c =
     let d = c.deref-3.ensures.value ∙ c.into_parts-seat-3.ensures.receipts in
     let e = c.deref-4.ensures.value ∙ c.into_parts-seat-4.ensures.receipts in
     is_run g.N.Name.start (work_of w) c.requires.receipts c.in-Ok.history w.sender.numbers.items w.ticker.putting w.sender.taken refl
-    c.requires.taken c.compare.ensures c.in-Ok.ensures.whole c.in-Ok.ensures.start c.node-led.ensures.replayed
+    c.requires.taken c.compare.ensures c.in-Ok.ensures.whole c.in-Ok.ensures.start c.show.ensures
     (rw (a, b, d, e) at c.in-Ok.ensures.count) (rw (a, b, d, e) at c.in-Ok.ensures.confirmed)
 
 pub returns-in-Ok-clause-confirmed : goal.returns-in-Ok-clause-confirmed
@@ -28,7 +28,7 @@ returns-in-Err-clause-not g c =
     let b = c.deref-2.ensures.value ∙ c.into_parts-seat-2.ensures.receipts in
     let d = c.deref-3.ensures.value ∙ c.into_parts-seat-3.ensures.receipts in
     let e = c.deref-4.ensures.value ∙ c.into_parts-seat-4.ensures.receipts in
-    is_unconfirmed g.N.Name.start (work_of c.args.work) c.requires.receipts c.in-Err.left c.in-Err.ensures.whole c.in-Err.ensures.start c.node-led-in-Err.ensures.replayed
+    is_unconfirmed g.N.Name.start (work_of c.args.work) c.requires.receipts c.in-Err.left c.in-Err.ensures.whole c.in-Err.ensures.start c.show-in-Err.ensures
     (rw (a, b, d, e) at c.in-Err.ensures.count) (rw (a, b, d, e) at c.in-Err.ensures.confirmed)
 
 pub returns-in-Err-clause-stray : goal.returns-in-Err-clause-stray

@@ -1,6 +1,6 @@
 use Rattle.std.proofs.Common.{◌≡◌, codes, refl, inl, inr, ◌∙◌, ap, Err}
 use Rattle.cg_types.specs.declared.fault.Fault.TheVariants as fault
-use Rattle.cg_text.proofs.FaultLines.{out_of_memory_line, read_fault_line}
+use Rattle.cg_types.proofs.FaultLines.{out_of_memory_line, read_fault_line}
 use Rattle.cg_tool.proofs.answering.answer_links.Goals as goal
 
 pub returns-in-Ok-clause-answered : goal.returns-in-Ok-clause-answered

@@ -1,5 +1,5 @@
 use Rattle.std.proofs.Common.{codes, refl, inr}
-use Rattle.cg_text.proofs.FaultLines.{out_of_memory_line}
+use Rattle.cg_types.proofs.FaultLines.{out_of_memory_line}
 use Rattle.cg_tool.proofs.auditing.write_unread.Goals as goal
 
 pub returns-in-Err : goal.returns-in-Err

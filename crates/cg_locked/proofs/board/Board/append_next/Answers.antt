@@ -13,7 +13,7 @@ pub append_puts-requires : goal.append_puts-requires
 append_puts-requires g c =
     let s = c.args.self.now in
     let h = s.history in
-    let led = whole_replayed s.log h s.listed g.N.Name.start s.start s.replays c.records-records.ensures.replayed in
+    let led = whole_replayed s.log h s.listed g.N.Name.start s.start s.replays c.show.ensures in
     let one : h.folded + s.appended + 1 ≡ h.folded + (s.appended + 1) = omega arith in
     let next : puts_of (take (h.folded + s.appended + 1) s.log) ≡ puts_of (take (h.folded + s.appended) s.log) ++ c.in_ok-puts.puts = ap (λ n. puts_of (take n s.log)) one ∙ c.in_ok-puts.ensures in
     let may = next_may_follow (unfolded s.log h) (h.folded + s.appended) (are_all s.publisher) c.in_ok-puts.puts led s.shown next in

@@ -11,7 +11,7 @@ pub returns-in_err-receipt-clause-entry : goal.returns-in_err-receipt-clause-ent
 returns-in_err-receipt-clause-entry g c =
     let s = c.args.self.now in
     let not = c.in_err-receipt.ensures in
-    let led = whole_replayed s.log s.history s.listed g.N.Name.start s.start s.replays c.records-records.ensures.replayed in
+    let led = whole_replayed s.log s.history s.listed g.N.Name.start s.start s.replays c.show.ensures in
     let count = all_counted s.log s.history s.listed in
     let few = not.long in
     let long : c.args.seat.now.amount ≤ length s.log = omega (arith, count, few) in
@@ -22,7 +22,7 @@ pub returns-in-Ok-clause-entry : goal.returns-in-Ok-clause-entry
 returns-in-Ok-clause-entry g c =
     let s = c.args.self.now in
     let done = c.in_ok-receipt.ensures in
-    let led = whole_replayed s.log s.history s.listed g.N.Name.start s.start s.replays c.records-records.ensures.replayed in
+    let led = whole_replayed s.log s.history s.listed g.N.Name.start s.start s.replays c.show.ensures in
     let count = all_counted s.log s.history s.listed in
     let few = done.long in
     let long : c.args.seat.now.amount ≤ length s.log = omega (arith, count, few) in
@@ -37,7 +37,7 @@ pub returns-in-Err-clause-entry : goal.returns-in-Err-clause-entry
 returns-in-Err-clause-entry g c =
     let s = c.args.self.now in
     let done = c.in_ok-receipt.ensures in
-    let led = whole_replayed s.log s.history s.listed g.N.Name.start s.start s.replays c.records-records.ensures.replayed in
+    let led = whole_replayed s.log s.history s.listed g.N.Name.start s.start s.replays c.show.ensures in
     let count = all_counted s.log s.history s.listed in
     let few = done.long in
     let long : c.args.seat.now.amount ≤ length s.log = omega (arith, count, few) in
