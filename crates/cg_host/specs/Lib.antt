@@ -1,5 +1,3 @@
-pub mod Limits
-pub mod Passing
 pub mod Disk
 pub mod Generation
 pub mod Replacing

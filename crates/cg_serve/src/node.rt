@@ -5,11 +5,10 @@ ghost use Rattle.cg_serve.specs.Lives.{node_of, left_after, IsLifeLeft, IsUnstar
 
 use cg_core::Settings;
 use cg_history::History;
-use cg_host::{Dialer, Listener, answer_limit, limit_for};
 use cg_operator::Console;
 use cg_threads::{NotRun, Parts, Ran, run_node};
 use cg_types::{Endpoint, Fault, Generation};
-use cg_workers::{HostClock, Turns, generator};
+use cg_workers::{Dialer, HostClock, Listener, Turns, answer_limit, generator, limit_for};
 use std::alloc::Global;
 use std::io::{Eprint, Input, Print};
 use std::net::{Net, TcpListener, TcpStream};

@@ -1,3 +1,5 @@
+pub mod Limits
+pub mod AcceptErrors
 pub mod Rounds
 pub mod Ends
 pub mod Words

@@ -1,6 +1,8 @@
-//! Laws of the words, of the room for rounds, and of a ticker's turns, each the contract of an empty function.
+//! Laws of the words, of the room for rounds, of a ticker's turns, and of a connection's limits, each the contract of an
+//! empty function.
 
 ghost use Rattle.cg_workers.specs.Laws.{RoomIsThis};
+ghost use Rattle.cg_workers.specs.Limits.{LimitValues};
 ghost use Rattle.cg_workers.specs.RoundLaws.{RoomHasItsValue};
 ghost use Rattle.cg_workers.specs.Words.{WordsAreTheGenerators};
 ghost use Rattle.cg_workers.specs.TickLaws.{TicksMakeRounds};
@@ -28,4 +30,10 @@ pub fn room_has_its_value()
 /// generator's, four by four.
 pub fn ticks_make_rounds<E: Enter, C: Milliseconds>()
     ensures { TicksMakeRounds E.receipts E.does E.refuses C.shows }
+{}
+
+/// `RESPOND_LIMIT` is 2,000 ms, `LEAST_LIMIT` 100 ms, `CALL_TRIES` 16, `ACCEPT_PAUSE` 100 ms and `LINE_PAUSE`
+/// 1,000 ms.
+pub fn limits_have_their_values()
+    ensures { LimitValues }
 {}

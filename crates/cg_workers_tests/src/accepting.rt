@@ -1,10 +1,9 @@
 //! Accepting: the errors after which it goes on, those that end it, and the lines on standard error.
 
 use crate::ports::{at_port, free_endpoint};
-use cg_host::{Dialer, Listener};
 use cg_testing::{expect, expect_eq};
 use cg_types::{Endpoint, Fault};
-use cg_workers::{Dial, Listen};
+use cg_workers::{Dial, Dialer, Listen, Listener};
 use std::alloc::Global;
 use std::fmt::Display;
 use std::io;

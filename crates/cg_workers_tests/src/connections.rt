@@ -1,10 +1,9 @@
 //! Connections over the loopback: an answer, an endpoint in use, nobody there, silent and slow peers.
 
 use crate::ports::free_endpoint;
-use cg_host::{Dialer, Listener};
 use cg_testing::expect;
 use cg_types::{Endpoint, Fault};
-use cg_workers::{Dial, Listen};
+use cg_workers::{Dial, Dialer, Listen, Listener};
 use std::alloc::Global;
 use std::io::{Eprint, ErrorKind, Read, Write};
 use std::net::{Net, TcpStream};

@@ -1,9 +1,9 @@
 //! The time that an exchange may last: a third of the interval, at least 100 ms, and 2 s if a peer began it; and the
 //! time in which its first byte has to come.
 
-use cg_host::laws::limits_have_their_values;
-use cg_host::{answer_limit, first_byte_limit, limit_for};
 use cg_testing::expect_eq;
+use cg_workers::laws::limits_have_their_values;
+use cg_workers::{answer_limit, first_byte_limit, limit_for};
 use std::test::Fail;
 
 #[test]

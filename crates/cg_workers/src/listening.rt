@@ -3,12 +3,12 @@
 ghost use Rattle.std.specs.Prelude.{◌≡◌, ◌⊎◌, IfErr};
 ghost use Rattle.cg_types.specs.declared.fault.Fault.TheVariants as faults;
 
+use crate::accept_errors::is_passing_error;
 use crate::limits::{ACCEPT_PAUSE, first_byte_limit};
 use crate::lines::Lines;
-use crate::passing::is_passing_error;
+use crate::links::Listen;
 use crate::side::{Side, end_in};
 use cg_types::{Endpoint, Fault};
-use cg_workers::Listen;
 use std::alloc::Global;
 use std::io::{Eprint, Error, ErrorKind};
 use std::net::{Net, OpenListener, SocketAddr, TcpListener, TcpStream};

@@ -1,9 +1,9 @@
 //! Connections that are made.
 
 use crate::lines::Lines;
+use crate::links::Dial;
 use crate::side::{Side, end_in, left_until};
 use cg_types::{Endpoint, Fault};
-use cg_workers::Dial;
 use std::alloc::Global;
 use std::io;
 use std::io::{Eprint, Error, ErrorKind};

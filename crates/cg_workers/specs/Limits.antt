@@ -1,6 +1,6 @@
 -- The values of the limits of connections.
 use Rattle.std.specs.Prelude.{◌≡◌}
-use Rattle.cg_host.specs.declared.limits.TheConstants.{RESPOND_LIMIT, LEAST_LIMIT, CALL_TRIES, ACCEPT_PAUSE, LINE_PAUSE}
+use Rattle.cg_workers.specs.declared.limits.TheConstants.{RESPOND_LIMIT, LEAST_LIMIT, CALL_TRIES, ACCEPT_PAUSE, LINE_PAUSE}
 
 pub record LimitValues : Type 0 where
   pub respond : RESPOND_LIMIT ≡ 2000

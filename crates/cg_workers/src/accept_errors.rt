@@ -2,7 +2,7 @@
 
 ghost use Rattle.std.specs.Prelude.{◌≡◌};
 ghost use Rattle.std.specs.IoError.{raw_os_error};
-ghost use Rattle.cg_host.specs.Passing.{is_passing};
+ghost use Rattle.cg_workers.specs.AcceptErrors.{is_passing};
 
 use std::io::Error;
 
