@@ -13,6 +13,6 @@ pub mod Tracks
 pub mod RunHeadline
 pub mod RunWorld
 pub use Rattle.cg_types.specs.Rising
-pub use Rattle.cg_messages.specs.Lent
+pub use Rattle.cg_messages.specs.Borrowed
 pub use Rattle.cg_places.specs.Step
 pub use Rattle.cg_messages.specs.MessageCode

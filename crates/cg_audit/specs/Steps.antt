@@ -1,6 +1,6 @@
 -- Steps as items.
 use Rattle.std.specs.Option.{option_map}
-use Rattle.cg_messages.specs.Lent.{lent_message}
+use Rattle.cg_messages.specs.Borrowed.{borrowed_message}
 use Rattle.cg_audit.specs.Items.{RunItem}
 use Rattle.cg_audit.specs.declared.step.Step.{Step}
 
@@ -10,6 +10,6 @@ run_item s = record {
   endpoint = s.item.endpoint;
   generation = s.item.generation;
   number = s.item.number;
-  handled = option_map lent_message s.handled;
-  sent = option_map lent_message s.sent;
+  handled = option_map borrowed_message s.handled;
+  sent = option_map borrowed_message s.sent;
 }

@@ -1,12 +1,12 @@
 //! A number that equal messages have in common.
 
 ghost use Rattle.std.specs.Prelude.{◌≡◌, fold};
-ghost use Rattle.cg_messages.specs.Lent.{lent_message};
+ghost use Rattle.cg_messages.specs.Borrowed.{borrowed_message};
 ghost use Rattle.cg_audit.specs.Hash as spec;
 ghost use Rattle.cg_audit.specs.Hash.{with_digest, with_request, with_delta};
 
 use cg_entry::Digest;
-use cg_messages::{Ack, Ack2, Lent, OwnerDelta, Request, Syn};
+use cg_messages::{Ack, Ack2, BorrowedMessage, OwnerDelta, Request, Syn};
 use cg_types::Endpoint;
 
 /// The factor of a hash before a number is added: odd, and with its bits spread out.
@@ -61,12 +61,12 @@ fn deltas_in(mut hash: u64, deltas: &[OwnerDelta]) -> u64
 }
 
 /// Returns the hash of a message's content.
-pub(crate) fn hash_of(message: Lent<'_>) -> u64
-    ensures { result ≡ spec.hash_of (lent_message message.entry) }
+pub(crate) fn hash_of(message: BorrowedMessage<'_>) -> u64
+    ensures { result ≡ spec.hash_of (borrowed_message message.entry) }
 {
     match message {
-        Lent::Syn(syn) => digests_in(1, syn.digests()),
-        Lent::Ack(ack) => deltas_in(requests_in(2, ack.requests()), ack.deltas()),
-        Lent::Ack2(ack2) => deltas_in(3, ack2.deltas()),
+        BorrowedMessage::Syn(syn) => digests_in(1, syn.digests()),
+        BorrowedMessage::Ack(ack) => deltas_in(requests_in(2, ack.requests()), ack.deltas()),
+        BorrowedMessage::Ack2(ack2) => deltas_in(3, ack2.deltas()),
     }
 }

@@ -1,13 +1,13 @@
 //! The messages that were sent, in buckets by their hashes.
 
 ghost use Rattle.std.specs.Prelude.{◌≡◌, ◌<◌, ◌+◌, ◌%◌, ◌↔◌, ◌∷◌, ◌++◌, [], IsTrue, IfOk, Contains, Some, length, map, slice_get};
-ghost use Rattle.cg_messages.specs.Lent.{lent_message};
+ghost use Rattle.cg_messages.specs.Borrowed.{borrowed_message};
 ghost use Rattle.cg_audit.specs.Hash as spec;
 ghost use Rattle.cg_audit.specs.Index.{IsIndex, HaveTheSame};
 
 use crate::hash::hash_of;
 use crate::same::is_same;
-use cg_messages::Lent;
+use cg_messages::BorrowedMessage;
 use std::alloc::{AllocError, Global};
 use std::marker::Model;
 
@@ -15,7 +15,7 @@ use std::marker::Model;
 /// that bucket alone. Messages are numbered from 1; 0 is no message.
 #[derive(Drop)]
 pub struct SentMessages<'a> {
-    messages: Vec<Lent<'a>>,
+    messages: Vec<BorrowedMessage<'a>>,
     hashes: Vec<u64>,
     // the last message of each bucket
     last: Vec<usize>,
@@ -29,17 +29,17 @@ impl<'a> Model for SentMessages<'a> {
     ghost use Rattle.std.specs.Coded.{coded_list};
     ghost use Rattle.cg_messages.specs.declared.message.Message.{Message};
     ghost use Rattle.cg_messages.specs.MessageCode.{message_code};
-    ghost use Rattle.cg_messages.specs.Lent.{lent_message};
+    ghost use Rattle.cg_messages.specs.Borrowed.{borrowed_message};
     ghost use Rattle.cg_audit.specs.Index.{IsIndex};
 
     ghost Value = { List Message };
 
     ghost coded = { coded_list message_code };
 
-    ghost view = { λ s. map lent_message s.messages.items };
+    ghost view = { λ s. map borrowed_message s.messages.items };
 
     ghost invariant = { λ s.
-        IsIndex (map lent_message s.messages.items) s.hashes.items s.last.items s.before.items };
+        IsIndex (map borrowed_message s.messages.items) s.hashes.items s.last.items s.before.items };
 }
 
 // Returns the bucket of a hash.
@@ -57,27 +57,33 @@ fn count_of(hashes: &[u64]) -> usize
 }
 
 // Returns `true` if this message is at a place.
-fn is_at(messages: &[Lent<'_>], hashes: &[u64], place: usize, wanted: Lent<'_>, hash: u64) -> bool
+fn is_at(
+    messages: &[BorrowedMessage<'_>],
+    hashes: &[u64],
+    place: usize,
+    wanted: BorrowedMessage<'_>,
+    hash: u64,
+) -> bool
     requires place { place < length hashes.now }
-    requires wanted { hash ≡ spec.hash_of (lent_message wanted) }
-    requires hashed { map spec.hash_of (map lent_message messages.now) ≡ hashes.now }
+    requires wanted { hash ≡ spec.hash_of (borrowed_message wanted) }
+    requires hashed { map spec.hash_of (map borrowed_message messages.now) ≡ hashes.now }
     ensures { IsTrue result
-        ↔ (slice_get (map lent_message messages.now) place ≡ Some (lent_message wanted.entry)) }
+        ↔ (slice_get (map borrowed_message messages.now) place ≡ Some (borrowed_message wanted.entry)) }
 {
     hashes[place] == hash && is_same(messages[place], wanted)
 }
 
 // Returns `true` if a message is among these, which is to say, in its bucket.
 fn is_among(
-    messages: &[Lent<'_>],
+    messages: &[BorrowedMessage<'_>],
     hashes: &[u64],
     last: &[usize],
     before: &[usize],
-    wanted: Lent<'_>,
+    wanted: BorrowedMessage<'_>,
 ) -> bool
-    requires { IsIndex (map lent_message messages.now) hashes.now last.now before.now }
+    requires { IsIndex (map borrowed_message messages.now) hashes.now last.now before.now }
     ensures { IsTrue result
-        ↔ Contains (map lent_message messages.now) (lent_message wanted.entry) }
+        ↔ Contains (map borrowed_message messages.now) (borrowed_message wanted.entry) }
 {
     let hash = hash_of(wanted);
     let mut number = last[bucket_of(hash, last)];
@@ -105,8 +111,8 @@ impl<'a> SentMessages<'a> {
     }
 
     /// Returns `true` if an equal message is among these.
-    pub fn contains(&self, message: Lent<'_>) -> bool
-        ensures { IsTrue result ↔ Contains self.now (lent_message message.entry) }
+    pub fn contains(&self, message: BorrowedMessage<'_>) -> bool
+        ensures { IsTrue result ↔ Contains self.now (borrowed_message message.entry) }
     {
         is_among(
             &self.messages,
@@ -118,8 +124,8 @@ impl<'a> SentMessages<'a> {
     }
 
     // Returns these and one more, at the end.
-    fn pushed(self, message: Lent<'a>) -> Result<SentMessages<'a>, AllocError>
-        ensures { IfOk result (λ s. s ≡ self.entry ++ lent_message message.entry ∷ []) }
+    fn pushed(self, message: BorrowedMessage<'a>) -> Result<SentMessages<'a>, AllocError>
+        ensures { IfOk result (λ s. s ≡ self.entry ++ borrowed_message message.entry ∷ []) }
     {
         let SentMessages {
             mut messages,
@@ -142,9 +148,9 @@ impl<'a> SentMessages<'a> {
     }
 
     /// Returns these messages and one more. One that is among them already is not kept again.
-    pub fn with(self, message: Lent<'a>) -> Result<SentMessages<'a>, AllocError>
+    pub fn with(self, message: BorrowedMessage<'a>) -> Result<SentMessages<'a>, AllocError>
         ensures { IfOk result (λ s.
-            HaveTheSame s (self.entry ++ lent_message message.entry ∷ [])) }
+            HaveTheSame s (self.entry ++ borrowed_message message.entry ∷ [])) }
     {
         if self.contains(message) {
             return Ok(self);

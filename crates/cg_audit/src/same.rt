@@ -1,9 +1,9 @@
 //! Comparison of two messages that are passed by reference.
 
 ghost use Rattle.std.specs.Prelude.{◌≡◌, ◌↔◌, IsTrue};
-ghost use Rattle.cg_messages.specs.Lent.{lent_message};
+ghost use Rattle.cg_messages.specs.Borrowed.{borrowed_message};
 
-use cg_messages::{Ack, Ack2, Lent, Syn};
+use cg_messages::{Ack, Ack2, BorrowedMessage, Syn};
 
 fn same_syn(one: &Syn, other: &Syn) -> bool
     ensures { IsTrue result ↔ (one.now ≡ other.now) }
@@ -24,13 +24,13 @@ fn same_ack2(one: &Ack2, other: &Ack2) -> bool
 }
 
 /// Returns `true` if both messages are of one kind and equal.
-pub(crate) fn is_same(one: Lent<'_>, other: Lent<'_>) -> bool
-    ensures { IsTrue result ↔ (lent_message one.entry ≡ lent_message other.entry) }
+pub(crate) fn is_same(one: BorrowedMessage<'_>, other: BorrowedMessage<'_>) -> bool
+    ensures { IsTrue result ↔ (borrowed_message one.entry ≡ borrowed_message other.entry) }
 {
     match (one, other) {
-        (Lent::Syn(ours), Lent::Syn(theirs)) => same_syn(ours, theirs),
-        (Lent::Ack(ours), Lent::Ack(theirs)) => same_ack(ours, theirs),
-        (Lent::Ack2(ours), Lent::Ack2(theirs)) => same_ack2(ours, theirs),
+        (BorrowedMessage::Syn(ours), BorrowedMessage::Syn(theirs)) => same_syn(ours, theirs),
+        (BorrowedMessage::Ack(ours), BorrowedMessage::Ack(theirs)) => same_ack(ours, theirs),
+        (BorrowedMessage::Ack2(ours), BorrowedMessage::Ack2(theirs)) => same_ack2(ours, theirs),
         _ => false,
     }
 }

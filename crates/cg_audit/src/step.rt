@@ -2,7 +2,7 @@
 
 ghost use Rattle.std.specs.Prelude.{◌≡◌, option_copied, slice_get};
 ghost use Rattle.std.specs.Option.{option_map};
-ghost use Rattle.cg_messages.specs.Lent.{lent_message};
+ghost use Rattle.cg_messages.specs.Borrowed.{borrowed_message};
 ghost use Rattle.cg_places.specs.Step.{message_in};
 ghost use Rattle.cg_audit.specs.Items.{generation_of, start_item, item_of, items_of_life};
 ghost use Rattle.cg_audit.specs.Steps.{run_item};
@@ -11,25 +11,25 @@ use crate::item::LifeItem;
 use crate::lives::generation;
 use cg_core::Event;
 use cg_history::{History, Item};
-use cg_messages::Lent;
+use cg_messages::BorrowedMessage;
 use cg_types::{Endpoint, Generation};
 
 /// An item of a life, the message that it handles and the one that it sends.
 #[derive(Clone, Copy, Debug)]
 pub(crate) struct Step<'a> {
     pub(crate) item: LifeItem,
-    pub(crate) handled: Option<Lent<'a>>,
-    pub(crate) sent: Option<Lent<'a>>,
+    pub(crate) handled: Option<BorrowedMessage<'a>>,
+    pub(crate) sent: Option<BorrowedMessage<'a>>,
 }
 
 // Returns the message that an event hands over, if there is one.
-fn handled(event: &Event) -> Option<Lent<'_>>
-    ensures { option_map lent_message result ≡ message_in event.now }
+fn handled(event: &Event) -> Option<BorrowedMessage<'_>>
+    ensures { option_map borrowed_message result ≡ message_in event.now }
 {
     match event {
-        Event::Syn { m } => Some(Lent::Syn(m)),
-        Event::Ack { m, .. } => Some(Lent::Ack(m)),
-        Event::Ack2 { m, .. } => Some(Lent::Ack2(m)),
+        Event::Syn { m } => Some(BorrowedMessage::Syn(m)),
+        Event::Ack { m, .. } => Some(BorrowedMessage::Ack(m)),
+        Event::Ack2 { m, .. } => Some(BorrowedMessage::Ack2(m)),
         _ => None,
     }
 }

@@ -2,7 +2,7 @@
 
 ghost use Rattle.std.specs.Prelude.{◌≡◌, ◌<◌, ◌==◌, ◌++◌, ◌&&◌, IsTrue, IfOk, IfSome, Some, length, map, is_some, nat_lt, slice_get, slice_index};
 ghost use Rattle.std.specs.Option.{option_map, option_to_list};
-ghost use Rattle.cg_messages.specs.Lent.{lent_message};
+ghost use Rattle.cg_messages.specs.Borrowed.{borrowed_message};
 ghost use Rattle.cg_audit.specs.Turns.{endpoints_of};
 ghost use Rattle.cg_audit.specs.Index.{HaveTheSame};
 ghost use Rattle.cg_audit.specs.Steps.{run_item};
@@ -15,13 +15,13 @@ use crate::cursor::{Cursor, advanced, cursors, first};
 use crate::index::SentMessages;
 use crate::item::{AuditFault, LifeItem, Order};
 use crate::lives::Lives;
-use cg_messages::Lent;
+use cg_messages::BorrowedMessage;
 use cg_types::Endpoint;
 use std::alloc::{AllocError, Global};
 
 // Returns `true` if there is no message, or if it was sent.
-fn can_go(handled: Option<Lent<'_>>, sent: &SentMessages<'_>) -> bool
-    ensures { result ≡ goes sent.now (option_map lent_message handled.entry) }
+fn can_go(handled: Option<BorrowedMessage<'_>>, sent: &SentMessages<'_>) -> bool
+    ensures { result ≡ goes sent.now (option_map borrowed_message handled.entry) }
 {
     match handled {
         None => true,
@@ -154,10 +154,10 @@ fn count_of(lives: &[Lives]) -> usize {
 // Returns the messages sent, with one more message, if there is one.
 fn with_message<'a>(
     sent: SentMessages<'a>,
-    message: Option<Lent<'a>>,
+    message: Option<BorrowedMessage<'a>>,
 ) -> Result<SentMessages<'a>, AllocError>
     ensures { IfOk result (λ s.
-        HaveTheSame s (sent.entry ++ option_to_list (option_map lent_message message.entry))) }
+        HaveTheSame s (sent.entry ++ option_to_list (option_map borrowed_message message.entry))) }
 {
     match message {
         None => Ok(sent),

@@ -4,7 +4,7 @@ use anyhow::{Context, Result};
 use cg_audit::Lives;
 use cg_core::Event;
 use cg_history::History;
-use cg_messages::Lent;
+use cg_messages::BorrowedMessage;
 use cg_testing::{endpoint, generation, settings};
 use std::alloc::{AllocError, Global};
 use std::hint::black_box;
@@ -27,14 +27,14 @@ fn begun(alloc: Global, number: u16) -> Result<History> {
 }
 
 // Returns the event that hands a message over.
-fn arrival(alloc: Global, message: Lent<'_>) -> Result<Event, AllocError> {
+fn arrival(alloc: Global, message: BorrowedMessage<'_>) -> Result<Event, AllocError> {
     Ok(match message {
-        Lent::Syn(m) => Event::Syn { m: m.copy(alloc)? },
-        Lent::Ack(m) => Event::Ack {
+        BorrowedMessage::Syn(m) => Event::Syn { m: m.copy(alloc)? },
+        BorrowedMessage::Ack(m) => Event::Ack {
             now: NOW,
             m: m.copy(alloc)?,
         },
-        Lent::Ack2(m) => Event::Ack2 {
+        BorrowedMessage::Ack2(m) => Event::Ack2 {
             now: NOW,
             m: m.copy(alloc)?,
         },

@@ -22,9 +22,9 @@ use Rattle.cg_core.specs.Values.{NodeValue}
 use Rattle.cg_silence.specs.Windows.{Heard, was_taken, tells_taken, with_arrival, arrivals}
 use Rattle.cg_entry.specs.Entry.{removal_of}
 use Rattle.cg_table.specs.Own.{own_entry}
-use Rattle.cg_core.specs.Step.{starting_node, then, next_of, beating, setting, removing, opening, round_of, after_taking, node_step, node_left, after_event, after_events}
+use Rattle.cg_core.specs.Step.{starting_node, then, next_of, beating, setting, removing, opening, round_peers, after_taking, node_step, node_left, after_event, after_events}
 use Rattle.cg_core.specs.Replies.{outcomes_in}
-use Rattle.cg_core.specs.Arrivals.{outcomes_told, moment_of, moments_told, moments_taken, window_of}
+use Rattle.cg_core.specs.Arrivals.{outcomes_told, time_of, times_told, times_taken, window_of}
 use Rattle.cg_core.specs.Laws.{WindowsShowAllTaken}
 use Rattle.cg_core.proofs.HearingLemmas.{other_arrival}
 
@@ -40,33 +40,33 @@ module _ (s : SilenceValue) where
       ∙ rw ((eq_by_cmp_equiv nat_cmp_total).refl q) (ap (λ (h : Option Shown). Some (after_arrival s h now)) is ∙ sym (window-push past now))
 
   one_more : (now q : ℕ) (windows : Heard) (o : Outcome) (os : List Outcome) (past : List ℕ) (same took : Bool) → (o.endpoint == q) ≡ same → get windows q ≡ window_of s past
-      → ((w : Heard) (p : List ℕ) → get w q ≡ window_of s p → get (arrivals s now w os) q ≡ window_of s (p ++ moments_told q now os))
+      → ((w : Heard) (p : List ℕ) → get w q ≡ window_of s p → get (arrivals s now w os) q ≡ window_of s (p ++ times_told q now os))
       → get (arrivals s now (cond took (with_arrival s now windows o.endpoint) windows) os) q
       ≡ window_of s (past ++ map (λ (o : Outcome). now) (cond (same && took) (o ∷ filter (tells_taken q) os) (filter (tells_taken q) os)))
   one_more now q windows o os past true true at is rest =
       let here = ap (λ (e : ℕ). get (with_arrival s now windows e) q) (eqb-true o.endpoint q at) ∙ own_arrival now q windows past is in
-      rest (with_arrival s now windows o.endpoint) (past ++ now ∷ []) here ∙ ap (window_of s) (append_assoc past (now ∷ []) (moments_told q now os))
+      rest (with_arrival s now windows o.endpoint) (past ++ now ∷ []) here ∙ ap (window_of s) (append_assoc past (now ∷ []) (times_told q now os))
   one_more now q windows o os past false true at is rest = rest (with_arrival s now windows o.endpoint) past (other_arrival s now windows q o.endpoint at ∙ is)
   one_more now q windows o os past true false at is rest = rest windows past is
   one_more now q windows o os past false false at is rest = rest windows past is
 
-  arrivals_show : (now q : ℕ) (windows : Heard) (os : List Outcome) (past : List ℕ) → get windows q ≡ window_of s past → get (arrivals s now windows os) q ≡ window_of s (past ++ moments_told q now os)
+  arrivals_show : (now q : ℕ) (windows : Heard) (os : List Outcome) (past : List ℕ) → get windows q ≡ window_of s past → get (arrivals s now windows os) q ≡ window_of s (past ++ times_told q now os)
   arrivals_show now q windows [] past is = is ∙ ap (window_of s) (sym (append-nil past))
   arrivals_show now q windows (o ∷ os) past is = one_more now q windows o os past (o.endpoint == q) (was_taken o.took) refl is (λ w p here. arrivals_show now q w os p here)
 
 module _ (n : NodeValue) (q : ℕ) (past : List ℕ) (is : get n.windows q ≡ window_of n.settings.silence past) where
   step_shows : {A : Type 0} (now : ℕ) (r : Result A Fault) (go : A → NodeValue × Reply) → ((x : A) → (go x).0.windows ≡ arrivals n.settings.silence now n.windows (outcomes_in (go x).1))
-      → get (node_left n (then r go)).windows q ≡ window_of n.settings.silence (past ++ moments_told q now (outcomes_told (then r go)))
+      → get (node_left n (then r go)).windows q ≡ window_of n.settings.silence (past ++ times_told q now (outcomes_told (then r go)))
   step_shows now (Ok x) go goes =
       ap (λ (w : Heard). get w q) (goes x) ∙ arrivals_show n.settings.silence now q n.windows (outcomes_in (go x).1) past is
   step_shows now (Err fault) go goes = is ∙ ap (window_of n.settings.silence) (sym (append-nil past))
 
-  event_shows : (e : Event) → get (after_event n e).windows q ≡ window_of n.settings.silence (past ++ moments_told q (moment_of e) (outcomes_told (node_step n e)))
+  event_shows : (e : Event) → get (after_event n e).windows q ≡ window_of n.settings.silence (past ++ times_told q (time_of e) (outcomes_told (node_step n e)))
   event_shows event.Beat = step_shows 0 (next_of n) (λ v. (beating n, reply.Done v)) (λ v. refl)
   event_shows (event.Set key text) = step_shows 0 (next_of n) (λ v. (setting key text n, reply.Done v)) (λ v. refl)
   event_shows (event.Remove key) = step_shows 0 (removal_of key (own_entry n.table)) (λ v. (removing key n, reply.Done v)) (λ v. refl)
   event_shows (event.Tick now words) =
-      step_shows now (next_of n) (λ v. (beating n, reply.Round (round_of (beating n) now words) (opening (beating n)))) (λ v. refl)
+      step_shows now (next_of n) (λ v. (beating n, reply.Round (round_peers (beating n) now words) (opening (beating n)))) (λ v. refl)
   event_shows event.Opening = is ∙ ap (window_of n.settings.silence) (sym (append-nil past))
   event_shows (event.Syn syn) = step_shows 0 (answer_to_syn n.table n.settings.cluster syn) (λ ack. (n, reply.Sent (message.Ack ack))) (λ ack. refl)
   event_shows (event.Ack now ack) = step_shows now (taking_ack n.table ack) (λ x. (after_taking n now x.0 x.2, reply.Both x.2 x.1)) (λ x. refl)
@@ -82,22 +82,22 @@ module _ (n : NodeValue) where
   settings_kept (event.Set key text) = settings_stay (next_of n) (λ v. (setting key text n, reply.Done v)) (λ v. refl)
   settings_kept (event.Remove key) = settings_stay (removal_of key (own_entry n.table)) (λ v. (removing key n, reply.Done v)) (λ v. refl)
   settings_kept (event.Tick now words) =
-      settings_stay (next_of n) (λ v. (beating n, reply.Round (round_of (beating n) now words) (opening (beating n)))) (λ v. refl)
+      settings_stay (next_of n) (λ v. (beating n, reply.Round (round_peers (beating n) now words) (opening (beating n)))) (λ v. refl)
   settings_kept event.Opening = refl
   settings_kept (event.Syn syn) = settings_stay (answer_to_syn n.table n.settings.cluster syn) (λ ack. (n, reply.Sent (message.Ack ack))) (λ ack. refl)
   settings_kept (event.Ack now ack) = settings_stay (taking_ack n.table ack) (λ x. (after_taking n now x.0 x.2, reply.Both x.2 x.1)) (λ x. refl)
   settings_kept (event.Ack2 now ack2) = settings_stay (taking_ack2 n.table ack2) (λ x. (after_taking n now x.0 x.1, reply.Took x.1)) (λ x. refl)
 
-events_show : (n : NodeValue) (es : List Event) (q : ℕ) (past : List ℕ) → get n.windows q ≡ window_of n.settings.silence past → get (after_events n es).windows q ≡ window_of n.settings.silence (past ++ moments_taken q n es)
+events_show : (n : NodeValue) (es : List Event) (q : ℕ) (past : List ℕ) → get n.windows q ≡ window_of n.settings.silence past → get (after_events n es).windows q ≡ window_of n.settings.silence (past ++ times_taken q n es)
 events_show n [] q past is = is ∙ ap (window_of n.settings.silence) (sym (append-nil past))
 events_show n (e ∷ es) q past is =
     let after = after_event n e in
-    let told = moments_told q (moment_of e) (outcomes_told (node_step n e)) in
+    let told = times_told q (time_of e) (outcomes_told (node_step n e)) in
     let same = settings_kept n e in
     let here = event_shows n q past is e ∙ ap (λ (t : SettingsValue). window_of t.silence (past ++ told)) (sym same) in
     events_show after es q (past ++ told) here
-    ∙ ap (λ (t : SettingsValue). window_of t.silence ((past ++ told) ++ moments_taken q after es)) same
-    ∙ ap (window_of n.settings.silence) (append_assoc past told (moments_taken q after es))
+    ∙ ap (λ (t : SettingsValue). window_of t.silence ((past ++ told) ++ times_taken q after es)) same
+    ∙ ap (window_of n.settings.silence) (append_assoc past told (times_taken q after es))
 
 pub windows_show_all_taken : WindowsShowAllTaken
 windows_show_all_taken own generation settings events endpoint = events_show (starting_node own generation settings) events endpoint [] (get-empty nat_cmp endpoint)

@@ -39,8 +39,8 @@ use Rattle.cg_core.specs.declared.reply.Reply.{Reply}
 use Rattle.cg_core.specs.declared.reply.Reply.TheVariants as reply
 use Rattle.cg_core.specs.Values.{NodeValue}
 use Rattle.cg_silence.specs.Windows.{was_taken}
-use Rattle.cg_core.specs.Step.{Leads, next_of, beating, setting, removing, opening, round_of, after_taking}
-use Rattle.cg_core.specs.Handed.{deltas_in}
+use Rattle.cg_core.specs.Step.{Leads, next_of, beating, setting, removing, opening, round_peers, after_taking}
+use Rattle.cg_core.specs.Handed.{deltas_handed}
 use Rattle.cg_core.specs.Changes.{taken_owners, changed_owners}
 use Rattle.cg_core.proofs.OrderLemmas.{met_ahead, beaten_later, given_later}
 use Rattle.cg_core.proofs.PutLemmas.{only_put}
@@ -119,7 +119,7 @@ Shows n x = puts n.table x.0.table ≡ rows_at x.0.table.entries (changed_owners
 nothing_later : (t : TableValue) → puts t t ≡ []
 nothing_later t = later_entries-put_each t.entries [] refl (λ q e at. absurd cc)
 
-pub puts_are_the_changed_rows : (n : NodeValue) (e : Event) (after : NodeValue) (answer : Reply) → is_some (get n.table.entries n.table.own) ≡ true → Rises (endpoints_of_deltas (deltas_in e)) → Leads n e after answer
+pub puts_are_the_changed_rows : (n : NodeValue) (e : Event) (after : NodeValue) (answer : Reply) → is_some (get n.table.entries n.table.own) ≡ true → Rises (endpoints_of_deltas (deltas_handed e)) → Leads n e after answer
     → puts n.table after.table ≡ rows_at after.table.entries (changed_owners n.table.own answer)
 puts_are_the_changed_rows n event.Beat after answer held rise is =
     let gave = then_gave (λ v. (beating n, reply.Done v)) (next_of n) (after, answer) is in
@@ -131,7 +131,7 @@ puts_are_the_changed_rows n (event.Remove key) after answer held rise is =
     let gave = then_gave (λ v. (removing key n, reply.Done v)) (removal_of key (own_entry n.table)) (after, answer) is in
     subst (Shows n) gave.1.1 (own_row n.table (with_state key None (own_entry n.table)) held (given_later key None (own_entry n.table)))
 puts_are_the_changed_rows n (event.Tick now words) after answer held rise is =
-    let gave = then_gave (λ v. (beating n, reply.Round (round_of (beating n) now words) (opening (beating n)))) (next_of n) (after, answer) is in
+    let gave = then_gave (λ v. (beating n, reply.Round (round_peers (beating n) now words) (opening (beating n)))) (next_of n) (after, answer) is in
     subst (Shows n) gave.1.1 (own_row n.table (entry_after_beat (own_entry n.table)) held (beaten_later (own_entry n.table)))
 puts_are_the_changed_rows n event.Opening after answer held rise is =
     let same : ◌≡◌ {A = NodeValue × Reply} (n, reply.Sent (message.Syn (opening n))) (after, answer) = cc in
@@ -154,7 +154,7 @@ led_rise t ds after os led rise = filtered_rise (λ (o : Outcome). was_taken o.t
 abbrev OwnersRise : NodeValue → NodeValue × Reply → Type 0
 OwnersRise n x = Rises (changed_owners n.table.own x.1)
 
-pub changed_owners_rise : (n : NodeValue) (e : Event) (after : NodeValue) (answer : Reply) → Rises (endpoints_of_deltas (deltas_in e)) → Leads n e after answer → Rises (changed_owners n.table.own answer)
+pub changed_owners_rise : (n : NodeValue) (e : Event) (after : NodeValue) (answer : Reply) → Rises (endpoints_of_deltas (deltas_handed e)) → Leads n e after answer → Rises (changed_owners n.table.own answer)
 changed_owners_rise n event.Beat after answer rise is =
     let gave = then_gave (λ v. (beating n, reply.Done v)) (next_of n) (after, answer) is in
     subst (OwnersRise n) gave.1.1 refl
@@ -165,7 +165,7 @@ changed_owners_rise n (event.Remove key) after answer rise is =
     let gave = then_gave (λ v. (removing key n, reply.Done v)) (removal_of key (own_entry n.table)) (after, answer) is in
     subst (OwnersRise n) gave.1.1 refl
 changed_owners_rise n (event.Tick now words) after answer rise is =
-    let gave = then_gave (λ v. (beating n, reply.Round (round_of (beating n) now words) (opening (beating n)))) (next_of n) (after, answer) is in
+    let gave = then_gave (λ v. (beating n, reply.Round (round_peers (beating n) now words) (opening (beating n)))) (next_of n) (after, answer) is in
     subst (OwnersRise n) gave.1.1 refl
 changed_owners_rise n event.Opening after answer rise is =
     let same : ◌≡◌ {A = NodeValue × Reply} (n, reply.Sent (message.Syn (opening n))) (after, answer) = cc in

@@ -32,7 +32,7 @@ use Rattle.cg_messages.specs.Members.{endpoints_of_deltas, endpoints_of_outcomes
 use Rattle.cg_exchange.specs.Changes.{row_changed}
 use Rattle.cg_exchange.specs.Taking.{outcome_of}
 use Rattle.cg_exchange.proofs.TakingLemmas.{taken_at_once, rows_rise, outcomes_rise}
-use Rattle.cg_tokens.specs.Claims.{keeps_claims, text_at, text_of}
+use Rattle.cg_tokens.specs.Claims.{keeps_claims, text_at, text_held}
 use Rattle.cg_silence.specs.Windows.{was_taken}
 use Rattle.cg_core.specs.Claims.{is_beat, is_kept, owner_keeps}
 use Rattle.cg_core.proofs.StepLemmas.{AreLed}
@@ -79,7 +79,7 @@ module _ (d : DeltaValue) (beat : is_beat d ≡ true) where
     same_text k =
         let under : (held.generation == d.generation) ≡ true = eq-eqb held.generation d.generation (same_generation held x met) in
         let is : get x.states k ≡ get held.states k = led.each k ∙ (λ i. option_or (no_state d.states k none i) (get (cond (under i) held.states empty) k)) in
-        (bytes_eq-Decides (text_at x.states k) (text_at held.states k)).1 (ap text_of is)
+        (bytes_eq-Decides (text_at x.states k) (text_at held.states k)).1 (ap text_held is)
 
     -- it leaves the claims
     claims_left : keeps_claims (Some held) x ≡ true

@@ -16,25 +16,25 @@ outcomes_told (Ok x) = outcomes_in x.1
 outcomes_told (Err fault) = []
 
 -- the time of an event, 0 for events that have none
-abbrev pub moment_of : Event → ℕ
-moment_of event.Beat = 0
-moment_of (event.Set key text) = 0
-moment_of (event.Remove key) = 0
-moment_of (event.Tick now words) = now
-moment_of event.Opening = 0
-moment_of (event.Syn syn) = 0
-moment_of (event.Ack now ack) = now
-moment_of (event.Ack2 now ack2) = now
+abbrev pub time_of : Event → ℕ
+time_of event.Beat = 0
+time_of (event.Set key text) = 0
+time_of (event.Remove key) = 0
+time_of (event.Tick now words) = now
+time_of event.Opening = 0
+time_of (event.Syn syn) = 0
+time_of (event.Ack now ack) = now
+time_of (event.Ack2 now ack2) = now
 
 -- the time of outcomes, once for each delta of the endpoint that was taken
-abbrev pub moments_told : ℕ → ℕ → List Outcome → List ℕ
-moments_told endpoint now outcomes = map (λ _. now) (filter (tells_taken endpoint) outcomes)
+abbrev pub times_told : ℕ → ℕ → List Outcome → List ℕ
+times_told endpoint now outcomes = map (λ _. now) (filter (tells_taken endpoint) outcomes)
 
 -- the times at which a node took deltas of an endpoint, over a list of events
-abbrev pub moments_taken : ℕ → NodeValue → List Event → List ℕ
-moments_taken endpoint n [] = []
-moments_taken endpoint n (e ∷ es) =
-    moments_told endpoint (moment_of e) (outcomes_told (node_step n e)) ++ moments_taken endpoint (after_event n e) es
+abbrev pub times_taken : ℕ → NodeValue → List Event → List ℕ
+times_taken endpoint n [] = []
+times_taken endpoint n (e ∷ es) =
+    times_told endpoint (time_of e) (outcomes_told (node_step n e)) ++ times_taken endpoint (after_event n e) es
 
 -- a window's view of all its arrivals; there is no window before the first arrival
 abbrev pub window_of : SilenceValue → List ℕ → Option Shown

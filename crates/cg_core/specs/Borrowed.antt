@@ -4,19 +4,19 @@ use Rattle.cg_messages.specs.declared.message.Message.{Message}
 use Rattle.cg_messages.specs.declared.message.Message.TheVariants as message
 use Rattle.cg_core.specs.declared.event.Event.{Event}
 use Rattle.cg_core.specs.declared.event.Event.TheVariants as event
-use Rattle.cg_core.specs.declared.lent.LentEvent.{LentEvent}
-use Rattle.cg_core.specs.declared.lent.LentEvent.TheVariants as lent
+use Rattle.cg_core.specs.declared.borrowed.BorrowedEvent.{BorrowedEvent}
+use Rattle.cg_core.specs.declared.borrowed.BorrowedEvent.TheVariants as borrowed
 
 -- the event that is borrowed
-abbrev pub lent_event : LentEvent → Event
-lent_event lent.Beat = event.Beat
-lent_event (lent.Set key text) = event.Set key.now text.now
-lent_event (lent.Remove key) = event.Remove key.now
-lent_event (lent.Tick now words) = event.Tick now words
-lent_event lent.Opening = event.Opening
-lent_event (lent.Syn m) = event.Syn m.now
-lent_event (lent.Ack now m) = event.Ack now m.now
-lent_event (lent.Ack2 now m) = event.Ack2 now m.now
+abbrev pub borrowed_event : BorrowedEvent → Event
+borrowed_event borrowed.Beat = event.Beat
+borrowed_event (borrowed.Set key text) = event.Set key.now text.now
+borrowed_event (borrowed.Remove key) = event.Remove key.now
+borrowed_event (borrowed.Tick now words) = event.Tick now words
+borrowed_event borrowed.Opening = event.Opening
+borrowed_event (borrowed.Syn m) = event.Syn m.now
+borrowed_event (borrowed.Ack now m) = event.Ack now m.now
+borrowed_event (borrowed.Ack2 now m) = event.Ack2 now m.now
 
 -- the event of a message that comes at a time
 abbrev pub arrival_of : ℕ → Message → Event

@@ -15,12 +15,12 @@ use Rattle.cg_core.specs.declared.event.Event.{Event}
 use Rattle.cg_core.specs.declared.event.Event.TheVariants as event
 use Rattle.cg_core.specs.declared.reply.Reply.{Reply}
 use Rattle.cg_core.specs.declared.reply.Reply.TheVariants as reply
-use Rattle.cg_core.specs.Handed.{deltas_in}
+use Rattle.cg_core.specs.Handed.{deltas_handed}
 use Rattle.cg_core.specs.SettingsValues.{SettingsValue}
 use Rattle.cg_core.specs.Values.{NodeValue, IsSmall, HearsOthersAlone}
 use Rattle.cg_core.specs.Step.{Leads, starting_node, after_events, replay}
 use Rattle.cg_core.specs.Changes.{changed_owners}
-use Rattle.cg_core.specs.Arrivals.{moments_taken, window_of}
+use Rattle.cg_core.specs.Arrivals.{times_taken, window_of}
 
 -- the table after deltas, if it had room for them
 pub record IsAfter (before : TableValue) (deltas : List OwnerDelta) (after : TableValue) : Type 0 where
@@ -48,7 +48,7 @@ TablesGoByTheirRules =
 abbrev pub PutsAreTheChangedRows : Type 0
 PutsAreTheChangedRows =
     (n : NodeValue) (e : Event) (after : NodeValue) (answer : Reply) → IsSmall n
-    → Rises (endpoints_of_deltas (deltas_in e)) → Leads n e after answer
+    → Rises (endpoints_of_deltas (deltas_handed e)) → Leads n e after answer
     → puts n.table after.table ≡ rows_at after.table.entries (changed_owners n.table.own answer)
 
 -- properties of the puts between two tables
@@ -133,7 +133,7 @@ WindowsShowAllTaken =
     (own generation : ℕ) (settings : SettingsValue) (events : List Event) (endpoint : ℕ)
     → let n = starting_node own generation settings in
     map.get (after_events n events).windows endpoint
-    ≡ window_of settings.silence (moments_taken endpoint n events)
+    ≡ window_of settings.silence (times_taken endpoint n events)
 
 -- A run leads to the node to which its events lead, one after the other.
 abbrev pub RunsGoEventByEvent : Type 0

@@ -25,13 +25,13 @@ abbrev pub IsRound : Reply → Type 0
 IsRound (reply.Round peers syn) = Unit {0}
 IsRound r = ⊥
 
-abbrev pub IsSyn : Reply → Type 0
-IsSyn (reply.Sent (messages.Syn m)) = Unit {0}
-IsSyn r = ⊥
+abbrev pub SendsSyn : Reply → Type 0
+SendsSyn (reply.Sent (messages.Syn m)) = Unit {0}
+SendsSyn r = ⊥
 
-abbrev pub IsAck : Reply → Type 0
-IsAck (reply.Sent (messages.Ack m)) = Unit {0}
-IsAck r = ⊥
+abbrev pub SendsAck : Reply → Type 0
+SendsAck (reply.Sent (messages.Ack m)) = Unit {0}
+SendsAck r = ⊥
 
 abbrev pub IsBoth : Reply → Type 0
 IsBoth (reply.Both outcomes ack2) = Unit {0}
@@ -46,7 +46,7 @@ IsReplyTo event.Beat r = IsDone r
 IsReplyTo (event.Set key text) r = IsDone r
 IsReplyTo (event.Remove key) r = IsDone r
 IsReplyTo (event.Tick now words) r = IsRound r
-IsReplyTo event.Opening r = IsSyn r
-IsReplyTo (event.Syn m) r = IsAck r
+IsReplyTo event.Opening r = SendsSyn r
+IsReplyTo (event.Syn m) r = SendsAck r
 IsReplyTo (event.Ack now m) r = IsBoth r
 IsReplyTo (event.Ack2 now m) r = IsTook r

@@ -13,8 +13,8 @@ pub record SettingsValue : Type 0 where
   pub seeds : List ℕ
   pub silence : SilenceValue
 
-abbrev pub settings_of : ClusterValue → List ℕ → SilenceValue → SettingsValue
-settings_of cluster seeds silence = record { cluster = cluster; seeds = seeds; silence = silence }
+abbrev pub settings_of_parts : ClusterValue → List ℕ → SilenceValue → SettingsValue
+settings_of_parts cluster seeds silence = record { cluster = cluster; seeds = seeds; silence = silence }
 
 -- The partitioner is the one in use, and the seeds rise strictly and are few.
 pub record IsSettings (s : SettingsValue) : Type 0 where

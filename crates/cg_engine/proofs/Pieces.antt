@@ -12,7 +12,7 @@ use Rattle.cg_types.specs.declared.fault.Fault.TheVariants as fault
 use Rattle.cg_messages.specs.declared.message.Message.{Message}
 use Rattle.cg_frames.specs.declared.layout.Layout.{Layout}
 use Rattle.cg_frames.specs.declared.layout.TheConstants.{WRITTEN, LAYOUTS}
-use Rattle.cg_frames.specs.Choosing.{due, frame_among, NeedsMore}
+use Rattle.cg_frames.specs.Choosing.{expected_layout, frame_among, NeedsMore}
 use Rattle.cg_frames.specs.Reading.{size_of, frame_at, with_size}
 use Rattle.cg_frames.specs.Feeding.{Standing, SplitsFrom, HasAtMostOne, IsSpellable, fault_standing, lack_of, spelling, wants_of}
 use Rattle.cg_frames.proofs.ChoosingLemmas.{due_all}
@@ -111,11 +111,11 @@ partial_in layout bytes partial = elim (cases_lt (length bytes) 4) [
   ]
 ]
 
-due_is_short : (bytes : List ℕ) → (due LAYOUTS bytes).length ≤ WRITTEN.length
+due_is_short : (bytes : List ℕ) → (expected_layout LAYOUTS bytes).length ≤ WRITTEN.length
 due_is_short bytes = due_all (λ l. l.length ≤ WRITTEN.length) LAYOUTS bytes (omega arith) (omega arith, (omega arith, (omega arith, tt)))
 
 pub partial_is_short : (bytes : List ℕ) → NeedsMore LAYOUTS bytes → length bytes < MOST_TURNS
-partial_is_short bytes partial = omega (arith, partial_in (due LAYOUTS bytes) bytes partial, due_is_short bytes)
+partial_is_short bytes partial = omega (arith, partial_in (expected_layout LAYOUTS bytes) bytes partial, due_is_short bytes)
 
 -- the bytes that a read gave are the next chunk
 pub next_piece : (s : Standing) (n : ℕ) (came rest : List ℕ) → s ≡ Ok (held_of s) → NeedsMore LAYOUTS (held_of s) → 0 < n → n ≤ length came → length came ≤ wants_of s → length came ≤ PIECE_LIMIT

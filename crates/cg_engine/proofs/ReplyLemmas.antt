@@ -16,8 +16,8 @@ use Rattle.cg_core.specs.declared.event.Event.TheVariants as event
 use Rattle.cg_core.specs.declared.reply.Reply.{Reply}
 use Rattle.cg_core.specs.declared.reply.Reply.TheVariants as reply
 use Rattle.cg_core.specs.Values.{NodeValue}
-use Rattle.cg_core.specs.Step.{node_step, next_of, beating, setting, removing, opening, round_of, after_taking}
-use Rattle.cg_core.specs.Replies.{IsReplyTo, IsDone, IsRound, IsSyn, IsAck, IsBoth, IsTook}
+use Rattle.cg_core.specs.Step.{node_step, next_of, beating, setting, removing, opening, round_peers, after_taking}
+use Rattle.cg_core.specs.Replies.{IsReplyTo, IsDone, IsRound, SendsSyn, SendsAck, IsBoth, IsTook}
 use Rattle.cg_engine.specs.Events.{IsGateFault}
 
 kind_kept : {A : Type 0} (P : Reply → Type 0) (due : Result A Fault) (node : A → NodeValue) (said : A → Reply) (m : NodeValue) (r : Reply) → ((a : A) → P (said a))
@@ -32,12 +32,12 @@ reply_kind n event.Beat m r is = kind_kept IsDone (next_of n) (λ v. beating n) 
 reply_kind n (event.Set key text) m r is = kind_kept IsDone (next_of n) (λ v. setting key text n) (λ v. reply.Done v) m r (λ v. tt) is
 reply_kind n (event.Remove key) m r is = kind_kept IsDone (removal_of key (own_entry n.table)) (λ v. removing key n) (λ v. reply.Done v) m r (λ v. tt) is
 reply_kind n (event.Tick now words) m r is =
-    kind_kept IsRound (next_of n) (λ v. beating n) (λ v. reply.Round (round_of (beating n) now words) (opening (beating n))) m r (λ v. tt) is
+    kind_kept IsRound (next_of n) (λ v. beating n) (λ v. reply.Round (round_peers (beating n) now words) (opening (beating n))) m r (λ v. tt) is
 reply_kind n event.Opening m r is =
     let both : ◌≡◌ {A = NodeValue × Reply} (n, reply.Sent (message.Syn (opening n))) (m, r) = cc in
-    subst IsSyn (ap (λ (p : NodeValue × Reply). p.1) both) tt
+    subst SendsSyn (ap (λ (p : NodeValue × Reply). p.1) both) tt
 reply_kind n (event.Syn syn) m r is =
-    kind_kept IsAck (answer_to_syn n.table n.settings.cluster syn) (λ ack. n) (λ ack. reply.Sent (message.Ack ack)) m r (λ ack. tt) is
+    kind_kept SendsAck (answer_to_syn n.table n.settings.cluster syn) (λ ack. n) (λ ack. reply.Sent (message.Ack ack)) m r (λ ack. tt) is
 reply_kind n (event.Ack now ack) m r is =
     kind_kept IsBoth (taking_ack n.table ack) (λ x. after_taking n now x.0 x.2) (λ x. reply.Both x.2 x.1) m r (λ x. tt) is
 reply_kind n (event.Ack2 now ack2) m r is =

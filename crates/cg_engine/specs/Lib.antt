@@ -11,7 +11,7 @@ pub use Rattle.cg_core.specs.Replies
 pub use Rattle.cg_core.specs.Step
 pub use Rattle.cg_frames.specs.Spelling
 pub use Rattle.cg_links.specs.Counted
-pub use Rattle.cg_messages.specs.Lent
+pub use Rattle.cg_messages.specs.Borrowed
 pub use Rattle.cg_frames.specs.Choosing
 pub use Rattle.cg_frames.specs.Faults
 pub use Rattle.cg_frames.specs.Feeding

@@ -12,7 +12,7 @@ use crate::gate::Gate;
 use crate::sending::send;
 use crate::turn::{send_last, take_event};
 use cg_links::Counted;
-use cg_messages::{Kind, Lent, Syn};
+use cg_messages::{BorrowedMessage, Kind, Syn};
 use cg_types::Fault;
 use std::alloc::Global;
 use std::io::{Read, Write};
@@ -111,7 +111,7 @@ pub fn initiate<G: Gate, R: Read, W: Write>(
         (W.contents (link_of writer.old)) (W.contents (link_of writer.new))
         reader.old reader.new writer.old writer.new gate.old gate.new result }
 {
-    if let Err(fault) = send(alloc, writer, Lent::Syn(syn)) {
+    if let Err(fault) = send(alloc, writer, BorrowedMessage::Syn(syn)) {
         return Err(Broken { done: 0, fault });
     }
     take_turns(alloc, gate, &[Kind::Ack], now, reader, writer)

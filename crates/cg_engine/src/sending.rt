@@ -1,15 +1,15 @@
 //! Writing one message to a link.
 
 ghost use Rattle.std.specs.Prelude.{◌≡◌, ◌<◌, length};
-ghost use Rattle.cg_messages.specs.Lent.{lent_message};
+ghost use Rattle.cg_messages.specs.Borrowed.{borrowed_message};
 ghost use Rattle.cg_frames.specs.declared.layout.TheConstants.{WRITTEN};
 ghost use Rattle.cg_frames.specs.Spelling.{frame};
 ghost use Rattle.cg_links.specs.Counted.{link_of};
 ghost use Rattle.cg_engine.specs.Sent.{Sends};
 
-use cg_frames::encode_lent;
+use cg_frames::encode_borrowed;
 use cg_links::{Counted, write_and_flush};
-use cg_messages::Lent;
+use cg_messages::BorrowedMessage;
 use cg_types::Fault;
 use std::alloc::Global;
 use std::io::Write;
@@ -30,12 +30,12 @@ fn send_bytes<W: Write>(writer: &mut Counted<W>, bytes: &[u8]) -> Result<(), Fau
 pub fn send<W: Write>(
     alloc: Global,
     writer: &mut Counted<W>,
-    message: Lent<'_>,
+    message: BorrowedMessage<'_>,
 ) -> Result<(), Fault>
     ensures { Sends (W.contents (link_of writer.old)) (W.contents (link_of writer.new)) writer.old writer.new
-        (frame WRITTEN (lent_message message.entry)) result }
+        (frame WRITTEN (borrowed_message message.entry)) result }
 {
-    match encode_lent(alloc, message) {
+    match encode_borrowed(alloc, message) {
         Ok(bytes) => send_bytes(writer, &bytes),
         Err(_) => Err(Fault::OutOfMemory),
     }

@@ -13,7 +13,7 @@ use crate::receiving::receive;
 use crate::sending::send;
 use cg_core::{Event, Reply};
 use cg_links::Counted;
-use cg_messages::{Kind, Lent, Message};
+use cg_messages::{BorrowedMessage, Kind, Message};
 use cg_types::Fault;
 use std::alloc::Global;
 use std::io::{Read, Write};
@@ -70,9 +70,9 @@ fn send_reply<W: Write>(alloc: Global, writer: &mut Counted<W>, reply: &Reply) -
         (written_for reply.now) result }
 {
     match reply {
-        Reply::Sent(message) => send(alloc, writer, message.lent()),
-        Reply::Round { syn, .. } => send(alloc, writer, Lent::Syn(syn)),
-        Reply::Both { ack2, .. } => send(alloc, writer, Lent::Ack2(ack2)),
+        Reply::Sent(message) => send(alloc, writer, message.borrowed()),
+        Reply::Round { syn, .. } => send(alloc, writer, BorrowedMessage::Syn(syn)),
+        Reply::Both { ack2, .. } => send(alloc, writer, BorrowedMessage::Ack2(ack2)),
         Reply::Done(_) | Reply::Took(_) => Ok(()),
     }
 }

@@ -1,6 +1,6 @@
 //! Messages read from frames and written back, and frames of which bytes are missing.
 
-use cg_frames::{Message, decode, encode, encode_lent, every_message_fits};
+use cg_frames::{Message, decode, encode, encode_borrowed, every_message_fits};
 use cg_testing::expect_eq;
 use cg_types::{Cause, Fault};
 use std::alloc::Global;
@@ -44,8 +44,8 @@ const EMPTY_ACK2_3: &[u8] = b"\0\0\0\x04\x03\x03\0\0";
 pub(crate) fn is_written_as(alloc: Global, message: &Message, bytes: &[u8]) -> Result<bool, Fault> {
     every_message_fits(message);
     let whole = encode(alloc, message)?;
-    let lent = encode_lent(alloc, message.lent())?;
-    Ok(whole.as_slice() == bytes && lent.as_slice() == bytes)
+    let borrowed = encode_borrowed(alloc, message.borrowed())?;
+    Ok(whole.as_slice() == bytes && borrowed.as_slice() == bytes)
 }
 
 // Returns the size of the frame at the start of the bytes, and `true` if its message is written as this frame.

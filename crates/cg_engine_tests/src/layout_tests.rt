@@ -33,7 +33,7 @@ const SMALL: Layout = Layout {
 fn is_read_and_written(alloc: Global, frame: &[u8]) -> Result<bool, Fail> {
     let read = decode_in(alloc, &OTHER, frame)?;
     let (message, size) = read.ok_or("a whole frame")?;
-    let written = encode_in(alloc, &OTHER, message.lent())?;
+    let written = encode_in(alloc, &OTHER, message.borrowed())?;
     Ok(size == frame.len() && written.as_slice() == frame)
 }
 

@@ -1,4 +1,4 @@
-//! The states of a delta, or of an entry's block, in the order of their keys, lent.
+//! The states of a delta, or of an entry's block, in the order of their keys, borrowed.
 
 ghost use Rattle.std.specs.Prelude.{◌≡◌, ◌<◌, ◌≤◌, Some, length, slice_get};
 ghost use Rattle.std.specs.List.{AllByRecursion};
@@ -11,7 +11,7 @@ use std::marker::Model;
 // The first places, in a vector whose order is that of the keys.
 const FIRST: &[u8; 16] = b"\x00\x01\x02\x03\x04\x05\x06\x07\x08\x09\x0a\x0b\x0c\x0d\x0e\x0f";
 
-/// The states of a delta, or of an entry's block, lent in the order of their keys.
+/// The states of a delta, or of an entry's block, borrowed in the order of their keys.
 #[derive(Drop)]
 pub struct ByKey<'a> {
     items: &'a [State],

@@ -12,9 +12,9 @@ ghost use Rattle.cg_entry.specs.State.{value_at_key};
 ghost use Rattle.cg_entry.specs.Taking.{whole_entry, taken_or_gap, advanced_entry, absorption, is_taken, meeting, IsTakenEntry, IfTaken};
 
 use crate::block::Block;
+use crate::borrowed::BorrowedStates;
 use crate::delta::Delta;
 use crate::held::Held;
-use crate::lent::LentStates;
 use crate::removals::Removals;
 use crate::standing::Standing;
 use crate::state::State;
@@ -263,10 +263,10 @@ impl Entry {
     }
 
     /// The states, in the order of their keys.
-    pub fn by_key(&self) -> LentStates<'_>
+    pub fn by_key(&self) -> BorrowedStates<'_>
         ensures { result ≡ map.entries self.now.states }
     {
-        LentStates::under(self.states.by_key(), &self.removals)
+        BorrowedStates::under(self.states.by_key(), &self.removals)
     }
 
     // A block of the states newer than a version, the removals among them. Without such a state it takes no memory.

@@ -13,8 +13,8 @@ mod digest;
 mod entry;
 mod held;
 /// Laws of histories and deltas.
+mod borrowed;
 pub mod laws;
-mod lent;
 mod places;
 mod removals;
 mod standing;
@@ -22,10 +22,10 @@ mod state;
 mod states;
 mod took;
 
+pub use borrowed::BorrowedStates;
 pub use by_key::ByKey;
 pub use delta::Delta;
 pub use digest::Digest;
 pub use entry::{Absorbed, Entry, meet};
-pub use lent::LentStates;
 pub use state::State;
 pub use took::Took;

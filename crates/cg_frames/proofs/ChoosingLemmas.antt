@@ -10,7 +10,7 @@ use Rattle.std.proofs.lemmas.Option.{slice_get_past, slice_get-get_or}
 use Rattle.cg_messages.specs.declared.message.Message.{Message}
 use Rattle.cg_frames.specs.declared.layout.Layout.{Layout}
 use Rattle.cg_frames.specs.Spelling.{four_bytes, frame}
-use Rattle.cg_frames.specs.Choosing.{layout_with_byte, wider, widest, due_by, due, IsOneOf}
+use Rattle.cg_frames.specs.Choosing.{layout_with_byte, wider, widest, expected_by, expected_layout, IsOneOf}
 
 -- ---- properties of each layout of a list
 
@@ -39,7 +39,7 @@ widest_all P [] some all = absurd (omega arith)
 widest_all P (l ∷ ls) some all = fold_all P l ls all.0 all.1
 
 -- A property of the widest layout and of each is one of the expected layout.
-due_by_all : (P : Layout → Type 0) (layouts : List Layout) (byte : Option ℕ) → P (widest layouts) → AllByRecursion P layouts → P (due_by layouts byte)
+due_by_all : (P : Layout → Type 0) (layouts : List Layout) (byte : Option ℕ) → P (widest layouts) → AllByRecursion P layouts → P (expected_by layouts byte)
 due_by_all P layouts None wide all = wide
 due_by_all P layouts (Some byte) wide all =
     elim (layout_with_byte layouts byte) as (λ o. layout_with_byte layouts byte ≡ o → P (unwrap_or o (widest layouts))) [
@@ -47,8 +47,8 @@ due_by_all P layouts (Some byte) wide all =
       | Some l ↦ λ is. find_all P (λ k. k.byte == byte) layouts l all is
     ] refl
 
-pub due_all : (P : Layout → Type 0) (layouts : List Layout) (bytes : List ℕ) → 0 < length layouts → AllByRecursion P layouts → P (due layouts bytes)
-unfolding due
+pub due_all : (P : Layout → Type 0) (layouts : List Layout) (bytes : List ℕ) → 0 < length layouts → AllByRecursion P layouts → P (expected_layout layouts bytes)
+unfolding expected_layout
 due_all P layouts bytes some all = due_by_all P layouts (slice_get bytes 4) (widest_all P layouts some all) all
 
 -- ---- the longest frames
@@ -71,8 +71,8 @@ pub each_shorter : (layouts : List Layout) → AllByRecursion (λ l. l.length �
 each_shorter [] = tt
 each_shorter (l ∷ ls) = (fold_longer l ls, fold_each l ls)
 
-pub due_shorter : (layouts : List Layout) (bytes : List ℕ) → (due layouts bytes).length ≤ (widest layouts).length
-unfolding due
+pub due_shorter : (layouts : List Layout) (bytes : List ℕ) → (expected_layout layouts bytes).length ≤ (widest layouts).length
+unfolding expected_layout
 due_shorter layouts bytes = due_by_all (λ l. l.length ≤ (widest layouts).length) layouts (slice_get bytes 4) (omega arith) (each_shorter layouts)
 
 -- ---- the byte that names a layout
@@ -107,34 +107,34 @@ one_by layouts layout None some none is = absurd (widest_named layouts some (sub
 one_by layouts layout (Some l) some found is = found ∙ ap (λ (k : Layout). Some k) (sym is)
 
 -- The expected layout is of the list, if its byte comes after the length.
-pub due_is_one : (layouts : List Layout) (bytes : List ℕ) → 0 < length layouts → slice_get bytes 4 ≡ Some (due layouts bytes).byte → IsOneOf layouts (due layouts bytes)
-unfolding due
-due_is_one layouts bytes some at = one_by layouts (due layouts bytes) (layout_with_byte layouts (due layouts bytes).byte) some refl (ap (due_by layouts) at)
+pub due_is_one : (layouts : List Layout) (bytes : List ℕ) → 0 < length layouts → slice_get bytes 4 ≡ Some (expected_layout layouts bytes).byte → IsOneOf layouts (expected_layout layouts bytes)
+unfolding expected_layout
+due_is_one layouts bytes some at = one_by layouts (expected_layout layouts bytes) (layout_with_byte layouts (expected_layout layouts bytes).byte) some refl (ap (expected_by layouts) at)
 
 -- A layout of the list is the expected one if its byte comes after the length.
-pub due_of : (layouts : List Layout) (layout : Layout) (bytes : List ℕ) → IsOneOf layouts layout → slice_get bytes 4 ≡ Some layout.byte → due layouts bytes ≡ layout
-unfolding due
-due_of layouts layout bytes one at = ap (due_by layouts) at ∙ ap (λ (o : Option Layout). unwrap_or o (widest layouts)) one
+pub due_of : (layouts : List Layout) (layout : Layout) (bytes : List ℕ) → IsOneOf layouts layout → slice_get bytes 4 ≡ Some layout.byte → expected_layout layouts bytes ≡ layout
+unfolding expected_layout
+due_of layouts layout bytes one at = ap (expected_by layouts) at ∙ ap (λ (o : Option Layout). unwrap_or o (widest layouts)) one
 
 -- The widest layout is expected if the byte names none.
-pub due_unnamed : (layouts : List Layout) (byte : ℕ) (bytes : List ℕ) → layout_with_byte layouts byte ≡ None → slice_get bytes 4 ≡ Some byte → due layouts bytes ≡ widest layouts
-unfolding due
-due_unnamed layouts byte bytes none at = ap (due_by layouts) at ∙ ap (λ (o : Option Layout). unwrap_or o (widest layouts)) none
+pub due_unnamed : (layouts : List Layout) (byte : ℕ) (bytes : List ℕ) → layout_with_byte layouts byte ≡ None → slice_get bytes 4 ≡ Some byte → expected_layout layouts bytes ≡ widest layouts
+unfolding expected_layout
+due_unnamed layouts byte bytes none at = ap (expected_by layouts) at ∙ ap (λ (o : Option Layout). unwrap_or o (widest layouts)) none
 
 pub byte_of_frame : (layout : Layout) (m : Message) (rest : List ℕ) → slice_get (frame layout m ++ rest) 4 ≡ Some layout.byte
 unfolding four_bytes
 byte_of_frame layout m rest = refl
 
 -- The expected layout at a frame is the one that it is spelled in.
-pub due_of_frame : (layouts : List Layout) (layout : Layout) (m : Message) (rest : List ℕ) → IsOneOf layouts layout → due layouts (frame layout m ++ rest) ≡ layout
+pub due_of_frame : (layouts : List Layout) (layout : Layout) (m : Message) (rest : List ℕ) → IsOneOf layouts layout → expected_layout layouts (frame layout m ++ rest) ≡ layout
 due_of_frame layouts layout m rest one = due_of layouts layout (frame layout m ++ rest) one (byte_of_frame layout m rest)
 
 -- ---- more bytes
 
 -- The widest layout is expected until the byte has come.
-pub due_early : (layouts : List Layout) (bytes : List ℕ) → length bytes ≤ 4 → due layouts bytes ≡ widest layouts
-unfolding due
-due_early layouts bytes few = ap (due_by layouts) (slice_get_past bytes 4 few)
+pub due_early : (layouts : List Layout) (bytes : List ℕ) → length bytes ≤ 4 → expected_layout layouts bytes ≡ widest layouts
+unfolding expected_layout
+due_early layouts bytes few = ap (expected_by layouts) (slice_get_past bytes 4 few)
 
 fifth_longer : (xs ys : List ℕ) → 4 < length xs → slice_get (xs ++ ys) 4 ≡ slice_get xs 4
 fifth_longer xs ys long =
@@ -143,6 +143,6 @@ fifth_longer xs ys long =
     ∙ sym (slice_get-get_or xs 4 0 long)
 
 -- More bytes change nothing once it has come.
-pub due_longer : (layouts : List Layout) (xs ys : List ℕ) → 4 < length xs → due layouts (xs ++ ys) ≡ due layouts xs
-unfolding due
-due_longer layouts xs ys long = ap (due_by layouts) (fifth_longer xs ys long)
+pub due_longer : (layouts : List Layout) (xs ys : List ℕ) → 4 < length xs → expected_layout layouts (xs ++ ys) ≡ expected_layout layouts xs
+unfolding expected_layout
+due_longer layouts xs ys long = ap (expected_by layouts) (fifth_longer xs ys long)

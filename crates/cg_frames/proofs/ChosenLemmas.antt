@@ -12,7 +12,7 @@ use Rattle.cg_frames.specs.declared.misread.Misread.{Misread}
 use Rattle.cg_types.specs.ResultSteps.{◌>>=◌}
 use Rattle.cg_frames.specs.Fields.{Field}
 use Rattle.cg_frames.specs.Reading.{kind_at, of_kind, inside_at, with_place, with_size, size_of, frame_at}
-use Rattle.cg_frames.specs.Choosing.{layout_with_byte, widest, due, frame_among, IsOneOf}
+use Rattle.cg_frames.specs.Choosing.{layout_with_byte, widest, expected_layout, frame_among, IsOneOf}
 use Rattle.cg_frames.specs.Laws.{ChoosesByTheByte}
 use Rattle.cg_frames.proofs.SpelledIsReadLemmas.{byte_again}
 use Rattle.cg_frames.proofs.ChoosingLemmas.{named_all, due_all, each_shorter, due_early, due_of, due_unnamed, widest_named}
@@ -59,13 +59,13 @@ module _ (layouts : List Layout) (some : 0 < length layouts) where
 
   waits_is : (layout : Layout) (bytes : List ℕ) → IsOneOf layouts layout → length bytes ≡ 4 → 0 < size_of bytes → size_of bytes ≤ layout.length → frame_among layouts bytes ≡ Ok None
   waits_is layout bytes one four more low =
-      let wide : (due layouts bytes).length ≡ (widest layouts).length = ap (λ (l : Layout). l.length) (due_early layouts bytes (omega arith)) in
-      part_is (due layouts bytes) bytes (omega arith) (omega (arith, wide, within_widest layout one)) (omega (arith, length-drop 4 bytes))
+      let wide : (expected_layout layouts bytes).length ≡ (widest layouts).length = ap (λ (l : Layout). l.length) (due_early layouts bytes (omega arith)) in
+      part_is (expected_layout layouts bytes) bytes (omega arith) (omega (arith, wide, within_widest layout one)) (omega (arith, length-drop 4 bytes))
 
   pub chooses : ChoosesByTheByte layouts
   chooses = record {
     by_byte = λ layout bytes one at. ap (λ (l : Layout). frame_at l bytes) (due_of layouts layout bytes one at);
-    over = λ bytes long each. over_is (due layouts bytes) bytes long (due_all (λ (l : Layout). l.length < size_of bytes) layouts bytes some each);
+    over = λ bytes long each. over_is (expected_layout layouts bytes) bytes long (due_all (λ (l : Layout). l.length < size_of bytes) layouts bytes some each);
     waits = waits_is;
     unnamed = λ byte bytes none at more whole layout one low. unnamed_is byte bytes none at more whole (le_trans low (within_widest layout one));
   }

@@ -6,7 +6,7 @@ use Rattle.cg_types.specs.declared.fault.Fault.{Fault}
 use Rattle.cg_messages.specs.declared.message.Message.{Message}
 use Rattle.cg_frames.specs.declared.layout.Layout.{Layout}
 use Rattle.cg_frames.specs.Reading.{size_of}
-use Rattle.cg_frames.specs.Choosing.{due, frame_among}
+use Rattle.cg_frames.specs.Choosing.{expected_layout, frame_among}
 use Rattle.cg_frames.specs.Feeding.{Standing, Cut, with_front, frames_in, IsCut}
 use Rattle.cg_frames.proofs.FrameLemmas.{frame_parts}
 use Rattle.cg_frames.proofs.FeedingLemmas.{frames_at, fed_nothing}
@@ -24,7 +24,7 @@ none_err p err = absurd cc
 module _ (layouts : List Layout) where
   pub some_taken : (xs : List ℕ) (p : Message × ℕ) → frame_among layouts xs ≡ Ok (Some p) → (0 < p.1) × (p.1 ≤ length xs)
   some_taken xs p some =
-      let s = frame_parts (due layouts xs) xs p.0 p.1 some in
+      let s = frame_parts (expected_layout layouts xs) xs p.0 p.1 some in
       let size : p.1 ≡ 4 + size_of xs = s.size in
       (omega arith, s.within)
 

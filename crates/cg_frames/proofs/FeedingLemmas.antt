@@ -8,7 +8,7 @@ use Rattle.cg_messages.specs.declared.message.Message.{Message}
 use Rattle.cg_frames.specs.declared.layout.Layout.{Layout}
 use Rattle.cg_frames.specs.Faults.{IsBadFrame}
 use Rattle.cg_frames.specs.Reading.{size_of, frame_at}
-use Rattle.cg_frames.specs.Choosing.{due, frame_among}
+use Rattle.cg_frames.specs.Choosing.{expected_layout, frame_among}
 use Rattle.cg_frames.specs.Laws.{WhatIsHeldIsPartial}
 use Rattle.cg_frames.specs.Feeding.{Standing, Cut, lack_of, with_front, cut_by, cut_within, frames_in, cut_of_piece, fed_all, HoldsNoFrame, IsPartial, HasAtMostOne}
 use Rattle.cg_frames.proofs.FrameLemmas.{frame_parts}
@@ -37,7 +37,7 @@ module _ (layouts : List Layout) where
   cut_enough (suc n) zero (x ∷ xs) a b = absurd (omega arith)
   cut_enough (suc n) (suc m) (x ∷ xs) a b =
       cut_by_same (cut_within layouts n) (cut_within layouts m) (x ∷ xs) (frame_among layouts (x ∷ xs)) (λ p some.
-      let s = frame_parts (due layouts (x ∷ xs)) (x ∷ xs) p.0 p.1 some in
+      let s = frame_parts (expected_layout layouts (x ∷ xs)) (x ∷ xs) p.0 p.1 some in
       let size : p.1 ≡ 4 + size_of (x ∷ xs) = s.size in
       let left : length (drop p.1 (x ∷ xs)) ≤ n = omega (arith, length-drop p.1 (x ∷ xs)) in
       let left_too : length (drop p.1 (x ∷ xs)) ≤ m = omega (arith, length-drop p.1 (x ∷ xs)) in
@@ -49,7 +49,7 @@ module _ (layouts : List Layout) where
   frames_by [] = within_nothing 0 ∙ sym (ap (cut_by (frames_in layouts) []) nothing_at)
   frames_by (x ∷ xs) =
       cut_by_same (cut_within layouts (length xs)) (frames_in layouts) (x ∷ xs) (frame_among layouts (x ∷ xs)) (λ p some.
-      let s = frame_parts (due layouts (x ∷ xs)) (x ∷ xs) p.0 p.1 some in
+      let s = frame_parts (expected_layout layouts (x ∷ xs)) (x ∷ xs) p.0 p.1 some in
       let size : p.1 ≡ 4 + size_of (x ∷ xs) = s.size in
       let left : length (drop p.1 (x ∷ xs)) ≤ length xs = omega (arith, length-drop p.1 (x ∷ xs)) in
       cut_enough (length xs) (length (drop p.1 (x ∷ xs))) (drop p.1 (x ∷ xs)) left (omega arith))
@@ -72,7 +72,7 @@ module _ (layouts : List Layout) where
     | inr same ↦ frames_at (xs ++ ys) (Err f) (same ∙ is)
   ]
   longer_by xs ys (Ok (Some p)) is next =
-      let s = frame_parts (due layouts xs) xs p.0 p.1 is in
+      let s = frame_parts (expected_layout layouts xs) xs p.0 p.1 is in
       let fits : p.1 ≤ length xs = s.within in
       elim (settled_among layouts xs ys) [
         | inl none ↦ cc
@@ -84,13 +84,13 @@ module _ (layouts : List Layout) where
   longer_within : (n : ℕ) (xs ys : List ℕ) → length xs ≤ n → frames_in layouts (xs ++ ys) ≡ carried (frames_in layouts xs).messages (frames_in layouts xs).rest ys
   longer_within zero xs ys few =
       subst (λ c. frames_in layouts (xs ++ ys) ≡ carried c.messages c.rest ys) (sym (frames_by xs)) (longer_by xs ys (frame_among layouts xs) refl (λ p some.
-      let s = frame_parts (due layouts xs) xs p.0 p.1 some in
+      let s = frame_parts (expected_layout layouts xs) xs p.0 p.1 some in
       let size : p.1 ≡ 4 + size_of xs = s.size in
       let fits : p.1 ≤ length xs = s.within in
       absurd (omega arith)))
   longer_within (suc n) xs ys few =
       subst (λ c. frames_in layouts (xs ++ ys) ≡ carried c.messages c.rest ys) (sym (frames_by xs)) (longer_by xs ys (frame_among layouts xs) refl (λ p some.
-      let s = frame_parts (due layouts xs) xs p.0 p.1 some in
+      let s = frame_parts (expected_layout layouts xs) xs p.0 p.1 some in
       let size : p.1 ≡ 4 + size_of xs = s.size in
       longer_within n (drop p.1 xs) ys (omega (arith, length-drop p.1 xs))))
 
@@ -111,13 +111,13 @@ module _ (layouts : List Layout) where
   partial_within : (n : ℕ) (xs : List ℕ) → length xs ≤ n → IsPartial layouts (frames_in layouts xs).rest
   partial_within zero xs few =
       subst (λ c. IsPartial layouts c.rest) (sym (frames_by xs)) (partial_by xs (frame_among layouts xs) refl (λ p some.
-      let s = frame_parts (due layouts xs) xs p.0 p.1 some in
+      let s = frame_parts (expected_layout layouts xs) xs p.0 p.1 some in
       let size : p.1 ≡ 4 + size_of xs = s.size in
       let fits : p.1 ≤ length xs = s.within in
       absurd (omega arith)))
   partial_within (suc n) xs few =
       subst (λ c. IsPartial layouts c.rest) (sym (frames_by xs)) (partial_by xs (frame_among layouts xs) refl (λ p some.
-      let s = frame_parts (due layouts xs) xs p.0 p.1 some in
+      let s = frame_parts (expected_layout layouts xs) xs p.0 p.1 some in
       let size : p.1 ≡ 4 + size_of xs = s.size in
       partial_within n (drop p.1 xs) (omega (arith, length-drop p.1 xs))))
 

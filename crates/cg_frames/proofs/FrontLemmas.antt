@@ -11,7 +11,7 @@ use Rattle.cg_messages.specs.declared.message.Message.{Message}
 use Rattle.cg_frames.specs.declared.layout.Layout.{Layout}
 use Rattle.cg_frames.specs.Reading.{inside_at, fault_at, with_place, with_size, size_of, frame_at}
 use Rattle.cg_frames.specs.declared.misread.Misread.{Misread}
-use Rattle.cg_frames.specs.Choosing.{widest, due, frame_among}
+use Rattle.cg_frames.specs.Choosing.{widest, expected_layout, frame_among}
 use Rattle.cg_frames.specs.Faults.{IsBadFrame}
 use Rattle.cg_frames.specs.Feeding.{lack_of}
 use Rattle.cg_frames.proofs.ChoosingLemmas.{due_shorter, due_early, due_longer}
@@ -125,23 +125,23 @@ module _ (layout : Layout) where
 module _ (layouts : List Layout) where
   -- The length is settled by the first four bytes, in any expected layout.
   settled_early : (xs ys : List ℕ) → length xs ≤ 4 → (frame_among layouts xs ≡ Ok None) ⊎ (frame_among layouts (xs ++ ys) ≡ frame_among layouts xs)
-  settled_early xs ys early = elim (front_of (due layouts xs) xs) [
+  settled_early xs ys early = elim (front_of (expected_layout layouts xs) xs) [
     | short few is ↦ inl is
     | over long high is ↦
-        let wide : (due layouts xs).length ≡ (widest layouts).length = ap (λ (l : Layout). l.length) (due_early layouts xs early) in
+        let wide : (expected_layout layouts xs).length ≡ (widest layouts).length = ap (λ (l : Layout). l.length) (due_early layouts xs early) in
         let same : size_of (xs ++ ys) ≡ size_of xs = size_longer xs ys long in
-        inr (over_is (due layouts (xs ++ ys)) (xs ++ ys) (omega (arith, length-append xs ys)) (omega (arith, due_shorter layouts (xs ++ ys), wide, same)) ∙ sym is)
+        inr (over_is (expected_layout layouts (xs ++ ys)) (xs ++ ys) (omega (arith, length-append xs ys)) (omega (arith, due_shorter layouts (xs ++ ys), wide, same)) ∙ sym is)
     | part long few is ↦ inl is
     | whole long low is ↦
         let zero : size_of xs ≡ 0 = omega arith in
         let same : size_of (xs ++ ys) ≡ size_of xs = size_longer xs ys (omega arith) in
-        inr (empty_is (due layouts (xs ++ ys)) (xs ++ ys) (omega (arith, length-append xs ys)) (same ∙ zero) ∙ sym (empty_is (due layouts xs) xs (omega arith) zero))
+        inr (empty_is (expected_layout layouts (xs ++ ys)) (xs ++ ys) (omega (arith, length-append xs ys)) (same ∙ zero) ∙ sym (empty_is (expected_layout layouts xs) xs (omega arith) zero))
   ]
 
   -- The first frame or fault of the bytes stays the same, whatever follows.
   pub settled_among : (xs ys : List ℕ) → (frame_among layouts xs ≡ Ok None) ⊎ (frame_among layouts (xs ++ ys) ≡ frame_among layouts xs)
   settled_among xs ys = elim (cases_lt 4 (length xs)) [
-    | inl long ↦ elim (settled (due layouts xs) xs ys) [
+    | inl long ↦ elim (settled (expected_layout layouts xs) xs ys) [
       | inl none ↦ inl none
       | inr same ↦ inr (ap (λ (l : Layout). frame_at l (xs ++ ys)) (due_longer layouts xs ys long) ∙ same)
     ]
@@ -150,20 +150,20 @@ module _ (layouts : List Layout) where
 
   -- A fault is a bad frame.
   pub fault_among : (xs : List ℕ) (f : Fault) → frame_among layouts xs ≡ Err f → IsBadFrame f
-  fault_among xs f bad = fault_is_bad (due layouts xs) xs f bad
+  fault_among xs f bad = fault_is_bad (expected_layout layouts xs) xs f bad
 
   -- Some bytes are lacking if more are needed.
   pub some_lacking : (xs : List ℕ) → frame_among layouts xs ≡ Ok None → 0 < lack_of xs
-  some_lacking xs none = partial_lacks (due layouts xs) xs none
+  some_lacking xs none = partial_lacks (expected_layout layouts xs) xs none
 
   -- A chunk that is no longer than the lack doesn't pass the frame.
   pub frame_is_all : (held piece : List ℕ) (p : Message × ℕ) → frame_among layouts held ≡ Ok None → length piece ≤ lack_of held → frame_among layouts (held ++ piece) ≡ Ok (Some p) → drop p.1 (held ++ piece) ≡ []
   frame_is_all held piece p none fits some =
-      let s = frame_parts (due layouts (held ++ piece)) (held ++ piece) p.0 p.1 some in
+      let s = frame_parts (expected_layout layouts (held ++ piece)) (held ++ piece) p.0 p.1 some in
       let size : p.1 ≡ 4 + size_of (held ++ piece) = s.size in
-      elim (front_of (due layouts held) held) [
+      elim (front_of (expected_layout layouts held) held) [
         | short few is ↦ drop_all p.1 (held ++ piece) (omega (arith, short_lacks held few, length-append held piece))
         | over long high is ↦ cc
         | part long few is ↦ drop_all p.1 (held ++ piece) (omega (arith, long_lacks held long, length-append held piece, size_longer held piece long))
-        | whole long low is ↦ absurd (with_size_none (size_of held) (with_place (size_of held) (inside_at (due layouts held) (take (size_of held) (drop 4 held)))) (sym is ∙ none))
+        | whole long low is ↦ absurd (with_size_none (size_of held) (with_place (size_of held) (inside_at (expected_layout layouts held) (take (size_of held) (drop 4 held)))) (sym is ∙ none))
       ]

@@ -21,7 +21,7 @@ use Rattle.cg_types.specs.ResultSteps.{◌>>=◌}
 use Rattle.cg_frames.specs.Fields.{Field, number_at}
 use Rattle.cg_frames.specs.Lists.{digest_at, request_at, delta_at, listed_requests_at, listed_deltas_at}
 use Rattle.cg_frames.specs.Reading.{syn_at, ack_at, ack2_at, whole_field, as_message, layout_at, kind_from, kind_at, of_kind, inside_at, frame_at}
-use Rattle.cg_frames.specs.Choosing.{due, frame_among, IsOneOf, AreRead}
+use Rattle.cg_frames.specs.Choosing.{expected_layout, frame_among, IsOneOf, AreRead}
 use Rattle.cg_frames.specs.Spelling.{four_bytes, digest, request, delta, cluster, members, number_of_kind, kind, body, inside, frame}
 use Rattle.cg_entry.specs.Contents.{IsDigest}
 use Rattle.cg_messages.specs.Contents.{IsRequest}
@@ -201,7 +201,7 @@ frame_found layout read bytes m n small h =
 -- A message that is read in the expected layout is spelled so in a layout of the list: it is that one.
 pub found_among : (layouts : List Layout) → AreRead layouts → (bytes : List ℕ) (m : Message) (n : ℕ) → AreBytes bytes → frame_among layouts bytes ≡ Ok (Some (m, n)) → (layout : Layout) × IsOneOf layouts layout × IsSpelledIn layout bytes m n
 found_among layouts are bytes m n small h =
-    let layout = due layouts bytes in
+    let layout = expected_layout layouts bytes in
     let f = frame_found layout (due_all IsRead layouts bytes are.some are.each) bytes m n small h in
     let whole : bytes ≡ frame layout m ++ drop n bytes = sym (take-append-drop n bytes) ∙ ap (λ (ys : List ℕ). ys ++ drop n bytes) f.spelled in
     let at : slice_get bytes 4 ≡ Some layout.byte = ap (λ (ys : List ℕ). slice_get ys 4) whole ∙ byte_of_frame layout m (drop n bytes) in

@@ -7,7 +7,7 @@ use Rattle.cg_types.specs.declared.fault.Fault.{Fault}
 use Rattle.cg_messages.specs.declared.message.Message.{Message}
 use Rattle.cg_frames.specs.declared.layout.Layout.{Layout}
 use Rattle.cg_frames.specs.Reading.{size_of}
-use Rattle.cg_frames.specs.Choosing.{due, frame_among, AreRead}
+use Rattle.cg_frames.specs.Choosing.{expected_layout, frame_among, AreRead}
 use Rattle.cg_frames.specs.Spelling.{frame}
 use Rattle.cg_frames.specs.Feeding.{cut_by, frames_in, spelling, IsSpellable, Splits}
 use Rattle.cg_frames.specs.Laws.{AreBytes}
@@ -46,13 +46,13 @@ module _ (layouts : List Layout) (are : AreRead layouts) where
   splits_within : (n : ℕ) (xs : List ℕ) → length xs ≤ n → AreBytes xs → Splits layouts xs (frames_in layouts xs)
   splits_within zero xs few bytes =
       subst (λ c. Splits layouts xs c) (sym (frames_by layouts xs)) (splits_by xs (frame_among layouts xs) bytes refl (λ p read.
-      let s = frame_parts (due layouts xs) xs p.0 p.1 read in
+      let s = frame_parts (expected_layout layouts xs) xs p.0 p.1 read in
       let size : p.1 ≡ 4 + size_of xs = s.size in
       let fits : p.1 ≤ length xs = s.within in
       absurd (omega arith)))
   splits_within (suc n) xs few bytes =
       subst (λ c. Splits layouts xs c) (sym (frames_by layouts xs)) (splits_by xs (frame_among layouts xs) bytes refl (λ p read.
-      let s = frame_parts (due layouts xs) xs p.0 p.1 read in
+      let s = frame_parts (expected_layout layouts xs) xs p.0 p.1 read in
       let size : p.1 ≡ 4 + size_of xs = s.size in
       splits_within n (drop p.1 xs) (omega (arith, length-drop p.1 xs)) (later_bytes p.1 xs bytes)))
 

@@ -22,18 +22,18 @@ abbrev pub widest : List Layout → Layout
 widest layouts = unwrap_or (reduce wider layouts) LAYOUT_1
 
 -- the expected layout by the byte after the length, if it has come
-abbrev pub due_by : List Layout → Option ℕ → Layout
-due_by layouts (Some byte) = unwrap_or (layout_with_byte layouts byte) (widest layouts)
-due_by layouts None = widest layouts
+abbrev pub expected_by : List Layout → Option ℕ → Layout
+expected_by layouts (Some byte) = unwrap_or (layout_with_byte layouts byte) (widest layouts)
+expected_by layouts None = widest layouts
 
 -- The expected layout: the one that the byte after the length names; if it names none, or none has come yet, the one
 -- with the longest frames.
-unfoldable pub due : List Layout → List ℕ → Layout
-due layouts bytes = due_by layouts (slice_get bytes 4)
+unfoldable pub expected_layout : List Layout → List ℕ → Layout
+expected_layout layouts bytes = expected_by layouts (slice_get bytes 4)
 
 -- The frame at the start of the bytes in the expected layout, and its length; None if more bytes are needed.
 abbrev pub frame_among : List Layout → List ℕ → Result (Option (Message × ℕ)) Fault
-frame_among layouts bytes = frame_at (due layouts bytes) bytes
+frame_among layouts bytes = frame_at (expected_layout layouts bytes) bytes
 
 -- More bytes are needed: the bytes begin with neither a whole frame nor a fault.
 abbrev pub NeedsMore : List Layout → List ℕ → Type 0

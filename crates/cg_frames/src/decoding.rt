@@ -12,7 +12,7 @@ ghost use Rattle.cg_frames.specs.Laws.{TakesOnlySpelled, GivesEachSpelled};
 
 use crate::bodies::{check, read};
 use crate::layout::{LAYOUTS, Layout};
-use crate::layouts::due;
+use crate::layouts::expected_layout;
 use crate::misread::{Misread, ReadError};
 use cg_messages::Message;
 use cg_types::{Cause, Fault};
@@ -123,7 +123,7 @@ pub fn decode_among(
     ensures exact { Answers (λ x. x) (frame_among layouts.now bytes.now) result }
     ensures more { frame_among layouts.now bytes.now ≡ Ok None → result ≡ Ok None }
 {
-    let layout = due(layouts, bytes);
+    let layout = expected_layout(layouts, bytes);
     decode_in(alloc, &layout, bytes)
 }
 

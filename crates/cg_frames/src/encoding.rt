@@ -6,7 +6,7 @@ ghost use Rattle.cg_entry.specs.State.{pair};
 ghost use Rattle.std.specs.List.{AllByRecursion, flat_map};
 ghost use Rattle.cg_messages.specs.declared.message.Message.TheVariants as messages;
 ghost use Rattle.cg_messages.specs.Contents.{IsOwnerDelta};
-ghost use Rattle.cg_messages.specs.Lent.{lent_message};
+ghost use Rattle.cg_messages.specs.Borrowed.{borrowed_message};
 ghost use Rattle.cg_frames.specs.declared.layout.TheConstants.{WRITTEN};
 ghost use Rattle.cg_frames.specs.Fits.{Fits};
 ghost use Rattle.cg_frames.specs.Layouts.{IsLayout, IsWritten};
@@ -17,7 +17,7 @@ use crate::layout::{Layout, TOMBSTONE, WRITTEN};
 use crate::lengths::message_length;
 use bytes::{BufMut, Bytes};
 use cg_entry::{Delta, Digest, State};
-use cg_messages::{Ack, Ack2, Lent, Message, OwnerDelta, Request, Syn};
+use cg_messages::{Ack, Ack2, BorrowedMessage, Message, OwnerDelta, Request, Syn};
 use cg_types::{Cluster, Endpoint};
 use std::alloc::{AllocError, Global};
 
@@ -214,24 +214,28 @@ fn put_ack2(out: &mut Vec<u8>, ack2: &Ack2) -> Result<(), AllocError>
     Ok(())
 }
 
-fn put_message(out: &mut Vec<u8>, message: Lent<'_>) -> Result<(), AllocError>
-    ensures { OnOk result (out.new.items ≡ out.old.items ++ spec.message (lent_message message.entry)) }
+fn put_message(out: &mut Vec<u8>, message: BorrowedMessage<'_>) -> Result<(), AllocError>
+    ensures { OnOk result (out.new.items ≡ out.old.items ++ spec.message (borrowed_message message.entry)) }
 {
     match message {
-        Lent::Syn(syn) => put_syn(out, syn)?,
-        Lent::Ack(ack) => put_ack(out, ack)?,
-        Lent::Ack2(ack2) => put_ack2(out, ack2)?,
+        BorrowedMessage::Syn(syn) => put_syn(out, syn)?,
+        BorrowedMessage::Ack(ack) => put_ack(out, ack)?,
+        BorrowedMessage::Ack2(ack2) => put_ack2(out, ack2)?,
     }
     Ok(())
 }
 
-/// Writes a message as `encode_lent` does, in any layout that allows what messages hold. The message fits it, so its
+/// Writes a message as `encode_borrowed` does, in any layout that allows what messages hold. The message fits it, so its
 /// length fits into four bytes.
-pub fn encode_in(alloc: Global, layout: &Layout, message: Lent<'_>) -> Result<Bytes, AllocError>
+pub fn encode_in(
+    alloc: Global,
+    layout: &Layout,
+    message: BorrowedMessage<'_>,
+) -> Result<Bytes, AllocError>
     requires layout { IsLayout layout.now }
     requires written { IsWritten layout.now }
-    ensures written { IfOk result (λ b. b ≡ spec.frame layout.now (lent_message message.entry)) }
-    ensures fits { Fits layout.now (lent_message message.entry) }
+    ensures written { IfOk result (λ b. b ≡ spec.frame layout.now (borrowed_message message.entry)) }
+    ensures fits { Fits layout.now (borrowed_message message.entry) }
 {
     message_fits(layout, message);
     let length = 1 + message_length(message);
@@ -251,13 +255,13 @@ pub fn encode(alloc: Global, message: &Message) -> Result<Bytes, AllocError>
     // so a message that is written can be read again
     ensures fits { Fits WRITTEN message.now }
 {
-    encode_lent(alloc, message.lent())
+    encode_borrowed(alloc, message.borrowed())
 }
 
 /// Writes a borrowed message as `encode` does: the holder of a message in another form writes it without a copy.
-pub fn encode_lent(alloc: Global, message: Lent<'_>) -> Result<Bytes, AllocError>
-    ensures written { IfOk result (λ b. b ≡ spec.frame WRITTEN (lent_message message.entry)) }
-    ensures fits { Fits WRITTEN (lent_message message.entry) }
+pub fn encode_borrowed(alloc: Global, message: BorrowedMessage<'_>) -> Result<Bytes, AllocError>
+    ensures written { IfOk result (λ b. b ≡ spec.frame WRITTEN (borrowed_message message.entry)) }
+    ensures fits { Fits WRITTEN (borrowed_message message.entry) }
 {
     encode_in(alloc, &WRITTEN, message)
 }

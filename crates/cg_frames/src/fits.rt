@@ -1,18 +1,18 @@
 //! Proofs that messages in hand fit a layout. None of this takes memory.
 
-ghost use Rattle.cg_messages.specs.Lent.{lent_message};
+ghost use Rattle.cg_messages.specs.Borrowed.{borrowed_message};
 ghost use Rattle.cg_frames.specs.declared.layout.TheConstants.{WRITTEN};
 ghost use Rattle.cg_frames.specs.Fits.{Fits};
 ghost use Rattle.cg_frames.specs.Layouts.{IsWritten};
 
 use crate::layout::{Layout, WRITTEN};
-use cg_messages::{Lent, Message};
+use cg_messages::{BorrowedMessage, Message};
 use cg_types::Shows;
 
 /// Shows that each message fits each layout that allows what messages hold.
-pub(crate) fn message_fits(layout: &Layout, message: Lent<'_>)
+pub(crate) fn message_fits(layout: &Layout, message: BorrowedMessage<'_>)
     requires { IsWritten layout.now }
-    ensures { Fits layout.now (lent_message message.entry) }
+    ensures { Fits layout.now (borrowed_message message.entry) }
 {
     message.show();
 }
@@ -23,5 +23,5 @@ pub(crate) fn message_fits(layout: &Layout, message: Lent<'_>)
 pub fn every_message_fits(message: &Message)
     ensures { Fits WRITTEN message.now }
 {
-    message_fits(&WRITTEN, message.lent());
+    message_fits(&WRITTEN, message.borrowed());
 }

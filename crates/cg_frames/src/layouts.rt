@@ -29,9 +29,9 @@ fn widest(layouts: &[Layout]) -> Layout
 
 // The expected layout: the one that the byte after the length names; if it names none, or none has come yet, the one
 // with the longest frames.
-#[tactic(auto, unfolding(crate::specs::Choosing::due))]
-pub(crate) fn due(layouts: &[Layout], bytes: &[u8]) -> Layout
-    ensures { result ≡ spec.due layouts.now bytes.now }
+#[tactic(auto, unfolding(crate::specs::Choosing::expected_layout))]
+pub(crate) fn expected_layout(layouts: &[Layout], bytes: &[u8]) -> Layout
+    ensures { result ≡ spec.expected_layout layouts.now bytes.now }
 {
     bytes
         .get(4)

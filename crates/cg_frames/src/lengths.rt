@@ -2,11 +2,11 @@
 
 ghost use Rattle.std.specs.Prelude.{◌≡◌, ◌<◌, ◌+◌, ◌^◌, length};
 ghost use Rattle.cg_messages.specs.declared.message.Message.TheVariants as messages;
-ghost use Rattle.cg_messages.specs.Lent.{lent_message};
+ghost use Rattle.cg_messages.specs.Borrowed.{borrowed_message};
 ghost use Rattle.cg_frames.specs.Spelling as spec;
 
 use cg_entry::Digest;
-use cg_messages::{Ack, Ack2, Lent, OwnerDelta, Request, Syn};
+use cg_messages::{Ack, Ack2, BorrowedMessage, OwnerDelta, Request, Syn};
 
 /// The length of a digest, and that of a request.
 pub(crate) const MEMBER_LENGTH: usize = 14;
@@ -71,14 +71,14 @@ fn ack2_length(ack2: &Ack2) -> usize
 }
 
 /// The length of the message with its kind: a byte may come before it.
-pub(crate) fn message_length(message: Lent<'_>) -> usize
-    requires { 1 + length (spec.message (lent_message message)) < 2 ^ 32 }
-    ensures value { result ≡ length (spec.message (lent_message message.entry)) }
+pub(crate) fn message_length(message: BorrowedMessage<'_>) -> usize
+    requires { 1 + length (spec.message (borrowed_message message)) < 2 ^ 32 }
+    ensures value { result ≡ length (spec.message (borrowed_message message.entry)) }
     ensures short { 1 + result < 2 ^ 32 }
 {
     match message {
-        Lent::Syn(syn) => syn_length(syn),
-        Lent::Ack(ack) => ack_length(ack),
-        Lent::Ack2(ack2) => ack2_length(ack2),
+        BorrowedMessage::Syn(syn) => syn_length(syn),
+        BorrowedMessage::Ack(ack) => ack_length(ack),
+        BorrowedMessage::Ack2(ack2) => ack2_length(ack2),
     }
 }

@@ -1,20 +1,20 @@
 -- A journal that is cut after a line feed.
 use Rattle.std.proofs.Common.{◌≡◌, ℕ, suc, List, [], ◌∷◌, ◌++◌, Option, Some, None, Ok, refl, sym, ap, ◌∙◌, append_assoc, append-nil}
 use Rattle.cg_history.specs.History.{HistoryValue}
-use Rattle.cg_links.specs.Lines.{ended_lines, open_line, last_line, lines_of}
-use Rattle.cg_links.proofs.LineLemmas.{ended_lines-append, open_line-append}
+use Rattle.cg_links.specs.Lines.{ended_lines, unended_line, last_line, lines_of}
+use Rattle.cg_links.proofs.LineLemmas.{ended_lines-append, unended_line-append}
 use Rattle.cg_journal.specs.Reading.{life_in, after_line, on_line, after_lines, journal_in}
 use Rattle.cg_journal.specs.Laws.{FrontsAreRead}
 use Rattle.cg_journal.proofs.OfLines.{AreOf, of_lines}
 
 -- lines that end, the one that the line feed ends, and those after it
-lines_cut : (front rest : List ℕ) → lines_of (front ++ 10 ∷ rest) ≡ (ended_lines [] front ++ open_line [] front ∷ []) ++ lines_of rest
+lines_cut : (front rest : List ℕ) → lines_of (front ++ 10 ∷ rest) ≡ (ended_lines [] front ++ unended_line [] front ∷ []) ++ lines_of rest
 lines_cut front rest =
     let E = ended_lines [] front in
-    let o = open_line [] front in
-    ap (λ (ls : List (List ℕ)). ls ++ last_line (open_line [] (front ++ 10 ∷ rest))) (ended_lines-append [] front (10 ∷ rest))
-    ∙ ap (λ (l : List ℕ). (E ++ o ∷ ended_lines [] rest) ++ last_line l) (open_line-append [] front (10 ∷ rest))
-    ∙ append_assoc E (o ∷ ended_lines [] rest) (last_line (open_line [] rest))
+    let o = unended_line [] front in
+    ap (λ (ls : List (List ℕ)). ls ++ last_line (unended_line [] (front ++ 10 ∷ rest))) (ended_lines-append [] front (10 ∷ rest))
+    ∙ ap (λ (l : List ℕ). (E ++ o ∷ ended_lines [] rest) ++ last_line l) (unended_line-append [] front (10 ∷ rest))
+    ∙ append_assoc E (o ∷ ended_lines [] rest) (last_line (unended_line [] rest))
     ∙ sym (append_assoc E (o ∷ []) (lines_of rest))
 
 -- the history after the first of some lines, which the history after all of them continues
@@ -39,8 +39,8 @@ cut_first (x ∷ front) last ys k e = split_on 1 k (front ++ last ∷ []) ys (li
 pub fronts_are_read : FrontsAreRead
 unfolding journal_in
 fronts_are_read front rest h e =
-    let all = ended_lines [] front ++ open_line [] front ∷ [] in
-    let (g, read, of) = cut_first (ended_lines [] front) (open_line [] front) (lines_of rest) h (ap (after_lines 1 None) (sym (lines_cut front rest)) ∙ e) in (
+    let all = ended_lines [] front ++ unended_line [] front ∷ [] in
+    let (g, read, of) = cut_first (ended_lines [] front) (unended_line [] front) (lines_of rest) h (ap (after_lines 1 None) (sym (lines_cut front rest)) ∙ e) in (
       g,
       ap (after_lines 1 None) (lines_cut front [] ∙ append-nil all) ∙ read,
       record { start = of.start; base = of.base; folded = of.folded; more = of.items; records = of.records },

@@ -24,7 +24,7 @@ use Rattle.cg_core.specs.declared.fault.SettingsFault.{SettingsFault}
 use Rattle.cg_core.specs.declared.fault.SettingsFault.TheVariants as settings_fault
 use Rattle.cg_core.specs.declared.limits.TheConstants.{SEED_LIMIT}
 use Rattle.cg_core.specs.Settings.{settings_or_fault}
-use Rattle.cg_core.specs.SettingsValues.{SettingsValue, IsSettings, settings_of}
+use Rattle.cg_core.specs.SettingsValues.{SettingsValue, IsSettings, settings_of_parts}
 use Rattle.cg_history.specs.History.{new_history}
 use Rattle.cg_text.specs.Gives.{readable}
 use Rattle.cg_text.specs.Words.{endpoint_before, endpoints_by, endpoints_in}
@@ -172,11 +172,11 @@ settings_checked s = settings_by s (s.cluster.partitioner == PARTITIONER) (nat_l
 settings_held : (words : List ℕ) → IfSome (settings_in words) AreAllowed
 unfolding settings_in
 settings_held words =
-    held_bind (λ (p : SilenceValue × List ℕ). IsSilence p.0) AreAllowed (silence_before words) (λ silence. cut_at 32 silence.1 >>= λ parts. seeds_in parts.0 >>= λ seeds. readable (cluster_of parts.1 PARTITIONER) >>= λ cluster. readable (settings_or_fault (settings_of cluster seeds silence.0))) (silence_held words)
-    (λ silence judged. held_bind (λ (_ : Parts). Unit) AreAllowed (cut_at 32 silence.1) (λ parts. seeds_in parts.0 >>= λ seeds. readable (cluster_of parts.1 PARTITIONER) >>= λ cluster. readable (settings_or_fault (settings_of cluster seeds silence.0))) (held_any (cut_at 32 silence.1))
-    (λ parts _. held_bind AreSeeds AreAllowed (seeds_in parts.0) (λ seeds. readable (cluster_of parts.1 PARTITIONER) >>= λ cluster. readable (settings_or_fault (settings_of cluster seeds silence.0))) (seeds_held parts.0)
-    (λ seeds are. held_bind IsCluster AreAllowed (readable (cluster_of parts.1 PARTITIONER)) (λ cluster. readable (settings_or_fault (settings_of cluster seeds silence.0))) (cluster_held parts.1)
-    (λ cluster is. settings_checked (settings_of cluster seeds silence.0) is are judged))))
+    held_bind (λ (p : SilenceValue × List ℕ). IsSilence p.0) AreAllowed (silence_before words) (λ silence. cut_at 32 silence.1 >>= λ parts. seeds_in parts.0 >>= λ seeds. readable (cluster_of parts.1 PARTITIONER) >>= λ cluster. readable (settings_or_fault (settings_of_parts cluster seeds silence.0))) (silence_held words)
+    (λ silence judged. held_bind (λ (_ : Parts). Unit) AreAllowed (cut_at 32 silence.1) (λ parts. seeds_in parts.0 >>= λ seeds. readable (cluster_of parts.1 PARTITIONER) >>= λ cluster. readable (settings_or_fault (settings_of_parts cluster seeds silence.0))) (held_any (cut_at 32 silence.1))
+    (λ parts _. held_bind AreSeeds AreAllowed (seeds_in parts.0) (λ seeds. readable (cluster_of parts.1 PARTITIONER) >>= λ cluster. readable (settings_or_fault (settings_of_parts cluster seeds silence.0))) (seeds_held parts.0)
+    (λ seeds are. held_bind IsCluster AreAllowed (readable (cluster_of parts.1 PARTITIONER)) (λ cluster. readable (settings_or_fault (settings_of_parts cluster seeds silence.0))) (cluster_held parts.1)
+    (λ cluster is. settings_checked (settings_of_parts cluster seeds silence.0) is are judged))))
 
 -- ---- the line
 

@@ -33,7 +33,7 @@ use Rattle.cg_core.specs.declared.fault.SettingsFault.TheVariants as settings_fa
 use Rattle.cg_core.specs.declared.limits.TheConstants.{SEED_LIMIT}
 use Rattle.cg_core.specs.Settings.{settings_or_fault}
 use Rattle.cg_core.specs.Step.{starting_node}
-use Rattle.cg_core.specs.SettingsValues.{SettingsValue, IsSettings, settings_of}
+use Rattle.cg_core.specs.SettingsValues.{SettingsValue, IsSettings, settings_of_parts}
 use Rattle.cg_history.specs.History.{new_history}
 use Rattle.cg_text.specs.Gives.{readable}
 use Rattle.cg_text.specs.Words.{endpoint_before, endpoints_by, endpoints_in}
@@ -180,13 +180,13 @@ unfolding settings_in settings_text
 settings_again own s is =
     let seeds = seeds_text s.seeds in
     let name = s.cluster.name in
-    ap (λ (o : Option (SilenceValue × List ℕ)). o >>= λ silence. cut_at 32 silence.1 >>= λ parts. seeds_in parts.0 >>= λ seeds. readable (cluster_of parts.1 PARTITIONER) >>= λ cluster. readable (settings_or_fault (settings_of cluster seeds silence.0)))
+    ap (λ (o : Option (SilenceValue × List ℕ)). o >>= λ silence. cut_at 32 silence.1 >>= λ parts. seeds_in parts.0 >>= λ seeds. readable (cluster_of parts.1 PARTITIONER) >>= λ cluster. readable (settings_or_fault (settings_of_parts cluster seeds silence.0)))
     (silence_again s.silence (seeds ++ 32 ∷ name) is.silence)
-    ∙ ap (λ (o : Option (List ℕ × List ℕ)). o >>= λ parts. seeds_in parts.0 >>= λ seeds. readable (cluster_of parts.1 PARTITIONER) >>= λ cluster. readable (settings_or_fault (settings_of cluster seeds s.silence)))
+    ∙ ap (λ (o : Option (List ℕ × List ℕ)). o >>= λ parts. seeds_in parts.0 >>= λ seeds. readable (cluster_of parts.1 PARTITIONER) >>= λ cluster. readable (settings_or_fault (settings_of_parts cluster seeds s.silence)))
     (cut_at-word 32 seeds name (seeds_lack 32 refl refl refl refl refl s.seeds is.seeds))
-    ∙ ap (λ (o : Option (List ℕ)). o >>= λ seeds. readable (cluster_of name PARTITIONER) >>= λ cluster. readable (settings_or_fault (settings_of cluster seeds s.silence)))
+    ∙ ap (λ (o : Option (List ℕ)). o >>= λ seeds. readable (cluster_of name PARTITIONER) >>= λ cluster. readable (settings_or_fault (settings_of_parts cluster seeds s.silence)))
     (seeds_again s.seeds is.seeds is.settings.few)
-    ∙ ap (λ (r : Result ClusterValue Fault). readable r >>= λ cluster. readable (settings_or_fault (settings_of cluster s.seeds s.silence))) (cluster_again s.cluster is.cluster.is_named is.settings.in_use)
+    ∙ ap (λ (r : Result ClusterValue Fault). readable r >>= λ cluster. readable (settings_or_fault (settings_of_parts cluster s.seeds s.silence))) (cluster_again s.cluster is.cluster.is_named is.settings.in_use)
     ∙ ap (λ (r : Result SettingsValue SettingsFault). readable r) (settings_allowed s is.settings)
 
 -- ---- the line

@@ -9,7 +9,7 @@ use Rattle.cg_links.specs.Counts.{one_more}
 use Rattle.cg_links.specs.Counted.{KeepsCounts}
 use Rattle.cg_history.specs.History.{HistoryValue}
 use Rattle.cg_links.specs.declared.lines.TheConstants.{PIECE_LIMIT}
-use Rattle.cg_links.specs.Lines.{ended_lines, open_line, last_line, lines_of}
+use Rattle.cg_links.specs.Lines.{ended_lines, unended_line, last_line, lines_of}
 use Rattle.cg_links.specs.Taken.{Takes, TakesAll, Stops, StopsLast, IsUnread, Fails}
 use Rattle.cg_links.proofs.LineLemmas.{ended_lines-append}
 use Rattle.cg_links.proofs.TakenLemmas.{takes_on}
@@ -94,15 +94,15 @@ none_before text front rest m are taken n e =
 
 -- the lines of a text begin with those that end in it
 more_lines : (text : List ℕ) (front rest : List (List ℕ)) → ended_lines [] text ≡ front ++ rest
-    → lines_of text ≡ front ++ (rest ++ last_line (open_line [] text))
-more_lines text front rest are = ap (λ (ls : List (List ℕ)). ls ++ last_line (open_line [] text)) are ∙ append_assoc front rest (last_line (open_line [] text))
+    → lines_of text ≡ front ++ (rest ++ last_line (unended_line [] text))
+more_lines text front rest are = ap (λ (ls : List (List ℕ)). ls ++ last_line (unended_line [] text)) are ∙ append_assoc front rest (last_line (unended_line [] text))
 
 -- and the same with more text after it
 later_lines : (text more : List ℕ) (front rest : List (List ℕ)) → ended_lines [] text ≡ front ++ rest
-    → lines_of (text ++ more) ≡ front ++ (rest ++ (ended_lines (open_line [] text) more ++ last_line (open_line [] (text ++ more))))
+    → lines_of (text ++ more) ≡ front ++ (rest ++ (ended_lines (unended_line [] text) more ++ last_line (unended_line [] (text ++ more))))
 later_lines text more front rest are =
-    let last = last_line (open_line [] (text ++ more)) in
-    let ended = ended_lines (open_line [] text) more in
+    let last = last_line (unended_line [] (text ++ more)) in
+    let ended = ended_lines (unended_line [] text) more in
     ap (λ (ls : List (List ℕ)). ls ++ last) (ended_lines-append [] text more ∙ ap (λ (ls : List (List ℕ)). ls ++ ended) are)
     ∙ append_assoc (front ++ rest) ended last ∙ append_assoc front rest (ended ++ last)
 
@@ -227,7 +227,7 @@ module _ {R : Type 0} (before after : Option (List ℕ)) (old new : Counted R) (
       read = s.read;
       caused = s.caused;
       told = line_told q (ended_lines [] s.text) u.line s.taken line;
-      unhidden = none_before s.text (ended_lines [] s.text) (last_line (open_line [] s.text)) q refl s.taken;
+      unhidden = none_before s.text (ended_lines [] s.text) (last_line (unended_line [] s.text)) q refl s.taken;
     }
 
     pub failed : Fails TakesLine RefusesLine before after old new nothing q f → FailsToRead before after old new u

@@ -6,7 +6,7 @@ pub mod Contents
 pub mod Laws
 pub use Rattle.hex.specs.Hex
 pub use Rattle.cg_table.specs.Own
-pub use Rattle.cg_messages.specs.Lent
+pub use Rattle.cg_messages.specs.Borrowed
 pub use Rattle.cg_history.specs.History
 pub use Rattle.cg_text.specs.Gives
 pub use Rattle.cg_text.specs.Words

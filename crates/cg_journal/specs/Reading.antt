@@ -12,7 +12,7 @@ use Rattle.cg_silence.specs.Settings.{settings_or_fault as silence_or_fault}
 use Rattle.cg_core.specs.declared.event.Event.{Event}
 use Rattle.cg_core.specs.declared.event.Event.TheVariants as event
 use Rattle.cg_core.specs.declared.limits.TheConstants.{SEED_LIMIT}
-use Rattle.cg_core.specs.SettingsValues.{SettingsValue, settings_of}
+use Rattle.cg_core.specs.SettingsValues.{SettingsValue, settings_of_parts}
 use Rattle.cg_core.specs.Settings.{settings_or_fault}
 use Rattle.cg_frames.specs.declared.layout.TheConstants.{LAYOUTS}
 use Rattle.cg_frames.specs.Choosing.{frame_among}
@@ -61,7 +61,7 @@ settings_in words = do
   parts ← cut_at 32 silence.1
   seeds ← seeds_in parts.0
   cluster ← readable (cluster_of parts.1 PARTITIONER)
-  readable (settings_or_fault (settings_of cluster seeds silence.0))
+  readable (settings_or_fault (settings_of_parts cluster seeds silence.0))
 
 -- the history that the words after `life` begin
 unfoldable pub life_behind : List ℕ → Option HistoryValue

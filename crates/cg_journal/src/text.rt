@@ -4,11 +4,11 @@ ghost use Rattle.std.specs.Prelude.{◌≡◌, ◌++◌, List, ℕ, OnOk, IfOk, 
 ghost use Rattle.std.specs.List.{flat_map};
 ghost use Rattle.hex.specs.Hex.{encode_lower};
 ghost use Rattle.cg_table.specs.Own.{own_entry};
-ghost use Rattle.cg_messages.specs.Lent.{lent_message};
+ghost use Rattle.cg_messages.specs.Borrowed.{borrowed_message};
 ghost use Rattle.cg_journal.specs.Text.{silence_text, further_seed, seeds_text, settings_text, life_line, text_digits, frame_digits, further_word, set_line, remove_line, tick_line, syn_line, ack_line, ack2_line, event_line};
 
 use cg_core::{Event, Node, Settings};
-use cg_frames::{Lent, encode_lent};
+use cg_frames::{BorrowedMessage, encode_borrowed};
 use cg_silence::Silence;
 use cg_types::{Endpoint, StateKey, StateText};
 use std::alloc::{AllocError, Global};
@@ -108,10 +108,15 @@ fn add_text_digits(alloc: Global, text: &mut String, bytes: &[u8]) -> Result<(),
 }
 
 // Adds the frame of a message in hexadecimal digits.
-fn add_frame(alloc: Global, text: &mut String, message: Lent<'_>) -> Result<(), AllocError>
-    ensures { OnOk result (string_bytes text.new ≡ string_bytes text.old ++ frame_digits (lent_message message.entry)) }
+fn add_frame(
+    alloc: Global,
+    text: &mut String,
+    message: BorrowedMessage<'_>,
+) -> Result<(), AllocError>
+    ensures { OnOk result
+        (string_bytes text.new ≡ string_bytes text.old ++ frame_digits (borrowed_message message.entry)) }
 {
-    let frame = encode_lent(alloc, message)?;
+    let frame = encode_borrowed(alloc, message)?;
     add_digits(alloc, text, frame.as_slice())
 }
 
@@ -164,8 +169,8 @@ fn add_tick(text: &mut String, now: u64, words: &[u64]) -> Result<(), AllocError
 }
 
 #[tactic(auto, unfolding(crate::specs::Text::syn_line))]
-fn add_syn(alloc: Global, text: &mut String, message: Lent<'_>) -> Result<(), AllocError>
-    ensures { OnOk result (string_bytes text.new ≡ string_bytes text.old ++ syn_line (lent_message message.entry)) }
+fn add_syn(alloc: Global, text: &mut String, message: BorrowedMessage<'_>) -> Result<(), AllocError>
+    ensures { OnOk result (string_bytes text.new ≡ string_bytes text.old ++ syn_line (borrowed_message message.entry)) }
 {
     text.push_str("syn ")?;
     add_frame(alloc, text, message)?;
@@ -173,9 +178,14 @@ fn add_syn(alloc: Global, text: &mut String, message: Lent<'_>) -> Result<(), Al
 }
 
 #[tactic(auto, unfolding(crate::specs::Text::ack_line))]
-fn add_ack(alloc: Global, text: &mut String, now: u64, message: Lent<'_>) -> Result<(), AllocError>
+fn add_ack(
+    alloc: Global,
+    text: &mut String,
+    now: u64,
+    message: BorrowedMessage<'_>,
+) -> Result<(), AllocError>
     ensures { OnOk result (string_bytes text.new
-        ≡ string_bytes text.old ++ ack_line now (lent_message message.entry)) }
+        ≡ string_bytes text.old ++ ack_line now (borrowed_message message.entry)) }
 {
     write!(text, "ack {now} ")?;
     add_frame(alloc, text, message)?;
@@ -183,9 +193,14 @@ fn add_ack(alloc: Global, text: &mut String, now: u64, message: Lent<'_>) -> Res
 }
 
 #[tactic(auto, unfolding(crate::specs::Text::ack2_line))]
-fn add_ack2(alloc: Global, text: &mut String, now: u64, message: Lent<'_>) -> Result<(), AllocError>
+fn add_ack2(
+    alloc: Global,
+    text: &mut String,
+    now: u64,
+    message: BorrowedMessage<'_>,
+) -> Result<(), AllocError>
     ensures { OnOk result (string_bytes text.new
-        ≡ string_bytes text.old ++ ack2_line now (lent_message message.entry)) }
+        ≡ string_bytes text.old ++ ack2_line now (borrowed_message message.entry)) }
 {
     write!(text, "ack2 {now} ")?;
     add_frame(alloc, text, message)?;
@@ -201,9 +216,9 @@ fn add_event(alloc: Global, text: &mut String, event: &Event) -> Result<(), Allo
         Event::Remove { key } => add_remove(text, *key),
         Event::Tick { now, words } => add_tick(text, *now, words),
         Event::Opening => text.push_str("open\n"),
-        Event::Syn { m } => add_syn(alloc, text, Lent::Syn(m)),
-        Event::Ack { now, m } => add_ack(alloc, text, *now, Lent::Ack(m)),
-        Event::Ack2 { now, m } => add_ack2(alloc, text, *now, Lent::Ack2(m)),
+        Event::Syn { m } => add_syn(alloc, text, BorrowedMessage::Syn(m)),
+        Event::Ack { now, m } => add_ack(alloc, text, *now, BorrowedMessage::Ack(m)),
+        Event::Ack2 { now, m } => add_ack2(alloc, text, *now, BorrowedMessage::Ack2(m)),
     }
 }
 

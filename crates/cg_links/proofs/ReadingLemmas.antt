@@ -10,9 +10,9 @@ use Rattle.cg_links.specs.Counts.{one_more}
 use Rattle.cg_links.specs.Counted.{calls_of, KeepsCounts, CountsCalls, CountsFailed}
 use Rattle.cg_links.proofs.Counts.{KeepsCounts-trans}
 use Rattle.cg_links.specs.declared.lines.TheConstants.{PIECE_LIMIT}
-use Rattle.cg_links.specs.Lines.{ended_lines, open_line, last_line, lines_of}
+use Rattle.cg_links.specs.Lines.{ended_lines, unended_line, last_line, lines_of}
 use Rattle.cg_links.specs.Taken.{Takes, Refuses, Lacks, StopsAmong, Stops, StopsLast, IsUnread, TakesLines}
-use Rattle.cg_links.proofs.LineLemmas.{ended_lines-append, open_line-append}
+use Rattle.cg_links.proofs.LineLemmas.{ended_lines-append, unended_line-append}
 use Rattle.cg_links.proofs.TakenLemmas.{takes_on, refuses_on, lacks_on}
 
 -- k calls were made
@@ -23,7 +23,7 @@ counts_more : {L : Type 0} (a b c : Counted L) (k : ℕ) → Counts a b k → ca
 counts_more a b c k (inl h) e = record { calls = omega (arith, e, h.0, h.1) }
 counts_more a b c k (inr h) e = record { calls = omega (arith, e, h.calls) }
 
-all_lines : (text piece front : List ℕ) → front ≡ open_line [] text → ended_lines [] text ++ ended_lines front piece ≡ ended_lines [] (text ++ piece)
+all_lines : (text piece front : List ℕ) → front ≡ unended_line [] text → ended_lines [] text ++ ended_lines front piece ≡ ended_lines [] (text ++ piece)
 all_lines text piece front e = ap (λ (l : List ℕ). ended_lines [] text ++ ended_lines l piece) e ∙ sym (ended_lines-append [] text piece)
 
 module _ {S : Type 0} (takes : S → List ℕ → S → Type 0) (refuses : S → List ℕ → S → Fault → Type 0) where
@@ -34,7 +34,7 @@ module _ {S : Type 0} (takes : S → List ℕ → S → Type 0) (refuses : S →
       pub read : Consumes before after text
       pub kept : KeepsCounts r0 r1
       pub counted : Counts r0 r1 k
-      pub unended : front ≡ open_line [] text
+      pub unended : front ≡ unended_line [] text
       pub taken : Takes takes refuses s (ended_lines [] text) t
 
     pub reading_none : (s : S) (front : List ℕ) (before : Option (List ℕ)) (r : Counted R) → front ≡ [] → Reading s s front before before r r 0
@@ -49,17 +49,17 @@ module _ {S : Type 0} (takes : S → List ℕ → S → Type 0) (refuses : S →
 
     pub reading_more : (s t u : S) (front next piece given : List ℕ) (before after later : Option (List ℕ)) (r0 r1 r2 : Counted R) (k : ℕ)
         → Reading s t front before after r0 r1 k → Consumes after later piece → KeepsCounts r1 r2 → calls_of r2 ≡ one_more (calls_of r1)
-        → Takes takes refuses t (ended_lines front given) u → next ≡ open_line front given → given ≡ piece
+        → Takes takes refuses t (ended_lines front given) u → next ≡ unended_line front given → given ≡ piece
         → Reading s u next before later r0 r2 (k + 1)
     reading_more s t u front next piece given before after later r0 r1 r2 k h read kept calls given_taken given_is same =
         let taken : Takes takes refuses t (ended_lines front piece) u = subst (λ (l : List ℕ). Takes takes refuses t (ended_lines front l) u) same given_taken in
-        let is : next ≡ open_line front piece = given_is ∙ ap (open_line front) same in
+        let is : next ≡ unended_line front piece = given_is ∙ ap (unended_line front) same in
         record {
           text = h.text ++ piece;
           read = Consumes-trans before after later h.text piece h.read read;
           kept = KeepsCounts-trans r0 r1 r2 h.kept kept;
           counted = inr (counts_more r0 r1 r2 k h.counted calls);
-          unended = is ∙ ap (λ (l : List ℕ). open_line l piece) h.unended ∙ sym (open_line-append [] h.text piece);
+          unended = is ∙ ap (λ (l : List ℕ). unended_line l piece) h.unended ∙ sym (unended_line-append [] h.text piece);
           taken = subst (λ (ls : List (List ℕ)). Takes takes refuses s ls u) (all_lines h.text piece front h.unended)
               (takes_on takes refuses s t u (ended_lines [] h.text) (ended_lines front piece) h.taken taken);
         }
@@ -123,13 +123,13 @@ module _ {S : Type 0} (takes : S → List ℕ → S → Type 0) (refuses : S →
         let all = sym (ended_lines-append [] h.earlier h.piece) in
         elim h.stops [
           | inl refused ↦ inl (subst (λ (ls : List (List ℕ)). Refuses takes refuses s ls t f) all
-              (refuses_on takes refuses s h.middle t (ended_lines [] h.earlier) (ended_lines (open_line [] h.earlier) h.piece) f h.taken refused))
+              (refuses_on takes refuses s h.middle t (ended_lines [] h.earlier) (ended_lines (unended_line [] h.earlier) h.piece) f h.taken refused))
           | inr short ↦ inr (subst (λ (ls : List (List ℕ)). Lacks takes refuses s ls t f) all
-              (lacks_on takes refuses s h.middle t (ended_lines [] h.earlier) (ended_lines (open_line [] h.earlier) h.piece) f h.taken short))
+              (lacks_on takes refuses s h.middle t (ended_lines [] h.earlier) (ended_lines (unended_line [] h.earlier) h.piece) f h.taken short))
         ]
 
     -- the last line of the text was refused
     pub stops_in_lines : (before after : Option (List ℕ)) (old new : Counted R) (s t : S) (f : Fault) (h : StopsLast takes refuses before after old new s t f)
         → Refuses takes refuses s (lines_of h.text) t f
     stops_in_lines before after old new s t f h =
-        refuses_on takes refuses s h.middle t (ended_lines [] h.text) (last_line (open_line [] h.text)) f h.taken h.stops
+        refuses_on takes refuses s h.middle t (ended_lines [] h.text) (last_line (unended_line [] h.text)) f h.taken h.stops

@@ -4,7 +4,7 @@ use Rattle.std.specs.Prelude.{OnOk, MatchResult, ◌==◌}
 use Rattle.cg_types.specs.declared.fault.Fault.{Fault}
 use Rattle.cg_types.specs.declared.fault.Fault.TheVariants.{OutOfMemory}
 use Rattle.cg_types.specs.Words.{cut_at}
-use Rattle.cg_links.specs.Lines.{ended_lines, open_line, last_line}
+use Rattle.cg_links.specs.Lines.{ended_lines, unended_line, last_line}
 use Rattle.cg_links.specs.Taken.{Takes, Refuses, Lacks}
 use Rattle.cg_links.proofs.LineLemmas.{ended_some, open_some, ended_none, open_none}
 
@@ -50,7 +50,7 @@ module _ {S : Type 0} (takes : S → List ℕ → S → Type 0) (refuses : S →
   pub record Taking (p q : S) (first front piece rest : List ℕ) : Type 0 where
     pub lines : List (List ℕ)
     pub ended : ended_lines first piece ≡ lines ++ ended_lines front rest
-    pub unended : open_line first piece ≡ open_line front rest
+    pub unended : unended_line first piece ≡ unended_line front rest
     pub taken : Takes takes refuses p lines q
 
   pub taking_none : (p : S) (front piece : List ℕ) → Taking p p front front piece piece
@@ -105,6 +105,6 @@ module _ {S : Type 0} (takes : S → List ℕ → S → Type 0) (refuses : S →
   taking_rest p q first front piece rest (Err f) t cut short = inr (taking_short p q first front piece rest f t short)
 
   pub taking_kept : {T : Type 0} (p q : S) (first front next piece rest : List ℕ) (r : Result T Fault)
-      → Taking p q first front piece rest → cut_at 10 rest ≡ None → OnOk r (next ≡ front ++ rest) → OnOk r (next ≡ open_line first piece)
+      → Taking p q first front piece rest → cut_at 10 rest ≡ None → OnOk r (next ≡ front ++ rest) → OnOk r (next ≡ unended_line first piece)
   taking_kept p q first front next piece rest (Ok x) t cut is = is ∙ sym (t.unended ∙ open_none front rest cut)
   taking_kept p q first front next piece rest (Err f) t cut is = tt

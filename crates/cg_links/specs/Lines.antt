@@ -7,9 +7,9 @@ ended_lines front [] = []
 ended_lines front (b ∷ bs) = if b == 10 then front ∷ ended_lines [] bs else ended_lines (front ++ b ∷ []) bs
 
 -- the bytes after the last line feed, if `front` comes before the text
-abbrev pub open_line : List ℕ → List ℕ → List ℕ
-open_line front [] = front
-open_line front (b ∷ bs) = if b == 10 then open_line [] bs else open_line (front ++ b ∷ []) bs
+abbrev pub unended_line : List ℕ → List ℕ → List ℕ
+unended_line front [] = front
+unended_line front (b ∷ bs) = if b == 10 then unended_line [] bs else unended_line (front ++ b ∷ []) bs
 
 -- a last line that does not end with a line feed, if there is one
 abbrev pub last_line : List ℕ → List (List ℕ)
@@ -17,4 +17,4 @@ last_line [] = []
 last_line (b ∷ bs) = (b ∷ bs) ∷ []
 
 abbrev pub lines_of : List ℕ → List (List ℕ)
-lines_of text = ended_lines [] text ++ last_line (open_line [] text)
+lines_of text = ended_lines [] text ++ last_line (unended_line [] text)

@@ -7,7 +7,7 @@ use Rattle.cg_links.specs.declared.counted.Counted.{Counted}
 use Rattle.cg_links.specs.Counted.{KeepsCounts, CountsCalls, CountsFailed}
 use Rattle.cg_links.specs.declared.transfer.TheConstants.{MOST_READS}
 use Rattle.cg_links.specs.declared.lines.TheConstants.{PIECE_LIMIT}
-use Rattle.cg_links.specs.Lines.{ended_lines, open_line, last_line, lines_of}
+use Rattle.cg_links.specs.Lines.{ended_lines, unended_line, last_line, lines_of}
 
 -- A taker of lines, by its ghost members: a state, a line and the state that it leads to; a state, a line that is
 -- refused, the state that is left, and the fault.
@@ -60,7 +60,7 @@ module _ {S : Type 0} (takes : S → List ℕ → S → Type 0) (refuses : S →
       pub kept : KeepsCounts old new
       pub middle : S
       pub taken : Takes s (ended_lines [] earlier) middle
-      pub stops : StopsAmong middle (ended_lines (open_line [] earlier) piece) t f
+      pub stops : StopsAmong middle (ended_lines (unended_line [] earlier) piece) t f
 
     -- all of the text was read, and its last line, which no line feed ends, was refused
     pub record StopsLast (f : Fault) : Type 0 where
@@ -70,7 +70,7 @@ module _ {S : Type 0} (takes : S → List ℕ → S → Type 0) (refuses : S →
       pub kept : KeepsCounts old new
       pub middle : S
       pub taken : Takes s (ended_lines [] text) middle
-      pub stops : Refuses middle (last_line (open_line [] text)) t f
+      pub stops : Refuses middle (last_line (unended_line [] text)) t f
 
     -- A read failed, or the most reads allowed were made: the lines that were read whole were taken.
     pub record IsUnread (f : Fault) : Type 0 where

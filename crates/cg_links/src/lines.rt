@@ -4,7 +4,7 @@ ghost use Rattle.std.specs.Prelude.{◌≡◌, ◌≤◌, ◌+◌, ◌⊎◌, �
 ghost use Rattle.cg_types.specs.declared.faults.Fault.{Fault as FaultValue};
 ghost use Rattle.cg_types.specs.declared.faults.Fault.TheVariants as faults;
 ghost use Rattle.cg_links.specs.Counted.{link_of, calls_of};
-ghost use Rattle.cg_links.specs.Lines.{ended_lines, open_line, last_line};
+ghost use Rattle.cg_links.specs.Lines.{ended_lines, unended_line, last_line};
 ghost use Rattle.cg_links.specs.Taken.{Takes, Refuses, StopsAmong, TakesLines};
 
 use crate::counted::Counted;
@@ -84,7 +84,7 @@ fn take_piece<T: TakeLine>(
     ensures taken { MatchResult result
         (λ _. Takes T.takes T.refuses taker.old (ended_lines front.old.items piece.now) taker.new)
         (λ f. StopsAmong T.takes T.refuses taker.old (ended_lines front.old.items piece.now) taker.new f) }
-    ensures unended { OnOk result (front.new.items ≡ open_line front.old.items piece.now) }
+    ensures unended { OnOk result (front.new.items ≡ unended_line front.old.items piece.now) }
 {
     let mut rest = piece;
     while let Some((part, behind)) = cut(rest, b'\n') {

@@ -9,7 +9,7 @@ use Rattle.cg_core.specs.declared.event.Event.{Event}
 use Rattle.cg_core.specs.declared.event.Event.TheVariants as event
 use Rattle.cg_core.specs.declared.reply.Reply.{Reply}
 use Rattle.cg_core.specs.declared.reply.Reply.TheVariants as reply
-use Rattle.cg_core.specs.SettingsValues.{settings_of}
+use Rattle.cg_core.specs.SettingsValues.{settings_of_parts}
 use Rattle.cg_core.specs.Values.{NodeValue}
 use Rattle.cg_core.specs.Step.{starting_node}
 use Rattle.cg_history.specs.declared.item.Receipt.{Receipt}
@@ -25,7 +25,7 @@ use Rattle.cg_locked.specs.Seat.{SeatState}
 abbrev pub any_start : NodeValue
 any_start =
     starting_node 0 0
-    (settings_of (record { name = []; partitioner = 1 }) []
+    (settings_of_parts (record { name = []; partitioner = 1 }) []
     (record { window = 0; initial_gap = 0; max_gap = 0; threshold = 0 }))
 
 -- The puts have an own one with the key's text, or its tombstone, at the version that the reply has.

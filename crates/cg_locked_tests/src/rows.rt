@@ -28,7 +28,7 @@ enum Work {
     // Sets key 3 to `x`, removes that, reads back what took its place, and is refused the same removal.
     Remove,
     // Reads while the board is locked.
-    ReadLent,
+    ReadBorrowed,
     // Enters two Sets, reads, catches up and reads again.
     EnterTwo,
     // Sets twice, each at the second try if memory is refused, folds what is published, and catches up.
@@ -329,7 +329,7 @@ fn work_on<N: Name, R: Wait>(
             remove(rt, alloc, shared, seat, pass, notes);
             remove(rt, alloc, shared, seat, pass, notes);
         }
-        Work::ReadLent => {
+        Work::ReadBorrowed => {
             let board = shared.lend(rt);
             note_read(pass, notes);
             MutexGuard::unlock(board);
@@ -498,7 +498,7 @@ fn a_receipt_of_another_number_is_a_stranger(rt: HostRuntime) -> Result<(), Fail
 
 #[test]
 fn a_pass_reads_while_its_thread_has_the_board(rt: HostRuntime) -> Result<(), Fail> {
-    let (numbers, records, stray) = left(&rt, rt.alloc(), 1, Work::ReadLent)?;
+    let (numbers, records, stray) = left(&rt, rt.alloc(), 1, Work::ReadBorrowed)?;
     expect_eq!(numbers.as_slice(), [0].as_slice())?;
     expect_eq!((records, stray), (0, None))
 }

@@ -4,6 +4,6 @@ pub mod Kind
 pub mod Members
 pub mod Contents
 pub mod Messages
-pub mod Lent
+pub mod Borrowed
 pub use Rattle.cg_types.specs.Equality
 pub use Rattle.cg_types.specs.Numbers

@@ -7,8 +7,8 @@
 
 mod ack;
 mod ack2;
+mod borrowed;
 mod kind;
-mod lent;
 mod message;
 mod opening;
 mod outcome;
@@ -18,8 +18,8 @@ mod request;
 
 pub use ack::Ack;
 pub use ack2::Ack2;
+pub use borrowed::BorrowedMessage;
 pub use kind::Kind;
-pub use lent::Lent;
 pub use message::Message;
 pub use opening::Syn;
 pub use outcome::Outcome;

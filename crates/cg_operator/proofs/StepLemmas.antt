@@ -6,7 +6,7 @@ use Rattle.cg_table.specs.Values.{TableValue}
 use Rattle.cg_core.specs.Values.{NodeValue}
 use Rattle.cg_links.specs.declared.counted.Counted.{Counted}
 use Rattle.cg_links.specs.Counted.{KeepsCounts}
-use Rattle.cg_links.specs.Lines.{ended_lines, open_line, last_line, lines_of}
+use Rattle.cg_links.specs.Lines.{ended_lines, unended_line, last_line, lines_of}
 use Rattle.cg_links.proofs.ReadingLemmas.{stops_in_text, stops_in_lines}
 use Rattle.cg_links.specs.Taken.{Takes, Refuses, Lacks, StopsAmong, Stops, StopsLast, IsUnread, Fails, TakesAll, TakesLines}
 use Rattle.cg_operator.specs.declared.command.OperatorCommand.TheVariants.{Quit}
@@ -193,7 +193,7 @@ module _ {N R W : Type 0} (holds : W → Option (List ℕ)) (start : NodeValue) 
         → Stops (DoesLine holds start opening) (EndsAt holds start opening) before after old new (at_of s) (at_of t) f
     stopped_ends f was is h =
         let first = chained s h.middle (ended_lines [] h.earlier) h.taken in
-        let last = ended_lines (open_line [] h.earlier) h.piece in
+        let last = ended_lines (unended_line [] h.earlier) h.piece in
         let still : h.middle.has_quit ≡ false = cc (first.quit, was) in
         record {
           earlier = h.earlier;
@@ -221,7 +221,7 @@ module _ {N R W : Type 0} (holds : W → Option (List ℕ)) (start : NodeValue) 
           kept = h.kept;
           middle = at_of h.middle;
           taken = first.done;
-          stops = refused_ends h.middle t (last_line (open_line [] h.text)) f still is h.stops;
+          stops = refused_ends h.middle t (last_line (unended_line [] h.text)) f still is h.stops;
         }
 
     unread_ends : (f : Fault) → IsUnread steps stops before after old new s t f → IsUnread (DoesLine holds start opening) (EndsAt holds start opening) before after old new (at_of s) (at_of t) f

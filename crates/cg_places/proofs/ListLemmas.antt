@@ -12,16 +12,16 @@ use Rattle.cg_places.proofs.ExchangeLemmas.{opening_is_due, syn_is_due, ack_is_d
 -- ---- in worlds of any kind
 
 -- Actions of a list are done one after the other.
-pub record AreInOrder {World Action Moment : Type 0} (k : WorldKind World Action Moment) : Type 0 where
+pub record AreInOrder {World Action Time : Type 0} (k : WorldKind World Action Time) : Type 0 where
   pub none : (w : World) → k.after_all w [] ≡ w
   pub next : (w : World) (x : Action) (xs : List Action) → k.after_all w (x ∷ xs) ≡ k.after_all (k.after w x) xs
 
-module _ {World Action Moment : Type 0} (k : WorldKind World Action Moment) (s : AreInOrder k) where
+module _ {World Action Time : Type 0} (k : WorldKind World Action Time) (s : AreInOrder k) where
   pub after_both : (w : World) (xs ys : List Action) → k.after_all w (xs ++ ys) ≡ k.after_all (k.after_all w xs) ys
   after_both w [] ys = ap (λ (v : World). k.after_all v ys) (sym (s.none w))
   after_both w (x ∷ xs) ys = s.next w x (xs ++ ys) ∙ after_both (k.after w x) xs ys ∙ ap (λ (v : World). k.after_all v ys) (sym (s.next w x xs))
 
-  module _ (w : World) (x : ExchangeOf Action Moment) where
+  module _ (w : World) (x : ExchangeOf Action Time) where
     -- the actions that are left to do from each message on
     abbrev last : List Action
     last = ack2_delivery k w x ∷ []
@@ -39,7 +39,7 @@ module _ {World Action Moment : Type 0} (k : WorldKind World Action Moment) (s :
         ∙ after_both (after_ack k w x) x.before_ack2 last ∙ s.next (at_ack2 k w x) (ack2_delivery k w x) [] ∙ s.none (after_exchange k w x)
 
   -- an exchange is the list of its actions, whatever was done before
-  pub listed_from : (first : World) (actions : List Action) (x : ExchangeOf Action Moment) → k.after_all first (actions ++ actions_of k (k.after_all first actions) x) ≡ after_exchange k (k.after_all first actions) x
+  pub listed_from : (first : World) (actions : List Action) (x : ExchangeOf Action Time) → k.after_all first (actions ++ actions_of k (k.after_all first actions) x) ≡ after_exchange k (k.after_all first actions) x
   listed_from first actions x =
       let w : World = k.after_all first actions in
       after_both first actions (actions_of k w x) ∙ s.next w (k.opening x.opener) (following k w x) ∙ followed_from w x

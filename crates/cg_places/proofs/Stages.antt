@@ -1,7 +1,7 @@
 -- The stages between the messages of an exchange, and the deliveries of these.
 use Rattle.cg_places.specs.Exchange.{ExchangeOf, WorldKind, after_opening, after_syn, after_ack}
 
-module _ {World Action Moment : Type 0} (k : WorldKind World Action Moment) (w : World) (x : ExchangeOf Action Moment) where
+module _ {World Action Time : Type 0} (k : WorldKind World Action Time) (w : World) (x : ExchangeOf Action Time) where
   -- each message in the hands of its addressee
   abbrev pub syn_delivery : Action
   syn_delivery = k.delivery (k.count (after_opening k w x)) x.answerer x.syn_at

@@ -29,7 +29,7 @@ use Rattle.cg_core.specs.declared.reply.Reply.{Reply}
 use Rattle.cg_core.specs.declared.reply.Reply.TheVariants as reply
 use Rattle.cg_core.specs.Values.{NodeValue}
 use Rattle.cg_core.specs.Replies.{outcomes_in}
-use Rattle.cg_core.specs.Step.{then, with_table, next_of, beating, setting, removing, opening, round_of, after_taking, arrival_of, node_step}
+use Rattle.cg_core.specs.Step.{then, with_table, next_of, beating, setting, removing, opening, round_peers, after_taking, arrival_of, node_step}
 use Rattle.cg_core.proofs.StepLemmas.{removal_given}
 use Rattle.cg_places.specs.PlaceWorld.{PlaceWorld, Deliver, runs, with_entry, with_message, with_spans, last_entry, after_change, removable, after_opening, after_receipt, after_delivery, after_action}
 use Rattle.cg_places.specs.Laws.{IsWorld}
@@ -211,8 +211,8 @@ module _ (w : PlaceWorld) (is : IsWorld w) (node : ℕ) (n : NodeValue) (p : IsP
   }
 
   tick_step : (now : ℕ) (words : List ℕ) (x : NodeValue × Reply) → node_step n (event.Tick now words) ≡ Ok x → IsStepAt w (after_opening (after_change w node entry_after_beat (last_entry (w.histories node))) node) no_spans node n x
-  tick_step now words x e = rw (own_held w is node n p) (rw v_runs (done_then (next_of n) (λ version. (beating n, reply.Round (round_of (beating n) now words) (opening (beating n)))) x
-      (IsStepAt w (with_message v (Syn (v.places node))) no_spans node n) (λ version due. tick_at (reply.Round (round_of (beating n) now words) (opening (beating n))) refl refl) e))
+  tick_step now words x e = rw (own_held w is node n p) (rw v_runs (done_then (next_of n) (λ version. (beating n, reply.Round (round_peers (beating n) now words) (opening (beating n)))) x
+      (IsStepAt w (with_message v (Syn (v.places node))) no_spans node n) (λ version due. tick_at (reply.Round (round_peers (beating n) now words) (opening (beating n))) refl refl) e))
 
 -- ---- the law
 

@@ -11,7 +11,7 @@ use Rattle.cg_silence.specs.declared.fault.SilenceFault.{SilenceFault}
 use Rattle.cg_silence.specs.declared.fault.SilenceFault.TheVariants as silence_fault
 use Rattle.cg_silence.specs.Values.{SilenceValue, silence_of}
 use Rattle.cg_silence.specs.Settings as silence
-use Rattle.cg_core.specs.SettingsValues.{SettingsValue, settings_of}
+use Rattle.cg_core.specs.SettingsValues.{SettingsValue, settings_of_parts}
 use Rattle.cg_core.specs.Settings as node
 use Rattle.cg_settings_file.specs.declared.limits.TheConstants.{TURN_LIMIT, INTERVAL_LIMIT, DEFAULT_INTERVAL, DEFAULT_RANDOM}
 use Rattle.cg_settings_file.specs.Values.{text_or_key, endpoint_at, cluster_from, number_in, number_or_key}
@@ -46,7 +46,7 @@ node_from table = do
   cluster ← ok_or (cluster_from table) (codes "cluster")
   seeds ← ok_or (seeds_in (get_member (codes "seeds") table)) (codes "seeds")
   judged ← silence_from table
-  ok_or (result_ok (node.settings_or_fault (settings_of cluster seeds judged))) (codes "seeds")
+  ok_or (result_ok (node.settings_or_fault (settings_of_parts cluster seeds judged))) (codes "seeds")
 
 abbrev pub random_or : Option Data → Option ℕ
 random_or None = Some DEFAULT_RANDOM

@@ -148,7 +148,7 @@ fn part<'a>(rows: &[Held], outcomes: &'a [Outcome]) -> (&'a [Outcome], &'a [Outc
 }
 
 // Adds these windows in chunks.
-fn push_pieces(alloc: Global, made: &mut Vec<Chunk>, rows: Vec<Held>) -> Result<(), AllocError>
+fn push_chunks(alloc: Global, made: &mut Vec<Chunk>, rows: Vec<Held>) -> Result<(), AllocError>
     ensures { OnOk result (flat made.new.items ≡ flat made.old.items ++ rows.items) }
 {
     if rows.len() <= CHUNK_LIMIT {
@@ -187,7 +187,7 @@ fn hear_chunk(
         return Ok(());
     }
     let rows = hear_rows(alloc, silence, chunk.rows(), outcomes, now)?;
-    push_pieces(alloc, made, rows)
+    push_chunks(alloc, made, rows)
 }
 
 // The chunks after the outcomes. The last chunk takes all outcomes that are left.
@@ -228,7 +228,7 @@ fn hear_first(
     let none = Vec::new(alloc);
     let rows = hear_rows(alloc, silence, &none, outcomes, now)?;
     let mut made = Vec::new(alloc);
-    push_pieces(alloc, &mut made, rows)?;
+    push_chunks(alloc, &mut made, rows)?;
     Ok(made)
 }
 

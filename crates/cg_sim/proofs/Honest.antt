@@ -6,7 +6,7 @@ use Rattle.cg_types.specs.Fault.{fault_text}
 use Rattle.cg_links.specs.declared.counted.Counted.{Counted}
 use Rattle.cg_links.specs.declared.transfer.TheConstants.{MOST_READS}
 use Rattle.cg_links.specs.Counted.{failed_of, idle_of, CountsFewer}
-use Rattle.cg_links.specs.Lines.{ended_lines, open_line, last_line, lines_of}
+use Rattle.cg_links.specs.Lines.{ended_lines, unended_line, last_line, lines_of}
 use Rattle.cg_sim.specs.Script.{first_play, lines_text, script_text}
 use Rattle.cg_text.specs.Written.{WroteAll}
 use Rattle.cg_text.proofs.LinkLemmas.{all_read, never_unread, never_broken, all_written}
@@ -22,11 +22,11 @@ front_read input bytes (Some rest) read = (rest, read)
 -- the first lines of a prefix that a line feed ends are among the first lines of the whole script
 first_lines : (input front rest : List ℕ) (n : ℕ) → input ≡ front ++ rest → (k : ℕ) × (take n (ended_lines [] front) ≡ take k (lines_of input))
 first_lines input front rest n e =
-    let more = ended_lines (open_line [] front) rest ++ last_line (open_line [] input) in
+    let more = ended_lines (unended_line [] front) rest ++ last_line (unended_line [] input) in
     let found = take_front n (ended_lines [] front) more in
     let all : ended_lines [] front ++ more ≡ lines_of input =
-    sym (append_assoc (ended_lines [] front) (ended_lines (open_line [] front) rest) (last_line (open_line [] input)))
-    ∙ ap (λ (ls : List (List ℕ)). ls ++ last_line (open_line [] input)) (sym (ended_lines-append [] front rest) ∙ ap (ended_lines []) (sym e)) in
+    sym (append_assoc (ended_lines [] front) (ended_lines (unended_line [] front) rest) (last_line (unended_line [] input)))
+    ∙ ap (λ (ls : List (List ℕ)). ls ++ last_line (unended_line [] input)) (sym (ended_lines-append [] front rest) ∙ ap (ended_lines []) (sym e)) in
     (found.0, found.1 ∙ ap (take found.0) all)
 
 whole : (after held holds : Option (List ℕ)) (input script text : List ℕ) (result : ℕ) → script ≡ input → text ≡ script_text script → Appends held holds text

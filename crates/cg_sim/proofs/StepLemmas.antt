@@ -7,7 +7,7 @@ use Rattle.std.proofs.Math.Seq.{take-append_seam}
 use Rattle.cg_types.specs.declared.fault.Fault.{Fault}
 use Rattle.cg_types.specs.declared.fault.Fault.TheVariants.{OutOfMemory}
 use Rattle.cg_links.specs.declared.counted.Counted.{Counted}
-use Rattle.cg_links.specs.Lines.{ended_lines, open_line, last_line, lines_of}
+use Rattle.cg_links.specs.Lines.{ended_lines, unended_line, last_line, lines_of}
 use Rattle.cg_links.proofs.ReadingLemmas.{stops_in_text, stops_in_lines}
 use Rattle.cg_links.specs.Taken.{Takes, Refuses, Lacks, Stops, StopsLast, IsUnread, Fails, TakesAll, TakesLines}
 use Rattle.cg_sim.specs.declared.play.Play.{Play}
@@ -108,7 +108,7 @@ module _ {W : Type 0} (holds : W → Option (List ℕ)) where
         ⊎ BreaksOff s.play.now (lines_of h.text) (held holds s) (held holds t) s.writer.now t.writer.now f
     stopped_last f h =
         let r = stops_in_lines steps stops before after old new s t f h in
-        let last = open_line [] h.text in
+        let last = unended_line [] h.text in
         refused s t (lines_of h.text) (ended_lines [] h.text) (length r.front) f r
         (front_of_first (ended_lines [] h.text) (last_line last) r.front r.rest r.line (one_last last) r.are)
 

@@ -58,16 +58,16 @@ fn changed(alloc: Global) -> Result<(SharedMap<u32>, SharedMap<u32>), Fail> {
     if !owners_rise(&changes) {
         return Err(Fail::from("the changes don't rise"));
     }
-    let lent = map.with_rows(alloc, &changes)?;
-    Ok((map.put_rows(alloc, changes)?, lent))
+    let borrowed = map.with_rows(alloc, &changes)?;
+    Ok((map.put_rows(alloc, changes)?, borrowed))
 }
 
 #[test]
 fn a_row_is_put_in_place_of_one_with_its_endpoint(rt: HostRuntime) -> Result<(), Fail> {
     let wanted = [(2, 21), (3, 30), (4, 40), (5, 50)];
-    let (put, lent) = changed(rt.alloc())?;
+    let (put, borrowed) = changed(rt.alloc())?;
     expect_eq!(
-        (has_rows(&put, wanted), has_rows(&lent, wanted)),
+        (has_rows(&put, wanted), has_rows(&borrowed, wanted)),
         (true, true)
     )
 }

@@ -140,7 +140,7 @@ fn copies_equal(alloc: Global, message: &Message) -> Result<[bool; 3], AllocErro
         Message::Ack2(ack2) => ack2.copy(alloc)? == *ack2,
     };
     let whole = message.copy(alloc)? == *message;
-    Ok([whole, part, message.lent().copy(alloc)? == *message])
+    Ok([whole, part, message.borrowed().copy(alloc)? == *message])
 }
 
 #[test]

@@ -384,8 +384,8 @@ fn with_rows(alloc: Global, table: &Table, rows: Vec<Row<Entry>>) -> Result<(Tab
     if !owners_rise(&rows) || !table.has_room_for(&rows) {
         return Err(Fail::from("the rows can't be put"));
     }
-    let lent = table.with_rows(alloc, &rows)?;
-    Ok((table.put_rows(alloc, rows)?, lent))
+    let borrowed = table.with_rows(alloc, &rows)?;
+    Ok((table.put_rows(alloc, rows)?, borrowed))
 }
 
 // The table of endpoint 2 with the changed rows.
@@ -397,8 +397,12 @@ fn with_changed_rows(alloc: Global) -> Result<(Table, Table), Fail> {
 
 #[test]
 fn rows_that_are_put_are_held(rt: HostRuntime) -> Result<(), Fail> {
-    let (put, lent) = with_changed_rows(rt.alloc())?;
-    let shown = (held(&put, 3), held_of_both(&put), put.same_entries(&lent));
+    let (put, borrowed) = with_changed_rows(rt.alloc())?;
+    let shown = (
+        held(&put, 3),
+        held_of_both(&put),
+        put.same_entries(&borrowed),
+    );
     let whole = Some((9, 3));
     expect_eq!(shown, (whole, (whole, Some((5, 1))), true))
 }

@@ -14,13 +14,13 @@ use Rattle.cg_tokens.specs.declared.claims.Claim.{Claim}
 use Rattle.cg_tokens.specs.Text.{is_comma, tokens_of}
 
 -- the text that is held, empty if there is none or its tombstone
-abbrev pub text_of : Option Versioned → List ℕ
-text_of None = []
-text_of (Some v) = unwrap_or v.text []
+abbrev pub text_held : Option Versioned → List ℕ
+text_held None = []
+text_held (Some v) = unwrap_or v.text []
 
 -- the text at a key
 abbrev pub text_at : States → ℕ → List ℕ
-text_at states key = text_of (table.get states key)
+text_at states key = text_held (table.get states key)
 
 -- The status, up to its first comma, is NORMAL or LEAVING.
 abbrev pub is_member : States → Bool

@@ -12,7 +12,7 @@ use Rattle.cg_table.specs.Puts.{Put, with_puts, keep_order}
 use Rattle.cg_table.proofs.PutsLemmas.{with_puts-append, keep_order-append}
 use Rattle.cg_views.specs.Lists.{joined, FrontValue, are_all, appended, all_published}
 use Rattle.cg_views.specs.Shows.{ShownValue, latest, IsSound, publisher_of, IsPublisher}
-use Rattle.cg_views.specs.Rules.{Keeps, Finds}
+use Rattle.cg_views.specs.Rules.{Keeps, FindsShown}
 use Rattle.cg_views.proofs.Beginnings.{joined-append}
 
 -- ---- prefixes
@@ -48,7 +48,7 @@ all_joined xs ys p = ap (λ l. joined xs ++ joined l) (behind xs ys p) ∙ sym (
 -- ---- the rule
 
 -- a step to a list that goes on from the shown one
-pub turns : (book : Book) (opening : TableValue) (pass : ℕ) (seen : Ops) (x y : ShownValue) → IsPrefix x.front.all y.front.all → IsSound book opening y → TurnsAt (Keeps book opening) pass seen x y (Finds book opening)
+pub turns : (book : Book) (opening : TableValue) (pass : ℕ) (seen : Ops) (x y : ShownValue) → IsPrefix x.front.all y.front.all → IsSound book opening y → TurnsAt (Keeps book opening) pass seen x y (FindsShown book opening)
 turns book opening pass seen x y more sound views h at =
     let now = y.front.all in (
       now,
@@ -62,7 +62,7 @@ turns book opening pass seen x y more sound views h at =
     )
 
 -- a read
-pub reads : (book : Book) (opening : TableValue) (pass : ℕ) (seen : Ops) (x : ShownValue) → TurnsAt (Keeps book opening) pass seen x x (Finds book opening)
+pub reads : (book : Book) (opening : TableValue) (pass : ℕ) (seen : Ops) (x : ShownValue) → TurnsAt (Keeps book opening) pass seen x x (FindsShown book opening)
 reads book opening pass seen x views h at = turns book opening pass seen x x (begins_itself x.front.all) h.sound views h at
 
 -- a new pass has seen nothing

@@ -17,7 +17,7 @@ pub record Keeps (book : Book) (opening : TableValue) (x : ShownValue) (views : 
   pub fronts : AreFronts x.front.all views
 
 -- The shown table is sound, the operations seen before begin its operations, and these are the ones seen now.
-pub record Finds (book : Book) (opening : TableValue) (seen : List (List Put)) (x y : ShownValue)
+pub record FindsShown (book : Book) (opening : TableValue) (seen : List (List Put)) (x y : ShownValue)
     (now : List (List Put)) : Type 0 where
   pub sound : IsSound book opening y
   pub begins : IsPrefix seen y.front.all

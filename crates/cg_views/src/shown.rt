@@ -120,7 +120,7 @@ pub(crate) struct Sees<N: Naming> {
 }
 
 impl<N: Naming> Outcome<Shown, Known> for Sees<N> {
-    ghost use Rattle.cg_views.specs.Rules.{Finds};
+    ghost use Rattle.cg_views.specs.Rules.{FindsShown};
 
-    ghost then = { Finds N.book N.opening };
+    ghost then = { FindsShown N.book N.opening };
 }

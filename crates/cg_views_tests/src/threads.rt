@@ -206,10 +206,10 @@ fn seen_by<N: Naming + Send + Sync, R: Threads + Wait + Sync>(
         news.push(receiver)?;
     }
     let (mut publisher, passes) = views::<N>(alloc, opened, table, 4)?;
-    let lent = &mut publisher;
+    let borrowed = &mut publisher;
     let (published, seen) = join(
         rt,
-        move || -> Result<(), Fail> { publish_all(rt, alloc, lent, readers, own, count) },
+        move || -> Result<(), Fail> { publish_all(rt, alloc, borrowed, readers, own, count) },
         move || -> [Option<Seen>; 4] { read_by_four(rt, passes, news) },
     );
     publisher.close(rt);

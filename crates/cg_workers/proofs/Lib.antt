@@ -1,4 +1,4 @@
-pub mod Lines
+pub mod RoundLemmas
 pub mod WordLemmas
 pub mod EachLemmas
 pub mod WorkLemmas

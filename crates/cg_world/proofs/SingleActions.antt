@@ -22,7 +22,7 @@ use Rattle.cg_core.specs.declared.reply.Reply.{Reply}
 use Rattle.cg_core.specs.declared.reply.Reply.TheVariants as reply
 use Rattle.cg_core.specs.Values.{NodeValue}
 use Rattle.cg_silence.specs.Windows.{Heard, arrivals}
-use Rattle.cg_core.specs.Step.{Step, then, starting_node, next_of, beating, setting, removing, opening, round_of, after_taking, node_step}
+use Rattle.cg_core.specs.Step.{Step, then, starting_node, next_of, beating, setting, removing, opening, round_peers, after_taking, node_step}
 use Rattle.cg_world.specs.World.{LocalEvent, Beat, Set, Remove, Opening, Tick, Action, Start, Deliver, WorldValue, new_world, with_node, with_sent, message_of, after_step, generation_held, has_room, event_of, arrival_of, reply_of, reply_to, acting, or_unchanged, act, run_from, step_of, step_at, message_to}
 use Rattle.cg_world.specs.Terms.{Runs}
 use Rattle.cg_world.specs.SingleActions.{node_of, SettingsStay, OneNodeChanges, RepliesAreOfSteps, outcomes_in, NodesHearByDeliveries}
@@ -84,7 +84,7 @@ replies_are_of_steps c = record {
   beat = λ node n version runs due. ap (λ o. reply_of (step_of o event.Beat)) runs ∙ told_by (beating n) reply.Done version (next_of n) due;
   set = λ node key text n version runs due. ap (λ o. reply_of (step_of o (event.Set key text))) runs ∙ told_by (setting key text n) reply.Done version (next_of n) due;
   remove = λ node key n version runs due. ap (λ o. reply_of (step_of o (event.Remove key))) runs ∙ told_by (removing key n) reply.Done version (removal_of key (own_entry n.table)) due;
-  tick = λ node now words n version runs due. ap (λ o. reply_of (step_of o (event.Tick now words))) runs ∙ told_by (beating n) (λ v. reply.Round (round_of (beating n) now words) (opening (beating n))) version (next_of n) due;
+  tick = λ node now words n version runs due. ap (λ o. reply_of (step_of o (event.Tick now words))) runs ∙ told_by (beating n) (λ v. reply.Round (round_peers (beating n) now words) (opening (beating n))) version (next_of n) due;
   ack = λ number to now n ack r runs sent e.
       let after : TableValue = table_after n.table ack.deltas in
       ack_tells n now after (record { deltas = deltas_granted after.entries ack.requests }) (outcomes_of n.table ack.deltas) r (nat_lt MEMBER_LIMIT (held_after n.table ack.deltas)) (reply_here c number to now n (message.Ack ack) runs sent ∙ e);
@@ -127,7 +127,7 @@ local_windows n Beat = changed_windows n (beating n) reply.Done refl (next_of n)
 local_windows n (Set key text) = changed_windows n (setting key text n) reply.Done refl (next_of n)
 local_windows n (Remove key) = changed_windows n (removing key n) reply.Done refl (removal_of key (own_entry n.table))
 local_windows n Opening = refl
-local_windows n (Tick now words) = changed_windows n (beating n) (λ v. reply.Round (round_of (beating n) now words) (opening (beating n))) refl (next_of n)
+local_windows n (Tick now words) = changed_windows n (beating n) (λ v. reply.Round (round_peers (beating n) now words) (opening (beating n))) refl (next_of n)
 
 -- The windows are those after the arrivals that the reply shows.
 abbrev Hears : ℕ → NodeValue → Step → Type 0

@@ -17,7 +17,7 @@ use Rattle.cg_messages.specs.declared.message.Message.TheVariants as message
 use Rattle.cg_places.specs.PlaceMessages.{PlaceMessage}
 use Rattle.cg_core.specs.declared.event.Event.TheVariants as event
 use Rattle.cg_core.specs.declared.reply.Reply.TheVariants as reply
-use Rattle.cg_core.specs.Step.{Step, then, next_of, starting_node, beating, opening, round_of}
+use Rattle.cg_core.specs.Step.{Step, then, next_of, starting_node, beating, opening, round_peers}
 use Rattle.cg_core.specs.SettingsValues.{SettingsValue}
 use Rattle.cg_core.specs.Values.{NodeValue}
 use Rattle.cg_places.specs.PlaceWorld.{PlaceWorld, PlaceAction, nobody, runs, after_action, after_actions}
@@ -155,7 +155,7 @@ ticked_by c node now words None = record { refused = refl; done = λ d e. absurd
 ticked_by c node now words (Some n) = due_by (next_of n)
   where
     due_by : (due : Result ℕ Fault) → IsBeatAndOpening node (after_step c node (then due (λ v. (beating n, reply.Done v))))
-        (after_step c node (then due (λ v. (beating n, reply.Round (round_of (beating n) now words) (opening (beating n))))))
+        (after_step c node (then due (λ v. (beating n, reply.Round (round_peers (beating n) now words) (opening (beating n))))))
     due_by (Ok v) = record { refused = refl; done = λ d e. let same : with_node c node (beating n) ≡ d = cc in sym (opened_after c node (beating n)) ∙ ap (λ (d : WorldValue). acting d (Local node Opening)) same }
     due_by (Err fault) = record { refused = refl; done = λ d e. absurd cc }
 

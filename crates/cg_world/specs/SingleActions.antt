@@ -14,7 +14,7 @@ use Rattle.cg_core.specs.SettingsValues.{SettingsValue}
 use Rattle.cg_core.specs.Values.{NodeValue}
 pub use Rattle.cg_core.specs.Replies.{outcomes_in}
 use Rattle.cg_silence.specs.Windows.{arrivals}
-use Rattle.cg_core.specs.Step.{next_of, beating, opening, round_of}
+use Rattle.cg_core.specs.Step.{next_of, beating, opening, round_peers}
 use Rattle.cg_world.specs.World.{Action, Start, Local, Deliver, LocalEvent, Beat, Set, Remove, Tick, WorldValue, reply_to, acting, act, run}
 use Rattle.cg_world.specs.Terms.{Runs}
 
@@ -57,7 +57,7 @@ pub record AreReplies (c : WorldValue) : Type 0 where
   -- the peers of a tick are chosen after its beat, at its time, with its words
   pub tick : (node now : ℕ) (words : List ℕ) (n : NodeValue) (version : ℕ) → Runs c node n → next_of n ≡ Ok version
       → reply_to c (Local node (Tick now words))
-      ≡ Some (reply.Round (round_of (beating n) now words) (opening (beating n)))
+      ≡ Some (reply.Round (round_peers (beating n) now words) (opening (beating n)))
   -- a delivery returns the outcome of each delta
   pub ack : (number to now : ℕ) (n : NodeValue) (ack : AckValue) (r : Reply) → Runs c to n
       → at_place c.sent number ≡ Some (message.Ack ack) → reply_to c (Deliver number to now) ≡ Some r

@@ -1,10 +1,10 @@
 //! Actions on the nodes of a cluster.
 
 ghost use Rattle.std.specs.Prelude.{◌≡◌, IfOk};
-ghost use Rattle.cg_core.specs.Borrowed.{lent_event};
+ghost use Rattle.cg_core.specs.Borrowed.{borrowed_event};
 ghost use Rattle.cg_world.specs.World.{event_of, starts};
 
-use cg_core::LentEvent;
+use cg_core::BorrowedEvent;
 use cg_types::{Endpoint, Generation, StateKey, StateText};
 use std::alloc::AllocError;
 
@@ -44,15 +44,15 @@ impl LocalEvent {
     }
 
     /// Returns the event that the node handles, borrowed.
-    pub fn lent(&self) -> LentEvent<'_>
-        ensures { lent_event result ≡ event_of self.now }
+    pub fn borrowed(&self) -> BorrowedEvent<'_>
+        ensures { borrowed_event result ≡ event_of self.now }
     {
         match self {
-            LocalEvent::Beat => LentEvent::Beat,
-            LocalEvent::Set { key, text } => LentEvent::Set { key, text },
-            LocalEvent::Remove(key) => LentEvent::Remove { key },
-            LocalEvent::Opening => LentEvent::Opening,
-            LocalEvent::Tick { now, words } => LentEvent::Tick {
+            LocalEvent::Beat => BorrowedEvent::Beat,
+            LocalEvent::Set { key, text } => BorrowedEvent::Set { key, text },
+            LocalEvent::Remove(key) => BorrowedEvent::Remove { key },
+            LocalEvent::Opening => BorrowedEvent::Opening,
+            LocalEvent::Tick { now, words } => BorrowedEvent::Tick {
                 now: *now,
                 words: *words,
             },

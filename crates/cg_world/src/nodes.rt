@@ -11,7 +11,7 @@ ghost use Rattle.cg_world.specs.World.{Start, Local, Deliver, new_world, with_no
 
 use crate::action::{Action, LocalEvent};
 use crate::world::Shown;
-use cg_core::{LentEvent, Node, Reply, Settings};
+use cg_core::{BorrowedEvent, Node, Reply, Settings};
 use cg_messages::Message;
 use cg_types::{Endpoint, Fault, Generation, MEMBER_LIMIT, SharedMap};
 use std::alloc::{AllocError, Global};
@@ -198,7 +198,7 @@ impl Nodes {
         let Some(node) = self.node(endpoint) else {
             return Err(Fault::NoSuchNode);
         };
-        let (after, reply) = node.stepped_lent(alloc, event.lent())?;
+        let (after, reply) = node.stepped_borrowed(alloc, event.borrowed())?;
         Ok(self.done(alloc, endpoint, after, reply)?)
     }
 
@@ -220,8 +220,8 @@ impl Nodes {
         let Some(node) = self.node(to) else {
             return Err(Fault::NoSuchNode);
         };
-        let arriving = LentEvent::arriving(message.lent(), now);
-        let (after, reply) = node.stepped_lent(alloc, arriving)?;
+        let arriving = BorrowedEvent::arriving(message.borrowed(), now);
+        let (after, reply) = node.stepped_borrowed(alloc, arriving)?;
         Ok(self.done(alloc, to, after, reply)?)
     }
 

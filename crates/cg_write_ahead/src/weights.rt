@@ -3,20 +3,22 @@
 ghost use Rattle.std.specs.Prelude.{◌≡◌, ◌-◌, ◌+◌, ◌*◌, ◌^◌, min};
 ghost use Rattle.cg_core.specs.Sending.{message_of};
 ghost use Rattle.cg_write_ahead.specs.Weights.{members_in, members_sent, weight_of_both};
-ghost use Rattle.cg_messages.specs.Lent.{lent_message};
+ghost use Rattle.cg_messages.specs.Borrowed.{borrowed_message};
 
 use crate::limits::MEMBER_WEIGHT;
 use cg_core::Reply;
-use cg_messages::Lent;
+use cg_messages::BorrowedMessage;
 
 // Returns the number of members that a message names, up to the greatest number.
-fn members_in(message: Lent<'_>) -> u64
-    ensures { result ≡ min (members_in (lent_message message.entry)) (2 ^ 64 - 1) }
+fn members_in(message: BorrowedMessage<'_>) -> u64
+    ensures { result ≡ min (members_in (borrowed_message message.entry)) (2 ^ 64 - 1) }
 {
     match message {
-        Lent::Syn(m) => m.digests().len() as u64,
-        Lent::Ack(m) => (m.requests().len() as u64).saturating_add(m.deltas().len() as u64),
-        Lent::Ack2(m) => m.deltas().len() as u64,
+        BorrowedMessage::Syn(m) => m.digests().len() as u64,
+        BorrowedMessage::Ack(m) => (m.requests().len() as u64).saturating_add(
+            m.deltas().len() as u64,
+        ),
+        BorrowedMessage::Ack2(m) => m.deltas().len() as u64,
     }
 }
 

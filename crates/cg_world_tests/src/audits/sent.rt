@@ -34,9 +34,9 @@ fn found_of(
     asked: [&Message; 3],
 ) -> Result<[bool; 3], AllocError> {
     let sent = SentMessages::none(alloc, room)?;
-    let sent = sent.with(first.lent())?;
-    let sent = sent.with(second.lent())?;
-    Ok(asked.map(|message: &Message| sent.contains(message.lent())))
+    let sent = sent.with(first.borrowed())?;
+    let sent = sent.with(second.borrowed())?;
+    Ok(asked.map(|message: &Message| sent.contains(message.borrowed())))
 }
 
 // The same of an equal of the first that was sent, of the second, and of one that was not sent.

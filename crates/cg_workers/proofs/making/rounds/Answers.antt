@@ -1,6 +1,6 @@
 use Rattle.std.proofs.Common.{ap}
 use Rattle.cg_workers.specs.declared.rule.Hand.{Hand}
-use Rattle.cg_workers.proofs.Lines.{starts, cuts}
+use Rattle.cg_workers.proofs.RoundLemmas.{starts, cuts}
 use Rattle.cg_workers.proofs.making.rounds.Goals as goal
 
 pub bounded_with-requires-clause-rule : goal.bounded_with-requires-clause-rule

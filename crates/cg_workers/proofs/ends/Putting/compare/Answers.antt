@@ -1,6 +1,6 @@
 use Rattle.std.proofs.Common.{ap}
 use Rattle.cg_workers.specs.declared.rule.Hand.{Hand}
-use Rattle.cg_workers.proofs.Lines.{joins}
+use Rattle.cg_workers.proofs.RoundLemmas.{joins}
 use Rattle.cg_workers.proofs.ends.Putting.compare.Goals as goal
 
 pub absorb-requires-clause-rule : goal.absorb-requires-clause-rule

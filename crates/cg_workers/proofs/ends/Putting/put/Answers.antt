@@ -1,6 +1,6 @@
 use Rattle.std.proofs.Common.{ap}
 use Rattle.cg_workers.specs.declared.rule.Hand.{Hand}
-use Rattle.cg_workers.proofs.Lines.{puts}
+use Rattle.cg_workers.proofs.RoundLemmas.{puts}
 use Rattle.cg_workers.proofs.ends.Putting.put.Goals as goal
 
 pub send_as-requires-clause-rule : goal.send_as-requires-clause-rule

@@ -1,6 +1,6 @@
 use Rattle.std.proofs.Common.{ap}
 use Rattle.cg_workers.specs.declared.rule.Hand.{Hand}
-use Rattle.cg_workers.proofs.Lines.{takes}
+use Rattle.cg_workers.proofs.RoundLemmas.{takes}
 use Rattle.cg_workers.proofs.ends.Taking.take.Goals as goal
 
 pub recv_as-requires-clause-rule : goal.recv_as-requires-clause-rule

@@ -1,5 +1,5 @@
 use Rattle.std.proofs.Common.{◌≡◌, take}
-use Rattle.cg_entry.proofs.lent.LentStates.are_same.Given as goal
+use Rattle.cg_entry.proofs.borrowed.BorrowedStates.are_same.Given as goal
 
 abbrev pub invariant-loop-number : goal.invariant-loop-number
 invariant-loop-number l = take l.number l.self ≡ take l.number l.other

@@ -1,4 +1,4 @@
-//! The states of an entry, lent.
+//! The states of an entry, borrowed.
 
 ghost use Rattle.std.specs.Prelude.{◌≡◌, ◌↔◌, ◌<◌, IsTrue, IfOk, Some, length, map, slice_get, option_copied};
 ghost use Rattle.cg_entry.specs.State.{pair};
@@ -11,15 +11,15 @@ use cg_types::{StateKey, StateText, Version};
 use std::alloc::AllocError;
 use std::marker::Model;
 
-/// The states of an entry, lent in the order of their keys.
+/// The states of an entry, borrowed in the order of their keys.
 #[derive(Drop)]
-pub struct LentStates<'a> {
+pub struct BorrowedStates<'a> {
     states: ByKey<'a>,
     removals: &'a Removals,
 }
 
 /// A contract sees the keys with their texts and versions.
-impl<'a> Model for LentStates<'a> {
+impl<'a> Model for BorrowedStates<'a> {
     ghost use Rattle.std.specs.Prelude.{ℕ, List, map};
     ghost use Rattle.std.specs.Coded.{coded_list, coded×, coded_ℕ};
     ghost use Rattle.cg_entry.specs.Versioned.{Versioned, versioned_code};
@@ -42,12 +42,12 @@ fn is_same_text(ours: Option<&StateText>, theirs: Option<&StateText>) -> bool
     }
 }
 
-impl<'a> LentStates<'a> {
+impl<'a> BorrowedStates<'a> {
     // The states of a block under the removals.
-    pub(crate) fn under(states: ByKey<'a>, removals: &'a Removals) -> LentStates<'a>
+    pub(crate) fn under(states: ByKey<'a>, removals: &'a Removals) -> BorrowedStates<'a>
         ensures { result ≡ map (removed_under removals.now) states.entry }
     {
-        LentStates { states, removals }
+        BorrowedStates { states, removals }
     }
 
     /// The number of states.
@@ -81,7 +81,7 @@ impl<'a> LentStates<'a> {
     }
 
     // Tests whether both lend the same state under a number.
-    fn is_same_at(&self, other: &LentStates<'_>, number: usize) -> bool
+    fn is_same_at(&self, other: &BorrowedStates<'_>, number: usize) -> bool
         requires ours { number < length self.now }
         requires theirs { number < length other.now }
         ensures { IsTrue result ↔ (slice_get self.now number ≡ slice_get other.now number) }
@@ -92,7 +92,7 @@ impl<'a> LentStates<'a> {
     }
 
     // Tests whether both lend the same states.
-    pub(crate) fn are_same(&self, other: &LentStates<'_>) -> bool
+    pub(crate) fn are_same(&self, other: &BorrowedStates<'_>) -> bool
         ensures { IsTrue result ↔ (self.now ≡ other.now) }
     {
         if self.len() != other.len() {

@@ -1,6 +1,6 @@
 use Rattle.std.proofs.Common.{◌≡◌, ℕ, zero, suc, List, [], ◌∷◌, take, refl, add-one}
 use Rattle.std.specs.Prelude.{slice_get}
-use Rattle.cg_entry.proofs.lent.LentStates.are_same.Goals as goal
+use Rattle.cg_entry.proofs.borrowed.BorrowedStates.are_same.Goals as goal
 
 same_front : {X : Type 0} (xs ys : List X) (i : ℕ) → take i xs ≡ take i ys → slice_get xs i ≡ slice_get ys i → take (suc i) xs ≡ take (suc i) ys
 same_front [] [] i so_far here = refl
