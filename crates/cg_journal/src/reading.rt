@@ -14,7 +14,7 @@ use crate::event::event_in;
 use crate::life::life_in;
 use crate::unread::Unread;
 use cg_history::History;
-use cg_links::{Counted, TakeLine, take_lines};
+use cg_links::{Counted, Next, TakeLine, take_lines};
 use cg_types::Fault;
 use std::alloc::Global;
 use std::io::Read;
@@ -72,17 +72,20 @@ fn unread_behind(lines: u64, fault: Fault) -> Unread
 }
 
 impl TakeLine for Progress {
+    ghost use Rattle.cg_links.specs.Taken.{NeverEnds};
     ghost use Rattle.cg_journal.specs.Read.{TakesLine, RefusesLine};
 
     ghost takes = { TakesLine };
 
+    ghost ends = { NeverEnds };
+
     ghost refuses = { RefusesLine };
 
-    fn take_line(&mut self, alloc: Global, line: &[u8]) -> Result<(), Fault> {
+    fn take_line(&mut self, alloc: Global, line: &[u8]) -> Result<Next, Fault> {
         match self.read_line(alloc, line) {
             Ok(()) => {
                 self.lines = self.lines.saturating_add(1);
-                Ok(())
+                Ok(Next::More)
             }
             Err(fault) => Err(fault),
         }

@@ -11,9 +11,9 @@ use Rattle.cg_links.specs.Counted.{calls_of, KeepsCounts, CountsCalls, CountsFai
 use Rattle.cg_links.proofs.Counts.{KeepsCounts-trans}
 use Rattle.cg_links.specs.declared.lines.TheConstants.{PIECE_LIMIT}
 use Rattle.cg_links.specs.Lines.{ended_lines, unended_line, last_line, lines_of}
-use Rattle.cg_links.specs.Taken.{Takes, Refuses, Lacks, StopsAmong, Stops, StopsLast, IsUnread, TakesLines}
+use Rattle.cg_links.specs.Taken.{Takes, Refuses, Lacks, StopsAmong, Stops, StopsLast, IsUnread, TakesAll, NeverEnds, EndsAmong, EndsEarly, TakesLines}
 use Rattle.cg_links.proofs.LineLemmas.{ended_lines-append, unended_line-append}
-use Rattle.cg_links.proofs.TakenLemmas.{takes_on, refuses_on, lacks_on}
+use Rattle.cg_links.proofs.TakenLemmas.{takes_on, refuses_on, lacks_on, ends_on}
 
 -- k calls were made
 abbrev pub Counts : {L : Type 0} → Counted L → Counted L → ℕ → Type 0
@@ -80,29 +80,6 @@ module _ {S : Type 0} (takes : S → List ℕ → S → Type 0) (refuses : S →
           (subst (λ (l : List ℕ). StopsAmong takes refuses t (ended_lines front l) u f) same given_stops);
     }
 
-    -- the end was met, and the last line taken or refused
-    pub reading_ends : {T : Type 0} (s t u : S) (front : List ℕ) (before after later : Option (List ℕ)) (r0 r1 r2 : Counted R) (k : ℕ) (r : Result T Fault)
-        → Reading s t front before after r0 r1 k → Consumes after later [] → IsAtEnd later → KeepsCounts r1 r2
-        → MatchResult r (λ _. Takes takes refuses t (last_line front) u) (λ f. Refuses takes refuses t (last_line front) u f)
-        → TakesLines takes refuses before later r0 r2 s u r
-    reading_ends s t u front before after later r0 r1 r2 k (Ok x) h read end kept taken = record {
-      text = h.text;
-      read = subst (λ (b : List ℕ). Consumes before later b) (append-nil h.text) (Consumes-trans before after later h.text [] h.read read);
-      end = end;
-      kept = KeepsCounts-trans r0 r1 r2 h.kept kept;
-      taken = subst (λ (l : List ℕ). Takes takes refuses s (ended_lines [] h.text ++ last_line l) u) h.unended
-          (takes_on takes refuses s t u (ended_lines [] h.text) (last_line front) h.taken taken);
-    }
-    reading_ends s t u front before after later r0 r1 r2 k (Err f) h read end kept refused = inr (inl (record {
-      text = h.text;
-      read = subst (λ (b : List ℕ). Consumes before later b) (append-nil h.text) (Consumes-trans before after later h.text [] h.read read);
-      end = end;
-      kept = KeepsCounts-trans r0 r1 r2 h.kept kept;
-      middle = t;
-      taken = h.taken;
-      stops = subst (λ (l : List ℕ). Refuses takes refuses t (last_line l) u f) h.unended refused;
-    }))
-
     pub reading_fails : (s t : S) (front : List ℕ) (before after later : Option (List ℕ)) (r0 r1 r2 : Counted R) (k : ℕ) (f : Fault)
         → Reading s t front before after r0 r1 k → Keeps after later → CountsFailed r1 r2 → f ≡ ReadFault
         → IsUnread takes refuses before later r0 r2 s t f
@@ -133,3 +110,68 @@ module _ {S : Type 0} (takes : S → List ℕ → S → Type 0) (refuses : S →
         → Refuses takes refuses s (lines_of h.text) t f
     stops_in_lines before after old new s t f h =
         refuses_on takes refuses s h.middle t (ended_lines [] h.text) (last_line (unended_line [] h.text)) f h.taken h.stops
+
+module _ {S : Type 0} (takes ends : S → List ℕ → S → Type 0) (refuses : S → List ℕ → S → Fault → Type 0) where
+  module _ {R : Type 0} where
+    -- a line of the chunk ended the reading
+    pub reading_stopped : (s t u : S) (front piece given : List ℕ) (before after later : Option (List ℕ)) (r0 r1 r2 : Counted R) (k : ℕ)
+        → Reading takes refuses s t front before after r0 r1 k → Consumes after later piece → KeepsCounts r1 r2
+        → EndsAmong takes ends refuses t (ended_lines front given) u → given ≡ piece
+        → EndsEarly takes ends refuses before later r0 r2 s u
+    reading_stopped s t u front piece given before after later r0 r1 r2 k h read kept ended same = record {
+      text = h.text ++ piece;
+      read = Consumes-trans before after later h.text piece h.read read;
+      kept = KeepsCounts-trans r0 r1 r2 h.kept kept;
+      among = inl (subst (λ (ls : List (List ℕ)). EndsAmong takes ends refuses s ls u) (all_lines h.text piece front h.unended)
+          (ends_on takes ends refuses s t u (ended_lines [] h.text) (ended_lines front piece) h.taken
+          (subst (λ (l : List ℕ). EndsAmong takes ends refuses t (ended_lines front l) u) same ended)));
+    }
+
+    -- the end was met, and the last line taken or refused, or it ended the reading
+    pub reading_ends : {T : Type 0} (s t u : S) (front : List ℕ) (before after later : Option (List ℕ)) (r0 r1 r2 : Counted R) (k : ℕ) (r : Result T Fault)
+        → Reading takes refuses s t front before after r0 r1 k → Consumes after later [] → IsAtEnd later → KeepsCounts r1 r2
+        → MatchResult r (λ _. Takes takes refuses t (last_line front) u ⊎ EndsAmong takes ends refuses t (last_line front) u) (λ f. Refuses takes refuses t (last_line front) u f)
+        → TakesLines takes ends refuses before later r0 r2 s u r
+    reading_ends s t u front before after later r0 r1 r2 k (Ok x) h read end kept gone =
+        let all : Consumes before later h.text = subst (λ (b : List ℕ). Consumes before later b) (append-nil h.text) (Consumes-trans before after later h.text [] h.read read) in
+        elim gone as (λ _. TakesAll takes refuses before later r0 r2 s u ⊎ EndsEarly takes ends refuses before later r0 r2 s u) [
+          | inl taken ↦ inl (record {
+            text = h.text;
+            read = all;
+            end = end;
+            kept = KeepsCounts-trans r0 r1 r2 h.kept kept;
+            taken = subst (λ (l : List ℕ). Takes takes refuses s (ended_lines [] h.text ++ last_line l) u) h.unended
+                (takes_on takes refuses s t u (ended_lines [] h.text) (last_line front) h.taken taken);
+          })
+          | inr ended ↦ inr (record {
+            text = h.text;
+            read = all;
+            kept = KeepsCounts-trans r0 r1 r2 h.kept kept;
+            among = inr (
+              end,
+              subst (λ (l : List ℕ). EndsAmong takes ends refuses s (ended_lines [] h.text ++ last_line l) u) h.unended
+                  (ends_on takes ends refuses s t u (ended_lines [] h.text) (last_line front) h.taken ended),
+            );
+          })
+        ]
+    reading_ends s t u front before after later r0 r1 r2 k (Err f) h read end kept refused = inr (inl (record {
+      text = h.text;
+      read = subst (λ (b : List ℕ). Consumes before later b) (append-nil h.text) (Consumes-trans before after later h.text [] h.read read);
+      end = end;
+      kept = KeepsCounts-trans r0 r1 r2 h.kept kept;
+      middle = t;
+      taken = h.taken;
+      stops = subst (λ (l : List ℕ). Refuses takes refuses t (last_line l) u f) h.unended refused;
+    }))
+
+module _ {S : Type 0} (takes : S → List ℕ → S → Type 0) (refuses : S → List ℕ → S → Fault → Type 0) where
+  -- If no line ends the reading, all of the text is taken.
+  pub taken_to_the_end : {R : Type 0} (before after : Option (List ℕ)) (old new : Counted R) (s t : S)
+      → TakesAll takes refuses before after old new s t ⊎ EndsEarly takes NeverEnds refuses before after old new s t
+      → TakesAll takes refuses before after old new s t
+  taken_to_the_end before after old new s t (inl all) = all
+  taken_to_the_end before after old new s t (inr early) =
+      elim early.among as (λ _. TakesAll takes refuses before after old new s t) [
+        | inl e ↦ absurd e.ended
+        | inr e ↦ absurd e.1.ended
+      ]

@@ -1,11 +1,13 @@
 -- Lines that are taken, and then some more.
-use Rattle.std.proofs.Common.{◌≡◌, ℕ, false, length, ◌⊎◌, inl, inr, List, [], ◌∷◌, ◌++◌, Some, None, Result, Ok, Err, IfErr, refl, sym, ap, ◌∙◌, subst, append_assoc, append-nil}
-use Rattle.std.specs.Prelude.{OnOk, MatchResult, ◌==◌}
+use Rattle.std.proofs.Common.{◌≡◌, ℕ, false, length, ◌⊎◌, inl, inr, List, [], ◌∷◌, ◌++◌, Some, None, refl, sym, ap, ◌∙◌, subst, append_assoc, append-nil}
+use Rattle.std.specs.Prelude.{◌==◌}
 use Rattle.cg_types.specs.declared.fault.Fault.{Fault}
 use Rattle.cg_types.specs.declared.fault.Fault.TheVariants.{OutOfMemory}
 use Rattle.cg_types.specs.Words.{cut_at}
 use Rattle.cg_links.specs.Lines.{ended_lines, unended_line, last_line}
-use Rattle.cg_links.specs.Taken.{Takes, Refuses, Lacks}
+use Rattle.cg_links.specs.declared.lines.Next.{Next}
+use Rattle.cg_links.specs.declared.lines.Next.TheVariants.{More, Stop}
+use Rattle.cg_links.specs.Taken.{Takes, Refuses, Lacks, Goes, EndsAmong}
 use Rattle.cg_links.proofs.LineLemmas.{ended_some, open_some, ended_none, open_none}
 
 -- a last line that is not empty
@@ -96,15 +98,41 @@ module _ {S : Type 0} (takes : S → List ℕ → S → Type 0) (refuses : S →
       inr (subst (λ (s : S). Lacks takes refuses p (ended_lines first piece) s f) (sym short.1)
       (taking_short p q first front piece rest f t short.0))
 
-  -- the rest is kept, or finds no memory
-  pub taking_rest : {T : Type 0} (p q : S) (first front piece rest : List ℕ) (r : Result T Fault)
-      → Taking p q first front piece rest → cut_at 10 rest ≡ None → IfErr r (λ f. f ≡ OutOfMemory)
-      → MatchResult r (λ _. Takes takes refuses p (ended_lines first piece) q)
-      (λ f. Refuses takes refuses p (ended_lines first piece) q f ⊎ Lacks takes refuses p (ended_lines first piece) q f)
-  taking_rest p q first front piece rest (Ok x) t cut short = taking_all p q first front piece rest t cut
-  taking_rest p q first front piece rest (Err f) t cut short = inr (taking_short p q first front piece rest f t short)
+  -- the rest is kept
+  pub taking_kept : (p q : S) (first front next piece rest : List ℕ)
+      → Taking p q first front piece rest → cut_at 10 rest ≡ None → next ≡ front ++ rest → next ≡ unended_line first piece
+  taking_kept p q first front next piece rest t cut is = is ∙ sym (t.unended ∙ open_none front rest cut)
 
-  pub taking_kept : {T : Type 0} (p q : S) (first front next piece rest : List ℕ) (r : Result T Fault)
-      → Taking p q first front piece rest → cut_at 10 rest ≡ None → OnOk r (next ≡ front ++ rest) → OnOk r (next ≡ unended_line first piece)
-  taking_kept p q first front next piece rest (Ok x) t cut is = is ∙ sym (t.unended ∙ open_none front rest cut)
-  taking_kept p q first front next piece rest (Err f) t cut is = tt
+module _ {S : Type 0} (takes ends : S → List ℕ → S → Type 0) (refuses : S → List ℕ → S → Fault → Type 0) where
+  -- ---- a line that ends the reading
+
+  pub ends_on : (p q r : S) (xs ys : List (List ℕ)) → Takes takes refuses p xs q → EndsAmong takes ends refuses q ys r → EndsAmong takes ends refuses p (xs ++ ys) r
+  ends_on p q r xs ys one two = record {
+    front = xs ++ two.front;
+    line = two.line;
+    rest = two.rest;
+    are = ap (λ (l : List (List ℕ)). xs ++ l) two.are ∙ sym (append_assoc xs two.front (two.line ∷ two.rest));
+    middle = two.middle;
+    taken = takes_on takes refuses p q two.middle xs two.front one two.taken;
+    ended = two.ended;
+  }
+
+  ends_first : (p r : S) (line : List ℕ) (rest : List (List ℕ)) → ends p line r → EndsAmong takes ends refuses p (line ∷ rest) r
+  ends_first p r line rest h = record { front = []; line = line; rest = rest; are = refl; middle = p; taken = refl; ended = h }
+
+  -- a line that is the only one
+  pub goes_last : (next : Next) (p r : S) (line : List ℕ) → Goes takes ends next p line r
+      → Takes takes refuses p (line ∷ []) r ⊎ EndsAmong takes ends refuses p (line ∷ []) r
+  goes_last More p r line h = inl (r, h, refl)
+  goes_last Stop p r line h = inr (ends_first p r line [] h)
+
+  -- the next line of a chunk
+  pub taking_ends : (p q r : S) (first front piece rest : List ℕ) (parts : List ℕ × List ℕ)
+      → Taking takes refuses p q first front piece rest → cut_at 10 rest ≡ Some parts → ends q (front ++ parts.0) r
+      → EndsAmong takes ends refuses p (ended_lines first piece) r
+  taking_ends p q r first front piece rest parts t cut h =
+      let all : t.lines ++ ((front ++ parts.0) ∷ ended_lines [] parts.1) ≡ ended_lines first piece =
+      sym (t.ended ∙ ap (λ (ls : List (List ℕ)). t.lines ++ ls) (ended_some front rest parts cut)) in
+      subst (λ (ls : List (List ℕ)). EndsAmong takes ends refuses p ls r) all
+      (ends_on p q r t.lines ((front ++ parts.0) ∷ ended_lines [] parts.1) t.taken
+      (ends_first q r (front ++ parts.0) (ended_lines [] parts.1) h))

@@ -6,6 +6,8 @@ use Rattle.cg_types.specs.declared.fault.Fault.TheVariants.{OutOfMemory, ReadFau
 use Rattle.cg_links.specs.declared.counted.Counted.{Counted}
 use Rattle.cg_links.specs.Counted.{KeepsCounts, CountsCalls, CountsFailed}
 use Rattle.cg_links.specs.declared.transfer.TheConstants.{MOST_READS}
+use Rattle.cg_links.specs.declared.lines.Next.{Next}
+use Rattle.cg_links.specs.declared.lines.Next.TheVariants.{More, Stop}
 use Rattle.cg_links.specs.declared.lines.TheConstants.{PIECE_LIMIT}
 use Rattle.cg_links.specs.Lines.{ended_lines, unended_line, last_line, lines_of}
 
@@ -83,5 +85,43 @@ module _ {S : Type 0} (takes : S → List ℕ → S → Type 0) (refuses : S →
     abbrev pub Fails : Fault → Type 0
     Fails f = Stops f ⊎ (StopsLast f ⊎ IsUnread f)
 
-    abbrev pub TakesLines : {T : Type 0} → Result T Fault → Type 0
-    TakesLines result = MatchResult result (λ _. TakesAll) Fails
+-- no line ends the reading
+abbrev pub NeverEnds : {S : Type 0} → S → List ℕ → S → Type 0
+NeverEnds s line t = ⊥
+
+-- A taker whose lines may end the reading: ends has a state, such a line and the state that is left.
+module _ {S : Type 0} (takes ends : S → List ℕ → S → Type 0) where
+  -- The line was taken, or it ended the reading.
+  abbrev pub Goes : Next → S → List ℕ → S → Type 0
+  Goes More s line t = takes s line t
+  Goes Stop s line t = ends s line t
+
+  module _ (refuses : S → List ℕ → S → Fault → Type 0) where
+    -- The first of these lines were taken, and the next one ended the reading.
+    pub record EndsAmong (s : S) (lines : List (List ℕ)) (t : S) : Type 0 where
+      pub front : List (List ℕ)
+      pub line : List ℕ
+      pub rest : List (List ℕ)
+      pub are : lines ≡ front ++ line ∷ rest
+      pub middle : S
+      pub taken : Takes takes refuses s front middle
+      pub ended : ends middle line t
+
+    -- The lines were taken, or one of them ended the reading.
+    abbrev pub GoesOn : Next → S → List (List ℕ) → S → Type 0
+    GoesOn More s lines t = Takes takes refuses s lines t
+    GoesOn Stop s lines t = EndsAmong s lines t
+
+    module _ {R : Type 0} (before after : Option (List ℕ)) (old new : Counted R) (s t : S) where
+      -- A line of the text that was read ended the reading: with a line feed, or as the last line of all there is.
+      pub record EndsEarly : Type 0 where
+        pub text : List ℕ
+        pub read : Consumes before after text
+        pub kept : KeepsCounts old new
+        pub among : EndsAmong s (ended_lines [] text) t ⊎ (IsAtEnd after × EndsAmong s (lines_of text) t)
+
+      abbrev pub TakesLines : {T : Type 0} → Result T Fault → Type 0
+      TakesLines result =
+          MatchResult result
+          (λ _. TakesAll takes refuses before after old new s t ⊎ EndsEarly)
+          (Fails takes refuses before after old new s t)

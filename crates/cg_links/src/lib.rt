@@ -12,6 +12,6 @@ mod transfer;
 mod trials;
 
 pub use counted::Counted;
-pub use lines::{PIECE_LIMIT, TakeLine, take_lines};
+pub use lines::{Next, PIECE_LIMIT, TakeLine, take_lines};
 pub use transfer::{MOST_READS, read_all, write_and_flush, write_bytes};
 pub use trials::{CountingLink, FailingLink, FullLink, SlowLink};

@@ -3,7 +3,7 @@
 ghost use Rattle.std.specs.Prelude.{◌≡◌, ◌≤◌, ◌+◌, ℕ, List, ◌⊎◌, take, OnOk, OnErr, IfOk, IfErr, Err};
 ghost use Rattle.std.specs.Io.KnownBytes.{Appends, Consumes, IsAtEnd};
 ghost use Rattle.cg_links.specs.Counted.{link_of, calls_of, KeepsCounts, CountsCalls, CountsFailed, CountsIdle, IsFlushed};
-ghost use Rattle.cg_types.specs.declared.faults.Fault.TheVariants as faults;
+ghost use Rattle.cg_types.specs.declared.fault.Fault.TheVariants as faults;
 
 use crate::counted::Counted;
 use cg_types::Fault;

@@ -8,12 +8,14 @@ use Rattle.cg_links.specs.declared.counted.Counted.{Counted}
 use Rattle.cg_links.specs.Counted.{KeepsCounts}
 use Rattle.cg_links.specs.Lines.{ended_lines, unended_line, last_line, lines_of}
 use Rattle.cg_links.proofs.ReadingLemmas.{stops_in_text, stops_in_lines}
-use Rattle.cg_links.specs.Taken.{Takes, Refuses, Lacks, StopsAmong, Stops, StopsLast, IsUnread, Fails, TakesAll, TakesLines}
+use Rattle.cg_links.specs.declared.lines.Next.{Next}
+use Rattle.cg_links.specs.declared.lines.Next.TheVariants.{More, Stop}
+use Rattle.cg_links.specs.Taken.{Takes, Refuses, Lacks, StopsAmong, Stops, StopsLast, IsUnread, Fails, TakesAll, Goes, EndsAmong, EndsEarly, TakesLines}
 use Rattle.cg_operator.specs.declared.command.OperatorCommand.TheVariants.{Quit}
 use Rattle.cg_operator.specs.declared.operating.Operating.{Operating}
 use Rattle.cg_operator.specs.Commands.{command_in}
-use Rattle.cg_operator.specs.Operating.{At, DoesLine, EndsAt, Quits, ReachesTheEnd, Operates}
-use Rattle.cg_operator.specs.Steps.{at_of, HoldsSame, TakesStep, RefusesStep}
+use Rattle.cg_operator.specs.Operating.{At, DoesLine, QuitsAt, EndsAt, Quits, Operates}
+use Rattle.cg_operator.specs.Steps.{at_of, HoldsSame, TakesStep, QuitsStep, RefusesStep}
 
 module _ {W : Type 0} (holds : W → Option (List ℕ)) (start : NodeValue) (opening : TableValue) where
   -- lines of which one asked for the end
@@ -32,6 +34,15 @@ module _ {N R W : Type 0} (holds : W → Option (List ℕ)) (start : NodeValue) 
   abbrev stops : Operating N R W → List ℕ → Operating N R W → Fault → Type 0
   stops = RefusesStep holds start opening
 
+  abbrev quits : Operating N R W → List ℕ → Operating N R W → Type 0
+  quits = QuitsStep holds start opening
+
+  -- the step of a line that is carried out
+  pub goes_step : (next : Next) (s t : Operating N R W) (line : List ℕ) → HoldsSame s t
+      → Goes (DoesLine holds start opening) (QuitsAt holds start opening) next (at_of s) line (at_of t) → Goes steps quits next s line t
+  goes_step More s t line same h = record { same = same; done = h }
+  goes_step Stop s t line same h = record { same = same; quits = h }
+
   same_further : (s m t : Operating N R W) → HoldsSame s m → HoldsSame m t → HoldsSame s t
   same_further s m t one two = record {
     gate = two.gate ∙ one.gate;
@@ -42,18 +53,16 @@ module _ {N R W : Type 0} (holds : W → Option (List ℕ)) (start : NodeValue) 
   -- lines that were taken
   pub record Chained (s t : Operating N R W) (lines : List (List ℕ)) : Type 0 where
     pub same : HoldsSame s t
-    pub quit : t.has_quit ≡ s.has_quit
     pub done : Takes (DoesLine holds start opening) (EndsAt holds start opening) (at_of s) lines (at_of t)
 
   pub chained : (s t : Operating N R W) (lines : List (List ℕ)) → Takes steps stops s lines t → Chained s t lines
   chained s t [] e =
       subst (λ (x : Operating N R W). Chained s x []) e
-      (record { same = record { gate = refl; pass = refl; writer = refl }; quit = refl; done = refl })
+      (record { same = record { gate = refl; pass = refl; writer = refl }; done = refl })
   chained s t (line ∷ lines) h =
       let rest = chained h.0 t lines h.2 in
       record {
         same = same_further s h.0 t h.1.same rest.same;
-        quit = rest.quit ∙ h.1.quit;
         done = (at_of h.0, h.1.done, rest.done);
       }
 
@@ -62,38 +71,33 @@ module _ {N R W : Type 0} (holds : W → Option (List ℕ)) (start : NodeValue) 
   refused_same : (s t : Operating N R W) (lines : List (List ℕ)) (f : Fault) → Refuses steps stops s lines t f → HoldsSame s t
   refused_same s t lines f h = same_further s h.middle t (chained s h.middle h.front h.taken).same h.refused.same
 
-  refused_quits : (s t : Operating N R W) (lines : List (List ℕ)) (f : Fault) → s.has_quit ≡ false → t.has_quit ≡ true
-      → Refuses steps stops s lines t f → QuitsIn holds start opening (at_of s) (at_of t) lines
-  refused_quits s t lines f was is h =
-      let before = chained s h.middle h.front h.taken in
-      elim h.refused.cause as (λ _. QuitsIn holds start opening (at_of s) (at_of t) lines) [
-        | inl q ↦ record {
-          front = h.front;
-          line = h.line;
-          rest = h.rest;
-          are = h.are;
-          asked = q.asked;
-          done = subst (λ (x : At W). Takes (DoesLine holds start opening) (EndsAt holds start opening) (at_of s) h.front x) (sym q.at) before.done;
-        }
-        | inr e ↦ absurd (cc (e.quit, before.quit, was, is))
-      ]
-
-  refused_ends : (s t : Operating N R W) (lines : List (List ℕ)) (f : Fault) → s.has_quit ≡ false → t.has_quit ≡ false
+  refused_ends : (s t : Operating N R W) (lines : List (List ℕ)) (f : Fault)
       → Refuses steps stops s lines t f → Refuses (DoesLine holds start opening) (EndsAt holds start opening) (at_of s) lines (at_of t) f
-  refused_ends s t lines f was is h =
-      let before = chained s h.middle h.front h.taken in
-      elim h.refused.cause as (λ _. Refuses (DoesLine holds start opening) (EndsAt holds start opening) (at_of s) lines (at_of t) f) [
-        | inl q ↦ absurd (cc (q.quit, is))
-        | inr e ↦ record {
-          front = h.front;
-          line = h.line;
-          rest = h.rest;
-          are = h.are;
-          middle = at_of h.middle;
-          taken = before.done;
-          refused = e.ends;
-        }
-      ]
+  refused_ends s t lines f h = record {
+    front = h.front;
+    line = h.line;
+    rest = h.rest;
+    are = h.are;
+    middle = at_of h.middle;
+    taken = (chained s h.middle h.front h.taken).done;
+    refused = h.refused.ends;
+  }
+
+  -- ---- a line that requests the end
+
+  quit_same : (s t : Operating N R W) (lines : List (List ℕ)) → EndsAmong steps quits stops s lines t → HoldsSame s t
+  quit_same s t lines h = same_further s h.middle t (chained s h.middle h.front h.taken).same h.ended.same
+
+  quit_in : (s t : Operating N R W) (lines : List (List ℕ)) → EndsAmong steps quits stops s lines t → QuitsIn holds start opening (at_of s) (at_of t) lines
+  quit_in s t lines h = record {
+    front = h.front;
+    line = h.line;
+    rest = h.rest;
+    are = h.are;
+    asked = h.ended.quits.0;
+    done = subst (λ (x : At W). Takes (DoesLine holds start opening) (EndsAt holds start opening) (at_of s) h.front x) (sym h.ended.quits.1)
+        (chained s h.middle h.front h.taken).done;
+  }
 
   lacked_ends : (s t : Operating N R W) (lines : List (List ℕ)) (f : Fault) → Lacks steps stops s lines t f → Lacks (DoesLine holds start opening) (EndsAt holds start opening) (at_of s) lines (at_of t) f
   lacked_ends s t lines f h = record {
@@ -135,8 +139,16 @@ module _ {N R W : Type 0} (holds : W → Option (List ℕ)) (start : NodeValue) 
           ]
         ]
 
-    pub taken_same : {T : Type 0} (r : Result T Fault) → TakesLines steps stops before after old new s t r → HoldsSame s t
-    taken_same (Ok x) h = (chained s t (lines_of h.text) h.taken).same
+    early_same : EndsEarly steps quits stops before after old new s t → HoldsSame s t
+    early_same h =
+        elim h.among as (λ _. HoldsSame s t) [
+          | inl e ↦ quit_same s t (ended_lines [] h.text) e
+          | inr e ↦ quit_same s t (lines_of h.text) e.1
+        ]
+
+    pub taken_same : {T : Type 0} (r : Result T Fault) → TakesLines steps quits stops before after old new s t r → HoldsSame s t
+    taken_same (Ok x) (inl all) = (chained s t (lines_of all.text) all.taken).same
+    taken_same (Ok x) (inr early) = early_same early
     taken_same (Err f) h = failed_same f h
 
     -- ---- a quit
@@ -157,44 +169,24 @@ module _ {N R W : Type 0} (holds : W → Option (List ℕ)) (start : NodeValue) 
       done = q.done;
     }
 
-    lacked_quit : (lines : List (List ℕ)) (f : Fault) → s.has_quit ≡ false → t.has_quit ≡ true → Lacks steps stops s lines t f → ⊥
-    lacked_quit lines f was is l = let kept = (chained s t l.front l.taken).quit in cc (kept, was, is)
-
-    stopped_quits : (f : Fault) → s.has_quit ≡ false → t.has_quit ≡ true → Stops steps stops before after old new s t f
-        → Quits holds start opening before after old new (at_of s) (at_of t)
-    stopped_quits f was is h =
-        let text = h.earlier ++ h.piece in
-        elim (stops_in_text steps stops before after old new s t f h) as (λ _. Quits holds start opening before after old new (at_of s) (at_of t)) [
-          | inl r ↦
-              let quits = refused_quits s t (ended_lines [] text) f was is r in
-              quits_in text h.read h.kept (ended_lines [] text) quits (inl quits.are)
-          | inr l ↦ absurd (lacked_quit (ended_lines [] text) f was is l)
-        ]
-
-    unread_quit : (f : Fault) → s.has_quit ≡ false → t.has_quit ≡ true → IsUnread steps stops before after old new s t f → ⊥
-    unread_quit f was is u = let kept = (chained s t (ended_lines [] u.text) u.taken).quit in cc (kept, was, is)
-
-    failed_quits : (f : Fault) → s.has_quit ≡ false → t.has_quit ≡ true → Fails steps stops before after old new s t f
-        → Quits holds start opening before after old new (at_of s) (at_of t)
-    failed_quits f was is h =
-        elim h as (λ _. Quits holds start opening before after old new (at_of s) (at_of t)) [
-          | inl k ↦ stopped_quits f was is k
-          | inr k ↦ elim k as (λ _. Quits holds start opening before after old new (at_of s) (at_of t)) [
-            | inl l ↦
-                let quits = refused_quits s t (lines_of l.text) f was is (stops_in_lines steps stops before after old new s t f l) in
-                quits_in l.text l.read l.kept (lines_of l.text) quits (inr (l.end, quits.are))
-            | inr u ↦ absurd (unread_quit f was is u)
-          ]
+    early_quits : EndsEarly steps quits stops before after old new s t → Quits holds start opening before after old new (at_of s) (at_of t)
+    early_quits h =
+        elim h.among as (λ _. Quits holds start opening before after old new (at_of s) (at_of t)) [
+          | inl e ↦
+              let q = quit_in s t (ended_lines [] h.text) e in
+              quits_in h.text h.read h.kept (ended_lines [] h.text) q (inl q.are)
+          | inr e ↦
+              let q = quit_in s t (lines_of h.text) e.1 in
+              quits_in h.text h.read h.kept (lines_of h.text) q (inr (e.0, q.are))
         ]
 
     -- ---- a fault
 
-    stopped_ends : (f : Fault) → s.has_quit ≡ false → t.has_quit ≡ false → Stops steps stops before after old new s t f
+    stopped_ends : (f : Fault) → Stops steps stops before after old new s t f
         → Stops (DoesLine holds start opening) (EndsAt holds start opening) before after old new (at_of s) (at_of t) f
-    stopped_ends f was is h =
+    stopped_ends f h =
         let first = chained s h.middle (ended_lines [] h.earlier) h.taken in
         let last = ended_lines (unended_line [] h.earlier) h.piece in
-        let still : h.middle.has_quit ≡ false = cc (first.quit, was) in
         record {
           earlier = h.earlier;
           piece = h.piece;
@@ -204,16 +196,15 @@ module _ {N R W : Type 0} (holds : W → Option (List ℕ)) (start : NodeValue) 
           middle = at_of h.middle;
           taken = first.done;
           stops = elim h.stops as (λ _. StopsAmong (DoesLine holds start opening) (EndsAt holds start opening) (at_of h.middle) last (at_of t) f) [
-            | inl r ↦ inl (refused_ends h.middle t last f still is r)
+            | inl r ↦ inl (refused_ends h.middle t last f r)
             | inr l ↦ inr (lacked_ends h.middle t last f l)
           ];
         }
 
-    last_ends : (f : Fault) → s.has_quit ≡ false → t.has_quit ≡ false → StopsLast steps stops before after old new s t f
+    last_ends : (f : Fault) → StopsLast steps stops before after old new s t f
         → StopsLast (DoesLine holds start opening) (EndsAt holds start opening) before after old new (at_of s) (at_of t) f
-    last_ends f was is h =
+    last_ends f h =
         let first = chained s h.middle (ended_lines [] h.text) h.taken in
-        let still : h.middle.has_quit ≡ false = cc (first.quit, was) in
         record {
           text = h.text;
           read = h.read;
@@ -221,7 +212,7 @@ module _ {N R W : Type 0} (holds : W → Option (List ℕ)) (start : NodeValue) 
           kept = h.kept;
           middle = at_of h.middle;
           taken = first.done;
-          stops = refused_ends h.middle t (last_line (unended_line [] h.text)) f still is h.stops;
+          stops = refused_ends h.middle t (last_line (unended_line [] h.text)) f h.stops;
         }
 
     unread_ends : (f : Fault) → IsUnread steps stops before after old new s t f → IsUnread (DoesLine holds start opening) (EndsAt holds start opening) before after old new (at_of s) (at_of t) f
@@ -233,30 +224,19 @@ module _ {N R W : Type 0} (holds : W → Option (List ℕ)) (start : NodeValue) 
       taken = (chained s t (ended_lines [] h.text) h.taken).done;
     }
 
-    pub all_end : TakesAll steps stops before after old new s t → ReachesTheEnd holds start opening before after old new (at_of s) (at_of t)
-    all_end h = inl (all_taken h)
-
-    quit_ends : (f : Fault) → s.has_quit ≡ false → t.has_quit ≡ true → Fails steps stops before after old new s t f
-        → ReachesTheEnd holds start opening before after old new (at_of s) (at_of t)
-    quit_ends f was is h = inr (failed_quits f was is h)
-
-    fault_ends : (f : Fault) → s.has_quit ≡ false → t.has_quit ≡ false → Fails steps stops before after old new s t f
+    fault_ends : (f : Fault) → Fails steps stops before after old new s t f
         → Fails (DoesLine holds start opening) (EndsAt holds start opening) before after old new (at_of s) (at_of t) f
-    fault_ends f was is h =
+    fault_ends f h =
         elim h as (λ _. Fails (DoesLine holds start opening) (EndsAt holds start opening) before after old new (at_of s) (at_of t) f) [
-          | inl k ↦ inl (stopped_ends f was is k)
+          | inl k ↦ inl (stopped_ends f k)
           | inr k ↦ elim k as (λ _. Fails (DoesLine holds start opening) (EndsAt holds start opening) before after old new (at_of s) (at_of t) f) [
-            | inl l ↦ inr (inl (last_ends f was is l))
+            | inl l ↦ inr (inl (last_ends f l))
             | inr u ↦ inr (inr (unread_ends f u))
           ]
         ]
 
-    pub failed_ends : (f : Fault) (r : Result (Unit {0}) Fault) → s.has_quit ≡ false → (t.has_quit ≡ true → r ≡ Ok tt)
-        → (t.has_quit ≡ false → r ≡ Err f) → Fails steps stops before after old new s t f
+    pub lines_operate : {T : Type 0} (r : Result T Fault) → TakesLines steps quits stops before after old new s t r
         → Operates holds start opening before after old new (at_of s) (at_of t) r
-    failed_ends f r was quit fault h =
-        let due = λ (x : Result (Unit {0}) Fault). Operates holds start opening before after old new (at_of s) (at_of t) x in
-        elim t.has_quit as (λ b. t.has_quit ≡ b → due r) [
-          | true ↦ λ e. subst due (sym (quit e)) (quit_ends f was e h)
-          | false ↦ λ e. subst due (sym (fault e)) (fault_ends f was e h)
-        ] refl
+    lines_operate (Ok x) (inl all) = inl (all_taken all)
+    lines_operate (Ok x) (inr early) = inr (early_quits early)
+    lines_operate (Err f) h = fault_ends f h

@@ -1,5 +1,5 @@
 -- Lines of the operator, one after the other, and the text written of them.
-use Rattle.std.specs.Prelude.{ℕ, ◌≡◌, ◌⊎◌, Bool, true, false, List, [], ◌∷◌, ◌++◌, take, Option, Result, Ok, MatchResult}
+use Rattle.std.specs.Prelude.{ℕ, ◌≡◌, ◌⊎◌, List, [], ◌∷◌, ◌++◌, take, Option, Result, Ok, MatchResult}
 use Rattle.std.specs.Io.KnownBytes.{Appends, Consumes, IsAtEnd}
 use Rattle.cg_types.specs.declared.fault.Fault.{Fault}
 use Rattle.cg_types.specs.declared.fault.Fault.TheVariants.{OutOfMemory, WriteFault, NoSuchNode}
@@ -9,7 +9,8 @@ use Rattle.cg_core.specs.Values.{NodeValue}
 use Rattle.cg_links.specs.declared.counted.Counted.{Counted}
 use Rattle.cg_links.specs.Counted.{link_of, KeepsCounts, CountsFailed, CountsIdle, IsFlushed}
 use Rattle.cg_links.specs.Lines.{ended_lines, lines_of}
-use Rattle.cg_links.specs.Taken.{Takes, TakesAll, Fails}
+use Rattle.cg_links.specs.declared.lines.Next.{Next}
+use Rattle.cg_links.specs.Taken.{Takes, TakesAll, Fails, Goes}
 use Rattle.cg_text.specs.declared.view.View.{View}
 use Rattle.cg_locked.specs.Seats.{SeatValue}
 use Rattle.cg_operator.specs.declared.command.OperatorCommand.TheVariants.{Show, Quit}
@@ -61,14 +62,13 @@ module _ {W : Type 0} (holds : W → Option (List ℕ)) (start : NodeValue) (ope
   abbrev pub EndsAt : At W → List ℕ → At W → Fault → Type 0
   EndsAt s line t f = LacksMemory s line t f ⊎ (ReadsNothing s line t f ⊎ WritesFront s line t f)
 
-  -- A line goes on with the next one, or requests the end and does nothing.
-  abbrev pub Goes : At W → List ℕ → At W → Bool → Type 0
-  Goes s line t true = DoesLine s line t
-  Goes s line t false = (command_in line ≡ Ok Quit) × (t ≡ s)
+  -- The line requested the end, and did nothing.
+  abbrev pub QuitsAt : At W → List ℕ → At W → Type 0
+  QuitsAt s line t = (command_in line ≡ Ok Quit) × (t ≡ s)
 
   -- the outcome of a line
-  abbrev pub TellsLine : At W → List ℕ → At W → Result Bool Fault → Type 0
-  TellsLine s line t result = MatchResult result (Goes s line t) (EndsAt s line t)
+  abbrev pub TellsLine : At W → List ℕ → At W → Result Next Fault → Type 0
+  TellsLine s line t result = MatchResult result (λ next. Goes DoesLine QuitsAt next s line t) (EndsAt s line t)
 
   module _ {R : Type 0} (before after : Option (List ℕ)) (old new : Counted R) (s t : At W) where
     -- A line requested the end: those before it were done, and those after it are not looked at. It ends with a line

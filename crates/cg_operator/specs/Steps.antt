@@ -1,12 +1,10 @@
 -- The steps of an operator that holds its gate, its pass and its writer.
-use Rattle.std.specs.Prelude.{ℕ, ◌≡◌, ◌⊎◌, true, List, Option, Ok}
+use Rattle.std.specs.Prelude.{ℕ, ◌≡◌, List, Option}
 use Rattle.cg_types.specs.declared.fault.Fault.{Fault}
 use Rattle.cg_table.specs.Values.{TableValue}
 use Rattle.cg_core.specs.Values.{NodeValue}
-use Rattle.cg_operator.specs.declared.command.OperatorCommand.TheVariants.{Quit}
 use Rattle.cg_operator.specs.declared.operating.Operating.{Operating}
-use Rattle.cg_operator.specs.Commands.{command_in}
-use Rattle.cg_operator.specs.Operating.{At, DoesLine, EndsAt}
+use Rattle.cg_operator.specs.Operating.{At, DoesLine, QuitsAt, EndsAt}
 
 -- the progress of the operator
 abbrev pub at_of : {N R W : Type 0} → Operating N R W → At W
@@ -21,20 +19,14 @@ pub record HoldsSame {N R W : Type 0} (s t : Operating N R W) : Type 0 where
 module _ {N R W : Type 0} (holds : W → Option (List ℕ)) (start : NodeValue) (opening : TableValue) where
   pub record TakesStep (s : Operating N R W) (line : List ℕ) (t : Operating N R W) : Type 0 where
     pub same : HoldsSame s t
-    pub quit : t.has_quit ≡ s.has_quit
     pub done : DoesLine holds start opening (at_of s) line (at_of t)
 
   -- The line requested the end.
   pub record QuitsStep (s : Operating N R W) (line : List ℕ) (t : Operating N R W) : Type 0 where
-    pub quit : t.has_quit ≡ true
-    pub asked : command_in line ≡ Ok Quit
-    pub at : at_of t ≡ at_of s
+    pub same : HoldsSame s t
+    pub quits : QuitsAt holds start opening (at_of s) line (at_of t)
 
   -- The line ended the operator by a fault.
-  pub record EndsStep (s : Operating N R W) (line : List ℕ) (t : Operating N R W) (f : Fault) : Type 0 where
-    pub quit : t.has_quit ≡ s.has_quit
-    pub ends : EndsAt holds start opening (at_of s) line (at_of t) f
-
   pub record RefusesStep (s : Operating N R W) (line : List ℕ) (t : Operating N R W) (f : Fault) : Type 0 where
     pub same : HoldsSame s t
-    pub cause : QuitsStep s line t ⊎ EndsStep s line t f
+    pub ends : EndsAt holds start opening (at_of s) line (at_of t) f

@@ -1,6 +1,6 @@
 //! The work of an operator, over its lines.
 
-ghost use Rattle.std.specs.Prelude.{◌≡◌, ◌≤◌, ◌+◌, true, false, Ok, Err, IfErr};
+ghost use Rattle.std.specs.Prelude.{◌≡◌, ◌≤◌, ◌+◌, IfErr};
 ghost use Rattle.cg_links.specs.Counted.{link_of, calls_of};
 ghost use Rattle.cg_links.specs.declared.transfer.TheConstants.{MOST_READS};
 ghost use Rattle.cg_views.specs.Lists.{StartsWith};
@@ -9,7 +9,7 @@ ghost use Rattle.cg_operator.specs.Operating.{Operates, TellsLine};
 ghost use Rattle.cg_operator.specs.Steps.{at_of};
 
 use crate::answering::answer;
-use cg_links::{Counted, TakeLine, take_lines, write_and_flush};
+use cg_links::{Counted, Next, TakeLine, take_lines, write_and_flush};
 use cg_locked::{Name, SeatGate};
 use cg_types::Fault;
 use cg_views::Pass;
@@ -17,61 +17,50 @@ use std::alloc::Global;
 use std::io::{Read, Write};
 use std::sync::Wait;
 
-// An operator between two lines, and `true` if a line requested the end.
+// An operator between two lines.
 #[derive(Drop)]
 pub(crate) struct Operating<'a, 'b, N: Name, R: Wait, W> {
     pub gate: &'a mut SeatGate<'b, N, R>,
     pub pass: &'a mut Pass<N>,
     pub writer: &'a mut Counted<W>,
-    pub has_quit: bool,
 }
 
-// Carries out a line, and writes the text that it shows. Returns `true` if a further line is to be read.
+// Carries out a line, and writes the text that it shows. `quit` stops the reading.
 fn tell_line<N: Name, R: Wait, W: Write>(
     alloc: Global,
     gate: &mut SeatGate<'_, N, R>,
     pass: &mut Pass<N>,
     writer: &mut Counted<W>,
     line: &[u8],
-) -> Result<bool, Fault>
+) -> Result<Next, Fault>
     ensures { TellsLine W.contents N.start N.opening (record { gate = gate.old; pass = pass.old; writer = writer.old })
         line.now (record { gate = gate.new; pass = pass.new; writer = writer.new }) result }
 {
     match answer(alloc, gate, pass, line) {
         Ok(Some(text)) => match write_and_flush(writer, text.as_bytes()) {
-            Ok(()) => Ok(true),
+            Ok(()) => Ok(Next::More),
             Err(fault) => Err(fault),
         },
-        Ok(None) => Ok(false),
+        Ok(None) => Ok(Next::Stop),
         Err(fault) => Err(fault),
     }
 }
 
 impl<'a, 'b, N: Name, R: Wait, W: Write> TakeLine for Operating<'a, 'b, N, R, W> {
-    ghost use Rattle.cg_operator.specs.Steps.{TakesStep, RefusesStep};
+    ghost use Rattle.cg_operator.specs.Steps.{TakesStep, QuitsStep, RefusesStep};
 
     ghost takes = { TakesStep W.contents N.start N.opening };
 
+    ghost ends = { QuitsStep W.contents N.start N.opening };
+
     ghost refuses = { RefusesStep W.contents N.start N.opening };
 
-    fn take_line(&mut self, alloc: Global, line: &[u8]) -> Result<(), Fault> {
+    fn take_line(&mut self, alloc: Global, line: &[u8]) -> Result<Next, Fault> {
         match tell_line(alloc, self.gate, self.pass, self.writer, line) {
-            Ok(true) => Ok(()),
-            Ok(false) => {
-                self.has_quit = true;
-                Err(Fault::ReadFault)
-            }
+            Ok(next) => Ok(next),
             Err(fault) => Err(fault),
         }
     }
-}
-
-// Returns the end of a reading that a line stopped: no fault if the line requested the end.
-fn ended(has_quit: bool, fault: Fault) -> Result<(), Fault>
-    ensures quit { has_quit ≡ true → result ≡ Ok tt }
-    ensures fault { has_quit ≡ false → result ≡ Err fault }
-{
-    if has_quit { Ok(()) } else { Err(fault) }
 }
 
 // Carries out the lines that a reader has left.
@@ -80,7 +69,6 @@ fn operate_lines<N: Name, R: Wait, W: Write, I: Read>(
     operating: &mut Operating<'_, '_, N, R, W>,
     reader: &mut Counted<I>,
 ) -> Result<(), Fault>
-    requires { operating.old.has_quit ≡ false }
     ensures gate { operating.new.gate.ghost_name ≡ operating.old.gate.ghost_name }
     ensures pass { operating.new.pass.ghost_name ≡ operating.old.pass.ghost_name }
     ensures writer { operating.new.writer.ghost_name ≡ operating.old.writer.ghost_name }
@@ -89,10 +77,7 @@ fn operate_lines<N: Name, R: Wait, W: Write, I: Read>(
         reader.old reader.new (at_of operating.old) (at_of operating.new) result }
     ensures turns { calls_of reader.new ≤ calls_of reader.old + MOST_READS }
 {
-    match take_lines(alloc, operating, reader) {
-        Ok(()) => Ok(()),
-        Err(fault) => ended(operating.has_quit, fault),
-    }
+    take_lines(alloc, operating, reader)
 }
 
 /// Carries out the lines that a reader has left, one after the other, until `quit`, the end or a fault. The text that a
@@ -123,11 +108,6 @@ pub fn operate<N: Name, R: Wait, I: Read, W: Write>(
     ensures fault { IfErr result IsOperatorFault }
     ensures turns { calls_of reader.new ≤ calls_of reader.old + MOST_READS }
 {
-    let mut operating = Operating {
-        gate,
-        pass,
-        writer,
-        has_quit: false,
-    };
+    let mut operating = Operating { gate, pass, writer };
     operate_lines(alloc, &mut operating, reader)
 }

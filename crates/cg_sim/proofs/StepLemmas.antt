@@ -8,8 +8,8 @@ use Rattle.cg_types.specs.declared.fault.Fault.{Fault}
 use Rattle.cg_types.specs.declared.fault.Fault.TheVariants.{OutOfMemory}
 use Rattle.cg_links.specs.declared.counted.Counted.{Counted}
 use Rattle.cg_links.specs.Lines.{ended_lines, unended_line, last_line, lines_of}
-use Rattle.cg_links.proofs.ReadingLemmas.{stops_in_text, stops_in_lines}
-use Rattle.cg_links.specs.Taken.{Takes, Refuses, Lacks, Stops, StopsLast, IsUnread, Fails, TakesAll, TakesLines}
+use Rattle.cg_links.proofs.ReadingLemmas.{stops_in_text, stops_in_lines, taken_to_the_end}
+use Rattle.cg_links.specs.Taken.{Takes, Refuses, Lacks, Stops, StopsLast, IsUnread, Fails, TakesAll, NeverEnds, TakesLines}
 use Rattle.cg_sim.specs.declared.play.Play.{Play}
 use Rattle.cg_sim.specs.declared.telling.Telling.{Telling}
 use Rattle.cg_sim.specs.Script.{first_play, lines_text, script_text}
@@ -188,10 +188,10 @@ module _ {W : Type 0} (holds : W → Option (List ℕ)) where
             ]
           ]
 
-      pub lines_told : {T : Type 0} (r : Result T Fault) → TakesLines steps stops before after old new s t r
+      pub lines_told : {T : Type 0} (r : Result T Fault) → TakesLines steps NeverEnds stops before after old new s t r
           → MatchResult r (λ _. due.IsPlayed before after (held holds s) (held holds t) old new s.writer.now t.writer.now)
           (λ f. due.Fails before after (held holds s) (held holds t) old new s.writer.now t.writer.now f)
-      lines_told (Ok x) h = all_told h
+      lines_told (Ok x) h = all_told (taken_to_the_end steps stops before after old new s t h)
       lines_told (Err f) h = fails_told f h
 
     -- ---- its writer
@@ -212,7 +212,9 @@ module _ {W : Type 0} (holds : W → Option (List ℕ)) where
           ]
         ]
 
-    pub same_writer : {T : Type 0} (r : Result T Fault) → TakesLines steps stops before after old new s t r
+    pub same_writer : {T : Type 0} (r : Result T Fault) → TakesLines steps NeverEnds stops before after old new s t r
         → t.writer.ghost_name ≡ s.writer.ghost_name
-    same_writer (Ok x) h = (chained s t (lines_of h.text) h.taken).writer
+    same_writer (Ok x) h =
+        let all = taken_to_the_end steps stops before after old new s t h in
+        (chained s t (lines_of all.text) all.taken).writer
     same_writer (Err f) h = failed_writer f h

@@ -8,7 +8,7 @@ ghost use Rattle.cg_sim.specs.Told.{AreTold, IsUntold, BreaksOff};
 ghost use Rattle.cg_sim.specs.Simulated.{IsPlayed, Fails};
 
 use crate::play::Play;
-use cg_links::{Counted, TakeLine, take_lines, write_and_flush};
+use cg_links::{Counted, Next, TakeLine, take_lines, write_and_flush};
 use cg_types::Fault;
 use std::alloc::Global;
 use std::io::{Read, Write};
@@ -44,15 +44,18 @@ fn tell_line<W: Write>(
 }
 
 impl<'a, W: Write> TakeLine for Telling<'a, W> {
+    ghost use Rattle.cg_links.specs.Taken.{NeverEnds};
     ghost use Rattle.cg_sim.specs.Steps.{TakesStep, RefusesStep};
 
     ghost takes = { TakesStep W.contents };
 
+    ghost ends = { NeverEnds };
+
     ghost refuses = { RefusesStep W.contents };
 
-    fn take_line(&mut self, alloc: Global, line: &[u8]) -> Result<(), Fault> {
+    fn take_line(&mut self, alloc: Global, line: &[u8]) -> Result<Next, Fault> {
         match tell_line(alloc, self.play, self.text, self.writer, line) {
-            Ok(()) => Ok(()),
+            Ok(()) => Ok(Next::More),
             Err(fault) => Err(fault),
         }
     }
