@@ -1,6 +1,6 @@
 //! Connections that are made.
 
-use crate::lines::Lines;
+use crate::connection_lines::Lines;
 use crate::links::Dial;
 use crate::side::{Side, end_in, left_until};
 use cg_types::{Endpoint, Fault};

@@ -13,13 +13,13 @@
 
 mod accept_errors;
 mod clock;
+mod connection_lines;
 mod dialing;
 mod ends;
 mod host;
 /// Laws of the words, of the room for rounds, of a ticker's turns, and of a connection's limits.
 pub mod laws;
 mod limits;
-mod lines;
 mod links;
 mod listening;
 mod making;

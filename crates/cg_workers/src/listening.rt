@@ -4,8 +4,8 @@ ghost use Rattle.std.specs.Prelude.{◌≡◌, ◌⊎◌, IfErr};
 ghost use Rattle.cg_types.specs.declared.fault.Fault.TheVariants as faults;
 
 use crate::accept_errors::is_passing_error;
+use crate::connection_lines::Lines;
 use crate::limits::{ACCEPT_PAUSE, first_byte_limit};
-use crate::lines::Lines;
 use crate::links::Listen;
 use crate::side::{Side, end_in};
 use cg_types::{Endpoint, Fault};

@@ -1,5 +1,5 @@
--- Properties of the nodes that run after a list of actions, by the places of these; the headline says what is so of nodes,
--- replies and messages.
+-- Properties of the nodes that run after a list of actions, by the places of these. The headline says what is so of
+-- nodes, replies and messages.
 use Rattle.std.specs.Prelude.{ℕ, ◌≡◌, ◌++◌, List}
 use Rattle.cg_core.specs.SettingsValues.{SettingsValue}
 use Rattle.cg_core.specs.Values.{NodeValue}
@@ -26,8 +26,8 @@ pub record IsConsistent (settings : SettingsValue) (actions : List Action) (c : 
       → ((owner : ℕ) → SamePlaces (sources (place_world actions) a owner) (sources (place_world actions) b owner))
       → AreEqual one.table.entries other.table.entries
 
--- A world is one that some actions lead to. After each list of actions that leads to it the headline holds of these, and it
--- is consistent.
+-- A world is one that some actions lead to. After each list of actions that leads to it the headline holds of these,
+-- and it is consistent.
 pub record IsConsistentWorld (c : WorldValue) : Type 0 where
   pub reached : IsReached c
   pub headline : (actions : List Action) → c ≡ run c.settings actions → Headline c.settings actions c
