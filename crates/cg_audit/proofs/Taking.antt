@@ -28,11 +28,11 @@ use Rattle.cg_places.specs.Laws.{Continues}
 use Rattle.cg_places.proofs.PutLemmas.{same_number}
 use Rattle.cg_places.proofs.WorldLemmas.{IsSound}
 use Rattle.cg_places.proofs.ExchangeLemmas.{receives}
-use Rattle.cg_places.specs.Step.{message_in, action_at, spans_in, span_handed, IsPlaced, SaysSent, IsSentBefore, IsStepAt}
+use Rattle.cg_places.specs.Step.{handed_message, action_at, spans_in, span_handed, IsPlaced, SaysSent, IsSentBefore, IsStepAt}
 use Rattle.cg_world.specs.declared.action.Action.{Action}
 use Rattle.cg_world.specs.declared.action.Action.TheVariants.{Local, Deliver}
 use Rattle.cg_world.specs.declared.action.LocalEvent.TheVariants.{Beat, Set, Remove, Opening, Tick}
-use Rattle.cg_world.specs.World.{plain}
+use Rattle.cg_world.specs.World.{plain_action}
 use Rattle.cg_world.specs.Terms.{deltas_in, is_gap, Mark, mark_led_to, with_delta, LiesPast}
 use Rattle.cg_world.specs.Taken.{with_outcome, taker}
 use Rattle.cg_world.proofs.MarkLemmas.{mark_at, IsDeltaTo, span_delta}
@@ -54,7 +54,7 @@ world_action node number (event.Syn syn) = Deliver number node 0
 world_action node number (event.Ack now ack) = Deliver number node now
 world_action node number (event.Ack2 now ack2) = Deliver number node now
 
-is_plain : (node number : ℕ) (e : Event) → plain (world_action node number e) ≡ action_at node number e
+is_plain : (node number : ℕ) (e : Event) → plain_action (world_action node number e) ≡ action_at node number e
 is_plain node number event.Beat = refl
 is_plain node number (event.Set key text) = refl
 is_plain node number (event.Tick now words) = refl
@@ -148,7 +148,7 @@ module _ (w : PlaceWorld) (sound : IsSound w) (node number : ℕ) (n : NodeValue
       = ap (λ (u : PlaceWorld). u.taken node owner) (is said s.is_said) ∙ receipt_takes w node said (outcomes_in x.1) each owner in
       delta_marked w v node owner marks on (sound.histories owner) m (spans_in said owner) (are owner) (outcome_about owner (outcomes_in x.1)) (each owner) (delta_about owner (deltas_in message)) (spelled.at owner) takes
 
-  pub step_marked : (e : Event) (x : NodeValue × Reply) → IsSentBefore w number (message_in e)
+  pub step_marked : (e : Event) (x : NodeValue × Reply) → IsSentBefore w number (handed_message e)
       → IsStepAt w (after_action w (action_at node number e)) (span_handed w (action_at node number e)) node n x
       → Marked (after_action w (action_at node number e)) node owner (with_delta marks (outcome_about owner (outcomes_in x.1)) (delta_handed owner e))
   step_marked event.Beat x s st = quiet_marked w (after_action w (action_at node number event.Beat)) node owner marks _ (st.changed.histories owner) (local_takes_nothing w node Beat) m
@@ -198,7 +198,7 @@ module _ (w : PlaceWorld) (sound : IsSound w) (node number : ℕ) (n : NodeValue
       let spelled : SpellsSpans w.histories (deltas_in message) (spans_in said) = deltas_spell w.histories message said s.says in
       span_told (spans_in said owner) (are owner) (sym each ∙ eo) (sym (spelled.at owner) ∙ ed)
 
-  pub step_told : (e : Event) (x : NodeValue × Reply) → IsSentBefore w number (message_in e)
+  pub step_told : (e : Event) (x : NodeValue × Reply) → IsSentBefore w number (handed_message e)
       → IsStepAt w (after_action w (action_at node number e)) (span_handed w (action_at node number e)) node n x
       → outcome_about owner (outcomes_in x.1) ≡ Some outcome → delta_handed owner e ≡ Some d → IsTrue (is_gap outcome.took) ↔ LiesPast d.delta (map.get n.table.entries owner)
   step_told event.Beat x s st eo ed = absurd cc

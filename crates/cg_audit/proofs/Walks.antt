@@ -36,7 +36,7 @@ use Rattle.cg_places.proofs.OnwardLemmas.{Keeps, action_keeps}
 use Rattle.cg_places.proofs.ExchangeLemmas.{sent_last}
 use Rattle.cg_places.proofs.FollowLemmas.{start_changes, running_here}
 use Rattle.cg_places.proofs.PlaceLaws.{world_is}
-use Rattle.cg_places.specs.Step.{message_in, message_of, action_at, span_handed, IsPlaced, SaysSent, IsSentBefore, SendsOne, Sends, IsStepAt}
+use Rattle.cg_places.specs.Step.{handed_message, message_of, action_at, span_handed, IsPlaced, SaysSent, IsSentBefore, SendsOne, Sends, IsStepAt}
 use Rattle.cg_places.proofs.StepLaws.{own_held, steps_are_by_places}
 use Rattle.cg_world.specs.Terms.{is_gap, Mark, with_delta, LiesPast}
 use Rattle.cg_world.proofs.MarkLemmas.{AllSpans, marks_at}
@@ -141,8 +141,8 @@ module _ (w : PlaceWorld) (gone : List RunItem) (sound : IsSound w) (knows : Kno
     shape : r ≡ record_of r.caller r.event k.node x
     shape = st.replays.2
 
-    handled : (number : ℕ) × IsSentBefore w number (message_in r.event)
-    handled = sent_before w gone said (message_in r.event) (subst (λ (j : RunItem). WasSent gone j.handled) item was)
+    handled : (number : ℕ) × IsSentBefore w number (handed_message r.event)
+    handled = sent_before w gone said (handed_message r.event) (subst (λ (j : RunItem). WasSent gone j.handled) item was)
 
     abbrev v : PlaceWorld
     v = after_action w (action_at e handled.0 r.event)

@@ -18,17 +18,17 @@ abbrev pub endpoint_number : ℕ → ℕ
 endpoint_number e = (from_be_bytes w32 (to_be_bytes w32 (address_of e)) + port_of e) % 2 ^ 32
 
 -- a hash with one more part of a message
-abbrev pub with_digest : ℕ → Digest → ℕ
-with_digest hash d = mixed (mixed hash (endpoint_number d.endpoint)) d.newest
+abbrev pub hash_with_digest : ℕ → Digest → ℕ
+hash_with_digest hash d = mixed (mixed hash (endpoint_number d.endpoint)) d.newest
 
-abbrev pub with_request : ℕ → RequestValue → ℕ
-with_request hash r = mixed (mixed hash (endpoint_number r.endpoint)) r.version
+abbrev pub hash_with_request : ℕ → RequestValue → ℕ
+hash_with_request hash r = mixed (mixed hash (endpoint_number r.endpoint)) r.version
 
-abbrev pub with_delta : ℕ → OwnerDelta → ℕ
-with_delta hash d = mixed (mixed hash (endpoint_number d.endpoint)) (greatest d.delta.heartbeat d.delta.states)
+abbrev pub hash_with_delta : ℕ → OwnerDelta → ℕ
+hash_with_delta hash d = mixed (mixed hash (endpoint_number d.endpoint)) (greatest d.delta.heartbeat d.delta.states)
 
 -- the hash of a message's content
 abbrev pub hash_of : Message → ℕ
-hash_of (Syn syn) = fold with_digest 1 syn.digests
-hash_of (Ack ack) = fold with_delta (fold with_request 2 ack.requests) ack.deltas
-hash_of (Ack2 ack2) = fold with_delta 3 ack2.deltas
+hash_of (Syn syn) = fold hash_with_digest 1 syn.digests
+hash_of (Ack ack) = fold hash_with_delta (fold hash_with_request 2 ack.requests) ack.deltas
+hash_of (Ack2 ack2) = fold hash_with_delta 3 ack2.deltas

@@ -4,7 +4,7 @@ use Rattle.std.specs.List.{AllByRecursion}
 use Rattle.cg_table.specs.Own.{own_entry}
 use Rattle.cg_messages.specs.declared.message.Message.{Message}
 use Rattle.cg_core.specs.Sending.{message_of}
-use Rattle.cg_places.specs.Step.{message_in}
+use Rattle.cg_places.specs.Step.{handed_message}
 use Rattle.cg_history.specs.declared.item.Item.{Item}
 use Rattle.cg_history.specs.History.{HistoryValue, IsReplayed}
 
@@ -46,7 +46,7 @@ item_of endpoint generation number r = record {
   endpoint = endpoint;
   generation = generation;
   number = number;
-  handled = message_in r.event;
+  handled = handed_message r.event;
   sent = message_of r.reply;
 }
 

@@ -13,7 +13,7 @@ use Rattle.cg_places.specs.MessageSpelling.{delta_about, outcome_about}
 use Rattle.cg_core.specs.declared.event.Event.{Event}
 use Rattle.cg_core.specs.Values.{NodeValue}
 use Rattle.cg_core.specs.Replies.{outcomes_in}
-use Rattle.cg_places.specs.Step.{message_in}
+use Rattle.cg_places.specs.Step.{handed_message}
 use Rattle.cg_world.specs.Terms.{AreEqual, deltas_in, is_gap, Mark, mark_of, HasGreatest, LiesPast, with_delta}
 use Rattle.cg_history.specs.declared.item.Item.{Item}
 use Rattle.cg_history.specs.History.{HistoryValue, Replays}
@@ -40,7 +40,7 @@ EndsWith lives endpoint h = last_or None (histories_at lives endpoint) ≡ Some 
 
 -- the delta about an owner that an event hands over, if it hands one over
 abbrev pub delta_handed : ℕ → Event → Option OwnerDelta
-delta_handed owner e = option_and_then (λ m. delta_about owner (deltas_in m)) (message_in e)
+delta_handed owner e = option_and_then (λ m. delta_about owner (deltas_in m)) (handed_message e)
 
 -- the marks of an owner that a node took: those of the deltas in its records that were no gap
 abbrev pub took_from : ℕ → List Mark → List Item → List Mark

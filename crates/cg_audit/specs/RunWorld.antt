@@ -2,7 +2,7 @@
 use Rattle.std.specs.Prelude.{ℕ, suc, ◌≡◌, ◌⊎◌, ⊤, List, [], ◌∷◌}
 use Rattle.cg_places.specs.PlaceWorld.{PlaceWorld, PlaceAction, Start, nobody, after_action, world_after}
 use Rattle.cg_places.specs.Laws.{IsWorld}
-use Rattle.cg_places.specs.Step.{message_in, action_at, IsPlaced, IsSentBefore}
+use Rattle.cg_places.specs.Step.{handed_message, action_at, IsPlaced, IsSentBefore}
 use Rattle.cg_history.specs.declared.item.Item.{Item}
 use Rattle.cg_history.specs.History.{HistoryValue}
 use Rattle.cg_audit.specs.Items.{RunItem, LivesValue, AreLives, AreWhole, generation_of}
@@ -31,7 +31,7 @@ module _ (Holds : ℕ → ℕ → ℕ → Item → Type 0) where
     pub done : Item
     pub held : Holds i.endpoint i.generation i.number done
     pub message : ℕ
-    pub sent : IsSentBefore w message (message_in done.event)
+    pub sent : IsSentBefore w message (handed_message done.event)
     pub is : a ≡ action_at i.endpoint message done.event
 
   -- The action is the item's: a start, or an event.

@@ -3,7 +3,7 @@
 ghost use Rattle.std.specs.Prelude.{◌≡◌, fold};
 ghost use Rattle.cg_messages.specs.Borrowed.{borrowed_message};
 ghost use Rattle.cg_audit.specs.Hash as spec;
-ghost use Rattle.cg_audit.specs.Hash.{with_digest, with_request, with_delta};
+ghost use Rattle.cg_audit.specs.Hash.{hash_with_digest, hash_with_request, hash_with_delta};
 
 use cg_entry::Digest;
 use cg_messages::{Ack, Ack2, BorrowedMessage, OwnerDelta, Request, Syn};
@@ -25,7 +25,7 @@ fn endpoint_number(endpoint: Endpoint) -> u32
 }
 
 fn digests_in(mut hash: u64, digests: &[Digest]) -> u64
-    ensures { result ≡ fold with_digest hash digests.now }
+    ensures { result ≡ fold hash_with_digest hash digests.now }
 {
     for digest in digests {
         hash = mixed(
@@ -37,7 +37,7 @@ fn digests_in(mut hash: u64, digests: &[Digest]) -> u64
 }
 
 fn requests_in(mut hash: u64, requests: &[Request]) -> u64
-    ensures { result ≡ fold with_request hash requests.now }
+    ensures { result ≡ fold hash_with_request hash requests.now }
 {
     for request in requests {
         hash = mixed(
@@ -49,7 +49,7 @@ fn requests_in(mut hash: u64, requests: &[Request]) -> u64
 }
 
 fn deltas_in(mut hash: u64, deltas: &[OwnerDelta]) -> u64
-    ensures { result ≡ fold with_delta hash deltas.now }
+    ensures { result ≡ fold hash_with_delta hash deltas.now }
 {
     for sent in deltas {
         hash = mixed(

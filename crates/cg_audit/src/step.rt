@@ -3,7 +3,7 @@
 ghost use Rattle.std.specs.Prelude.{◌≡◌, option_copied, slice_get};
 ghost use Rattle.std.specs.Option.{option_map};
 ghost use Rattle.cg_messages.specs.Borrowed.{borrowed_message};
-ghost use Rattle.cg_places.specs.Step.{message_in};
+ghost use Rattle.cg_places.specs.Step.{handed_message};
 ghost use Rattle.cg_audit.specs.Items.{generation_of, start_item, item_of, items_of_life};
 ghost use Rattle.cg_audit.specs.Steps.{run_item};
 
@@ -24,7 +24,7 @@ pub(crate) struct Step<'a> {
 
 // Returns the message that an event hands over, if there is one.
 fn handled(event: &Event) -> Option<BorrowedMessage<'_>>
-    ensures { option_map borrowed_message result ≡ message_in event.now }
+    ensures { option_map borrowed_message result ≡ handed_message event.now }
 {
     match event {
         Event::Syn { m } => Some(BorrowedMessage::Syn(m)),

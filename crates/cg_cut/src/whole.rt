@@ -1,9 +1,10 @@
 //! The length of a text's whole lines.
 
 ghost use Rattle.std.specs.Prelude.{◌≡◌, ◌+◌, ◌<◌, ◌^◌, ◌++◌, ℕ, List, length, IfOk, IfErr};
-ghost use Rattle.cg_types.specs.declared.fault.Fault.TheVariants as fault;
+ghost use Rattle.cg_types.specs.declared.fault.Fault.TheVariants as faults;
 ghost use Rattle.cg_links.specs.Counted.{link_of};
-ghost use Rattle.cg_cut.specs.Whole.{whole_length as length_of, ReadsLength};
+ghost use Rattle.cg_cut.specs.Whole as spec;
+ghost use Rattle.cg_cut.specs.Whole.{ReadsLength};
 
 use cg_links::{Counted, MOST_READS, PIECE_LIMIT};
 use cg_types::Fault;
@@ -11,7 +12,7 @@ use std::io::Read;
 
 // Returns the number of bytes up to the last line feed of a piece, with it.
 fn length_in(piece: &[u8]) -> usize
-    ensures { result ≡ length_of piece.now }
+    ensures { result ≡ spec.whole_length piece.now }
 {
     let mut rest = piece;
     while let Some((last, front)) = rest.split_last() {
@@ -27,8 +28,8 @@ fn length_in(piece: &[u8]) -> usize
 // this length.
 fn length_with(whole: u64, read: u64, piece: &[u8]) -> u64
     requires { read + length piece.now < 2 ^ 63 }
-    ensures { (text : List ℕ) → length text ≡ read → length_of text ≡ whole
-        → length_of (text ++ piece.now) ≡ result }
+    ensures { (text : List ℕ) → length text ≡ read → spec.whole_length text ≡ whole
+        → spec.whole_length (text ++ piece.now) ≡ result }
 {
     let n = length_in(piece);
     if n == 0 {
@@ -41,7 +42,7 @@ fn length_with(whole: u64, read: u64, piece: &[u8]) -> u64
 /// line feed, with it. `ReadFault` if a read fails or 4,294,967,295 reads did not meet the end. It takes no memory.
 pub fn whole_length<R: Read>(reader: &mut Counted<R>) -> Result<u64, Fault>
     ensures ok { IfOk result (ReadsLength (R.remaining (link_of reader.old)) (R.remaining (link_of reader.new))) }
-    ensures fault { IfErr result (λ f. f ≡ fault.ReadFault) }
+    ensures fault { IfErr result (λ f. f ≡ faults.ReadFault) }
 {
     let mut piece = [0u8; PIECE_LIMIT];
     let mut read = 0u64;

@@ -15,7 +15,7 @@ use Rattle.cg_engine.specs.Sent.{LeavesFlushed, SendsAll}
 use Rattle.cg_messages.specs.declared.kind.Kind.{Kind}
 use Rattle.cg_engine.specs.Events.{written_for}
 use Rattle.cg_engine.specs.Turns.{DoesEvent}
-use Rattle.cg_engine.specs.Exchanged.{Turn, IsTurn, AreTurns, read_of, written_of, Runs, Turned, AllWritten}
+use Rattle.cg_engine.specs.Exchanged.{Turn, IsTurn, AreTurns, read_of, written_of, TurnsLead, Turned, AllWritten}
 
 map_snoc : {X Y : Type 0} (f : X → List Y) (xs : List X) (x : X) → flat_map f (xs ++ (x ∷ [])) ≡ flat_map f xs ++ f x
 map_snoc f [] x = append-nil (f x)
@@ -30,8 +30,8 @@ turns_snoc (l ∷ ls) now [] t k are next is =
     (subst (λ (x : Kind). IsTurn x now t) (sym same) is, tt)
 turns_snoc (l ∷ ls) now (u ∷ us) t k are next is = (are.0, turns_snoc ls now us t k are.1 next is)
 
-runs_snoc : {S : Type 0} (does : S → Event → Reply → S → Type 0) (s u v : S) (ts : List Turn) (t : Turn) → Runs does s ts u → does u t.event t.reply v
-    → Runs does s (ts ++ (t ∷ [])) v
+runs_snoc : {S : Type 0} (does : S → Event → Reply → S → Type 0) (s u v : S) (ts : List Turn) (t : Turn) → TurnsLead does s ts u → does u t.event t.reply v
+    → TurnsLead does s (ts ++ (t ∷ [])) v
 runs_snoc {S} does s u v [] t same did = (v, (subst (λ (x : S). does x t.event t.reply v) same did, refl))
 runs_snoc does s u v (x ∷ xs) t ran did = (ran.0, (ran.1.0, runs_snoc does ran.0 u v xs t ran.1.1 did))
 

@@ -11,15 +11,15 @@ use Rattle.cg_core.specs.declared.event.Event.{Event}
 use Rattle.cg_core.specs.declared.event.Event.TheVariants as event
 use Rattle.cg_core.specs.declared.reply.Reply.{Reply}
 use Rattle.cg_core.specs.declared.reply.Reply.TheVariants as reply
-use Rattle.cg_engine.specs.Due.{syn_due, ack_due, ack2_due}
+use Rattle.cg_engine.specs.Expected.{expected_syn, expected_ack, expected_ack2}
 use Rattle.cg_messages.specs.declared.kind.Kind.{Kind}
 use Rattle.cg_messages.specs.declared.kind.Kind.TheVariants as kind
 
 -- The event of a message of the expected kind, which comes at a time; the fault of another kind.
-abbrev pub event_due : Kind → ℕ → Message → Result Event Fault
-event_due kind.Syn now m = then (syn_due m) event.Syn
-event_due kind.Ack now m = then (ack_due m) (event.Ack now)
-event_due kind.Ack2 now m = then (ack2_due m) (event.Ack2 now)
+abbrev pub expected_event : Kind → ℕ → Message → Result Event Fault
+expected_event kind.Syn now m = then (expected_syn m) event.Syn
+expected_event kind.Ack now m = then (expected_ack m) (event.Ack now)
+expected_event kind.Ack2 now m = then (expected_ack2 m) (event.Ack2 now)
 
 -- the bytes of the message that a reply holds, in the layout that is written; none if it holds none
 abbrev pub written_for : Reply → List ℕ

@@ -11,7 +11,7 @@ use Rattle.cg_links.specs.Counted.{KeepsCounts}
 use Rattle.cg_engine.specs.Received.{IsSpelledBy, ReceivesMessage, FailsToReceive}
 use Rattle.cg_engine.specs.Sent.{LeavesFlushed, FailsToSend}
 use Rattle.cg_core.specs.Replies.{IsReplyTo}
-use Rattle.cg_engine.specs.Events.{event_due, written_for, IsGateFault}
+use Rattle.cg_engine.specs.Events.{expected_event, written_for, IsGateFault}
 use Rattle.cg_messages.specs.declared.kind.Kind.{Kind}
 use Rattle.cg_engine.specs.declared.exchange.Ended.{Ended}
 use Rattle.cg_engine.specs.declared.exchange.Ended.TheVariants as ended
@@ -28,7 +28,7 @@ pub record Turn : Type 0 where
 -- of the event's kind.
 pub record IsTurn (kind : Kind) (now : ℕ) (t : Turn) : Type 0 where
   pub spelled : IsSpelledBy t.bytes t.message
-  pub due : event_due kind now t.message ≡ Ok t.event
+  pub due : expected_event kind now t.message ≡ Ok t.event
   pub answer : IsReplyTo t.event t.reply
 
 -- the first turns of an exchange in which messages of these kinds are expected, in this order
@@ -45,16 +45,16 @@ abbrev pub written_of : List Turn → List ℕ
 written_of ts = flat_map (λ t. written_for t.reply) ts
 
 -- the events of turns, one after the other, from s to u
-abbrev pub Runs : {S : Type 0} → (S → Event → Reply → S → Type 0) → S → List Turn → S → Type 0
-Runs does s [] u = u ≡ s
-Runs {S} does s (t ∷ ts) u = (v : S) × (does s t.event t.reply v × Runs does v ts u)
+abbrev pub TurnsLead : {S : Type 0} → (S → Event → Reply → S → Type 0) → S → List Turn → S → Type 0
+TurnsLead does s [] u = u ≡ s
+TurnsLead {S} does s (t ∷ ts) u = (v : S) × (does s t.event t.reply v × TurnsLead does v ts u)
 
 -- Some turns were done: their events lead from s to here, their bytes were read up to there, and nothing else was.
 pub record Turned {S R : Type 0} (does : S → Event → Reply → S → Type 0) (kinds : List Kind) (now : ℕ)
     (before : Option (List ℕ)) (r0 : Counted R) (s : S)
     (turns : List Turn) (there : Option (List ℕ)) (reader : Counted R) (here : S) : Type 0 where
   pub due : AreTurns kinds now turns
-  pub ran : Runs does s turns here
+  pub ran : TurnsLead does s turns here
   pub read : Consumes before there (read_of turns)
   pub sound : KeepsCounts r0 reader
 
@@ -108,7 +108,7 @@ module _ {S R W : Type 0} (does : S → Event → Reply → S → Type 0) (refus
     pub done : Turned does kinds now before r0 s turns there reader t
     pub message : Message
     pub read : ReceivesMessage there after reader r1 message
-    pub another : event_due kind now message ≡ Err f
+    pub another : expected_event kind now message ≡ Err f
     pub wrote : AllWritten opening held w0 turns holds w1
 
   -- the next event was refused
@@ -124,7 +124,7 @@ module _ {S R W : Type 0} (does : S → Event → Reply → S → Type 0) (refus
     pub message : Message
     pub event : Event
     pub read : ReceivesMessage there after reader r1 message
-    pub due : event_due kind now message ≡ Ok event
+    pub due : expected_event kind now message ≡ Ok event
     pub refused : refuses here event f
     pub known : IsGateFault event f
     pub stayed : stays here t

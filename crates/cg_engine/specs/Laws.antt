@@ -4,7 +4,7 @@ use Rattle.cg_types.specs.declared.fault.Cause.TheVariants.{Unexpected}
 use Rattle.cg_types.specs.declared.fault.Fault.TheVariants.{BadFrame}
 use Rattle.cg_frames.specs.declared.layout.TheConstants.{LAYOUTS}
 use Rattle.cg_frames.specs.Choosing.{widest}
-use Rattle.cg_engine.specs.declared.due.TheConstants.{UNEXPECTED}
+use Rattle.cg_engine.specs.declared.expected.TheConstants.{UNEXPECTED}
 use Rattle.cg_engine.specs.declared.receiving.TheConstants.{PIECE_LIMIT, MOST_TURNS}
 
 -- The bytes of one read; the reads of one message, ten more than the longest frame that is read has after its length;

@@ -1,4 +1,4 @@
-pub mod Due
+pub mod Expected
 pub mod Received
 pub mod Sent
 pub mod Laws

@@ -7,7 +7,7 @@ use Rattle.cg_core.specs.declared.reply.Reply.{Reply}
 use Rattle.cg_links.specs.declared.counted.Counted.{Counted}
 use Rattle.cg_engine.specs.Received.{ReceivesMessage, MeetsEnd, FailsToReceive}
 use Rattle.cg_core.specs.Replies.{IsReplyTo}
-use Rattle.cg_engine.specs.Events.{event_due, IsGateFault}
+use Rattle.cg_engine.specs.Events.{expected_event, IsGateFault}
 use Rattle.cg_messages.specs.declared.kind.Kind.{Kind}
 
 -- A gate by its ghost members: a state, an event, its reply and the state after it; the refusals of an event in a
@@ -21,7 +21,7 @@ module _ {S L : Type 0} (does : S → Event → Reply → S → Type 0) (refuses
     pub event : Event
     pub reply : Reply
     pub read : ReceivesMessage before after old new message
-    pub due : event_due kind now message ≡ Ok event
+    pub due : expected_event kind now message ≡ Ok event
     pub did : does s event reply t
     pub answer : IsReplyTo event reply
     pub shown : last t ≡ Some reply
@@ -40,7 +40,7 @@ module _ {S L : Type 0} (does : S → Event → Reply → S → Type 0) (refuses
   pub record ReadsAnother (f : Fault) : Type 0 where
     pub message : Message
     pub read : ReceivesMessage before after old new message
-    pub another : event_due kind now message ≡ Err f
+    pub another : expected_event kind now message ≡ Err f
     pub same : t ≡ s
 
   -- the event was refused
@@ -48,7 +48,7 @@ module _ {S L : Type 0} (does : S → Event → Reply → S → Type 0) (refuses
     pub message : Message
     pub event : Event
     pub read : ReceivesMessage before after old new message
-    pub due : event_due kind now message ≡ Ok event
+    pub due : expected_event kind now message ≡ Ok event
     pub refused : refuses s event f
     pub known : IsGateFault event f
     pub stayed : stays s t

@@ -5,8 +5,8 @@
 //! calls are counted; others fail, are slow or take nothing, for trials.
 #![tactic(auto)]
 
-mod due;
 mod exchange;
+mod expected;
 mod gate;
 pub mod laws;
 mod node_gate;
@@ -15,8 +15,8 @@ mod sending;
 mod turn;
 
 pub use cg_links::{Counted, CountingLink, FailingLink, FullLink, SlowLink};
-pub use due::{UNEXPECTED, ack_due, ack2_due, syn_due};
 pub use exchange::{Broken, Ended, initiate, respond};
+pub use expected::{UNEXPECTED, expected_ack, expected_ack2, expected_syn};
 pub use gate::Gate;
 pub use node_gate::NodeGate;
 pub use receiving::{MOST_TURNS, PIECE_LIMIT, receive};

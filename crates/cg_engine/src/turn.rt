@@ -7,7 +7,7 @@ ghost use Rattle.cg_engine.specs.Events as spec;
 ghost use Rattle.cg_engine.specs.Events.{written_for};
 ghost use Rattle.cg_engine.specs.Turns.{TakesEvent};
 
-use crate::due::{ack_due, ack2_due, syn_due};
+use crate::expected::{expected_ack, expected_ack2, expected_syn};
 use crate::gate::Gate;
 use crate::receiving::receive;
 use crate::sending::send;
@@ -19,19 +19,19 @@ use std::alloc::Global;
 use std::io::{Read, Write};
 
 // Makes the event of a message of the expected kind, which comes at a time.
-fn event_due(kind: Kind, now: u64, message: Message) -> Result<Event, Fault>
-    ensures { result ≡ spec.event_due kind now message }
+fn expected_event(kind: Kind, now: u64, message: Message) -> Result<Event, Fault>
+    ensures { result ≡ spec.expected_event kind now message }
 {
     match kind {
-        Kind::Syn => match syn_due(message) {
+        Kind::Syn => match expected_syn(message) {
             Ok(m) => Ok(Event::Syn { m }),
             Err(fault) => Err(fault),
         },
-        Kind::Ack => match ack_due(message) {
+        Kind::Ack => match expected_ack(message) {
             Ok(m) => Ok(Event::Ack { now, m }),
             Err(fault) => Err(fault),
         },
-        Kind::Ack2 => match ack2_due(message) {
+        Kind::Ack2 => match expected_ack2(message) {
             Ok(m) => Ok(Event::Ack2 { now, m }),
             Err(fault) => Err(fault),
         },
@@ -54,7 +54,7 @@ pub(crate) fn take_event<G: Gate, R: Read>(
         Ok(None) => return Ok(false),
         Err(fault) => return Err(fault),
     };
-    let event = match event_due(kind, now, message) {
+    let event = match expected_event(kind, now, message) {
         Ok(event) => event,
         Err(fault) => return Err(fault),
     };

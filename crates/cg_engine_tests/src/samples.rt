@@ -2,7 +2,7 @@
 //! the cluster is c1.
 
 use cg_core::Node;
-use cg_engine::{NodeGate, syn_due};
+use cg_engine::{NodeGate, expected_syn};
 use cg_frames::decode;
 use cg_messages::Syn;
 use cg_testing::{A, B, endpoint, generation, settings};
@@ -49,7 +49,7 @@ pub(crate) fn b(alloc: Global) -> Result<NodeGate, Fail> {
 // The SYN that A sends.
 pub(crate) fn syn(alloc: Global) -> Result<Syn, Fail> {
     let (message, _size) = decode(alloc, SYN_IN)?.ok_or("a whole frame")?;
-    Ok(syn_due(message)?)
+    Ok(expected_syn(message)?)
 }
 
 // Returns the first `count` bytes.

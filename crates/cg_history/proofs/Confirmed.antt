@@ -4,7 +4,7 @@ use Rattle.std.specs.Prelude.{slice_get}
 use Rattle.std.proofs.lemmas.Option.{same_Some, slice_get_within, get_or_from_slice_get}
 use Rattle.cg_history.specs.declared.item.Item.{Item}
 use Rattle.cg_history.specs.declared.item.Receipt.{Receipt}
-use Rattle.cg_history.specs.Confirming.{ComesAfter, Follows, AreInOrder, IsConfirmed, AreConfirmed}
+use Rattle.cg_history.specs.Confirming.{ComesAfter, ComesAfterAll, AreInOrder, IsConfirmed, AreConfirmed}
 
 -- an element before a place is among the elements before it
 pub at_take : (xs : List Receipt) (i j : ℕ) (q : Receipt) → i < j → slice_get xs i ≡ Some q → slice_get (take j xs) i ≡ Some q
@@ -14,7 +14,7 @@ at_take (x ∷ xs) zero (suc j) q less is = is
 at_take (x ∷ xs) (suc i) (suc j) q less is = at_take xs i j q (omega arith) is
 
 -- a receipt comes after each that it follows
-pub within_follows : (before : List Receipt) (i : ℕ) (q r : Receipt) → Follows before r → slice_get before i ≡ Some q → ComesAfter q r
+pub within_follows : (before : List Receipt) (i : ℕ) (q r : Receipt) → ComesAfterAll before r → slice_get before i ≡ Some q → ComesAfter q r
 within_follows before i q r follows is =
     subst (λ (p : Receipt). ComesAfter p r) (get_or_from_slice_get before i q q is) (follows i q (slice_get_within before i q is))
 
@@ -25,7 +25,7 @@ at_place_within (x ∷ xs) zero d less = refl
 at_place_within (x ∷ xs) (suc i) d less = at_place_within xs i d (omega arith)
 
 -- a receipt follows receipts that are all of other callers
-pub follows_others : (before : List Receipt) (r : Receipt) → ((i : ℕ) (q : Receipt) → slice_get before i ≡ Some q → q.caller ≢ r.caller) → Follows before r
+pub follows_others : (before : List Receipt) (r : Receipt) → ((i : ℕ) (q : Receipt) → slice_get before i ≡ Some q → q.caller ≢ r.caller) → ComesAfterAll before r
 follows_others before r others i d less = λ same. absurd (others i (get_or before i d) (at_place_within before i d less) same)
 
 three : (i p : ℕ) → (i < p) ⊎ ((i ≡ p) ⊎ (p + 1 ≤ i))
@@ -53,10 +53,10 @@ module _ (before : List Receipt) (r near : Receipt) (p : ℕ) (order : AreInOrde
       subst (λ (x : Receipt). x.number < r.number) (sym one) later
   after_one later i q is (inr (inr past)) same = absurd (others i q past is same)
 
-  pub follows_near : near.number < r.number → Follows before r
+  pub follows_near : near.number < r.number → ComesAfterAll before r
   follows_near later i d less = after_one later i (get_or before i d) (at_place_within before i d less) (three i p)
 
-  pub near_before : Follows before r → near.number < r.number
+  pub near_before : ComesAfterAll before r → near.number < r.number
   near_before follows = within_follows before p near r follows at own
 
 -- ---- one receipt more

@@ -6,7 +6,7 @@ use Rattle.cg_types.specs.declared.fault.Fault.TheVariants.{Folded, Stranger}
 use Rattle.cg_types.specs.ListPlace.{at_place}
 use Rattle.cg_history.specs.declared.item.Item.{Item}
 use Rattle.cg_history.specs.declared.item.Receipt.{Receipt}
-use Rattle.cg_history.specs.declared.item.Stray.{Stray}
+use Rattle.cg_history.specs.declared.item.UnconfirmedReceipt.{UnconfirmedReceipt}
 
 -- The record is the receipt's.
 abbrev pub IsOf : Item → Receipt → Type 0
@@ -22,17 +22,17 @@ abbrev pub ComesAfter : Receipt → Receipt → Type 0
 ComesAfter q r = q.caller ≡ r.caller → q.number < r.number
 
 -- The receipt comes after the earlier ones of its caller.
-abbrev pub Follows : List Receipt → Receipt → Type 0
-Follows before r = All (λ q. ComesAfter q r) before
+abbrev pub ComesAfterAll : List Receipt → Receipt → Type 0
+ComesAfterAll before r = All (λ q. ComesAfter q r) before
 
 -- Each receipt comes after the earlier ones of its caller.
 abbrev pub AreInOrder : List Receipt → Type 0
-AreInOrder receipts = (place : ℕ) (r : Receipt) → slice_get receipts place ≡ Some r → Follows (take place receipts) r
+AreInOrder receipts = (place : ℕ) (r : Receipt) → slice_get receipts place ≡ Some r → ComesAfterAll (take place receipts) r
 
 -- The receipt's record is among the records, and the receipt comes after the earlier ones of its caller.
 pub record IsConfirmed (folded : ℕ) (records : List Item) (before : List Receipt) (r : Receipt) : Type 0 where
   pub stands : Stands folded records r
-  pub follows : Follows before r
+  pub follows : ComesAfterAll before r
 
 -- Each receipt is confirmed.
 abbrev pub AreConfirmed : ℕ → List Item → List Receipt → Type 0
@@ -41,13 +41,13 @@ AreConfirmed folded records receipts =
     → slice_get receipts place ≡ Some r → IsConfirmed folded records (take place receipts) r
 
 -- the fault of a receipt that is not confirmed: Folded if its number is that of a folded record
-abbrev pub stray_fault : ℕ → Receipt → Fault
-stray_fault folded r = if nat_lt 0 r.number && nat_le r.number folded then Folded else Stranger
+abbrev pub unconfirmed_fault : ℕ → Receipt → Fault
+unconfirmed_fault folded r = if nat_lt 0 r.number && nat_le r.number folded then Folded else Stranger
 
 -- The receipts before the place are confirmed, and the one at the place is not.
-pub record IsFirstStray (folded : ℕ) (records : List Item) (receipts : List Receipt) (s : Stray) : Type 0 where
+pub record IsFirstUnconfirmed (folded : ℕ) (records : List Item) (receipts : List Receipt) (s : UnconfirmedReceipt) : Type 0 where
   pub before : AreConfirmed folded records (take s.place receipts)
   pub receipt : Receipt
   pub at : slice_get receipts s.place ≡ Some receipt
-  pub stray : IsConfirmed folded records (take s.place receipts) receipt → ⊥
-  pub why : s.fault ≡ stray_fault folded receipt
+  pub unconfirmed : IsConfirmed folded records (take s.place receipts) receipt → ⊥
+  pub why : s.fault ≡ unconfirmed_fault folded receipt

@@ -8,7 +8,7 @@ use Rattle.cg_core.specs.Values.{NodeValue, IsSmall}
 use Rattle.cg_core.specs.Step.{node_step, replay}
 use Rattle.cg_places.specs.PlaceWorld.{PlaceWorld, after_action}
 use Rattle.cg_places.specs.Laws.{IsWorld}
-use Rattle.cg_places.specs.Step.{message_in, action_at, span_handed, IsPlaced, IsSentBefore, IsStepAt}
+use Rattle.cg_places.specs.Step.{handed_message, action_at, span_handed, IsPlaced, IsSentBefore, IsStepAt}
 use Rattle.cg_history.specs.declared.item.Item.{Item}
 use Rattle.cg_history.specs.declared.item.Receipt.{Receipt}
 use Rattle.cg_history.specs.Confirming.{AreConfirmed}
@@ -55,7 +55,7 @@ EachEventMakesOneRecord =
 abbrev pub RecordsAreStepsByPlaces : Type 0
 RecordsAreStepsByPlaces =
     (w : PlaceWorld) (node number : ℕ) (h : HistoryValue) (caller : ℕ) (e : Event) (after : HistoryValue) (q : Receipt)
-    → IsWorld w → IsPlaced w node h.node → IsSentBefore w number (message_in e) → apply h caller e ≡ Ok (after, q)
+    → IsWorld w → IsPlaced w node h.node → IsSentBefore w number (handed_message e) → apply h caller e ≡ Ok (after, q)
     → IsStepAt w (after_action w (action_at node number e)) (span_handed w (action_at node number e)) node h.node
     (after.node, q.reply)
 

@@ -2,10 +2,10 @@
 
 ghost use Rattle.std.specs.Prelude.{◌≡◌, ◌↔◌, IsTrue, MatchResult};
 ghost use Rattle.cg_history.specs.Greatest.{AreAtMost};
-ghost use Rattle.cg_history.specs.Confirming.{IsOf, Stands, Follows, AreInOrder, AreConfirmed, IsFirstStray, stray_fault};
+ghost use Rattle.cg_history.specs.Confirming.{IsOf, Stands, ComesAfterAll, AreInOrder, AreConfirmed, IsFirstUnconfirmed, unconfirmed_fault};
 
 use crate::greatest::Greatest;
-use crate::item::{Item, Receipt, Stray};
+use crate::item::{Item, Receipt, UnconfirmedReceipt};
 use cg_types::Fault;
 
 // Returns `true` if a receipt comes after the earlier ones of its caller, given that each of those does. A number
@@ -13,7 +13,7 @@ use cg_types::Fault;
 fn follows(before: &[Receipt], greatest: &Greatest, receipt: &Receipt) -> bool
     requires order { AreInOrder before.now }
     requires at_most { AreAtMost greatest.now before.now }
-    ensures { IsTrue result ↔ Follows before.now receipt.now }
+    ensures { IsTrue result ↔ ComesAfterAll before.now receipt.now }
 {
     if greatest.of(receipt.caller) < receipt.number {
         return true;
@@ -51,7 +51,7 @@ fn has(folded: u64, records: &[Item], receipt: &Receipt) -> bool
 
 // Returns the fault of a receipt that is not confirmed.
 fn fault_of(folded: u64, receipt: &Receipt) -> Fault
-    ensures { result ≡ stray_fault folded receipt.now }
+    ensures { result ≡ unconfirmed_fault folded receipt.now }
 {
     if receipt.number > 0 && receipt.number <= folded {
         Fault::Folded
@@ -70,16 +70,20 @@ fn fault_of(folded: u64, receipt: &Receipt) -> Fault
 /// remainder by 1,024. Only if the number is not greater is the receipt compared with the nearest earlier one of its
 /// caller. That takes as many steps as there are receipts of others between the two. So the time is linear in the
 /// receipts if numbers rise, and if no two callers leave the same remainder; it is quadratic at worst.
-pub fn confirms(folded: u64, records: &[Item], receipts: &[Receipt]) -> Result<(), Stray>
+pub fn confirms(
+    folded: u64,
+    records: &[Item],
+    receipts: &[Receipt],
+) -> Result<(), UnconfirmedReceipt>
     ensures { MatchResult result
         (λ _. AreConfirmed folded records.now receipts.now)
-        (λ stray. IsFirstStray folded records.now receipts.now stray) }
+        (λ unconfirmed. IsFirstUnconfirmed folded records.now receipts.now unconfirmed) }
 {
     let mut greatest = Greatest::new();
     for place in 0..receipts.len() {
         let receipt = &receipts[place];
         if !has(folded, records, receipt) || !follows(&receipts[..place], &greatest, receipt) {
-            return Err(Stray {
+            return Err(UnconfirmedReceipt {
                 place,
                 fault: fault_of(folded, receipt),
             });

@@ -3,12 +3,12 @@
 ghost use Rattle.std.specs.Prelude.{◌≡◌, ◌<◌, ◌≤◌, IfOk, IsOk, MatchResult, OnOk, OnErr, length, take};
 ghost use Rattle.cg_types.specs.Answer.{Answers};
 ghost use Rattle.cg_core.specs.Step.{after_event};
-ghost use Rattle.cg_history.specs.Confirming.{AreConfirmed, IsFirstStray};
+ghost use Rattle.cg_history.specs.Confirming.{AreConfirmed, IsFirstUnconfirmed};
 ghost use Rattle.cg_history.specs.History as spec;
 ghost use Rattle.cg_history.specs.History.{IsReplayed, IsFoldOf, LAST_NUMBER, count_of, new_history, receipt_of, with_record, node_after, with_folded, unfolded};
 
 use crate::confirming::confirms;
-use crate::item::{Item, Receipt, Stray};
+use crate::item::{Item, Receipt, UnconfirmedReceipt};
 use crate::log::Log;
 use cg_core::{Event, Node, Reply, Settings};
 use cg_types::{Endpoint, Fault, Generation, Shows};
@@ -245,10 +245,10 @@ impl History {
     /// for each caller. If not, it returns the first receipt that does not pass: as `Folded` if its number is that of a
     /// folded record, else as `Stranger`. It takes no memory; `confirms`, which it calls, says how long
     /// it takes.
-    pub fn confirms(&self, receipts: &[Receipt]) -> Result<(), Stray>
+    pub fn confirms(&self, receipts: &[Receipt]) -> Result<(), UnconfirmedReceipt>
         ensures { MatchResult result
             (λ _. AreConfirmed self.now.folded self.now.records receipts.now)
-            (λ stray. IsFirstStray self.now.folded self.now.records receipts.now stray) }
+            (λ unconfirmed. IsFirstUnconfirmed self.now.folded self.now.records receipts.now unconfirmed) }
     {
         confirms(self.folded, &self.items, receipts)
     }

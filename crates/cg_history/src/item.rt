@@ -27,7 +27,7 @@ pub struct Receipt {
 /// The first of some receipts that is not confirmed: its place among them, counted from 0, and the reason.
 #[derive(Clone, Copy, Debug, PartialEq, Eq, Error)]
 #[error("receipt {place}, counted from 0, is not confirmed: {fault}")]
-pub struct Stray {
+pub struct UnconfirmedReceipt {
     pub place: usize,
     pub fault: Fault,
 }

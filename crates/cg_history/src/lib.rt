@@ -18,5 +18,5 @@ mod log;
 pub use confirming::confirms;
 pub use enter::Enter;
 pub use history::History;
-pub use item::{Item, Receipt, Stray};
+pub use item::{Item, Receipt, UnconfirmedReceipt};
 pub use log::Log;

@@ -9,15 +9,15 @@ behind_number text (Some (digits, [])) = number_in digits
 behind_number text (Some (digits, b ∷ bs)) = None
 
 -- one number, and perhaps a line feed
-unfoldable pub generation_in : List ℕ → Option ℕ
-generation_in text = behind_number text (cut_at 10 text)
+unfoldable pub kept_generation_in : List ℕ → Option ℕ
+kept_generation_in text = behind_number text (cut_at 10 text)
 
 -- its number and a line feed
-unfoldable pub text_of : ℕ → List ℕ
-text_of generation = decimal generation ++ codes "\n"
+unfoldable pub kept_text_of : ℕ → List ℕ
+kept_text_of generation = decimal generation ++ codes "\n"
 
 -- A generation that is kept is read back.
 abbrev pub KeptIsRead : Type 0
 KeptIsRead =
     (generation : ℕ) → 0 < generation → generation < NUMBER_LIMIT
-    → generation_in (text_of generation) ≡ Some generation
+    → kept_generation_in (kept_text_of generation) ≡ Some generation

@@ -4,11 +4,11 @@ use Rattle.cg_types.specs.declared.fault.Fault.{Fault}
 use Rattle.cg_types.specs.declared.fault.Fault.TheVariants as fault
 use Rattle.cg_history.specs.History.{HistoryValue}
 use Rattle.cg_host.specs.Disk.{Call, Opened, Placed, Made, Compared, OpenedToLock, Locked, HasBytes, Unfound, Replaces, Unreplaced}
-use Rattle.cg_host.specs.Generation.{text_of}
+use Rattle.cg_host.specs.Generation.{kept_text_of}
 use Rattle.cg_host.specs.Replacing.{aside_of}
 use Rattle.cg_host.specs.Storing.{Stored, Unstored}
 use Rattle.cg_settings_file.specs.Settings.{ServeValue, settings_in_bytes, settings_or_key_in_bytes}
-use Rattle.cg_settings_file.specs.Seen.{Refuses}
+use Rattle.cg_settings_file.specs.Seen.{RefusesKey}
 use Rattle.cg_version.specs.Version.{generation_at_start}
 use Rattle.cg_host.specs.declared.settings.TheConstants.{SETTINGS_MOST}
 
@@ -49,7 +49,7 @@ module _ {F : Type 0} (did : Call F → Type 0) (remaining contents : F → Opti
   pub record HoldsNone (f : Fault) (key : Option (List ℕ)) : Type 0 where
     pub bytes : List ℕ
     pub are : HasBytes did remaining path SETTINGS_MOST bytes
-    pub caused : Refuses (settings_or_key_in_bytes bytes) f key
+    pub caused : RefusesKey (settings_or_key_in_bytes bytes) f key
 
   -- The file can't be read or is missing, and no key is told; or it holds no settings by which the files are three.
   abbrev pub Unsettled : Fault → Option (List ℕ) → Type 0
@@ -62,7 +62,7 @@ module _ {F : Type 0} (did : Call F → Type 0) (remaining contents : F → Opti
   -- Stored next, or why not.
   abbrev pub StoresNext : Option ℕ → ℕ → Result ℕ Fault → Type 0
   StoresNext stored seconds (Ok g) =
-      (generation_at_start stored seconds ≡ Ok g) × Replaces did contents path (text_of g)
+      (generation_at_start stored seconds ≡ Ok g) × Replaces did contents path (kept_text_of g)
   StoresNext stored seconds (Err f) =
       (generation_at_start stored seconds ≡ Err f)
       ⊎ ((g : ℕ) × (generation_at_start stored seconds ≡ Ok g) × ((f ≡ fault.OutOfMemory) ⊎ Unreplaced did path f))

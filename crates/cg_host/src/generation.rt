@@ -5,7 +5,7 @@ ghost use Rattle.cg_types.specs.declared.fault.Fault.TheVariants as faults;
 ghost use Rattle.cg_host.specs.Disk.{Replaces, Unreplaced};
 ghost use Rattle.cg_host.specs.Storing.{Holds, HoldsNone, Stored, Unstored};
 ghost use Rattle.cg_host.specs.Generation as spec;
-ghost use Rattle.cg_host.specs.Generation.{text_of};
+ghost use Rattle.cg_host.specs.Generation.{kept_text_of};
 
 use crate::disk::Disk;
 use crate::reading::read_file;
@@ -18,9 +18,9 @@ use std::fmt::Write;
 const MOST: u32 = 11;
 
 /// Reads a generation in bytes: one decimal number with no leading zero, and perhaps a line feed.
-#[tactic(auto, unfolding(crate::specs::Generation::generation_in))]
-pub fn generation_in(bytes: &[u8]) -> Option<Generation>
-    ensures { result ≡ spec.generation_in bytes.now }
+#[tactic(auto, unfolding(crate::specs::Generation::kept_generation_in))]
+pub fn kept_generation_in(bytes: &[u8]) -> Option<Generation>
+    ensures { result ≡ spec.kept_generation_in bytes.now }
 {
     let Some((digits, rest)) = cut(bytes, b'\n') else {
         return Generation::from_bytes(bytes);
@@ -33,9 +33,9 @@ pub fn generation_in(bytes: &[u8]) -> Option<Generation>
 }
 
 /// Returns the text of a generation: its number and a line feed.
-#[tactic(auto, unfolding(crate::specs::Generation::text_of))]
+#[tactic(auto, unfolding(crate::specs::Generation::kept_text_of))]
 pub fn generation_text(alloc: Global, generation: Generation) -> Result<String, AllocError>
-    ensures { IfOk result (λ text. string_bytes text ≡ text_of generation) }
+    ensures { IfOk result (λ text. string_bytes text ≡ kept_text_of generation) }
 {
     let mut text = String::new(alloc);
     let generation = generation.get();
@@ -53,7 +53,7 @@ fn held_generation<D: Disk>(
         (Holds D.did D.File.remaining path.now) (HoldsNone D.did D.File.remaining path.now) }
 {
     match read_file(disk, alloc, path, MOST) {
-        Ok(Some(bytes)) => match generation_in(&bytes) {
+        Ok(Some(bytes)) => match kept_generation_in(&bytes) {
             Some(generation) => Ok(Some(generation)),
             None => Err(Fault::BadText),
         },
@@ -93,7 +93,7 @@ pub fn store_generation<D: Disk>(
     path: &str,
     generation: Generation,
 ) -> Result<(), Fault>
-    ensures stored { OnOk result (Replaces D.did D.File.contents path.now (text_of generation)) }
+    ensures stored { OnOk result (Replaces D.did D.File.contents path.now (kept_text_of generation)) }
     ensures err { IfErr result (λ f. (f ≡ faults.OutOfMemory) ⊎ Unreplaced D.did path.now f) }
 {
     let text = generation_text(alloc, generation)?;

@@ -16,7 +16,7 @@ mod settings;
 mod system;
 
 pub use disk::Disk;
-pub use generation::{generation_in, generation_text, store_generation, stored_generation};
+pub use generation::{generation_text, kept_generation_in, store_generation, stored_generation};
 pub use journal::{try_journal, write_journal_to};
 pub use kept_generation::next_life;
 pub use reading::read_file;

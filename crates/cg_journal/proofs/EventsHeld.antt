@@ -22,7 +22,7 @@ use Rattle.cg_frames.specs.declared.layout.TheConstants.{LAYOUTS}
 use Rattle.cg_frames.specs.Choosing.{frame_among}
 use Rattle.cg_frames.proofs.LawLemmas.{layouts_are_read}
 use Rattle.cg_frames.proofs.ReadIsSpelledFrames.{all_found}
-use Rattle.cg_engine.specs.Due.{syn_due, ack_due, ack2_due}
+use Rattle.cg_engine.specs.Expected.{expected_syn, expected_ack, expected_ack2}
 use Rattle.cg_text.specs.Gives.{readable}
 use Rattle.cg_text.specs.Words.{count_in, count_before, key_before, state_text_in, text_in, state_text_of_utf8}
 use Rattle.cg_text.specs.Words.{four_in}
@@ -120,17 +120,17 @@ message_held : (digits : List ℕ) → IfSome (message_in digits) IsMessage
 unfolding message_in
 message_held digits = message_by digits (decode_of digits) refl
 
-syn_of : (m : Message) → IsMessage m → IfSome (readable (syn_due m) >>= λ syn. Some (event.Syn syn)) IsEvent
+syn_of : (m : Message) → IsMessage m → IfSome (readable (expected_syn m) >>= λ syn. Some (event.Syn syn)) IsEvent
 syn_of (messages.Syn m) is = is
 syn_of (messages.Ack m) is = tt
 syn_of (messages.Ack2 m) is = tt
 
-ack_of : (now : ℕ) (m : Message) → IsCount now → IsMessage m → IfSome (readable (ack_due m) >>= λ ack. Some (event.Ack now ack)) IsEvent
+ack_of : (now : ℕ) (m : Message) → IsCount now → IsMessage m → IfSome (readable (expected_ack m) >>= λ ack. Some (event.Ack now ack)) IsEvent
 ack_of now (messages.Syn m) count is = tt
 ack_of now (messages.Ack m) count is = (count, is)
 ack_of now (messages.Ack2 m) count is = tt
 
-ack2_of : (now : ℕ) (m : Message) → IsCount now → IsMessage m → IfSome (readable (ack2_due m) >>= λ ack2. Some (event.Ack2 now ack2)) IsEvent
+ack2_of : (now : ℕ) (m : Message) → IsCount now → IsMessage m → IfSome (readable (expected_ack2 m) >>= λ ack2. Some (event.Ack2 now ack2)) IsEvent
 ack2_of now (messages.Syn m) count is = tt
 ack2_of now (messages.Ack m) count is = tt
 ack2_of now (messages.Ack2 m) count is = (count, is)
@@ -156,19 +156,19 @@ tick_held words =
 
 syn_held : (words : List ℕ) → IfSome (syn_in words) IsEvent
 unfolding syn_in
-syn_held words = held_bind IsMessage IsEvent (message_in words) (λ m. readable (syn_due m) >>= λ syn. Some (event.Syn syn)) (message_held words) syn_of
+syn_held words = held_bind IsMessage IsEvent (message_in words) (λ m. readable (expected_syn m) >>= λ syn. Some (event.Syn syn)) (message_held words) syn_of
 
 ack_held : (words : List ℕ) → IfSome (ack_in words) IsEvent
 unfolding ack_in
 ack_held words =
-    held_bind (λ (p : ℕ × List ℕ). IsCount p.0) IsEvent (count_before words) (λ now. message_in now.1 >>= λ m. readable (ack_due m) >>= λ ack. Some (event.Ack now.0 ack)) (count_before-held words)
-    (λ now p. held_bind IsMessage IsEvent (message_in now.1) (λ m. readable (ack_due m) >>= λ ack. Some (event.Ack now.0 ack)) (message_held now.1) (λ m q. ack_of now.0 m p q))
+    held_bind (λ (p : ℕ × List ℕ). IsCount p.0) IsEvent (count_before words) (λ now. message_in now.1 >>= λ m. readable (expected_ack m) >>= λ ack. Some (event.Ack now.0 ack)) (count_before-held words)
+    (λ now p. held_bind IsMessage IsEvent (message_in now.1) (λ m. readable (expected_ack m) >>= λ ack. Some (event.Ack now.0 ack)) (message_held now.1) (λ m q. ack_of now.0 m p q))
 
 ack2_held : (words : List ℕ) → IfSome (ack2_in words) IsEvent
 unfolding ack2_in
 ack2_held words =
-    held_bind (λ (p : ℕ × List ℕ). IsCount p.0) IsEvent (count_before words) (λ now. message_in now.1 >>= λ m. readable (ack2_due m) >>= λ ack2. Some (event.Ack2 now.0 ack2)) (count_before-held words)
-    (λ now p. held_bind IsMessage IsEvent (message_in now.1) (λ m. readable (ack2_due m) >>= λ ack2. Some (event.Ack2 now.0 ack2)) (message_held now.1) (λ m q. ack2_of now.0 m p q))
+    held_bind (λ (p : ℕ × List ℕ). IsCount p.0) IsEvent (count_before words) (λ now. message_in now.1 >>= λ m. readable (expected_ack2 m) >>= λ ack2. Some (event.Ack2 now.0 ack2)) (count_before-held words)
+    (λ now p. held_bind IsMessage IsEvent (message_in now.1) (λ m. readable (expected_ack2 m) >>= λ ack2. Some (event.Ack2 now.0 ack2)) (message_held now.1) (λ m q. ack2_of now.0 m p q))
 
 bare_held : (line : List ℕ) → IfSome (bare_event line) IsEvent
 unfolding bare_event

@@ -16,7 +16,7 @@ use Rattle.cg_core.specs.SettingsValues.{SettingsValue, settings_of_parts}
 use Rattle.cg_core.specs.Settings.{settings_or_fault}
 use Rattle.cg_frames.specs.declared.layout.TheConstants.{LAYOUTS}
 use Rattle.cg_frames.specs.Choosing.{frame_among}
-use Rattle.cg_engine.specs.Due.{syn_due, ack_due, ack2_due}
+use Rattle.cg_engine.specs.Expected.{expected_syn, expected_ack, expected_ack2}
 use Rattle.cg_text.specs.Gives.{readable}
 use Rattle.cg_text.specs.Words.{endpoint_before, endpoints_in, count_before, key_before, state_text_in}
 use Rattle.cg_text.specs.Words.{four_in}
@@ -124,7 +124,7 @@ tick_in words = do
 unfoldable pub syn_in : List ℕ → Option Event
 syn_in words = do
   message ← message_in words
-  syn ← readable (syn_due message)
+  syn ← readable (expected_syn message)
   Some (event.Syn syn)
 
 -- `ack NOW HEX`
@@ -132,7 +132,7 @@ unfoldable pub ack_in : List ℕ → Option Event
 ack_in words = do
   now ← count_before words
   message ← message_in now.1
-  ack ← readable (ack_due message)
+  ack ← readable (expected_ack message)
   Some (event.Ack now.0 ack)
 
 -- `ack2 NOW HEX`
@@ -140,7 +140,7 @@ unfoldable pub ack2_in : List ℕ → Option Event
 ack2_in words = do
   now ← count_before words
   message ← message_in now.1
-  ack2 ← readable (ack2_due message)
+  ack2 ← readable (expected_ack2 message)
   Some (event.Ack2 now.0 ack2)
 
 -- a line of one word

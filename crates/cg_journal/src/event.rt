@@ -8,7 +8,7 @@ ghost use Rattle.cg_text.specs.Words as words_spec;
 ghost use Rattle.cg_journal.specs.Reading as reading_spec;
 
 use cg_core::Event;
-use cg_engine::{ack_due, ack2_due, syn_due};
+use cg_engine::{expected_ack, expected_ack2, expected_syn};
 use cg_frames::{Message, decode};
 use cg_text::{bytes_in, count_before, four_in, is_word, key_before, state_text_in};
 use cg_types::{Fault, StateKey, StateText, cut};
@@ -106,7 +106,7 @@ fn syn_in(alloc: Global, words: &[u8]) -> Result<Event, Fault>
     ensures { Finds (λ e. e) result (reading_spec.syn_in words.now) }
 {
     let message = message_in(alloc, words)?;
-    match syn_due(message) {
+    match expected_syn(message) {
         Ok(m) => Ok(Event::Syn { m }),
         Err(_) => Err(Fault::BadText),
     }
@@ -120,7 +120,7 @@ fn ack_in(alloc: Global, words: &[u8]) -> Result<Event, Fault>
         return Err(Fault::BadText);
     };
     let message = message_in(alloc, digits)?;
-    match ack_due(message) {
+    match expected_ack(message) {
         Ok(m) => Ok(Event::Ack { now, m }),
         Err(_) => Err(Fault::BadText),
     }
@@ -134,7 +134,7 @@ fn ack2_in(alloc: Global, words: &[u8]) -> Result<Event, Fault>
         return Err(Fault::BadText);
     };
     let message = message_in(alloc, digits)?;
-    match ack2_due(message) {
+    match expected_ack2(message) {
         Ok(m) => Ok(Event::Ack2 { now, m }),
         Err(_) => Err(Fault::BadText),
     }

@@ -7,7 +7,7 @@
 
 use cg_core::{Event, Reply};
 use cg_exchange::syn;
-use cg_history::{History, Item, Receipt, Stray, confirms};
+use cg_history::{History, Item, Receipt, UnconfirmedReceipt, confirms};
 use cg_messages::{Ack2, OwnerDelta};
 use cg_testing::{
     A, B, bare_delta, cluster, endpoint, expect_eq, generation, key, settings, version,
@@ -180,18 +180,18 @@ fn receipts(alloc: Global, rows: &[Row]) -> Result<Vec<Receipt>, Fail> {
 }
 
 // The place and the number of the fault of the first receipt that is not confirmed.
-fn stray(confirmed: Result<(), Stray>) -> Option<(usize, u8)> {
+fn unconfirmed(confirmed: Result<(), UnconfirmedReceipt>) -> Option<(usize, u8)> {
     match confirmed {
         Ok(()) => None,
-        Err(stray) => Some((stray.place, stray.fault.number())),
+        Err(unconfirmed) => Some((unconfirmed.place, unconfirmed.fault.number())),
     }
 }
 
 // The same of receipts that the records of the examples' history are to confirm.
-fn stray_of(alloc: Global, rows: &[Row]) -> Result<Option<(usize, u8)>, Fail> {
+fn unconfirmed_receipt(alloc: Global, rows: &[Row]) -> Result<Option<(usize, u8)>, Fail> {
     let receipts = receipts(alloc, rows)?;
     let history = history_of(alloc, TWO)?;
-    Ok(stray(confirms(history.folded(), history.records(), &receipts)))
+    Ok(unconfirmed(confirms(history.folded(), history.records(), &receipts)))
 }
 
 // The receipts of its records.
@@ -199,7 +199,7 @@ const SET: Row = (Of::Set, 2, 1, 1);
 
 const BEAT: Row = (Of::Beat, 3, 2, 2);
 
-const STRAYS: [(&[Row], Option<(usize, u8)>); 10] = [
+const UNCONFIRMED: [(&[Row], Option<(usize, u8)>); 10] = [
     // callers are confirmed apart, the numbers of each have to rise
     (&[SET, BEAT], None),
     (&[BEAT, SET], None),
@@ -225,28 +225,28 @@ fn confirmed_of(
     for turn in 0..count {
         receipts.push(history.apply(alloc, turn % 2, Event::Beat)?)?;
     }
-    let all = stray(history.confirms(&receipts));
+    let all = unconfirmed(history.confirms(&receipts));
     if let Some(last) = receipts.last_mut() {
         last.number = 1;
     }
-    let changed = stray(history.confirms(&receipts));
+    let changed = unconfirmed(history.confirms(&receipts));
     Ok((history.records().len(), all, changed))
 }
 
 #[test]
 fn receipts_are_confirmed(rt: HostRuntime) -> Result<(), Fail> {
-    for (place, (rows, due)) in STRAYS.into_iter().enumerate() {
-        let stray = stray_of(rt.alloc(), rows)?;
-        expect_eq!(stray, due, "row {place}")?;
+    for (place, (rows, due)) in UNCONFIRMED.into_iter().enumerate() {
+        let unconfirmed = unconfirmed_receipt(rt.alloc(), rows)?;
+        expect_eq!(unconfirmed, due, "row {place}")?;
     }
     let confirmed = confirmed_of(rt.alloc(), 100_000)?;
     expect_eq!(confirmed, (100_000, None, Some((99_999, 16))))
 }
 
 #[test]
-fn a_stray_receipt_says_where(rt: HostRuntime) -> Result<(), Fail> {
+fn an_unconfirmed_receipt_says_where(rt: HostRuntime) -> Result<(), Fail> {
     let fault = Fault::Stranger;
-    let told = format!(in rt.alloc(); "{}", Stray { place: 2, fault })?;
+    let told = format!(in rt.alloc(); "{}", UnconfirmedReceipt { place: 2, fault })?;
     expect_eq!(
         told.as_str(),
         "receipt 2, counted from 0, is not confirmed: 16 Stranger"

@@ -7,7 +7,7 @@ use Rattle.cg_types.specs.ListPlace.{at_place}
 use Rattle.cg_table.specs.Puts.{puts}
 use Rattle.cg_history.specs.declared.item.Item.{Item}
 use Rattle.cg_history.specs.declared.item.Receipt.{Receipt}
-use Rattle.cg_history.specs.Confirming.{Stands, Follows}
+use Rattle.cg_history.specs.Confirming.{Stands, ComesAfterAll}
 use Rattle.cg_history.proofs.Confirmed.{at_place_within, confirmed_more}
 use Rattle.cg_history.proofs.OneMore.{each_event_makes_one_record}
 use Rattle.cg_history.specs.History.{count_of}
@@ -61,7 +61,7 @@ entries_are_confirmed start seat e seen q told receipts all entry =
       ap (at_place seen) number ∙ subst (λ (l : List Item). at_place l (length h.records + 1) ≡ Some r) (sym rows) (place_at_end h.records r),
       (sym (ap (λ (p : Receipt). p.caller) one.receipt), sym (ap (λ (p : Receipt). p.event) one.receipt), sym (ap (λ (p : Receipt). p.reply) one.receipt)),
     ) in
-    let follows : Follows receipts q =
+    let follows : ComesAfterAll receipts q =
     λ k d less. λ same. (
     let p = get_or receipts k d in
     let earlier = all k p (at_place_within receipts k d less) in

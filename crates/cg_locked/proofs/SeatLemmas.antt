@@ -15,13 +15,13 @@ use Rattle.cg_history.proofs.OneMore.{each_event_makes_one_record}
 use Rattle.cg_history.specs.declared.item.Item.{Item}
 use Rattle.cg_history.specs.Confirming.{AreConfirmed}
 use Rattle.cg_locked.specs.Seat.{SeatState}
-use Rattle.cg_locked.specs.Entry.{IsEntry, ShowsChange}
+use Rattle.cg_locked.specs.Entry.{IsEntered, ShowsChange}
 use mathlib.Core.List.{IsPrefix}
 use Rattle.cg_locked.proofs.Confirming.{confirmed_stay, entries_are_confirmed}
 use Rattle.cg_core.specs.Replies.{IsReplyTo}
 use Rattle.cg_engine.specs.Events.{IsGateFault}
 use Rattle.cg_engine.proofs.ReplyLemmas.{reply_kind, step_fault}
-use Rattle.cg_locked.specs.Seats.{SeatValue, AreOf, last_reply, IsReceiptOf, IsSeatOf, HasEntered, Enters}
+use Rattle.cg_locked.specs.Seats.{SeatValue, AreOfCaller, last_reply, IsReceiptOf, IsSeatOf, HasEntered, Enters}
 
 -- ---- a receipt more
 
@@ -37,7 +37,7 @@ last_stands qs q =
 pub last_of_more : (qs : List Receipt) (q : Receipt) → last_reply (qs ++ q ∷ []) ≡ Some q.reply
 last_of_more qs q = ap (option_map (λ (r : Receipt). r.reply)) (last_stands qs q)
 
-pub more_of : (caller : ℕ) (qs : List Receipt) (q : Receipt) → AreOf caller qs → q.caller ≡ caller → AreOf caller (qs ++ q ∷ [])
+pub more_of : (caller : ℕ) (qs : List Receipt) (q : Receipt) → AreOfCaller caller qs → q.caller ≡ caller → AreOfCaller caller (qs ++ q ∷ [])
 more_of caller qs q are is = All-push (λ (r : Receipt). r.caller ≡ caller) qs q are is
 
 -- ---- an entry that was done
@@ -47,7 +47,7 @@ pub record IsDone (caller : ℕ) (e : Event) (q : Receipt) : Type 0 where
   pub is : IsReceiptOf caller e q.reply q
   pub kind : IsReplyTo e q.reply
 
-pub entry_done : (start : NodeValue) (seat : SeatState) (e : Event) (seen : List Item) (q : Receipt) (told : Option (List Put)) → IsEntry start seat e seen (Ok (q, told)) → IsDone seat.caller e q
+pub entry_done : (start : NodeValue) (seat : SeatState) (e : Event) (seen : List Item) (q : Receipt) (told : Option (List Put)) → IsEntered start seat e seen (Ok (q, told)) → IsDone seat.caller e q
 entry_done start seat e seen q told entry =
     let one = each_event_makes_one_record entry.before seat.caller e entry.after q entry.entered in
     let replied : one.answer ≡ q.reply = sym (ap (λ (p : Receipt). p.reply) one.receipt) in
@@ -71,23 +71,23 @@ fault_by h caller e false (Err g) f step is =
 apply_fault : (h : HistoryValue) (caller : ℕ) (e : Event) (f : Fault) → apply h caller e ≡ Err f → IsGateFault e f
 apply_fault h caller e f is = fault_by h caller e (count_of h == LAST_NUMBER) (node_step h.node e) f refl is
 
-pub entry_fault : (start : NodeValue) (seat : SeatState) (e : Event) (seen : List Item) (f : Fault) → IsEntry start seat e seen (Err f) → IsGateFault e f
+pub entry_fault : (start : NodeValue) (seat : SeatState) (e : Event) (seen : List Item) (f : Fault) → IsEntered start seat e seen (Err f) → IsGateFault e f
 entry_fault start seat e seen fault.OutOfMemory entry = tt
 entry_fault start seat e seen f entry = apply_fault entry.before seat.caller e f entry.entered
 
 -- ---- the gate after it
 
 -- an entry more, from a gate with these receipts
-module _ (start : NodeValue) (seat : SeatState) (qs : List Receipt) (e : Event) (seen : List Item) (q : Receipt) (told : Option (List Put)) (counted : seat.amount ≡ length qs) (confirmed : AreConfirmed 0 seat.seen qs) (entry : IsEntry start seat e seen (Ok (q, told))) where
-  pub still_counted : (now : SeatState) (room items : List Receipt) → AreOf seat.caller qs → now.amount ≡ seat.amount + 1 → now.caller ≡ seat.caller → now.seen ≡ seen → room ≡ qs → items ≡ room ++ q ∷ []
-      → (now.amount ≡ length items) × AreOf now.caller items × AreConfirmed 0 now.seen items
+module _ (start : NodeValue) (seat : SeatState) (qs : List Receipt) (e : Event) (seen : List Item) (q : Receipt) (told : Option (List Put)) (counted : seat.amount ≡ length qs) (confirmed : AreConfirmed 0 seat.seen qs) (entry : IsEntered start seat e seen (Ok (q, told))) where
+  pub still_counted : (now : SeatState) (room items : List Receipt) → AreOfCaller seat.caller qs → now.amount ≡ seat.amount + 1 → now.caller ≡ seat.caller → now.seen ≡ seen → room ≡ qs → items ≡ room ++ q ∷ []
+      → (now.amount ≡ length items) × AreOfCaller now.caller items × AreConfirmed 0 now.seen items
   still_counted now room items are more same_caller sees same all =
       let whole : items ≡ qs ++ q ∷ [] = all ∙ ap (λ rs. rs ++ q ∷ []) same in
       let long : length items ≡ length (qs ++ q ∷ []) = ap length whole in
       let done = entry_done start seat e seen q told entry in
       let stand = entries_are_confirmed start seat e seen q told qs confirmed entry in (
         omega (arith, more, counted, long, length-append qs (q ∷ [])),
-        subst (λ rs. AreOf now.caller rs) (sym whole) (subst (λ n. AreOf n (qs ++ q ∷ [])) (sym same_caller) (more_of seat.caller qs q are done.is.0)),
+        subst (λ rs. AreOfCaller now.caller rs) (sym whole) (subst (λ n. AreOfCaller n (qs ++ q ∷ [])) (sym same_caller) (more_of seat.caller qs q are done.is.0)),
         subst (λ rs. AreConfirmed 0 now.seen rs) (sym whole) (subst (λ (l : List Item). AreConfirmed 0 l (qs ++ q ∷ [])) (sym sees) stand),
       )
 
@@ -115,7 +115,7 @@ module _ (start : NodeValue) (seat : SeatState) (qs : List Receipt) (e : Event) 
       (q.reply, ap last_reply whole ∙ last_of_more qs q, enters, done.kind)
 
 -- a gate whose event was refused, by the entry from its seat
-pub refused : (start : NodeValue) (seat : SeatState) (qs : List Receipt) (e : Event) (seen : List Item) (f : Fault) → seat.amount ≡ length qs → AreConfirmed 0 seat.seen qs → IsEntry start seat e seen (Err f)
+pub refused : (start : NodeValue) (seat : SeatState) (qs : List Receipt) (e : Event) (seen : List Item) (f : Fault) → seat.amount ≡ length qs → AreConfirmed 0 seat.seen qs → IsEntered start seat e seen (Err f)
     → (parts : ℕ) (was : Option (List Put)) (g : SeatValue) → (let inside : SeatValue = record { caller = seat.caller; parts = parts; receipts = qs; told = was } in inside) ≡ g → HasEntered start g e (Err f)
 refused start seat qs e seen f counted confirmed entry parts was g is =
     let receipts : qs ≡ g.receipts = ap (λ (v : SeatValue). v.receipts) is in
@@ -127,11 +127,11 @@ refused start seat qs e seen f counted confirmed entry parts was g is =
     record { seat = seat; is = its; seen = seen; entry = entry }
 
 -- after a refused entry the seat has counted the same receipts, which all records that it has then seen confirm
-pub still_left : (start : NodeValue) (seat now : SeatState) (qs room : List Receipt) (e : Event) (f : Fault) → seat.amount ≡ length qs → AreOf seat.caller qs → AreConfirmed 0 seat.seen qs → IsEntry start seat e now.seen (Err f)
-    → now.amount ≡ seat.amount → now.caller ≡ seat.caller → room ≡ qs → (now.amount ≡ length room) × AreOf now.caller room × AreConfirmed 0 now.seen room
+pub still_left : (start : NodeValue) (seat now : SeatState) (qs room : List Receipt) (e : Event) (f : Fault) → seat.amount ≡ length qs → AreOfCaller seat.caller qs → AreConfirmed 0 seat.seen qs → IsEntered start seat e now.seen (Err f)
+    → now.amount ≡ seat.amount → now.caller ≡ seat.caller → room ≡ qs → (now.amount ≡ length room) × AreOfCaller now.caller room × AreConfirmed 0 now.seen room
 still_left start seat now qs room e f counted are confirmed entry amount caller same =
     let begins : IsPrefix seat.seen now.seen = subst (λ (l : List Item). IsPrefix seat.seen l) (sym entry.seen_are) entry.begins in (
       amount ∙ counted ∙ ap length (sym same),
-      subst (λ rs. AreOf now.caller rs) (sym same) (subst (λ n. AreOf n qs) (sym caller) are),
+      subst (λ rs. AreOfCaller now.caller rs) (sym same) (subst (λ n. AreOfCaller n qs) (sym caller) are),
       subst (λ rs. AreConfirmed 0 now.seen rs) (sym same) (confirmed_stay 0 seat.seen now.seen qs begins confirmed),
     )

@@ -30,7 +30,7 @@ use Rattle.cg_views.specs.Lists.{MayFollow}
 use Rattle.cg_views.specs.Reading.{Has, HasState}
 use Rattle.cg_views.proofs.Reading.{told_sets_are_read}
 use Rattle.cg_locked.specs.Seat.{SeatState}
-use Rattle.cg_locked.specs.Entry.{Answer, ShowsChange, ShownChangesAreRead, IsEntry}
+use Rattle.cg_locked.specs.Entry.{Answer, ShowsChange, ShownChangesAreRead, IsEntered}
 
 -- ---- puts that may be appended
 
@@ -120,15 +120,15 @@ shown_changes_are_read opening told read key version text shows begins order =
 
 module _ (start : NodeValue) (seat : SeatState) (e : Event) (seen : List Item) (h : HistoryValue) (whole : h.folded ≡ 0) (starts : h.base ≡ start) (replayed : IsReplayed h) (begins : IsPrefix seat.seen h.records) (long : seat.amount ≤ length h.records) where
   -- an event that was entered, with the puts that were published
-  pub entry_done : (after : HistoryValue) (q : Receipt) (told : Option (List Put)) → apply h seat.caller e ≡ Ok (after, q) → seen ≡ after.records → IfSome told (λ t. t ≡ puts_of after.records) → IsEntry start seat e seen (Ok (q, told))
+  pub entry_done : (after : HistoryValue) (q : Receipt) (told : Option (List Put)) → apply h seat.caller e ≡ Ok (after, q) → seen ≡ after.records → IfSome told (λ t. t ≡ puts_of after.records) → IsEntered start seat e seen (Ok (q, told))
   entry_done after q told is are all = record { before = h; after = after; whole = whole; starts = starts; replayed = replayed; begins = begins; long = long; entered = is; seen_are = are; told = all }
 
   -- an event that was refused
-  pub entry_refused : (fault : Fault) → IsRefusal fault (apply h seat.caller e) → seen ≡ h.records → IsEntry start seat e seen (Err fault)
+  pub entry_refused : (fault : Fault) → IsRefusal fault (apply h seat.caller e) → seen ≡ h.records → IsEntered start seat e seen (Err fault)
   entry_refused fault is are = record { before = h; after = h; whole = whole; starts = starts; replayed = replayed; begins = begins; long = long; entered = is; seen_are = are; told = tt }
 
 -- the puts published with an entry show its change
-pub entry_shows : (start : NodeValue) (seat : SeatState) (e : Event) (seen : List Item) (result : Result Answer Fault) → IsEntry start seat e seen result → (opening : TableValue) → start.table ≡ opening → IfOk result (λ r. IfSome r.1 (λ t. ShowsChange t opening.own e r.0.reply))
+pub entry_shows : (start : NodeValue) (seat : SeatState) (e : Event) (seen : List Item) (result : Result Answer Fault) → IsEntered start seat e seen result → (opening : TableValue) → start.table ≡ opening → IfOk result (λ r. IfSome r.1 (λ t. ShowsChange t opening.own e r.0.reply))
 entry_shows start seat e seen (Err fault) entry opening at = tt
 entry_shows start seat e seen (Ok (q, None)) entry opening at = tt
 entry_shows start seat e seen (Ok (q, Some t)) entry opening at =

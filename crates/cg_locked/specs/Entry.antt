@@ -55,7 +55,7 @@ Answer = Receipt × Option (List Put)
 -- from the start, begins with all records that the seat has seen, and has as many as the seat counted, or more. The seat
 -- has then seen all its records, with that of the event as the last one; if the event was refused, there is none. If puts
 -- were published, they are those of the history after the event.
-pub record IsEntry (start : NodeValue) (seat : SeatState) (e : Event) (seen : List Item) (result : Result Answer Fault)
+pub record IsEntered (start : NodeValue) (seat : SeatState) (e : Event) (seen : List Item) (result : Result Answer Fault)
     : Type 0 where
   pub before : HistoryValue
   pub after : HistoryValue
@@ -73,7 +73,7 @@ abbrev pub EntriesAreConfirmed : Type 0
 EntriesAreConfirmed =
     (start : NodeValue) (seat : SeatState) (e : Event) (seen : List Item) (q : Receipt) (told : Option (List Put))
     (receipts : List Receipt)
-    → AreConfirmed 0 seat.seen receipts → IsEntry start seat e seen (Ok (q, told))
+    → AreConfirmed 0 seat.seen receipts → IsEntered start seat e seen (Ok (q, told))
     → AreConfirmed 0 seen (receipts ++ q ∷ [])
 
 -- Records confirm all receipts that a prefix of them confirms.

@@ -13,7 +13,7 @@ use Rattle.cg_history.specs.declared.item.Item.{Item}
 use Rattle.cg_history.specs.Items.{receipt_code}
 use Rattle.cg_history.specs.Confirming.{AreConfirmed}
 use Rattle.cg_locked.specs.Seat.{SeatState}
-use Rattle.cg_locked.specs.Entry.{Answer, IsEntry, ShowsChange}
+use Rattle.cg_locked.specs.Entry.{Answer, IsEntered, ShowsChange}
 
 -- the seat's caller and parts, the receipts, and the told of the last event
 pub record SeatValue : Type 0 where
@@ -39,8 +39,8 @@ abbrev pub with_told : SeatValue → Option (List Put) → SeatValue
 with_told g told = record { caller = g.caller; parts = g.parts; receipts = g.receipts; told = told }
 
 -- The receipts are the caller's.
-abbrev pub AreOf : ℕ → List Receipt → Type 0
-AreOf caller receipts = All (λ q. q.caller ≡ caller) receipts
+abbrev pub AreOfCaller : ℕ → List Receipt → Type 0
+AreOfCaller caller receipts = All (λ q. q.caller ≡ caller) receipts
 
 -- the reply of the last receipt
 abbrev pub last_reply : List Receipt → Option Reply
@@ -61,7 +61,7 @@ pub record HasEntered (start : NodeValue) (g : SeatValue) (e : Event) (result : 
   pub seat : SeatState
   pub is : IsSeatOf g seat
   pub seen : List Item
-  pub entry : IsEntry start seat e seen result
+  pub entry : IsEntered start seat e seen result
 
 -- The gate went on by one event with its reply. The event was entered from its seat. Its receipt is kept after those
 -- that the gate has, and its told shows its Set of the views' own endpoint.

@@ -2,7 +2,7 @@
 use Rattle.std.specs.Prelude.{ℕ, zero, suc, List, [], ◌++◌, ◌∷◌, Result, Ok, Err, refl}
 use Rattle.std.specs.Coded.{Coded, code_by, coded×, coded_ℕ}
 use Rattle.logbook.specs.Pages.{Book, book_coded}
-use Rattle.cg_history.specs.declared.item.Stray.{Stray}
+use Rattle.cg_history.specs.declared.item.UnconfirmedReceipt.{UnconfirmedReceipt}
 use Rattle.cg_history.specs.History.{HistoryValue}
 use Rattle.cg_locked.specs.declared.shared.Unconfirmed.{Unconfirmed}
 
@@ -29,5 +29,5 @@ history_of (Ok h) = h
 history_of (Err u) = u.history
 
 -- the first unconfirmed receipt
-abbrev pub stray_of : Unconfirmed → Stray
-stray_of u = record { place = u.place; fault = u.fault }
+abbrev pub unconfirmed_receipt : Unconfirmed → UnconfirmedReceipt
+unconfirmed_receipt u = record { place = u.place; fault = u.fault }

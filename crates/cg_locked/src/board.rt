@@ -12,7 +12,7 @@ ghost use Rattle.cg_history.specs.History.{IsFoldOf, Replays, apply, count_of, h
 ghost use Rattle.cg_views.specs.Lists.{opened_with, are_all};
 ghost use Rattle.cg_locked.specs.Board.{fold_length, shows_all};
 ghost use Rattle.cg_locked.specs.Replaying.{Replays-prop};
-ghost use Rattle.cg_locked.specs.Entry.{IsEntry, ShowsChange};
+ghost use Rattle.cg_locked.specs.Entry.{IsEntered, ShowsChange};
 
 use crate::log::Log;
 use crate::name::Name;
@@ -228,7 +228,7 @@ impl<N: Name> Board<N> {
         ensures entered { Answers (λ r. (self.new.history, r.0))
             (apply self.old.history seat.old.caller event) result }
         ensures told { IfOk result (λ r. IfSome r.1 (λ t. t ≡ puts_of self.new.log)) }
-        ensures entry { IsEntry N.start seat.old event seat.new.seen result }
+        ensures entry { IsEntered N.start seat.old event seat.new.seen result }
         ensures shown { IfOk result (λ r. IfSome r.1 (λ t. ShowsChange t N.opening.own event r.0.reply)) }
         ensures published { IfOk result (λ r. MatchOption r.1
             ((self.new.published ≡ self.old.published)

@@ -2,7 +2,7 @@
 
 ghost use Rattle.std.specs.Prelude.{◌≡◌, ◌++◌, [], None, length};
 ghost use Rattle.cg_history.specs.Confirming.{AreConfirmed};
-ghost use Rattle.cg_locked.specs.Seats.{AreOf, new_gate, with_told};
+ghost use Rattle.cg_locked.specs.Seats.{AreOfCaller, new_gate, with_told};
 
 use crate::name::Name;
 use crate::seat::Seat;
@@ -31,7 +31,7 @@ pub struct SeatGate<'a, N: Name, R: Wait> {
 impl<'a, N: Name, R: Wait> Model for SeatGate<'a, N, R> {
     ghost use Rattle.std.specs.Prelude.{◌≡◌, length};
     ghost use Rattle.cg_history.specs.Confirming.{AreConfirmed};
-    ghost use Rattle.cg_locked.specs.Seats.{SeatValue, AreOf, seat_code};
+    ghost use Rattle.cg_locked.specs.Seats.{SeatValue, AreOfCaller, seat_code};
 
     ghost Value = { SeatValue };
 
@@ -44,7 +44,7 @@ impl<'a, N: Name, R: Wait> Model for SeatGate<'a, N, R> {
       told = g.told;
     } };
 
-    ghost invariant = { λ g. (g.seat.amount ≡ length g.receipts.items) × AreOf g.seat.caller g.receipts.items
+    ghost invariant = { λ g. (g.seat.amount ≡ length g.receipts.items) × AreOfCaller g.seat.caller g.receipts.items
         × AreConfirmed 0 g.seat.seen g.receipts.items };
 }
 
@@ -66,7 +66,7 @@ impl<'a, N: Name, R: Wait> SeatGate<'a, N, R> {
     /// Returns the receipts of the events done, in their order. They are all of the seat's caller.
     pub fn receipts(&self) -> &[Receipt]
         ensures value { result.now ≡ self.now.receipts }
-        ensures own { AreOf self.now.caller self.now.receipts }
+        ensures own { AreOfCaller self.now.caller self.now.receipts }
     {
         &self.receipts
     }
@@ -85,7 +85,7 @@ impl<'a, N: Name, R: Wait> SeatGate<'a, N, R> {
         ensures seat { (result.0.caller ≡ self.entry.caller) × (result.0.parts ≡ self.entry.parts)
             × (result.0.amount ≡ length self.entry.receipts) }
         ensures receipts { result.1.items ≡ self.entry.receipts }
-        ensures own { AreOf self.entry.caller self.entry.receipts }
+        ensures own { AreOfCaller self.entry.caller self.entry.receipts }
         ensures confirmed { AreConfirmed 0 result.0.seen self.entry.receipts }
     {
         let SeatGate { seat, receipts, .. } = self;

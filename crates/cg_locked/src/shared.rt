@@ -4,11 +4,11 @@ ghost use Rattle.std.specs.Prelude.{◌≡◌, ◌+◌, ◌<◌, ◌≤◌, fals
 ghost use Rattle.std.specs.List.{All, sum_by};
 ghost use mathlib.Core.List.{IsPrefix};
 ghost use Rattle.cg_history.specs.declared.item.Item.{Item};
-ghost use Rattle.cg_history.specs.Confirming.{AreConfirmed, IsFirstStray};
+ghost use Rattle.cg_history.specs.Confirming.{AreConfirmed, IsFirstUnconfirmed};
 ghost use Rattle.cg_history.specs.History.{IsFoldOf, count_of};
 ghost use Rattle.cg_views.specs.Lists.{opened_with};
-ghost use Rattle.cg_locked.specs.Entry.{IsEntry, ShowsChange};
-ghost use Rattle.cg_locked.specs.Shared.{callers_up_to, history_of, stray_of};
+ghost use Rattle.cg_locked.specs.Entry.{IsEntered, ShowsChange};
+ghost use Rattle.cg_locked.specs.Shared.{callers_up_to, history_of, unconfirmed_receipt};
 
 use crate::board::Board;
 use crate::limits::SEAT_LIMIT;
@@ -129,7 +129,7 @@ impl<N: Name> Board<N> {
         ensures fold { IsFoldOf self.log (history_of result) }
         ensures seen { All (λ s. IsPrefix s.seen self.log) seats.items }
         ensures confirmed { MatchResult result (λ h. AreConfirmed h.folded h.records receipts.now)
-            (λ u. IsFirstStray u.history.folded u.history.records receipts.now (stray_of u)) }
+            (λ u. IsFirstUnconfirmed u.history.folded u.history.records receipts.now (unconfirmed_receipt u)) }
     {
         let (history, publisher, mut book, mut log) = self.apart();
         publisher.close(rt);
@@ -138,10 +138,10 @@ impl<N: Name> Board<N> {
         book.audit(&mut all);
         match history.confirms(receipts) {
             Ok(()) => Ok(history),
-            Err(stray) => Err(Unconfirmed {
+            Err(unconfirmed) => Err(Unconfirmed {
                 history,
-                place: stray.place,
-                fault: stray.fault,
+                place: unconfirmed.place,
+                fault: unconfirmed.fault,
             }),
         }
     }
@@ -197,7 +197,7 @@ impl<N: Name> Shared<N> {
         seat: &mut Seat<N>,
         event: Event,
     ) -> Result<(Receipt, Option<Told<N>>), Fault>
-        ensures entry { IsEntry N.start seat.old event seat.new.seen result }
+        ensures entry { IsEntered N.start seat.old event seat.new.seen result }
         ensures shown { IfOk result (λ r. IfSome r.1 (λ t. ShowsChange t N.opening.own event r.0.reply)) }
         ensures amount { OnOk result (seat.new.amount ≡ seat.old.amount + 1) }
         ensures err { OnErr result (seat.new.amount ≡ seat.old.amount) }
@@ -228,7 +228,7 @@ impl<N: Name> Shared<N> {
         ensures seen { (all : List Item) × IsFoldOf all (history_of result)
             × All (λ s. IsPrefix s.seen all) seats.items }
         ensures confirmed { MatchResult result (λ h. AreConfirmed h.folded h.records receipts.now)
-            (λ u. IsFirstStray u.history.folded u.history.records receipts.now (stray_of u)) }
+            (λ u. IsFirstUnconfirmed u.history.folded u.history.records receipts.now (unconfirmed_receipt u)) }
     {
         let Shared { board } = self;
         board.into_inner().finish(rt, seats, receipts)

@@ -452,10 +452,10 @@ fn left_by<N: Name, R: Wait>(
         receipts,
         fault,
     } = notes;
-    let (records, stray) = ended(shared.finish(rt, seats, &receipts));
+    let (records, unconfirmed) = ended(shared.finish(rt, seats, &receipts));
     match fault {
         Some(fault) => Err(Fail::from(fault)),
-        None => Ok((numbers, records, stray)),
+        None => Ok((numbers, records, unconfirmed)),
     }
 }
 
@@ -478,62 +478,62 @@ fn left<R: Wait>(rt: &R, alloc: Global, seats: usize, work: Work) -> Result<Left
 
 #[test]
 fn a_set_is_told_read_and_confirmed(rt: HostRuntime) -> Result<(), Fail> {
-    let (numbers, records, stray) = left(&rt, rt.alloc(), 1, Work::Set)?;
+    let (numbers, records, unconfirmed) = left(&rt, rt.alloc(), 1, Work::Set)?;
     expect_eq!(numbers.as_slice(), [1, 2, 2].as_slice())?;
-    expect_eq!((records, stray), (1, None))
+    expect_eq!((records, unconfirmed), (1, None))
 }
 
 #[test]
 fn a_removal_is_told_and_read_as_a_tombstone(rt: HostRuntime) -> Result<(), Fail> {
-    let (numbers, records, stray) = left(&rt, rt.alloc(), 1, Work::Remove)?;
+    let (numbers, records, unconfirmed) = left(&rt, rt.alloc(), 1, Work::Remove)?;
     expect_eq!(numbers.as_slice(), [1, 2, 2, 3, 20].as_slice())?;
-    expect_eq!((records, stray), (2, None))
+    expect_eq!((records, unconfirmed), (2, None))
 }
 
 #[test]
 fn a_receipt_of_another_number_is_a_stranger(rt: HostRuntime) -> Result<(), Fail> {
-    let (_, records, stray) = left(&rt, rt.alloc(), 1, Work::SetAndForge)?;
-    expect_eq!((records, stray), (1, Some((0, 16))))
+    let (_, records, unconfirmed) = left(&rt, rt.alloc(), 1, Work::SetAndForge)?;
+    expect_eq!((records, unconfirmed), (1, Some((0, 16))))
 }
 
 #[test]
 fn a_pass_reads_while_its_thread_has_the_board(rt: HostRuntime) -> Result<(), Fail> {
-    let (numbers, records, stray) = left(&rt, rt.alloc(), 1, Work::ReadBorrowed)?;
+    let (numbers, records, unconfirmed) = left(&rt, rt.alloc(), 1, Work::ReadBorrowed)?;
     expect_eq!(numbers.as_slice(), [0].as_slice())?;
-    expect_eq!((records, stray), (0, None))
+    expect_eq!((records, unconfirmed), (0, None))
 }
 
 #[test]
 fn records_that_were_not_published_are_caught_up(rt: HostRuntime) -> Result<(), Fail> {
-    let (numbers, records, stray) = left(&rt, rt.alloc(), 1, Work::EnterTwo)?;
+    let (numbers, records, unconfirmed) = left(&rt, rt.alloc(), 1, Work::EnterTwo)?;
     expect_eq!(numbers.as_slice(), [1, 0, 2, 0, 0, 3, 2].as_slice())?;
-    expect_eq!((records, stray), (2, None))
+    expect_eq!((records, unconfirmed), (2, None))
 }
 
 // Run with each request for memory refused in turn (`rt try --test --fail-alloc N`), it ends in the same way, or finds
 // no memory to begin: a record whose publication was refused is not folded, and the next publication has both.
 #[test]
 fn refused_publications_are_caught_up(rt: HostRuntime) -> Result<(), Fail> {
-    let (numbers, records, stray) = left(&rt, rt.alloc(), 1, Work::SetAnyway)?;
+    let (numbers, records, unconfirmed) = left(&rt, rt.alloc(), 1, Work::SetAnyway)?;
     expect_eq!(numbers.as_slice(), [1, 1, 1, 0, 0, 3, 2].as_slice())?;
-    expect_eq!((records, stray), (2, Some((0, 18))))
+    expect_eq!((records, unconfirmed), (2, Some((0, 18))))
 }
 
 // A fold takes no record that is unpublished, and none if more are to be kept than there are.
 #[test]
 fn published_records_are_folded(rt: HostRuntime) -> Result<(), Fail> {
-    let (numbers, records, stray) = left(&rt, rt.alloc(), 1, Work::Fold)?;
+    let (numbers, records, unconfirmed) = left(&rt, rt.alloc(), 1, Work::Fold)?;
     let due = [
         1, 0, 2, 0, 0, 2, 2, 0, 3, 2, 0, 2, 0, 1, 3, 2, 1, 1, 0, 4, 3, 2, 1, 0,
     ];
     expect_eq!(numbers.as_slice(), due.as_slice())?;
-    expect_eq!((records, stray), (3, Some((0, 18))))
+    expect_eq!((records, unconfirmed), (3, Some((0, 18))))
 }
 
 #[test]
 fn sixteen_seats_have_their_callers(rt: HostRuntime) -> Result<(), Fail> {
-    let (numbers, records, stray) = left(&rt, rt.alloc(), 16, Work::Beat)?;
+    let (numbers, records, unconfirmed) = left(&rt, rt.alloc(), 16, Work::Beat)?;
     let callers = [1, 2, 3, 4, 5, 6, 7, 8, 9, 10, 11, 12, 13, 14, 15, 16];
     expect_eq!(numbers.as_slice(), callers.as_slice())?;
-    expect_eq!((records, stray), (16, None))
+    expect_eq!((records, unconfirmed), (16, None))
 }

@@ -134,9 +134,9 @@ pub(crate) fn receipts(alloc: Global, callers: u32, rise: u32) -> Result<Vec<Rec
 }
 
 /// The place of the first receipt that is not confirmed, if there is one.
-pub(crate) fn stray(history: &History, receipts: &[Receipt]) -> Option<usize> {
+pub(crate) fn unconfirmed(history: &History, receipts: &[Receipt]) -> Option<usize> {
     match history.confirms(receipts) {
         Ok(()) => None,
-        Err(stray) => Some(stray.place),
+        Err(unconfirmed) => Some(unconfirmed.place),
     }
 }

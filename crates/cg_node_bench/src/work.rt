@@ -2,7 +2,7 @@
 
 use crate::cases::{Case, Task};
 use crate::claims::{claimed, joins, leaves, left};
-use crate::histories::{beats, events, folded, receipts, recorded, stepped, stray};
+use crate::histories::{beats, events, folded, receipts, recorded, stepped, unconfirmed};
 use crate::links::{Side, answerer_part, equal_sides, opener_part, received};
 use crate::nodes::{
     after, after_all, heard, heartbeat, joined, load, rounds_of_beats, started, unload, whole,
@@ -52,7 +52,7 @@ pub(crate) enum Made {
     Linked((Node, Vec<u8>), (Node, Vec<u8>)),
     Message(Message),
     History(History),
-    Stray(Option<usize>),
+    UnconfirmedReceipt(Option<usize>),
     Text(Vec<u8>),
     World(World),
 }
@@ -62,8 +62,12 @@ fn linked(alloc: Global, opener: &Side, answerer: &Side) -> Result<Made, Failure
     Ok(Made::Linked(opener_part(alloc, opener)?, answerer))
 }
 
-fn add_stray(alloc: Global, digest: &mut Md5, stray: Option<usize>) -> Result<(), Failure> {
-    match stray {
+fn add_unconfirmed(
+    alloc: Global,
+    digest: &mut Md5,
+    unconfirmed: Option<usize>,
+) -> Result<(), Failure> {
+    match unconfirmed {
         Some(place) => digest.update(format!(in alloc; "{place}\n")?.as_bytes()),
         None => digest.update(b"confirmed\n"),
     }
@@ -105,7 +109,9 @@ impl cg_measure::Work for Work {
             Work::Steps(events) => Ok(Made::Node(stepped(alloc, events)?)),
             Work::Records(events) => Ok(Made::History(recorded(alloc, events)?)),
             Work::Folded(events) => Ok(Made::History(folded(alloc, events)?)),
-            Work::Confirms(history, receipts) => Ok(Made::Stray(stray(history, receipts))),
+            Work::Confirms(history, receipts) => Ok(Made::UnconfirmedReceipt(unconfirmed(
+                history, receipts,
+            ))),
             Work::Play(script) => Ok(Made::Text(played(alloc, script)?)),
             Work::Act(actions) => Ok(Made::World(acted(alloc, actions)?)),
         }
@@ -121,7 +127,7 @@ impl cg_measure::Work for Work {
             }
             Made::Message(message) => add_message(alloc, digest, message),
             Made::History(history) => add_table(alloc, digest, history.node().table()),
-            Made::Stray(stray) => add_stray(alloc, digest, *stray),
+            Made::UnconfirmedReceipt(unconfirmed) => add_unconfirmed(alloc, digest, *unconfirmed),
             Made::Text(text) => {
                 digest.update(text);
                 Ok(())

@@ -22,13 +22,13 @@ replicas_line words = do
   Some (Show (view.Replicas (token_of text) rf.0))
 
 -- a key that is set, or the fault of its text
-abbrev pub setting : ℕ → Result (List ℕ) Fault → Result OperatorCommand Fault
-setting key (Ok text) = Ok (Set key text)
-setting key (Err f) = Err f
+abbrev pub set_or_fault : ℕ → Result (List ℕ) Fault → Result OperatorCommand Fault
+set_or_fault key (Ok text) = Ok (Set key text)
+set_or_fault key (Err f) = Err f
 
 abbrev pub key_set : Option (ℕ × List ℕ) → Result OperatorCommand Fault
 key_set None = Err BadText
-key_set (Some key) = setting key.0 (state_text_in key.1)
+key_set (Some key) = set_or_fault key.0 (state_text_in key.1)
 
 -- `set KEY TEXT`
 unfoldable pub set_line : List ℕ → Result OperatorCommand Fault

@@ -114,7 +114,7 @@ PlaceExchangesAreLists =
     ≡ after_exchange by_places (world_after actions) x
 
 -- The done part of an exchange starts neither node, and none of its actions is refused.
-pub record IsDone (w : PlaceWorld) (x : PlaceExchange) : Type 0 where
+pub record IsDoneExchange (w : PlaceWorld) (x : PlaceExchange) : Type 0 where
   pub neither : NoStartsOfEither (done_exchange w x)
   pub done : AreDone w (actions_of by_places w (done_exchange w x))
 
@@ -122,7 +122,7 @@ pub record IsDone (w : PlaceWorld) (x : PlaceExchange) : Type 0 where
 abbrev pub ExchangesAreDone : Type 0
 ExchangesAreDone =
     (actions : List PlaceAction) (x : PlaceExchange) → BothRun (world_after actions) x → NoStartsOfEither x
-    → IsDone (world_after actions) x
+    → IsDoneExchange (world_after actions) x
 
 -- ---- limits
 

@@ -23,15 +23,15 @@ use Rattle.cg_places.specs.Laws.{IsWorld}
 use Rattle.cg_places.specs.Spelling.{SpellsNode, IsChangedAt}
 
 -- the message that an event hands over, if it hands one over
-abbrev pub message_in : Event → Option Message
-message_in event.Beat = None
-message_in (event.Set key text) = None
-message_in (event.Tick now words) = None
-message_in (event.Remove key) = None
-message_in event.Opening = None
-message_in (event.Syn syn) = Some (message.Syn syn)
-message_in (event.Ack now ack) = Some (message.Ack ack)
-message_in (event.Ack2 now ack2) = Some (message.Ack2 ack2)
+abbrev pub handed_message : Event → Option Message
+handed_message event.Beat = None
+handed_message (event.Set key text) = None
+handed_message (event.Tick now words) = None
+handed_message (event.Remove key) = None
+handed_message event.Opening = None
+handed_message (event.Syn syn) = Some (message.Syn syn)
+handed_message (event.Ack now ack) = Some (message.Ack ack)
+handed_message (event.Ack2 now ack2) = Some (message.Ack2 ack2)
 
 -- the action by places of a node's event; a message that it hands over is the one of this number
 abbrev pub action_at : ℕ → ℕ → Event → PlaceAction
@@ -126,5 +126,5 @@ pub record IsStepAt (w v : PlaceWorld) (spans : ℕ → Option Span) (node : ℕ
 abbrev pub StepsAreByPlaces : Type 0
 StepsAreByPlaces =
     (w : PlaceWorld) (node number : ℕ) (n : NodeValue) (e : Event) (x : NodeValue × Reply)
-    → IsWorld w → IsPlaced w node n → IsSentBefore w number (message_in e) → node_step n e ≡ Ok x
+    → IsWorld w → IsPlaced w node n → IsSentBefore w number (handed_message e) → node_step n e ≡ Ok x
     → IsStepAt w (after_action w (action_at node number e)) (span_handed w (action_at node number e)) node n x

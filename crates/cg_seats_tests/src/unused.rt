@@ -8,7 +8,7 @@ use cg_locked::{Fresh, Name};
 use cg_table::Table;
 use cg_testing::expect_eq;
 use cg_threads::{
-    Begun, NotRun, Ran, SeatLeft, SenderLeft, TickerLeft, WORKERS, WorkersLeft, begin, finish,
+    Begun, NotRun, Ran, SeatLeft, SenderLeft, TickerLeft, WORKERS, WorkersLeft, gather, prepare,
 };
 use cg_types::Fault;
 use cg_views::Opened;
@@ -43,7 +43,7 @@ fn left_by<N: Name, R: Wait>(
     requires fresh { (fresh.name ≡ N.name) × (fresh.parts ≡ N.parts) × (fresh.log ≡ N.log) × (N.parts ≡ 4) }
     requires folds { N.folds ≡ false }
 {
-    let begun = begin::<N, R>(rt, alloc, opened, table, history, fresh)?;
+    let begun = prepare::<N, R>(rt, alloc, opened, table, history, fresh)?;
     let Begun {
         shared,
         seats,
@@ -70,7 +70,7 @@ fn left_by<N: Name, R: Wait>(
         },
         operator: SeatLeft::of(seats.operator, Vec::new(alloc)),
     };
-    Ok(told(finish(rt, shared, list, work)))
+    Ok(told(gather(rt, shared, list, work)))
 }
 
 fn left_after<R: Wait>(rt: &R, alloc: Global, began: bool) -> Result<Told, Fail> {

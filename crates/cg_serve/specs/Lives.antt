@@ -21,8 +21,8 @@ use Rattle.cg_serve.specs.declared.serving.Lived.{Lived}
 -- ---- the beginning of a life
 
 -- the node that begins with these values
-abbrev pub node_of : Birth → NodeValue
-node_of b = starting_node b.own b.generation b.settings
+abbrev pub newborn_node : Birth → NodeValue
+newborn_node b = starting_node b.own b.generation b.settings
 
 -- the faults of a node that can't listen, or of which no worker began
 abbrev pub IsUnstarted : Fault → Type 0
@@ -32,8 +32,8 @@ IsUnstarted f = (f ≡ fault.OutOfMemory) ⊎ (f ≡ fault.ReadFault)
 
 -- the result of a run, or the fault by which none began
 abbrev pub left_after : Result Ran NotRun → Result LifeLeft Fault
-left_after (Ok r) = Ok (record { history = r.history; stray = None })
-left_after (Err (not_run.Unconfirmed u)) = Ok (record { history = u.history; stray = Some u.fault })
+left_after (Ok r) = Ok (record { history = r.history; unconfirmed = None })
+left_after (Err (not_run.Unconfirmed u)) = Ok (record { history = u.history; unconfirmed = Some u.fault })
 left_after (Err (not_run.Unstarted f)) = Err f
 
 -- A run from the node left this: a history that confirms all receipts of its workers; or one that does not, and the
@@ -73,18 +73,18 @@ fault_lines None = []
 fault_lines (Some f) = fault_text f
 
 abbrev pub text_after : Option Fault → Option Fault → List ℕ
-text_after stray unwritten = fault_lines stray ++ fault_lines unwritten
+text_after unconfirmed unwritten = fault_lines unconfirmed ++ fault_lines unwritten
 
 -- 0 exactly if every receipt is confirmed and the journal was written
 abbrev pub status_after : Option Fault → Option Fault → ℕ
 status_after None None = 0
-status_after stray unwritten = 1
+status_after unconfirmed unwritten = 1
 
 -- The status is this one. So is the text; or memory ran out for the line of a fault, and the text says that.
-abbrev pub Says : Option Fault → Option Fault → List ℕ → ℕ → Type 0
-Says stray unwritten text status =
-    (status ≡ status_after stray unwritten)
-    × ((text ≡ text_after stray unwritten) ⊎ ((text ≡ fault_text fault.OutOfMemory) × (status ≡ 1)))
+abbrev pub SaysEnd : Option Fault → Option Fault → List ℕ → ℕ → Type 0
+SaysEnd unconfirmed unwritten text status =
+    (status ≡ status_after unconfirmed unwritten)
+    × ((text ≡ text_after unconfirmed unwritten) ⊎ ((text ≡ fault_text fault.OutOfMemory) × (status ≡ 1)))
 
 module _ {F : Type 0} (did : Call F → Type 0) (contents : F → Option (List ℕ)) where
   -- The journal of the history was written to the file, and no record of it is folded; or it could not be.
@@ -96,8 +96,8 @@ module _ {F : Type 0} (did : Call F → Type 0) (contents : F → Option (List �
   abbrev pub Ends : Result Lived Fault → List ℕ → ℕ → Type 0
   Ends (Ok l) text status =
       (unwritten : Option Fault) × WritesJournal (string_bytes l.journal) l.left.history unwritten
-      × Says l.left.stray unwritten text status
-  Ends (Err f) text status = Says (Some f) None text status
+      × SaysEnd l.left.unconfirmed unwritten text status
+  Ends (Err f) text status = SaysEnd (Some f) None text status
 
 -- A life was lived, or a fault prevented it; the text and the status are those of its end.
 pub record Serves {F : Type 0} (did : Call F → Type 0) (remaining contents : F → Option (List ℕ)) (file text : List ℕ)

@@ -1,7 +1,7 @@
 //! A node that runs over sockets, the system's clock and the standard streams.
 
 ghost use Rattle.std.specs.Prelude.{◌≡◌, IfOk, IfErr};
-ghost use Rattle.cg_serve.specs.Lives.{node_of, left_after, IsLifeLeft, IsUnstarted};
+ghost use Rattle.cg_serve.specs.Lives.{newborn_node, left_after, IsLifeLeft, IsUnstarted};
 
 use cg_core::Settings;
 use cg_history::History;
@@ -28,7 +28,7 @@ pub(crate) struct Birth {
 #[derive(Drop)]
 pub(crate) struct LifeLeft {
     pub(crate) history: History,
-    pub(crate) stray: Option<Fault>,
+    pub(crate) unconfirmed: Option<Fault>,
 }
 
 // Returns the result of a run, if one began.
@@ -38,11 +38,11 @@ fn left_of(ran: Result<Ran, NotRun>) -> Result<LifeLeft, Fault>
     match ran {
         Ok(ran) => Ok(LifeLeft {
             history: ran.history,
-            stray: None,
+            unconfirmed: None,
         }),
         Err(NotRun::Unconfirmed(left)) => Ok(LifeLeft {
             history: left.history,
-            stray: Some(left.fault),
+            unconfirmed: Some(left.fault),
         }),
         Err(NotRun::Unstarted(fault)) => Err(fault),
     }
@@ -67,7 +67,7 @@ where
         + Eprint
         + Net<Listener = TcpListener, Stream = TcpStream>,
     R::Reader: Send,
-    ensures left { IfOk result (IsLifeLeft (node_of birth)) }
+    ensures left { IfOk result (IsLifeLeft (newborn_node birth)) }
     ensures err { IfErr result IsUnstarted }
 {
     let Birth {

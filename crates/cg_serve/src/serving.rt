@@ -3,7 +3,7 @@
 ghost use Rattle.std.specs.Prelude.{◌≡◌, ◌++◌, ℕ, List, IsSome, OnOk, OnErr, IfOk, string_bytes};
 ghost use Rattle.cg_links.specs.Counted.{link_of};
 ghost use Rattle.cg_text.specs.Written.{WroteOut};
-ghost use Rattle.cg_serve.specs.Lives.{Lives, fault_lines, text_after, status_after, Says, Ends, WritesJournal, Serves};
+ghost use Rattle.cg_serve.specs.Lives.{Lives, fault_lines, text_after, status_after, SaysEnd, Ends, WritesJournal, Serves};
 
 use crate::node::{Birth, LifeLeft, run};
 use cg_history::History;
@@ -112,26 +112,26 @@ fn add_fault(text: &mut String, alloc: Global, fault: Option<Fault>) -> Result<(
 }
 
 // Returns the lines of the faults of a life's receipts and of its journal. Without a fault, no memory is asked for.
-#[tactic(auto, using(crate::proofs::Ending::after_stray, crate::proofs::Ending::after_unwritten))]
+#[tactic(auto, using(crate::proofs::Ending::after_unconfirmed, crate::proofs::Ending::after_unwritten))]
 fn end_text(
     alloc: Global,
-    stray: Option<Fault>,
+    unconfirmed: Option<Fault>,
     unwritten: Option<Fault>,
 ) -> Result<String, AllocError>
-    ensures text { IfOk result (λ text. string_bytes text ≡ text_after stray unwritten) }
-    ensures refused { OnErr result (status_after stray unwritten ≡ 1) }
+    ensures text { IfOk result (λ text. string_bytes text ≡ text_after unconfirmed unwritten) }
+    ensures refused { OnErr result (status_after unconfirmed unwritten ≡ 1) }
 {
     let mut text = String::new(alloc);
-    add_fault(&mut text, alloc, stray)?;
+    add_fault(&mut text, alloc, unconfirmed)?;
     add_fault(&mut text, alloc, unwritten)?;
     Ok(text)
 }
 
 // Returns the status after a life whose receipts and whose journal have these faults.
-fn status_of(stray: Option<Fault>, unwritten: Option<Fault>) -> u8
-    ensures { result ≡ status_after stray unwritten }
+fn status_of(unconfirmed: Option<Fault>, unwritten: Option<Fault>) -> u8
+    ensures { result ≡ status_after unconfirmed unwritten }
 {
-    match (stray, unwritten) {
+    match (unconfirmed, unwritten) {
         (None, None) => 0,
         _ => 1,
     }
@@ -141,16 +141,16 @@ fn status_of(stray: Option<Fault>, unwritten: Option<Fault>) -> u8
 fn told<W: Write>(
     alloc: Global,
     writer: &mut Counted<W>,
-    stray: Option<Fault>,
+    unconfirmed: Option<Fault>,
     unwritten: Option<Fault>,
 ) -> u8
-    ensures { (text : List ℕ) × (status : ℕ) × Says stray unwritten text status
+    ensures { (text : List ℕ) × (status : ℕ) × SaysEnd unconfirmed unwritten text status
         × WroteOut
         (W.contents (link_of writer.old)) (W.contents (link_of writer.new))
         writer.old writer.new text status result }
 {
-    match end_text(alloc, stray, unwritten) {
-        Ok(text) => written(writer, text.as_bytes(), status_of(stray, unwritten)),
+    match end_text(alloc, unconfirmed, unwritten) {
+        Ok(text) => written(writer, text.as_bytes(), status_of(unconfirmed, unwritten)),
         Err(_) => written(writer, OUT_OF_MEMORY_LINE, 1),
     }
 }
@@ -188,7 +188,7 @@ fn ended<D: Disk + Eprint, W: Write>(
     match life {
         Ok(lived) => {
             let fault = unwritten(disk, alloc, lived.journal.as_str(), &lived.left.history);
-            told(alloc, writer, lived.left.stray, fault)
+            told(alloc, writer, lived.left.unconfirmed, fault)
         }
         Err(fault) => told(alloc, writer, Some(*fault), None),
     }

@@ -39,8 +39,8 @@ IsStop due Memory = ⊤
 IsStop due (Key key) = due ≡ Err key.now
 
 -- The result is the expected value, or what ended the reading.
-abbrev pub Reads : {X Y : Type 0} → (X → Y) → Result X Stop → Result Y (List ℕ) → Type 0
-Reads view found due = MatchResult found (λ x. due ≡ Ok (view x)) (IsStop due)
+abbrev pub GivesOrStops : {X Y : Type 0} → (X → Y) → Result X Stop → Result Y (List ℕ) → Type 0
+GivesOrStops view found due = MatchResult found (λ x. due ≡ Ok (view x)) (IsStop due)
 
 -- The result is the expected value, or the key that is refused.
 abbrev pub Names : {X Y : Type 0} → (X → Y) → Result X (Bor (List ℕ)) → Result Y (List ℕ) → Type 0
@@ -57,9 +57,9 @@ IsUnsetBy (Key key) u =
     ((u.fault ≡ OutOfMemory) × (told_key u ≡ None)) ⊎ ((u.fault ≡ BadText) × (told_key u ≡ Some key.now))
 
 -- memory ran out, and no key is told; or it is BadText, with the key that is refused, if it is of one
-abbrev pub Refuses : {Y : Type 0} → Result Y (Option (List ℕ)) → Fault → Option (List ℕ) → Type 0
-Refuses due fault key = ((fault ≡ OutOfMemory) × (key ≡ None)) ⊎ ((fault ≡ BadText) × (due ≡ Err key))
+abbrev pub RefusesKey : {Y : Type 0} → Result Y (Option (List ℕ)) → Fault → Option (List ℕ) → Type 0
+RefusesKey due fault key = ((fault ≡ OutOfMemory) × (key ≡ None)) ⊎ ((fault ≡ BadText) × (due ≡ Err key))
 
 -- The result is the expected value, or the fault with its key.
 abbrev pub Tells : {X Y : Type 0} → (X → Y) → Result X Unset → Result Y (Option (List ℕ)) → Type 0
-Tells view found due = MatchResult found (λ x. due ≡ Ok (view x)) (λ u. Refuses due u.fault (told_key u))
+Tells view found due = MatchResult found (λ x. due ≡ Ok (view x)) (λ u. RefusesKey due u.fault (told_key u))

@@ -7,7 +7,7 @@ ghost use Rattle.cg_silence.specs.Values.{silence_of};
 ghost use Rattle.cg_settings_file.specs.Values as values_spec;
 ghost use Rattle.cg_settings_file.specs.Seeds as seeds_spec;
 ghost use Rattle.cg_settings_file.specs.Settings as settings_spec;
-ghost use Rattle.cg_settings_file.specs.Seen.{Finds, Reads, Names};
+ghost use Rattle.cg_settings_file.specs.Seen.{Finds, GivesOrStops, Names};
 
 use crate::seeds::{distinct, endpoints_in};
 use crate::stop::{Stop, stop_at};
@@ -99,10 +99,10 @@ fn silence_in(table: &Table) -> Result<Silence, &'static str>
     )
 }
 
-/// Reads the settings of the node itself.
+/// GivesOrStops the settings of the node itself.
 #[tactic(auto, unfolding(crate::specs::Settings::node_from))]
 pub(crate) fn node_in(alloc: Global, table: &Table) -> Result<Settings, Stop<'static>>
-    ensures { Reads (λ s. s) result (settings_spec.node_from (table_view table.now)) }
+    ensures { GivesOrStops (λ s. s) result (settings_spec.node_from (table_view table.now)) }
 {
     let cluster = match cluster_in(alloc, table) {
         Ok(cluster) => cluster,

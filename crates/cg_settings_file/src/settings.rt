@@ -4,7 +4,7 @@ ghost use Rattle.std.specs.Prelude.{◌≡◌, IfOk, Ok, Err, option_map, codes}
 ghost use Rattle.toml.specs.View.{table_view};
 ghost use Rattle.cg_settings_file.specs.Settings as spec;
 ghost use Rattle.cg_settings_file.specs.Settings.{settings_in, settings_or_key_in_bytes, settings_in_bytes};
-ghost use Rattle.cg_settings_file.specs.Seen.{Finds, Reads, Names, Tells, IsUnsetBy, turns_view, settings_view};
+ghost use Rattle.cg_settings_file.specs.Seen.{Finds, GivesOrStops, Names, Tells, IsUnsetBy, turns_view, settings_view};
 
 use crate::keys::unknown_in;
 use crate::limits::{DEFAULT_INTERVAL, DEFAULT_RANDOM, INTERVAL_LIMIT, TURN_LIMIT};
@@ -67,10 +67,10 @@ fn paths_in(table: &Table) -> Result<(&str, &str), &'static str>
     Ok((generation_file, journal))
 }
 
-// Reads the settings of a table, or the first key that is refused: by its value, or else since it has no meaning.
+// GivesOrStops the settings of a table, or the first key that is refused: by its value, or else since it has no meaning.
 #[tactic(auto, unfolding(crate::specs::Settings::settings_from))]
 fn settings_in_table(alloc: Global, table: &Table) -> Result<ServeSettings, Stop<'_>>
-    ensures { Reads settings_view result (spec.settings_from (table_view table.now)) }
+    ensures { GivesOrStops settings_view result (spec.settings_from (table_view table.now)) }
 {
     let node = node_in(alloc, table)?;
     let Some(listen) = endpoint_at(table, "listen") else {
@@ -147,7 +147,7 @@ fn text_in(bytes: &[u8]) -> Option<&str>
     }
 }
 
-/// Reads the settings in the bytes of a file, which are the text of a TOML table.
+/// GivesOrStops the settings in the bytes of a file, which are the text of a TOML table.
 ///
 /// `OutOfMemory` if memory runs out on the way. Else `BadText` if and only if the bytes are no UTF-8 or no TOML table, or
 /// break one of these rules: no key that is needed is missing; each value is of its type and in its range; each key has
@@ -162,7 +162,7 @@ pub fn settings_or_key(alloc: Global, bytes: &[u8]) -> Result<ServeSettings, Uns
     }
 }
 
-/// Reads the settings in a text, which is a TOML table, as `settings_or_key` does, and returns the fault without the
+/// GivesOrStops the settings in a text, which is a TOML table, as `settings_or_key` does, and returns the fault without the
 /// key.
 pub fn settings_of(alloc: Global, text: &str) -> Result<ServeSettings, Fault>
     ensures { Finds settings_view result (settings_in text.now) }
@@ -173,7 +173,7 @@ pub fn settings_of(alloc: Global, text: &str) -> Result<ServeSettings, Fault>
     }
 }
 
-/// Reads the settings in the bytes of a file: as `settings_of`, and `BadText` too if they are not UTF-8.
+/// GivesOrStops the settings in the bytes of a file: as `settings_of`, and `BadText` too if they are not UTF-8.
 pub fn settings_of_bytes(alloc: Global, bytes: &[u8]) -> Result<ServeSettings, Fault>
     ensures { Finds settings_view result (settings_in_bytes bytes.now) }
 {

@@ -10,7 +10,7 @@ use Rattle.cg_links.specs.Lines.{ended_lines, unended_line, last_line, lines_of}
 use Rattle.cg_sim.specs.Script.{first_play, lines_text, script_text}
 use Rattle.cg_text.specs.Written.{WroteAll}
 use Rattle.cg_text.proofs.LinkLemmas.{all_read, never_unread, never_broken, all_written}
-use Rattle.cg_sim.specs.Simulated.{IsDue, Simulates, PlaysAll, SaysOutOfMemory}
+use Rattle.cg_sim.specs.Simulated.{IsExpected, Simulates, PlaysAll, SaysOutOfMemory}
 use Rattle.cg_links.proofs.LineLemmas.{ended_lines-append}
 use Rattle.cg_sim.proofs.TextLemmas.{take_front}
 
@@ -38,7 +38,7 @@ whole after held holds input script text result same is wrote end status = recor
 }
 
 due_written : {R W : Type 0} (input : List ℕ) (after held holds : Option (List ℕ)) (r0 r1 : Counted R) (w0 w1 : Counted W) (text : List ℕ) (status result : ℕ)
-    → IsDue (Some input) after r0 r1 text status → WroteAll held holds w0 w1 text status result → failed_of r1 ≡ 0 → CountsFewer r0 r1 MOST_READS
+    → IsExpected (Some input) after r0 r1 text status → WroteAll held holds w0 w1 text status result → failed_of r1 ≡ 0 → CountsFewer r0 r1 MOST_READS
     → PlaysAll after held holds input result ⊎ SaysOutOfMemory held holds input result
 due_written input after held holds r0 r1 w0 w1 text status result (inl w) all rf few =
     inl (whole after held holds input w.script text result (all_read input w.script after w.read w.end) w.text_is all.text_is w.end (all.result_is ∙ w.status_is))

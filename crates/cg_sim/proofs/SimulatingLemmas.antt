@@ -13,7 +13,7 @@ use Rattle.cg_links.specs.Lines.{ended_lines, lines_of}
 use Rattle.cg_sim.specs.Script.{first_play, lines_text, script_text}
 use Rattle.cg_sim.specs.Told.{BreaksOff}
 use Rattle.cg_text.specs.Written.{WroteFront, Wrote}
-use Rattle.cg_sim.specs.Simulated.{IsPlayed, Fails, WritesLine, Simulates}
+use Rattle.cg_sim.specs.Simulated.{IsPlayed, FailsInTurn, WritesLine, Simulates}
 use Rattle.cg_sim.proofs.ToldLemmas.{caused_later}
 
 -- a text that was written, and then a line
@@ -47,7 +47,7 @@ broken_last script held holds w0 w1 f b = record { count = b.count; front = b.te
 
 -- the writer failed
 pub simulates_broken : {R W : Type 0} (before after held holds : Option (List ℕ)) (r0 r1 : Counted R) (w0 w1 : Counted W) (f : Fault)
-    → (f ≡ OutOfMemory → ⊥) → (f ≡ ReadFault → ⊥) → Fails before after held holds r0 r1 w0 w1 f → Simulates before after held holds r0 r1 w0 w1 1
+    → (f ≡ OutOfMemory → ⊥) → (f ≡ ReadFault → ⊥) → FailsInTurn before after held holds r0 r1 w0 w1 f → Simulates before after held holds r0 r1 w0 w1 1
 simulates_broken before after held holds r0 r1 w0 w1 f other another (inl s) =
     elim s.stops [
       | inl short ↦ absurd (other short.fault)
@@ -68,7 +68,7 @@ simulates_broken before after held holds r0 r1 w0 w1 f other another (inr (inr u
 
 -- memory ran out, and the line that says so was written, or a prefix of it
 pub simulates_short : {R W : Type 0} (before after held holds written : Option (List ℕ)) (r0 r1 : Counted R) (w0 w1 w2 : Counted W) (f : Fault)
-    → f ≡ OutOfMemory → Fails before after held holds r0 r1 w0 w1 f → WritesLine holds written w1 w2 (fault_text OutOfMemory)
+    → f ≡ OutOfMemory → FailsInTurn before after held holds r0 r1 w0 w1 f → WritesLine holds written w1 w2 (fault_text OutOfMemory)
     → Simulates before after held written r0 r1 w0 w2 1
 simulates_short before after held holds written r0 r1 w0 w1 w2 f e (inl s) line =
     elim s.stops [
@@ -86,7 +86,7 @@ simulates_short before after held holds written r0 r1 w0 w1 w2 f e (inr (inr u))
 
 -- a read failed, and the line that says so was written, or a prefix of it
 pub simulates_cut : {R W : Type 0} (before after held holds written : Option (List ℕ)) (r0 r1 : Counted R) (w0 w1 w2 : Counted W) (f : Fault)
-    → f ≡ ReadFault → Fails before after held holds r0 r1 w0 w1 f → WritesLine holds written w1 w2 (fault_text ReadFault)
+    → f ≡ ReadFault → FailsInTurn before after held holds r0 r1 w0 w1 f → WritesLine holds written w1 w2 (fault_text ReadFault)
     → Simulates before after held written r0 r1 w0 w2 1
 simulates_cut before after held holds written r0 r1 w0 w1 w2 f e (inl s) line =
     elim s.stops [

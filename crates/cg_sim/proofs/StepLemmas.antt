@@ -142,7 +142,7 @@ module _ {W : Type 0} (holds : W → Option (List ℕ)) where
       }
 
       last_told : (f : Fault) → StopsLast steps stops before after old new s t f
-          → due.Fails before after (held holds s) (held holds t) old new s.writer.now t.writer.now f
+          → due.FailsInTurn before after (held holds s) (held holds t) old new s.writer.now t.writer.now f
       last_told f h =
           elim (stopped_last f h) [
             | inl short ↦ inl (record {
@@ -178,7 +178,7 @@ module _ {W : Type 0} (holds : W → Option (List ℕ)) where
           }
 
       fails_told : (f : Fault) → Fails steps stops before after old new s t f
-          → due.Fails before after (held holds s) (held holds t) old new s.writer.now t.writer.now f
+          → due.FailsInTurn before after (held holds s) (held holds t) old new s.writer.now t.writer.now f
       fails_told f h =
           elim h [
             | inl k ↦ inl (stops_told f k)
@@ -190,7 +190,7 @@ module _ {W : Type 0} (holds : W → Option (List ℕ)) where
 
       pub lines_told : {T : Type 0} (r : Result T Fault) → TakesLines steps NeverEnds stops before after old new s t r
           → MatchResult r (λ _. due.IsPlayed before after (held holds s) (held holds t) old new s.writer.now t.writer.now)
-          (λ f. due.Fails before after (held holds s) (held holds t) old new s.writer.now t.writer.now f)
+          (λ f. due.FailsInTurn before after (held holds s) (held holds t) old new s.writer.now t.writer.now f)
       lines_told (Ok x) h = all_told (taken_to_the_end steps stops before after old new s t h)
       lines_told (Err f) h = fails_told f h
 

@@ -34,10 +34,10 @@ actions_of [] = []
 actions_of (line ∷ lines) = asked_by (line_in line) ++ actions_of lines
 
 -- The world is the run of the actions that the lines request, and the headline holds of it.
-pub record IsRun (lines : List (List ℕ)) (world : WorldValue) : Type 0 where
+pub record IsScriptRun (lines : List (List ℕ)) (world : WorldValue) : Type 0 where
   pub led : world ≡ run (settings_of lines) (actions_of lines)
   pub headline : Headline (settings_of lines) (actions_of lines) world
 
 -- The same is true of the world that any lines leave, one after the other.
 abbrev pub ScriptsAreRuns : Type 0
-ScriptsAreRuns = (lines : List (List ℕ)) → IsRun lines (after_lines first_play lines).world
+ScriptsAreRuns = (lines : List (List ℕ)) → IsScriptRun lines (after_lines first_play lines).world

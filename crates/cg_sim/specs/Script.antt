@@ -74,24 +74,24 @@ abbrev pub first_play : Play
 first_play = record { world = new_world (settings_with []); is_begun = false }
 
 -- the world after a line's request; the first line alone may request seeds
-abbrev pub world_after : Play → Result Line Fault → WorldValue
-world_after p (Ok (Seeds settings)) = if p.is_begun then p.world else new_world settings
-world_after p (Ok (Act action)) = act p.world action
-world_after p (Ok (Show node view)) = p.world
-world_after p (Err f) = p.world
+abbrev pub world_after_line : Play → Result Line Fault → WorldValue
+world_after_line p (Ok (Seeds settings)) = if p.is_begun then p.world else new_world settings
+world_after_line p (Ok (Act action)) = act p.world action
+world_after_line p (Ok (Show node view)) = p.world
+world_after_line p (Err f) = p.world
 
 -- the text that the line prints
-abbrev pub text_of : Play → Result Line Fault → List ℕ
-text_of p (Ok (Seeds settings)) = if p.is_begun then fault_text BadText else []
-text_of p (Ok (Act action)) = action_lines action (showing p.world action)
-text_of p (Ok (Show node view)) = view_lines (map.get p.world.nodes node) view
-text_of p (Err f) = fault_text f
+abbrev pub printed_of : Play → Result Line Fault → List ℕ
+printed_of p (Ok (Seeds settings)) = if p.is_begun then fault_text BadText else []
+printed_of p (Ok (Act action)) = action_lines action (showing p.world action)
+printed_of p (Ok (Show node view)) = view_lines (map.get p.world.nodes node) view
+printed_of p (Err f) = fault_text f
 
 unfoldable pub after_line : Play → List ℕ → Play
-after_line p line = record { world = world_after p (line_in line); is_begun = true }
+after_line p line = record { world = world_after_line p (line_in line); is_begun = true }
 
 unfoldable pub line_text : Play → List ℕ → List ℕ
-line_text p line = text_of p (line_in line)
+line_text p line = printed_of p (line_in line)
 
 -- ---- a script
 

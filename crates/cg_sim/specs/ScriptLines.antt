@@ -133,14 +133,14 @@ or_unreadable None = Err BadText
 or_unreadable (Some line) = Ok line
 
 -- the action that sets a key, or the fault of its text
-abbrev pub setting : ℕ → ℕ → Result (List ℕ) Fault → Result Line Fault
-setting node key (Ok text) = Ok (Act (Local node (Set key text)))
-setting node key (Err f) = Err f
+abbrev pub set_or_fault : ℕ → ℕ → Result (List ℕ) Fault → Result Line Fault
+set_or_fault node key (Ok text) = Ok (Act (Local node (Set key text)))
+set_or_fault node key (Err f) = Err f
 
 -- `set EP KEY TEXT`, after its endpoint
 abbrev pub key_set : ℕ → Option (ℕ × List ℕ) → Result Line Fault
 key_set node None = Err BadText
-key_set node (Some key) = setting node key.0 (state_text_in key.1)
+key_set node (Some key) = set_or_fault node key.0 (state_text_in key.1)
 
 -- `set EP KEY TEXT`
 abbrev pub node_set : Option (ℕ × List ℕ) → Result Line Fault

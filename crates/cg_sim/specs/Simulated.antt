@@ -52,10 +52,10 @@ pub record IsUnread {R W : Type 0} (before after held holds : Option (List ℕ))
   pub text : Appends held holds (lines_text first_play (ended_lines [] script))
   pub same : KeepsCounts w0 w1
 
-abbrev pub Fails : {R W : Type 0}
+abbrev pub FailsInTurn : {R W : Type 0}
     → Option (List ℕ) → Option (List ℕ) → Option (List ℕ) → Option (List ℕ)
     → Counted R → Counted R → Counted W → Counted W → Fault → Type 0
-Fails before after held holds r0 r1 w0 w1 f =
+FailsInTurn before after held holds r0 r1 w0 w1 f =
     Stops before after held holds r0 r1 w0 w1 f
     ⊎ (BreaksLast before after held holds r0 r1 w0 w1 f ⊎ IsUnread before after held holds r0 r1 w0 w1 f)
 
@@ -78,7 +78,7 @@ pub record IsWhole {L : Type 0} (before after : Option (List ℕ)) (old new : Co
   pub status_is : status ≡ 0
 
 -- memory ran out: the text is that of some of the first lines, and the fault
-pub record IsShort {L : Type 0} (before after : Option (List ℕ)) (old new : Counted L)
+pub record EndsForMemory {L : Type 0} (before after : Option (List ℕ)) (old new : Counted L)
     (text : List ℕ) (status : ℕ) : Type 0 where
   pub script : List ℕ
   pub read : Consumes before after script
@@ -88,7 +88,7 @@ pub record IsShort {L : Type 0} (before after : Option (List ℕ)) (old new : Co
   pub status_is : status ≡ 1
 
 -- a read failed, or all reads that are allowed were made: the text is that of the lines read whole, and the fault
-pub record IsCut {L : Type 0} (before after : Option (List ℕ)) (old new : Counted L)
+pub record EndsUnread {L : Type 0} (before after : Option (List ℕ)) (old new : Counted L)
     (text : List ℕ) (status : ℕ) : Type 0 where
   pub script : List ℕ
   pub read : Consumes before after script
@@ -96,10 +96,10 @@ pub record IsCut {L : Type 0} (before after : Option (List ℕ)) (old new : Coun
   pub text_is : text ≡ lines_text first_play (ended_lines [] script) ++ fault_text ReadFault
   pub status_is : status ≡ 1
 
-abbrev pub IsDue : {L : Type 0} → Option (List ℕ) → Option (List ℕ) → Counted L → Counted L → List ℕ → ℕ → Type 0
-IsDue before after old new text status =
+abbrev pub IsExpected : {L : Type 0} → Option (List ℕ) → Option (List ℕ) → Counted L → Counted L → List ℕ → ℕ → Type 0
+IsExpected before after old new text status =
     IsWhole before after old new text status
-    ⊎ (IsShort before after old new text status ⊎ IsCut before after old new text status)
+    ⊎ (EndsForMemory before after old new text status ⊎ EndsUnread before after old new text status)
 
 -- a part of the script was read, and the text is the one that its lines print
 pub record IsBegun {L : Type 0} (before after : Option (List ℕ)) (old new : Counted L) (text : List ℕ) : Type 0 where
@@ -115,7 +115,7 @@ abbrev pub Simulates : {R W : Type 0}
     → Option (List ℕ) → Option (List ℕ) → Option (List ℕ) → Option (List ℕ)
     → Counted R → Counted R → Counted W → Counted W → ℕ → Type 0
 Simulates before after held holds r0 r1 w0 w1 result =
-    ((text : List ℕ) × (status : ℕ) × IsDue before after r0 r1 text status × Wrote held holds w0 w1 text status result)
+    ((text : List ℕ) × (status : ℕ) × IsExpected before after r0 r1 text status × Wrote held holds w0 w1 text status result)
     ⊎ ((text : List ℕ) × IsBegun before after r0 r1 text × WroteFront held holds w0 w1 text result)
 
 -- ---- if no link failed

@@ -5,7 +5,7 @@ ghost use Rattle.std.specs.FinMap as map;
 ghost use Rattle.cg_types.specs.Fault.{fault_text};
 ghost use Rattle.cg_world.specs.World as spec;
 ghost use Rattle.cg_world.specs.Acting.{showing};
-ghost use Rattle.cg_sim.specs.Script.{first_play, action_lines, view_lines, after_line, line_text, text_of, world_after};
+ghost use Rattle.cg_sim.specs.Script.{first_play, action_lines, view_lines, after_line, line_text, printed_of, world_after_line};
 
 use crate::line::Line;
 use crate::printing::{add_shown, add_view};
@@ -82,8 +82,8 @@ impl Play {
 
     // Does a line's request, and adds the text that it prints.
     fn ask(&mut self, alloc: Global, text: &mut String, line: Line) -> Result<(), AllocError>
-        ensures text { OnOk result (string_bytes text.new ≡ string_bytes text.old ++ text_of self.old (Ok line)) }
-        ensures world { OnOk result (self.new.world ≡ world_after self.old (Ok line)) }
+        ensures text { OnOk result (string_bytes text.new ≡ string_bytes text.old ++ printed_of self.old (Ok line)) }
+        ensures world { OnOk result (self.new.world ≡ world_after_line self.old (Ok line)) }
         ensures begun { self.new.is_begun ≡ self.old.is_begun }
     {
         match line {

@@ -4,7 +4,7 @@ ghost use Rattle.std.specs.Prelude.{◌≡◌, ◌≤◌, ◌+◌, ◌⊎◌, Ma
 ghost use Rattle.cg_links.specs.Counted.{link_of, calls_of, failed_of, idle_of, CountsFewer};
 ghost use Rattle.cg_types.specs.declared.fault.Fault.TheVariants as faults;
 ghost use Rattle.cg_types.specs.Fault.{fault_text};
-ghost use Rattle.cg_sim.specs.Simulated.{IsPlayed, Fails, WritesLine, Simulates, PlaysAll, SaysOutOfMemory};
+ghost use Rattle.cg_sim.specs.Simulated.{IsPlayed, FailsInTurn, WritesLine, Simulates, PlaysAll, SaysOutOfMemory};
 ghost use Rattle.cg_links.specs.declared.transfer.TheConstants.{MOST_READS};
 
 use crate::play::Play;
@@ -25,7 +25,7 @@ fn tell_script<R: Read, W: Write>(
         (R.remaining (link_of reader.old)) (R.remaining (link_of reader.new))
         (W.contents (link_of writer.old)) (W.contents (link_of writer.new))
         reader.old reader.new writer.old writer.new)
-        (λ f. Fails
+        (λ f. FailsInTurn
         (R.remaining (link_of reader.old)) (R.remaining (link_of reader.new))
         (W.contents (link_of writer.old)) (W.contents (link_of writer.new))
         reader.old reader.new writer.old writer.new f) }

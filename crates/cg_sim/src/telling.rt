@@ -5,7 +5,7 @@ ghost use Rattle.cg_links.specs.Counted.{link_of, calls_of};
 ghost use Rattle.cg_links.specs.declared.transfer.TheConstants.{MOST_READS};
 ghost use Rattle.cg_sim.specs.Script.{first_play};
 ghost use Rattle.cg_sim.specs.Told.{AreTold, IsUntold, BreaksOff};
-ghost use Rattle.cg_sim.specs.Simulated.{IsPlayed, Fails};
+ghost use Rattle.cg_sim.specs.Simulated.{IsPlayed, FailsInTurn};
 
 use crate::play::Play;
 use cg_links::{Counted, Next, TakeLine, take_lines, write_and_flush};
@@ -74,7 +74,7 @@ pub(crate) fn tell_lines<R: Read, W: Write>(
         (R.remaining (link_of reader.old)) (R.remaining (link_of reader.new))
         (W.contents (link_of telling.old.writer.now)) (W.contents (link_of telling.new.writer.now))
         reader.old reader.new telling.old.writer.now telling.new.writer.now)
-        (λ f. Fails
+        (λ f. FailsInTurn
         (R.remaining (link_of reader.old)) (R.remaining (link_of reader.new))
         (W.contents (link_of telling.old.writer.now)) (W.contents (link_of telling.new.writer.now))
         reader.old reader.new telling.old.writer.now telling.new.writer.now f) }

@@ -25,7 +25,7 @@ use Rattle.cg_workers.specs.Ends.{put_by, taken_by}
 use Rattle.cg_workers.specs.Each.{Each}
 use Rattle.cg_workers.specs.Workers.{numbers_of, Received, SentRound, SentRounds}
 use Rattle.cg_workers.proofs.Keeping.{IsEventAt, received_keeps, sent_keeps}
-use Rattle.cg_threads.specs.Left.{LeftValue, IsOf, AreOf, IsLeft, AreRoundsOf, numbers_of_all, is_received, is_ack, is_tick, is_any}
+use Rattle.cg_threads.specs.Left.{LeftValue, IsOfKind, AreOfKind, IsLeft, AreRoundsOf, numbers_of_all, is_received, is_ack, is_tick, is_any}
 
 -- the gate went on by receipts of events of the kind
 pub record More (kind : Event → Bool) (g h : SeatValue) : Type 0 where
@@ -57,24 +57,24 @@ module _ (kind : Event → Bool) where
     kinds = All-cons (λ (q : Receipt). kind q.event ≡ true) x.receipt [] (ap kind x.is.1 ∙ fits) (All-nil (λ (q : Receipt). kind q.event ≡ true));
   }
 
-  own_kind : (c : ℕ) (qs : List Receipt) → All (λ (q : Receipt). kind q.event ≡ true) qs → All (λ (q : Receipt). q.caller ≡ c) qs → AreOf kind c qs
-  own_kind c [] fits own = All-nil (IsOf kind c)
+  own_kind : (c : ℕ) (qs : List Receipt) → All (λ (q : Receipt). kind q.event ≡ true) qs → All (λ (q : Receipt). q.caller ≡ c) qs → AreOfKind kind c qs
+  own_kind c [] fits own = All-nil (IsOfKind kind c)
   own_kind c (q ∷ qs) fits own =
       let F = λ (q : Receipt). kind q.event ≡ true in
       let O = λ (q : Receipt). q.caller ≡ c in
-      All-cons (IsOf kind c) q qs (record { own = All-head O q qs own; fits = All-head F q qs fits }) (own_kind c qs (All-tail F q qs fits) (All-tail O q qs own))
+      All-cons (IsOfKind kind c) q qs (record { own = All-head O q qs own; fits = All-head F q qs fits }) (own_kind c qs (All-tail F q qs fits) (All-tail O q qs own))
 
   -- the result of a gate that began with no receipts
   pub left_more : (caller parts : ℕ) (h : SeatValue) (l : LeftValue) → More kind (new_gate caller parts) h → l.parts ≡ h.parts → l.receipts ≡ h.receipts
-      → seat.AreOf h.caller h.receipts → IsLeft kind caller parts l
+      → seat.AreOfCaller h.caller h.receipts → IsLeft kind caller parts l
   left_more caller parts h l x same_parts same_receipts own =
       let all : l.receipts ≡ x.more = same_receipts ∙ x.receipts in
-      let mine : All (λ (q : Receipt). q.caller ≡ caller) x.more = subst (λ (qs : List Receipt). All (λ (q : Receipt). q.caller ≡ caller) qs) x.receipts (subst (λ (c : ℕ). seat.AreOf c h.receipts) x.seat.0 own) in
-      record { same_parts = same_parts ∙ x.seat.1; own_receipts = subst (AreOf kind caller) (sym all) (own_kind caller x.more x.kinds mine) }
+      let mine : All (λ (q : Receipt). q.caller ≡ caller) x.more = subst (λ (qs : List Receipt). All (λ (q : Receipt). q.caller ≡ caller) qs) x.receipts (subst (λ (c : ℕ). seat.AreOfCaller c h.receipts) x.seat.0 own) in
+      record { same_parts = same_parts ∙ x.seat.1; own_receipts = subst (AreOfKind kind caller) (sym all) (own_kind caller x.more x.kinds mine) }
 
   -- of a seat from which no event was done
   pub left_unused : (caller parts : ℕ) (l : LeftValue) → l ≡ record { began = false; parts = parts; receipts = [] } → IsLeft kind caller parts l
-  left_unused caller parts l is = subst (IsLeft kind caller parts) (sym is) (record { same_parts = refl; own_receipts = All-nil (IsOf kind caller) })
+  left_unused caller parts l is = subst (IsLeft kind caller parts) (sym is) (record { same_parts = refl; own_receipts = All-nil (IsOfKind kind caller) })
 
 -- ---- the receiver and the sender
 

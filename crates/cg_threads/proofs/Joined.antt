@@ -6,9 +6,9 @@ use Rattle.std.proofs.lemmas.Option.{same_Some, slice_get_within}
 use Rattle.std.proofs.lemmas.List.Elements.{All-append, All-weaker, All-head, All-tail, All-take}
 use Rattle.cg_history.specs.declared.item.Item.{Item}
 use Rattle.cg_history.specs.declared.item.Receipt.{Receipt}
-use Rattle.cg_history.specs.declared.item.Stray.{Stray}
-use Rattle.cg_history.specs.Confirming.{ComesAfter, Follows, IsConfirmed, AreConfirmed, IsFirstStray}
-use Rattle.cg_threads.specs.Ran.{IsStrayBehind}
+use Rattle.cg_history.specs.declared.item.UnconfirmedReceipt.{UnconfirmedReceipt}
+use Rattle.cg_history.specs.Confirming.{ComesAfter, ComesAfterAll, IsConfirmed, AreConfirmed, IsFirstUnconfirmed}
+use Rattle.cg_threads.specs.Ran.{IsUnconfirmedBehind}
 
 -- ---- members of two lists, one after the other
 
@@ -58,11 +58,11 @@ own_at c (y ∷ ys) zero r own at = subst (λ (q : Receipt). q.caller ≡ c) (sa
 own_at c (y ∷ ys) (suc j) r own at = own_at c ys j r (All-tail (λ (q : Receipt). q.caller ≡ c) y ys own) at
 
 -- it follows others with smaller callers
-follows_below : (c : ℕ) (xs : List Receipt) (r : Receipt) → Below c xs → r.caller ≡ c → Follows xs r
+follows_below : (c : ℕ) (xs : List Receipt) (r : Receipt) → Below c xs → r.caller ≡ c → ComesAfterAll xs r
 follows_below c xs r below own =
     All-weaker (λ (q : Receipt). q.caller < c) (λ q. ComesAfter q r) (λ q less same. absurd (omega (arith, less, same, own))) xs below
 
-follows_part : (xs ys : List Receipt) (r : Receipt) → Follows (xs ++ ys) r → Follows ys r
+follows_part : (xs ys : List Receipt) (r : Receipt) → ComesAfterAll (xs ++ ys) r → ComesAfterAll ys r
 follows_part [] ys r follows = follows
 follows_part (x ∷ xs) ys r follows = follows_part xs ys r (All-tail (λ q. ComesAfter q r) x (xs ++ ys) follows)
 
@@ -81,8 +81,8 @@ module _ (folded : ℕ) (records : List Item) (c : ℕ) (xs : List Receipt) (all
   own_take : (ys : List Receipt) (k : ℕ) → Own c ys → Own c (take k ys)
   own_take ys k own = All-take (λ (q : Receipt). q.caller ≡ c) k ys own
 
-  pub stray_behind : (ys : List Receipt) (before : ℕ) (s : Stray) → Own c ys → before ≡ length xs → IsStrayBehind before folded records ys s → IsFirstStray folded records (xs ++ ys) s
-  stray_behind ys before s own long behind =
+  pub unconfirmed_behind : (ys : List Receipt) (before : ℕ) (s : UnconfirmedReceipt) → Own c ys → before ≡ length xs → IsUnconfirmedBehind before folded records ys s → IsFirstUnconfirmed folded records (xs ++ ys) s
+  unconfirmed_behind ys before s own long behind =
       let place = behind.0 in
       let there : s.place ≡ length xs + place = behind.1 ∙ ap (λ (n : ℕ). n + place) long in
       let front : take s.place (xs ++ ys) ≡ xs ++ take place ys = ap (λ (n : ℕ). take n (xs ++ ys)) there ∙ take_second xs ys place in
@@ -91,14 +91,14 @@ module _ (folded : ℕ) (records : List Item) (c : ℕ) (xs : List Receipt) (all
         before = subst (AreConfirmed folded records) (sym front) (confirmed_joined (take place ys) (own_take ys place own) behind.2.before);
         receipt = r;
         at = subst (λ (n : ℕ). slice_get (xs ++ ys) n ≡ Some r) (sym there) (in_second xs ys place r behind.2.at);
-        stray = λ is. let one = subst (λ (b : List Receipt). IsConfirmed folded records b r) front is in
-            behind.2.stray (record { stands = one.stands; follows = follows_part xs (take place ys) r one.follows });
+        unconfirmed = λ is. let one = subst (λ (b : List Receipt). IsConfirmed folded records b r) front is in
+            behind.2.unconfirmed (record { stands = one.stands; follows = follows_part xs (take place ys) r one.follows });
         why = behind.2.why;
       }
 
 -- the first unconfirmed receipt of a list is that of the list with more after it
-pub stray_before : (folded : ℕ) (records : List Item) (xs ys : List Receipt) (s : Stray) → IsFirstStray folded records xs s → IsFirstStray folded records (xs ++ ys) s
-stray_before folded records xs ys s first =
+pub unconfirmed_before : (folded : ℕ) (records : List Item) (xs ys : List Receipt) (s : UnconfirmedReceipt) → IsFirstUnconfirmed folded records xs s → IsFirstUnconfirmed folded records (xs ++ ys) s
+unconfirmed_before folded records xs ys s first =
     let r = first.receipt in
     let within = slice_get_within xs s.place r first.at in
     let front : take s.place (xs ++ ys) ≡ take s.place xs = take_first xs ys s.place (omega (arith, within)) in
@@ -106,6 +106,6 @@ stray_before folded records xs ys s first =
       before = subst (AreConfirmed folded records) (sym front) first.before;
       receipt = r;
       at = in_first xs ys s.place r first.at;
-      stray = λ is. first.stray (subst (λ (b : List Receipt). IsConfirmed folded records b r) front is);
+      unconfirmed = λ is. first.unconfirmed (subst (λ (b : List Receipt). IsConfirmed folded records b r) front is);
       why = first.why;
     }

@@ -4,11 +4,11 @@ use Rattle.std.specs.Prelude.{IfOk, IfErr}
 use Rattle.std.proofs.lemmas.List.{map-append}
 use mathlib.Core.List.{IsPrefix}
 use Rattle.cg_core.specs.Values.{NodeValue}
-use Rattle.cg_history.specs.Confirming.{AreConfirmed, IsFirstStray}
+use Rattle.cg_history.specs.Confirming.{AreConfirmed, IsFirstUnconfirmed}
 use Rattle.cg_history.specs.History.{HistoryValue, IsReplayed, count_of}
 use Rattle.cg_history.proofs.Replaying.{base_is_start}
 use Rattle.cg_locked.specs.declared.shared.Unconfirmed.{Unconfirmed}
-use Rattle.cg_locked.specs.Shared.{stray_of}
+use Rattle.cg_locked.specs.Shared.{unconfirmed_receipt}
 use Rattle.cg_workers.specs.declared.round.Round.{Round}
 use Rattle.cg_workers.specs.declared.ends.Putting.{Putting}
 use Rattle.cg_workers.specs.declared.ends.Taken.{Taken}
@@ -21,7 +21,7 @@ use Rattle.cg_threads.specs.declared.ran.Ran.{Ran}
 use Rattle.cg_threads.specs.declared.ran.NotRun.{NotRun}
 use Rattle.cg_threads.specs.declared.ran.NotRun.TheVariants as not_run
 use Rattle.cg_threads.specs.Numbers.{numbers_in}
-use Rattle.cg_threads.specs.Ran.{IsOfWork, IsRun, IsUnconfirmed, IsNotRun, StraysIn, TellsStart}
+use Rattle.cg_threads.specs.Ran.{IsOfWork, IsRun, IsUnconfirmed, IsNotRun, UnconfirmedIn, TellsStart}
 use Rattle.cg_threads.proofs.Workers.{records_are_work, numbers_are_the_tickers}
 
 numbers_prefix : (xs ys : List Round) → IsPrefix xs ys → IsPrefix (numbers_of xs) (numbers_of ys)
@@ -64,12 +64,12 @@ module _ (start : NodeValue) (w : Work) (are : AreOfWorkers w.receiver w.sender 
       }
 
   pub is_unconfirmed : (u : Unconfirmed) → u.history.folded ≡ 0 → u.history.start ≡ start → IsReplayed u.history → count_of u.history ≡ length (receipts_of w)
-      → IsFirstStray u.history.folded u.history.records (receipts_of w) (stray_of u) → IsUnconfirmed start (λ v. v ≡ w) u
-  is_unconfirmed u whole started replayed count first = record { work = w; of_work = of_this_work u.history whole started replayed count; stray = first }
+      → IsFirstUnconfirmed u.history.folded u.history.records (receipts_of w) (unconfirmed_receipt u) → IsUnconfirmed start (λ v. v ≡ w) u
+  is_unconfirmed u whole started replayed count first = record { work = w; of_work = of_this_work u.history whole started replayed count; unconfirmed = first }
 
   -- the same, by what is to be told of it
-  pub strays_in : (u : Unconfirmed) → u.history.folded ≡ 0 → count_of u.history ≡ length (receipts_of w) → IsFirstStray u.history.folded u.history.records (receipts_of w) (stray_of u) → StraysIn (receipts_of w) (not_run.Unconfirmed u)
-  strays_in u whole count first = (first, sym (as_many u.history whole count))
+  pub unconfirmed_in : (u : Unconfirmed) → u.history.folded ≡ 0 → count_of u.history ≡ length (receipts_of w) → IsFirstUnconfirmed u.history.folded u.history.records (receipts_of w) (unconfirmed_receipt u) → UnconfirmedIn (receipts_of w) (not_run.Unconfirmed u)
+  unconfirmed_in u whole count first = (first, sym (as_many u.history whole count))
 
 -- ---- the same of a weaker claim about the work
 
@@ -89,7 +89,7 @@ module _ (start : NodeValue) (P Q : Work → Type 0) (weaker : (w : Work) → P 
 
   pub not_run_weaker : (n : NotRun) → IsNotRun start P n → IsNotRun start Q n
   not_run_weaker (not_run.Unstarted f) x = x
-  not_run_weaker (not_run.Unconfirmed u) x = record { work = x.work; of_work = of_work_weaker u.history x.work x.of_work; stray = x.stray }
+  not_run_weaker (not_run.Unconfirmed u) x = record { work = x.work; of_work = of_work_weaker u.history x.work x.of_work; unconfirmed = x.unconfirmed }
 
   pub ran_weaker : (ran : Result Ran NotRun) → IfOk ran (λ r. IsRun start P r.history r.rounds.items) → IfOk ran (λ r. IsRun start Q r.history r.rounds.items)
   ran_weaker (Ok r) x = run_weaker r.history r.rounds.items x

@@ -8,22 +8,22 @@ use Rattle.std.proofs.lemmas.List.Elements.{All-append, All-weaker, All-head, Al
 use Rattle.cg_core.specs.declared.event.Event.{Event}
 use Rattle.cg_history.specs.declared.item.Item.{Item}
 use Rattle.cg_history.specs.declared.item.Receipt.{Receipt}
-use Rattle.cg_history.specs.declared.item.Stray.{Stray}
+use Rattle.cg_history.specs.declared.item.UnconfirmedReceipt.{UnconfirmedReceipt}
 use Rattle.cg_threads.specs.declared.callers.TheConstants.{RECEIVER, SENDER, TICKER, OPERATOR}
 use Rattle.cg_types.specs.ListPlace.{at_place}
-use Rattle.cg_history.specs.Confirming.{AreConfirmed, IsFirstStray}
+use Rattle.cg_history.specs.Confirming.{AreConfirmed, IsFirstUnconfirmed}
 use Rattle.cg_threads.specs.Numbers.{numbers_in, numbers_on, is_receipt_of}
-use Rattle.cg_threads.specs.Left.{IsOf, AreOf, AreOfWorkers, numbers_of_all, is_received, is_ack, is_tick, is_any}
-use Rattle.cg_threads.specs.Ran.{IsStrayBehind, IsWork}
+use Rattle.cg_threads.specs.Left.{IsOfKind, AreOfKind, AreOfWorkers, numbers_of_all, is_received, is_ack, is_tick, is_any}
+use Rattle.cg_threads.specs.Ran.{IsUnconfirmedBehind, IsWork}
 use Rattle.cg_history.proofs.Covering.{each_record_has_its_receipt}
 use Rattle.cg_threads.proofs.ByCaller.{receipts_have_the_numbers}
-use Rattle.cg_threads.proofs.Joined.{Below, Own, confirmed_joined, stray_behind, stray_before}
+use Rattle.cg_threads.proofs.Joined.{Below, Own, confirmed_joined, unconfirmed_behind, unconfirmed_before}
 
-own_of : (kind : Event → Bool) (c : ℕ) (qs : List Receipt) → AreOf kind c qs → Own c qs
-own_of kind c qs are = All-weaker (IsOf kind c) (λ (q : Receipt). q.caller ≡ c) (λ q is. is.own) qs are
+own_of : (kind : Event → Bool) (c : ℕ) (qs : List Receipt) → AreOfKind kind c qs → Own c qs
+own_of kind c qs are = All-weaker (IsOfKind kind c) (λ (q : Receipt). q.caller ≡ c) (λ q is. is.own) qs are
 
-below_of : (kind : Event → Bool) (c d : ℕ) (qs : List Receipt) → c < d → AreOf kind c qs → Below d qs
-below_of kind c d qs less are = All-weaker (IsOf kind c) (λ (q : Receipt). q.caller < d) (λ q is. let e = is.own in omega (arith, e, less)) qs are
+below_of : (kind : Event → Bool) (c d : ℕ) (qs : List Receipt) → c < d → AreOfKind kind c qs → Below d qs
+below_of kind c d qs less are = All-weaker (IsOfKind kind c) (λ (q : Receipt). q.caller < d) (λ q is. let e = is.own in omega (arith, e, less)) qs are
 
 lower : (d : ℕ) (xs ys : List Receipt) → Below d xs → Below d ys → Below d (xs ++ ys)
 lower d xs ys a b = All-append (λ (q : Receipt). q.caller < d) xs ys a b
@@ -43,19 +43,19 @@ module _ (receiver sender ticker operator : List Receipt) (are : AreOfWorkers re
   -- ---- confirmation
 
   module _ (folded : ℕ) (records : List Item) (first : AreConfirmed folded records receiver) where
-    pub stray_of_sender : (s : Stray) → IsStrayBehind (length receiver) folded records sender s → IsFirstStray folded records (receiver ++ sender ++ ticker ++ operator) s
-    stray_of_sender s behind =
-        stray_before folded records (receiver ++ sender ++ ticker) operator s (stray_before folded records (receiver ++ sender) ticker s
-        (stray_behind folded records SENDER receiver first below_sender sender (length receiver) s (own_of is_ack SENDER sender are.of_sender) refl behind))
+    pub unconfirmed_of_sender : (s : UnconfirmedReceipt) → IsUnconfirmedBehind (length receiver) folded records sender s → IsFirstUnconfirmed folded records (receiver ++ sender ++ ticker ++ operator) s
+    unconfirmed_of_sender s behind =
+        unconfirmed_before folded records (receiver ++ sender ++ ticker) operator s (unconfirmed_before folded records (receiver ++ sender) ticker s
+        (unconfirmed_behind folded records SENDER receiver first below_sender sender (length receiver) s (own_of is_ack SENDER sender are.of_sender) refl behind))
 
     module _ (second : AreConfirmed folded records sender) where
       both : AreConfirmed folded records (receiver ++ sender)
       both = confirmed_joined folded records SENDER receiver first below_sender sender (own_of is_ack SENDER sender are.of_sender) second
 
-      pub stray_of_ticker : (s : Stray) → IsStrayBehind (length receiver + length sender) folded records ticker s → IsFirstStray folded records (receiver ++ sender ++ ticker ++ operator) s
-      stray_of_ticker s behind =
-          stray_before folded records (receiver ++ sender ++ ticker) operator s
-          (stray_behind folded records TICKER (receiver ++ sender) both below_ticker ticker (length receiver + length sender) s (own_of is_tick TICKER ticker are.of_ticker) (sym (length-append receiver sender)) behind)
+      pub unconfirmed_of_ticker : (s : UnconfirmedReceipt) → IsUnconfirmedBehind (length receiver + length sender) folded records ticker s → IsFirstUnconfirmed folded records (receiver ++ sender ++ ticker ++ operator) s
+      unconfirmed_of_ticker s behind =
+          unconfirmed_before folded records (receiver ++ sender ++ ticker) operator s
+          (unconfirmed_behind folded records TICKER (receiver ++ sender) both below_ticker ticker (length receiver + length sender) s (own_of is_tick TICKER ticker are.of_ticker) (sym (length-append receiver sender)) behind)
 
       module _ (third : AreConfirmed folded records ticker) where
         three : AreConfirmed folded records (receiver ++ sender ++ ticker)
@@ -64,16 +64,16 @@ module _ (receiver sender ticker operator : List Receipt) (are : AreOfWorkers re
         length_three : length receiver + length sender + length ticker ≡ length (receiver ++ sender ++ ticker)
         length_three = sym (length-append (receiver ++ sender) ticker ∙ ap (λ n. n + length ticker) (length-append receiver sender))
 
-        pub stray_of_operator : (s : Stray) → IsStrayBehind (length receiver + length sender + length ticker) folded records operator s → IsFirstStray folded records (receiver ++ sender ++ ticker ++ operator) s
-        stray_of_operator s behind =
-            stray_behind folded records OPERATOR (receiver ++ sender ++ ticker) three below_operator operator (length receiver + length sender + length ticker) s (own_of is_any OPERATOR operator are.of_operator) length_three behind
+        pub unconfirmed_of_operator : (s : UnconfirmedReceipt) → IsUnconfirmedBehind (length receiver + length sender + length ticker) folded records operator s → IsFirstUnconfirmed folded records (receiver ++ sender ++ ticker ++ operator) s
+        unconfirmed_of_operator s behind =
+            unconfirmed_behind folded records OPERATOR (receiver ++ sender ++ ticker) three below_operator operator (length receiver + length sender + length ticker) s (own_of is_any OPERATOR operator are.of_operator) length_three behind
 
         pub all_confirmed : AreConfirmed folded records operator → AreConfirmed folded records (receiver ++ sender ++ ticker ++ operator)
         all_confirmed fourth = confirmed_joined folded records OPERATOR (receiver ++ sender ++ ticker) three below_operator operator (own_of is_any OPERATOR operator are.of_operator) fourth
 
-  pub stray_of_receiver : (folded : ℕ) (records : List Item) (s : Stray) → IsFirstStray folded records receiver s → IsFirstStray folded records (receiver ++ sender ++ ticker ++ operator) s
-  stray_of_receiver folded records s first =
-      stray_before folded records (receiver ++ sender ++ ticker) operator s (stray_before folded records (receiver ++ sender) ticker s (stray_before folded records receiver sender s first))
+  pub unconfirmed_of_receiver : (folded : ℕ) (records : List Item) (s : UnconfirmedReceipt) → IsFirstUnconfirmed folded records receiver s → IsFirstUnconfirmed folded records (receiver ++ sender ++ ticker ++ operator) s
+  unconfirmed_of_receiver folded records s first =
+      unconfirmed_before folded records (receiver ++ sender ++ ticker) operator s (unconfirmed_before folded records (receiver ++ sender) ticker s (unconfirmed_before folded records receiver sender s first))
 
   pub length_all : length (receiver ++ sender ++ ticker ++ operator) ≡ length receiver + length sender + length ticker + length operator
   length_all =
@@ -85,29 +85,29 @@ module _ (receiver sender ticker operator : List Receipt) (are : AreOfWorkers re
   pub all_work : All (λ (q : Receipt). IsWork q.caller q.event) (receiver ++ sender ++ ticker ++ operator)
   all_work =
       let P = λ (q : Receipt). IsWork q.caller q.event in
-      let a = All-weaker (IsOf is_received RECEIVER) P (λ q is. inl (is.own, is.fits)) receiver are.of_receiver in
-      let b = All-weaker (IsOf is_ack SENDER) P (λ q is. inr (inl (is.own, is.fits))) sender are.of_sender in
-      let c = All-weaker (IsOf is_tick TICKER) P (λ q is. inr (inr (inl (is.own, is.fits)))) ticker are.of_ticker in
-      let d = All-weaker (IsOf is_any OPERATOR) P (λ q is. inr (inr (inr is.own))) operator are.of_operator in
+      let a = All-weaker (IsOfKind is_received RECEIVER) P (λ q is. inl (is.own, is.fits)) receiver are.of_receiver in
+      let b = All-weaker (IsOfKind is_ack SENDER) P (λ q is. inr (inl (is.own, is.fits))) sender are.of_sender in
+      let c = All-weaker (IsOfKind is_tick TICKER) P (λ q is. inr (inr (inl (is.own, is.fits)))) ticker are.of_ticker in
+      let d = All-weaker (IsOfKind is_any OPERATOR) P (λ q is. inr (inr (inr is.own))) operator are.of_operator in
       All-append P (receiver ++ sender ++ ticker) operator (All-append P (receiver ++ sender) ticker (All-append P receiver sender a b) c) d
 
   -- ---- the ticker's numbers
 
-  passed_over : (kind : Event → Bool) (c : ℕ) (qs : List Receipt) → (c == TICKER) ≡ false → AreOf kind c qs → numbers_on TICKER is_tick qs ≡ []
+  passed_over : (kind : Event → Bool) (c : ℕ) (qs : List Receipt) → (c == TICKER) ≡ false → AreOfKind kind c qs → numbers_on TICKER is_tick qs ≡ []
   passed_over kind c [] other all = refl
   passed_over kind c (q ∷ qs) other all =
-      let is = All-head (IsOf kind c) q qs all in
+      let is = All-head (IsOfKind kind c) q qs all in
       let not : is_receipt_of TICKER is_tick q ≡ false = ap (λ (n : ℕ). (n == TICKER) && is_tick q.event) is.own ∙ ap (λ (b : Bool). b && is_tick q.event) other in
       ap (λ (b : Bool). map (λ (r : Receipt). r.number) (cond b (q ∷ filter (is_receipt_of TICKER is_tick) qs) (filter (is_receipt_of TICKER is_tick) qs))) not
-      ∙ passed_over kind c qs other (All-tail (IsOf kind c) q qs all)
+      ∙ passed_over kind c qs other (All-tail (IsOfKind kind c) q qs all)
 
-  all_taken : (qs : List Receipt) → AreOf is_tick TICKER qs → numbers_on TICKER is_tick qs ≡ numbers_of_all qs
+  all_taken : (qs : List Receipt) → AreOfKind is_tick TICKER qs → numbers_on TICKER is_tick qs ≡ numbers_of_all qs
   all_taken [] all = refl
   all_taken (q ∷ qs) all =
-      let is = All-head (IsOf is_tick TICKER) q qs all in
+      let is = All-head (IsOfKind is_tick TICKER) q qs all in
       let one : is_receipt_of TICKER is_tick q ≡ true = ap (λ (n : ℕ). (n == TICKER) && is_tick q.event) is.own ∙ is.fits in
       ap (λ (b : Bool). map (λ (r : Receipt). r.number) (cond b (q ∷ filter (is_receipt_of TICKER is_tick) qs) (filter (is_receipt_of TICKER is_tick) qs))) one
-      ∙ ap (λ ns. q.number ∷ ns) (all_taken qs (All-tail (IsOf is_tick TICKER) q qs all))
+      ∙ ap (λ ns. q.number ∷ ns) (all_taken qs (All-tail (IsOfKind is_tick TICKER) q qs all))
 
   numbers-append : (xs ys : List Receipt) → numbers_on TICKER is_tick (xs ++ ys) ≡ numbers_on TICKER is_tick xs ++ numbers_on TICKER is_tick ys
   numbers-append xs ys = ap (λ qs. map (λ (r : Receipt). r.number) qs) (filter-append (is_receipt_of TICKER is_tick) xs ys) ∙ map-append (λ (r : Receipt). r.number) (filter (is_receipt_of TICKER is_tick) xs) (filter (is_receipt_of TICKER is_tick) ys)

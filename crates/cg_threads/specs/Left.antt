@@ -54,18 +54,18 @@ left_code =
     (λ p. record { began = p.0; parts = p.1.0; receipts = p.1.1 }) (λ _. refl)
 
 -- The receipt is the caller's, of an event of the kind.
-pub record IsOf (kind : Event → Bool) (caller : ℕ) (q : Receipt) : Type 0 where
+pub record IsOfKind (kind : Event → Bool) (caller : ℕ) (q : Receipt) : Type 0 where
   pub own : q.caller ≡ caller
   pub fits : kind q.event ≡ true
 
 -- The receipts are the caller's, of events of the kind.
-abbrev pub AreOf : (Event → Bool) → ℕ → List Receipt → Type 0
-AreOf kind caller receipts = All (IsOf kind caller) receipts
+abbrev pub AreOfKind : (Event → Bool) → ℕ → List Receipt → Type 0
+AreOfKind kind caller receipts = All (IsOfKind kind caller) receipts
 
 -- The seat has the parts that it began with; the receipts are its caller's, of events of the kind.
 pub record IsLeft (kind : Event → Bool) (caller parts : ℕ) (l : LeftValue) : Type 0 where
   pub same_parts : l.parts ≡ parts
-  pub own_receipts : AreOf kind caller l.receipts
+  pub own_receipts : AreOfKind kind caller l.receipts
 
 -- The end that is left holds the rounds that were taken, and these are their numbers.
 pub record HasTaken (before : Taking) (taken : Taken) (numbers : List ℕ) : Type 0 where
@@ -102,10 +102,10 @@ receipts_of w = w.receiver ++ w.sender ++ w.ticker ++ w.operator
 
 -- The receipts are those of the receiver, the sender, the ticker and the operator.
 pub record AreOfWorkers (receiver sender ticker operator : List Receipt) : Type 0 where
-  pub of_receiver : AreOf is_received RECEIVER receiver
-  pub of_sender : AreOf is_ack SENDER sender
-  pub of_ticker : AreOf is_tick TICKER ticker
-  pub of_operator : AreOf is_any OPERATOR operator
+  pub of_receiver : AreOfKind is_received RECEIVER receiver
+  pub of_sender : AreOfKind is_ack SENDER sender
+  pub of_ticker : AreOfKind is_tick TICKER ticker
+  pub of_operator : AreOfKind is_any OPERATOR operator
 
 -- These are the numbers of the rounds that were taken at the other end of the channel. The rounds that were put in
 -- there are those of the first of the ticker's receipts.

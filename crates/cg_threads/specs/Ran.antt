@@ -7,11 +7,11 @@ use Rattle.cg_core.specs.declared.event.Event.{Event}
 use Rattle.cg_core.specs.Values.{NodeValue}
 use Rattle.cg_history.specs.declared.item.Item.{Item}
 use Rattle.cg_history.specs.declared.item.Receipt.{Receipt}
-use Rattle.cg_history.specs.declared.item.Stray.{Stray}
-use Rattle.cg_history.specs.Confirming.{AreConfirmed, IsFirstStray}
+use Rattle.cg_history.specs.declared.item.UnconfirmedReceipt.{UnconfirmedReceipt}
+use Rattle.cg_history.specs.Confirming.{AreConfirmed, IsFirstUnconfirmed}
 use Rattle.cg_history.specs.History.{HistoryValue, IsReplayed}
 use Rattle.cg_locked.specs.declared.shared.Unconfirmed.{Unconfirmed}
-use Rattle.cg_locked.specs.Shared.{stray_of}
+use Rattle.cg_locked.specs.Shared.{unconfirmed_receipt}
 use Rattle.cg_threads.specs.declared.callers.TheConstants.{RECEIVER, SENDER, TICKER, OPERATOR}
 use Rattle.cg_threads.specs.declared.ran.NotRun.{NotRun}
 use Rattle.cg_threads.specs.declared.ran.NotRun.TheVariants as not_run
@@ -21,10 +21,10 @@ use Rattle.cg_threads.specs.Left.{Work, receipts_of, AreOfWorkers, is_received, 
 use Rattle.cg_threads.specs.Numbers.{numbers_in}
 
 -- The first unconfirmed receipt of these is counted after `before` others.
-abbrev pub IsStrayBehind : ℕ → ℕ → List Item → List Receipt → Stray → Type 0
-IsStrayBehind before folded records receipts stray =
-    (place : ℕ) × (stray.place ≡ before + place)
-    × IsFirstStray folded records receipts (record { place = place; fault = stray.fault })
+abbrev pub IsUnconfirmedBehind : ℕ → ℕ → List Item → List Receipt → UnconfirmedReceipt → Type 0
+IsUnconfirmedBehind before folded records receipts unconfirmed =
+    (place : ℕ) × (unconfirmed.place ≡ before + place)
+    × IsFirstUnconfirmed folded records receipts (record { place = place; fault = unconfirmed.fault })
 
 -- The event is of a kind that the worker of the caller does.
 abbrev pub IsWork : ℕ → Event → Type 0
@@ -67,13 +67,13 @@ pub record IsRun (start : NodeValue) (worked : Work → Type 0) (h : HistoryValu
 pub record IsUnconfirmed (start : NodeValue) (worked : Work → Type 0) (u : Unconfirmed) : Type 0 where
   pub work : Work
   pub of_work : IsOfWork start worked u.history work
-  pub stray : IsFirstStray u.history.folded u.history.records (receipts_of work) (stray_of u)
+  pub unconfirmed : IsFirstUnconfirmed u.history.folded u.history.records (receipts_of work) (unconfirmed_receipt u)
 
 -- The first of these receipts that the history does not confirm is the one named, and they are as many as its records.
-abbrev pub StraysIn : List Receipt → NotRun → Type 0
-StraysIn receipts (not_run.Unstarted f) = Unit {0}
-StraysIn receipts (not_run.Unconfirmed u) =
-    IsFirstStray u.history.folded u.history.records receipts (stray_of u)
+abbrev pub UnconfirmedIn : List Receipt → NotRun → Type 0
+UnconfirmedIn receipts (not_run.Unstarted f) = Unit {0}
+UnconfirmedIn receipts (not_run.Unconfirmed u) =
+    IsFirstUnconfirmed u.history.folded u.history.records receipts (unconfirmed_receipt u)
     × (length receipts ≡ length u.history.records)
 
 -- If a node did not run, not all workers began; if its history is not confirmed, they did.

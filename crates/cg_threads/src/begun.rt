@@ -49,7 +49,7 @@ fn ways<N: Name>(
 /// Makes the values that the workers of a node begin with. The node's name fixes its ledger, its views and the start of
 /// its history. The history has no records yet. `AllocError` if there is no memory for the values; then the history is
 /// gone.
-pub fn begin<N: Name, R: Wait>(
+pub fn prepare<N: Name, R: Wait>(
     rt: &R,
     alloc: Global,
     opened: Opened,

@@ -2,12 +2,12 @@
 
 ghost use Rattle.std.specs.Prelude.{◌≡◌, ◌+◌, ◌≤◌, ◌<◌, ◌++◌, [], true, false, length, vec_len, vec_capacity, IfOk, IfErr, MatchResult};
 ghost use Rattle.std.specs.List.{sum_by};
-ghost use Rattle.cg_history.specs.Confirming.{AreConfirmed, IsFirstStray};
+ghost use Rattle.cg_history.specs.Confirming.{AreConfirmed, IsFirstUnconfirmed};
 ghost use Rattle.cg_history.specs.History.{count_of};
-ghost use Rattle.cg_locked.specs.Shared.{history_of, stray_of};
+ghost use Rattle.cg_locked.specs.Shared.{history_of, unconfirmed_receipt};
 ghost use Rattle.cg_threads.specs.Left.{receipts_of, AreOfWorkers, AreTaken};
 ghost use Rattle.cg_threads.specs.Workers.{all_began, work_of};
-ghost use Rattle.cg_threads.specs.Ran.{IsStrayBehind, StraysIn, IsRun, IsNotRun, TellsStart};
+ghost use Rattle.cg_threads.specs.Ran.{IsUnconfirmedBehind, UnconfirmedIn, IsRun, IsNotRun, TellsStart};
 
 use crate::left::{SenderLeft, TickerLeft, WorkersLeft};
 use crate::ran::{NotRun, Ran};
@@ -25,15 +25,15 @@ fn confirm_behind(
     requires { before + length receipts.now ≤ count_of history }
     ensures history { history_of result ≡ history }
     ensures confirmed { MatchResult result (λ h. AreConfirmed h.folded h.records receipts.now)
-        (λ u. IsStrayBehind before u.history.folded u.history.records receipts.now (stray_of u)) }
+        (λ u. IsUnconfirmedBehind before u.history.folded u.history.records receipts.now (unconfirmed_receipt u)) }
 {
     history.show();
     match history.confirms(receipts) {
         Ok(()) => Ok(history),
-        Err(stray) => Err(Unconfirmed {
+        Err(unconfirmed) => Err(Unconfirmed {
             history,
-            place: before + stray.place,
-            fault: stray.fault,
+            place: before + unconfirmed.place,
+            fault: unconfirmed.fault,
         }),
     }
 }
@@ -60,8 +60,8 @@ fn confirm_all<N: Name, R: Wait>(
         ≡ length (receiver.now ++ sender.now ++ ticker.now ++ operator.now) }
     ensures confirmed { MatchResult result
         (λ h. AreConfirmed h.folded h.records (receiver.now ++ sender.now ++ ticker.now ++ operator.now))
-        (λ u. IsFirstStray u.history.folded u.history.records
-        (receiver.now ++ sender.now ++ ticker.now ++ operator.now) (stray_of u)) }
+        (λ u. IsFirstUnconfirmed u.history.folded u.history.records
+        (receiver.now ++ sender.now ++ ticker.now ++ operator.now) (unconfirmed_receipt u)) }
 {
     let history = shared.finish(rt, seats, receiver)?;
     let history = confirm_behind(history, receiver.len(), sender)?;
@@ -78,7 +78,7 @@ fn confirm_all<N: Name, R: Wait>(
 /// history, and the fault and the place of the first receipt that it does not confirm. Places count from 0 through all
 /// receipts in that order. No record of either history is folded. `work` has the results of this board's workers: all
 /// its parts, and both ends of one channel. `seats` is an empty list with room for four. It may wait for the lock.
-pub fn finish<N: Name, R: Wait>(
+pub fn gather<N: Name, R: Wait>(
     rt: &R,
     shared: Shared<N>,
     seats: Vec<Seat<N>>,
@@ -97,7 +97,7 @@ pub fn finish<N: Name, R: Wait>(
     ensures rounds { IfOk result (λ r. r.rounds.items ≡ work.sender.numbers.items) }
     ensures began { IfOk result (λ _. all_began work ≡ true) }
     ensures not { IfErr result (IsNotRun N.start (λ w. w ≡ work_of work)) }
-    ensures stray { IfErr result (StraysIn (receipts_of (work_of work))) }
+    ensures unconfirmed { IfErr result (UnconfirmedIn (receipts_of (work_of work))) }
     ensures tells { IfErr result (TellsStart (all_began work)) }
 {
     let mut seats = seats;

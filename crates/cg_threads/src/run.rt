@@ -4,9 +4,9 @@ ghost use Rattle.std.specs.Prelude.{◌≡◌, [], false, IfOk, IfErr};
 ghost use Rattle.cg_threads.specs.Worked.{HaveWorked};
 ghost use Rattle.cg_threads.specs.Ran.{IsRun, IsNotRun};
 
-use crate::begun::{Begun, begin};
+use crate::begun::{Begun, prepare};
 use crate::callers::WORKERS;
-use crate::finishing::finish;
+use crate::finishing::gather;
 use crate::parts::Parts;
 use crate::ran::{NotRun, Ran};
 use crate::scoped::work;
@@ -59,7 +59,7 @@ where
         D.Reader.remaining D.Writer.contents D.dials O.works (C.shows parts.clock) parts.listener parts.dialer
         (G.stream parts.generator) parts.operator turns)) }
 {
-    let Ok(begun) = begin::<N, R>(rt, alloc, opened, table, history, fresh) else {
+    let Ok(begun) = prepare::<N, R>(rt, alloc, opened, table, history, fresh) else {
         return Err(NotRun::Unstarted(Fault::OutOfMemory));
     };
     let Begun {
@@ -93,7 +93,7 @@ where
         clock: _clock,
         go: _go,
     } = site;
-    finish(rt, shared, list, work)
+    gather(rt, shared, list, work)
 }
 
 /// Runs a node until its workers have ended, and takes its history back.

@@ -13,7 +13,7 @@ use crate::seats::Seats;
 use crate::site::Site;
 use crate::started::{start, told};
 use crate::tools::Tools;
-use crate::work::{operate, receive, send, tick};
+use crate::work::{run_operator, run_receiver, run_sender, run_ticker};
 use cg_locked::{Name, Operate};
 use cg_views::Pass;
 use cg_workers::{Dial, Listen, Milliseconds, Putting, Taking, Turns};
@@ -135,7 +135,7 @@ where
                     ensures sent { result.left.began ≡ true → HasSent N.start N.opening.own D.Reader.remaining
                         D.Writer.contents (C.shows site.entry.now.clock) second.caller D.dials dialer
                         (taken_in result.taken) result.left.receipts }
-                { send(rt, alloc, site, second, dialer, taking) },
+                { run_sender(rt, alloc, site, second, dialer, taking) },
             );
             let ticker = start(
                 scope,
@@ -147,7 +147,7 @@ where
                     ensures begun { result.left.began ≡ true → HasBegun N.start N.opening.own
                         (C.shows site.entry.now.clock) third.caller turns.rounds (G.stream generator)
                         result.left.receipts }
-                { tick(rt, alloc, site, third, generator, putting, turns) },
+                { run_ticker(rt, alloc, site, third, generator, putting, turns) },
             );
             let operator = start(
                 scope,
@@ -157,14 +157,14 @@ where
                     ensures left { IsLeft is_any fourth.caller fourth.parts result }
                     ensures operated { result.began ≡ true → HasOperated N.start N.opening fourth.caller O.works
                         operator result.receipts }
-                { operate(rt, alloc, site, fourth, operator, pass) },
+                { run_operator(rt, alloc, site, fourth, operator, pass) },
             );
             let begins = match &told(&site.go, &sender, &ticker, &operator) {
                 Some(token) => *site.go.value(token),
                 None => false,
             };
             let receiver = if begins {
-                receive(rt, alloc, site, first, listener, turns.exchanges)
+                run_receiver(rt, alloc, site, first, listener, turns.exchanges)
             } else {
                 SeatLeft::unused(alloc, first)
             };

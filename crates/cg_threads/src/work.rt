@@ -3,7 +3,7 @@
 
 ghost use Rattle.std.specs.Prelude.{◌≡◌, [], true};
 ghost use Rattle.cg_workers.specs.Ends.{put_by, taken_by, taken_in};
-ghost use Rattle.cg_locked.specs.Seats.{AreOf};
+ghost use Rattle.cg_locked.specs.Seats.{AreOfCaller};
 ghost use Rattle.cg_threads.specs.Left.{IsLeft, HasTaken, HasPut, is_received, is_ack, is_tick, is_any};
 ghost use Rattle.cg_threads.specs.Worked.{HasReceived, HasSent, HasBegun, HasOperated};
 
@@ -22,7 +22,7 @@ fn left_of<N: Name, R: Wait>(gate: SeatGate<'_, N, R>) -> SeatLeft<N>
     ensures began { result.began ≡ true }
     ensures parts { result.parts ≡ gate.entry.parts }
     ensures receipts { result.receipts ≡ gate.entry.receipts }
-    ensures own { AreOf gate.entry.caller gate.entry.receipts }
+    ensures own { AreOfCaller gate.entry.caller gate.entry.receipts }
 {
     let (seat, receipts) = gate.into_parts();
     SeatLeft::of(seat, receipts)
@@ -31,7 +31,7 @@ fn left_of<N: Name, R: Wait>(gate: SeatGate<'_, N, R>) -> SeatLeft<N>
 /// Does the receiver's work, and returns its seat with its receipts.
 ///
 /// It answers up to `exchanges` connections, and a fault of the listener ends it.
-pub fn receive<N: Name, R: Wait, L: Listen + Drop, C: Milliseconds>(
+pub fn run_receiver<N: Name, R: Wait, L: Listen + Drop, C: Milliseconds>(
     rt: &R,
     alloc: Global,
     site: &Site<N, C>,
@@ -54,7 +54,7 @@ pub fn receive<N: Name, R: Wait, L: Listen + Drop, C: Milliseconds>(
 /// Does the sender's work if all workers were started, and returns its seat with its receipts and the rounds taken.
 ///
 /// It sends the rounds that come through the channel, until that ends.
-pub fn send<N: Name, R: Wait, D: Dial + Drop, C: Milliseconds>(
+pub fn run_sender<N: Name, R: Wait, D: Dial + Drop, C: Milliseconds>(
     rt: &R,
     alloc: Global,
     site: &Site<N, C>,
@@ -91,7 +91,7 @@ pub fn send<N: Name, R: Wait, D: Dial + Drop, C: Milliseconds>(
 /// channel.
 ///
 /// It begins the rounds of these turns, and puts each into the channel.
-pub fn tick<N: Name, R: Wait + Clock, C: Milliseconds, G: Rng + Drop>(
+pub fn run_ticker<N: Name, R: Wait + Clock, C: Milliseconds, G: Rng + Drop>(
     rt: &R,
     alloc: Global,
     site: &Site<N, C>,
@@ -134,7 +134,7 @@ pub fn tick<N: Name, R: Wait + Clock, C: Milliseconds, G: Rng + Drop>(
 }
 
 /// Does the operator's work, to its end, if all workers were started, and returns its seat with its receipts.
-pub fn operate<N: Name, R: Wait, C: Milliseconds, O: Operate + Drop>(
+pub fn run_operator<N: Name, R: Wait, C: Milliseconds, O: Operate + Drop>(
     rt: &R,
     alloc: Global,
     site: &Site<N, C>,

@@ -7,10 +7,10 @@ use Rattle.cg_links.specs.declared.transfer.TheConstants.{MOST_READS}
 use Rattle.cg_tool.specs.Answer.{answer_to, text_of, status_of}
 use Rattle.cg_text.specs.Written.{WroteOut}
 use Rattle.cg_text.proofs.LinkLemmas.{all_read, never_unread, all_written, wrote_out}
-use Rattle.cg_tool.specs.Answered.{IsDue, AnswersAll, SaysOutOfMemory}
+use Rattle.cg_tool.specs.Answered.{IsExpectedAnswer, AnswersAll, SaysOutOfMemory}
 
 pub honest : {R W : Type 0} (before after held holds : Option (List ℕ)) (r0 r1 : Counted R) (w0 w1 : Counted W) (text : List ℕ) (status result : ℕ)
-    → IsDue before after r0 r1 text status → WroteOut held holds w0 w1 text status result → failed_of r1 ≡ 0 → CountsFewer r0 r1 MOST_READS → failed_of w1 ≡ 0 → idle_of w1 ≡ 0
+    → IsExpectedAnswer before after r0 r1 text status → WroteOut held holds w0 w1 text status result → failed_of r1 ≡ 0 → CountsFewer r0 r1 MOST_READS → failed_of w1 ≡ 0 → idle_of w1 ≡ 0
     → IfSome before (λ input. AnswersAll after held holds input result ⊎ SaysOutOfMemory held holds result)
 honest None after held holds r0 r1 w0 w1 text status result due wrote rf few wf wi = tt
 honest (Some input) after held holds r0 r1 w0 w1 text status result (inl answers) wrote rf few wf wi =

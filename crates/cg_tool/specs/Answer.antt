@@ -16,7 +16,7 @@ use Rattle.cg_exchange.specs.Answering.{answer_to_syn}
 use Rattle.cg_frames.specs.declared.layout.TheConstants.{WRITTEN, LAYOUTS}
 use Rattle.cg_frames.specs.Choosing.{frame_among}
 use Rattle.cg_frames.specs.Spelling.{frame}
-use Rattle.cg_engine.specs.Due.{syn_due}
+use Rattle.cg_engine.specs.Expected.{expected_syn}
 use Rattle.cg_tool.specs.declared.request.Header.{Header}
 use Rattle.cg_tool.specs.Request.{request_in}
 
@@ -24,7 +24,7 @@ use Rattle.cg_tool.specs.Request.{request_in}
 abbrev pub alone_in : List ℕ → Result (Option (Message × ℕ)) Fault → Result SynValue Fault
 alone_in bytes (Ok None) = Err fault.Truncated
 alone_in bytes (Ok (Some m)) =
-    if nat_lt m.1 (length bytes) then Err (fault.BadFrame m.1 cause.Rest) else syn_due m.0
+    if nat_lt m.1 (length bytes) then Err (fault.BadFrame m.1 cause.Rest) else expected_syn m.0
 alone_in bytes (Err f) = Err f
 
 -- the SYN whose frame the bytes are

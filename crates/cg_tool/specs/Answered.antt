@@ -19,7 +19,7 @@ pub record AnswersInput {L : Type 0} (before after : Option (List ℕ)) (old new
   pub status_is : status ≡ status_of (answer_to input)
 
 -- memory ran out, no read failed, and the text says so
-pub record OutOfMemoryDue {L : Type 0} (before after : Option (List ℕ)) (old new : Counted L)
+pub record ExpectsOutOfMemory {L : Type 0} (before after : Option (List ℕ)) (old new : Counted L)
     (text : List ℕ) (status : ℕ) : Type 0 where
   pub input : List ℕ
   pub read : Consumes before after input
@@ -28,7 +28,7 @@ pub record OutOfMemoryDue {L : Type 0} (before after : Option (List ℕ)) (old n
   pub status_is : status ≡ 1
 
 -- a read failed, or all reads that are allowed were made, and the text says so
-pub record ReadFaultDue {L : Type 0} (before after : Option (List ℕ)) (old new : Counted L)
+pub record ExpectsReadFault {L : Type 0} (before after : Option (List ℕ)) (old new : Counted L)
     (text : List ℕ) (status : ℕ) : Type 0 where
   pub input : List ℕ
   pub read : Consumes before after input
@@ -37,10 +37,11 @@ pub record ReadFaultDue {L : Type 0} (before after : Option (List ℕ)) (old new
   pub status_is : status ≡ 1
 
 -- the expected text and status
-abbrev pub IsDue : {L : Type 0} → Option (List ℕ) → Option (List ℕ) → Counted L → Counted L → List ℕ → ℕ → Type 0
-IsDue before after old new text status =
+abbrev pub IsExpectedAnswer : {L : Type 0}
+    → Option (List ℕ) → Option (List ℕ) → Counted L → Counted L → List ℕ → ℕ → Type 0
+IsExpectedAnswer before after old new text status =
     AnswersInput before after old new text status
-    ⊎ (OutOfMemoryDue before after old new text status ⊎ ReadFaultDue before after old new text status)
+    ⊎ (ExpectsOutOfMemory before after old new text status ⊎ ExpectsReadFault before after old new text status)
 
 -- all of the input was read, and its answer was written
 pub record AnswersAll (after held holds : Option (List ℕ)) (input : List ℕ) (result : ℕ) : Type 0 where

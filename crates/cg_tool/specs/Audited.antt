@@ -30,9 +30,9 @@ pub record IsFault (u : Unread) (text : List ℕ) (status : ℕ) : Type 0 where
 
 -- The expected text and status: all journals were read, and this is the report on their lives; or one was not, and this
 -- is its fault.
-abbrev pub IsDue : {S : Type 0} → (S → S → HistoryValue → Type 0) → (S → S → Unread → Type 0)
+abbrev pub IsExpectedReport : {S : Type 0} → (S → S → HistoryValue → Type 0) → (S → S → Unread → Type 0)
     → List S → List S → List ℕ → ℕ → Type 0
-IsDue reads fails ss ts text status =
+IsExpectedReport reads fails ss ts text status =
     ((lives : List LivesValue) × GathersAll reads fails ss ts [] lives
     × (IsReport lives text status ⊎ LacksMemory text status))
     ⊎ ((u : Unread) × StopsAt reads fails ss ts [] u × (IsFault u text status ⊎ LacksMemory text status))

@@ -1,17 +1,17 @@
 //! `answer`: a node's answer to one SYN, from text to text.
 
 ghost use Rattle.std.specs.Prelude.{◌≡◌, ◌≤◌, ◌+◌, ◌⊎◌, ℕ, List, Some, None, Ok, IfOk, IfSome, length, string_bytes};
-ghost use Rattle.cg_types.specs.declared.fault.Fault.TheVariants as fault;
 ghost use Rattle.cg_text.specs.Gives.{Gives};
 ghost use Rattle.cg_links.specs.declared.transfer.TheConstants.{MOST_READS};
 ghost use Rattle.cg_links.specs.Counted.{link_of, calls_of, failed_of, idle_of, CountsFewer};
-ghost use Rattle.cg_tool.specs.Answer.{syn_in as text_syn_in, answer_to_frame, answer_to, text_of, status_of};
+ghost use Rattle.cg_tool.specs.Answer as spec;
+ghost use Rattle.cg_tool.specs.Answer.{answer_to_frame, answer_to, text_of, status_of};
 ghost use Rattle.cg_text.specs.Written.{WroteOut};
-ghost use Rattle.cg_tool.specs.Answered.{IsDue, AnswersAll, SaysOutOfMemory};
+ghost use Rattle.cg_tool.specs.Answered.{IsExpectedAnswer, AnswersAll, SaysOutOfMemory};
 
 use crate::request::{Header, request};
 use bytes::Bytes;
-use cg_engine::syn_due;
+use cg_engine::expected_syn;
 use cg_entry::Entry;
 use cg_exchange::answer_syn;
 use cg_frames::{decode, encode};
@@ -26,7 +26,7 @@ use std::io::{Read, Write};
 // Reads the SYN whose frame the bytes are.
 #[tactic(auto, unfolding(crate::specs::Answer::syn_in))]
 fn syn_in(alloc: Global, bytes: &[u8]) -> Result<Syn, Fault>
-    ensures { Gives (λ s. s) result (text_syn_in bytes.now) }
+    ensures { Gives (λ s. s) result (spec.syn_in bytes.now) }
 {
     match decode(alloc, bytes) {
         Ok(None) => Err(Fault::Truncated),
@@ -37,7 +37,7 @@ fn syn_in(alloc: Global, bytes: &[u8]) -> Result<Syn, Fault>
                     cause: Cause::Rest,
                 });
             }
-            syn_due(message)
+            expected_syn(message)
         }
         Err(fault) => Err(fault),
     }
@@ -64,7 +64,7 @@ fn answer_bytes(alloc: Global, input: &[u8]) -> Result<Bytes, Fault>
 }
 
 // Returns the text that answers the input, and the status.
-fn text_due(alloc: Global, input: &[u8]) -> Result<(String, u8), AllocError>
+fn expected_text(alloc: Global, input: &[u8]) -> Result<(String, u8), AllocError>
     ensures { IfOk result (λ p. (string_bytes p.0 ≡ text_of (answer_to input.now))
         × (p.1 ≡ status_of (answer_to input.now))) }
 {
@@ -85,14 +85,15 @@ fn answer_links<R: Read, W: Write>(
     writer: &mut Counted<W>,
 ) -> u8
     ensures answered { (text : List ℕ) × (status : ℕ)
-        × IsDue (R.remaining (link_of reader.old)) (R.remaining (link_of reader.new)) reader.old reader.new text status
+        × IsExpectedAnswer (R.remaining (link_of reader.old)) (R.remaining (link_of reader.new))
+            reader.old reader.new text status
         × WroteOut
         (W.contents (link_of writer.old)) (W.contents (link_of writer.new))
         writer.old writer.new text status result }
     ensures turns { calls_of reader.new ≤ calls_of reader.old + MOST_READS }
 {
     match read_all(alloc, reader) {
-        Ok(input) => match text_due(alloc, &input) {
+        Ok(input) => match expected_text(alloc, &input) {
             Ok((text, status)) => written(writer, text.as_bytes(), status),
             Err(_) => written(writer, OUT_OF_MEMORY_LINE, 1),
         },
@@ -124,7 +125,8 @@ pub fn answer<R: Read, W: Write>(
 ) -> u8
     // The expected text, and the prefix of it that was written.
     ensures answered { (text : List ℕ) × (status : ℕ)
-        × IsDue (R.remaining (link_of reader.old)) (R.remaining (link_of reader.new)) reader.old reader.new text status
+        × IsExpectedAnswer (R.remaining (link_of reader.old)) (R.remaining (link_of reader.new))
+            reader.old reader.new text status
         × WroteOut
         (W.contents (link_of writer.old)) (W.contents (link_of writer.new))
         writer.old writer.new text status result }

@@ -4,7 +4,7 @@ ghost use Rattle.std.specs.Prelude.{◌≡◌, ◌⊎◌, ℕ, List, [], MatchRe
 ghost use Rattle.cg_links.specs.Counted.{link_of};
 ghost use Rattle.cg_text.specs.Written.{WroteOut};
 ghost use Rattle.cg_tool.specs.Gathered.{GathersAll, StopsAt};
-ghost use Rattle.cg_tool.specs.Audited.{IsDue, IsReport, IsFault, LacksMemory};
+ghost use Rattle.cg_tool.specs.Audited.{IsExpectedReport, IsReport, IsFault, LacksMemory};
 
 use crate::journals::Journals;
 use crate::reporting::report;
@@ -70,7 +70,7 @@ pub fn audit_files<S: Source, W: Write>(
     sources: &mut [S],
     writer: &mut Counted<W>,
 ) -> u8
-    ensures { (text : List ℕ) × (status : ℕ) × IsDue S.reads S.fails sources.old sources.new text status
+    ensures { (text : List ℕ) × (status : ℕ) × IsExpectedReport S.reads S.fails sources.old sources.new text status
         × WroteOut (W.contents (link_of writer.old)) (W.contents (link_of writer.new))
         writer.old writer.new text status result }
 {

@@ -2,7 +2,8 @@
 
 ghost use Rattle.std.specs.Prelude.{◌≡◌, ◌++◌, IfOk, OnOk, codes, string_bytes};
 ghost use Rattle.std.specs.List.{flat_map};
-ghost use Rattle.cg_tool.specs.Report.{line_of, stuck_line_of, run_text as text_of_run, stuck_text as text_of_stuck, report_text, report_status};
+ghost use Rattle.cg_tool.specs.Report as spec;
+ghost use Rattle.cg_tool.specs.Report.{line_of, stuck_line_of, report_text, report_status};
 
 use cg_audit::{AuditFault, LifeItem, Order};
 use cg_text::{add_item, add_stuck};
@@ -28,7 +29,7 @@ fn add_heads(text: &mut String, heads: &[LifeItem]) -> Result<(), AllocError>
 }
 
 fn run_text(alloc: Global, items: &[LifeItem]) -> Result<String, AllocError>
-    ensures { IfOk result (λ text. string_bytes text ≡ text_of_run items.now) }
+    ensures { IfOk result (λ text. string_bytes text ≡ spec.run_text items.now) }
 {
     let mut text = String::new(alloc);
     add_items(&mut text, items)?;
@@ -37,7 +38,7 @@ fn run_text(alloc: Global, items: &[LifeItem]) -> Result<String, AllocError>
 }
 
 fn stuck_text(alloc: Global, heads: &[LifeItem]) -> Result<String, AllocError>
-    ensures { IfOk result (λ text. string_bytes text ≡ text_of_stuck heads.now) }
+    ensures { IfOk result (λ text. string_bytes text ≡ spec.stuck_text heads.now) }
 {
     let mut text = String::new(alloc);
     add_heads(&mut text, heads)?;

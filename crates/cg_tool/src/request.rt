@@ -2,7 +2,8 @@
 
 ghost use Rattle.std.specs.Prelude.{◌≡◌, option_map};
 ghost use Rattle.cg_text.specs.Gives.{Finds};
-ghost use Rattle.cg_tool.specs.Request.{header_in, last_line as text_last_line, request_in};
+ghost use Rattle.cg_tool.specs.Request as spec;
+ghost use Rattle.cg_tool.specs.Request.{header_in, request_in};
 
 use cg_text::{bytes_in, cluster_named};
 use cg_types::{Cluster, Endpoint, Fault, Generation, cut};
@@ -43,7 +44,7 @@ fn header_of(alloc: Global, line: &[u8]) -> Result<Header, Fault>
 // Returns a last line, whose line feed may be missing.
 #[tactic(auto, unfolding(crate::specs::Request::last_line))]
 fn last_line(text: &[u8]) -> Option<&[u8]>
-    ensures { option_map (λ l. l.now) result ≡ text_last_line text.now }
+    ensures { option_map (λ l. l.now) result ≡ spec.last_line text.now }
 {
     if text.is_empty() {
         return None;

@@ -14,8 +14,8 @@ use Rattle.cg_engine.specs.declared.exchange.Ended.{Ended}
 use Rattle.cg_engine.specs.declared.exchange.Ended.TheVariants as ended
 use Rattle.cg_engine.specs.declared.exchange.Broken.{Broken}
 use Rattle.cg_core.specs.Replies.{IsReplyTo}
-use Rattle.cg_engine.specs.Events.{event_due}
-use Rattle.cg_engine.specs.Exchanged.{Turn, AreTurns, Runs, Turned, Exchanges}
+use Rattle.cg_engine.specs.Events.{expected_event}
+use Rattle.cg_engine.specs.Exchanged.{Turn, AreTurns, TurnsLead, Turned, Exchanges}
 use Rattle.cg_workers.specs.declared.ends.Taking.{Taking}
 use Rattle.cg_workers.specs.Workers.{Exchanged, BegunWith, Came, Received, Reached, SentRound, SentRounds}
 use Rattle.cg_workers.proofs.EachLemmas.{each_keeps}
@@ -27,7 +27,7 @@ IsEventAt kind.Ack now (event.Ack at m) = at ≡ now
 IsEventAt kind.Ack2 now (event.Ack2 at m) = at ≡ now
 IsEventAt k now e = ⊥
 
-pub event_at : (k : Kind) (now : ℕ) (m : Message) (e : Event) → event_due k now m ≡ Ok e → IsEventAt k now e
+pub event_at : (k : Kind) (now : ℕ) (m : Message) (e : Event) → expected_event k now m ≡ Ok e → IsEventAt k now e
 event_at kind.Syn now (messages.Syn m) e due =
     let same : event.Syn m ≡ e = cc in
     subst (IsEventAt kind.Syn now) same tt
@@ -58,7 +58,7 @@ module _ {S : Type 0} (does : S → Event → Reply → S → Type 0) (refuses :
   KeptByAll [] = Unit {0}
   KeptByAll (k ∷ ks) = KeptBy k × KeptByAll ks
 
-  runs_keep : (kinds : List Kind) (now : ℕ) (turns : List Turn) (s t : S) → KeptByAll kinds → shows now → AreTurns kinds now turns → Runs does s turns t → keeps s t
+  runs_keep : (kinds : List Kind) (now : ℕ) (turns : List Turn) (s t : S) → KeptByAll kinds → shows now → AreTurns kinds now turns → TurnsLead does s turns t → keeps s t
   runs_keep kinds now [] s t each shown are is = subst (keeps s) (sym is) (same s)
   runs_keep [] now (x ∷ xs) s t each shown are ran = absurd are
   runs_keep (k ∷ ks) now (x ∷ xs) s t each shown are ran =

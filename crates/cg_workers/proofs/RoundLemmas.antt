@@ -8,7 +8,7 @@ use Rattle.crossbeam_channel.specs.Fifo.{Pushes, Pops, Forks, Merges, Learns}
 use Rattle.cg_workers.specs.declared.round.Round.{Round}
 use Rattle.cg_workers.specs.declared.rule.NextRound.{NextRound}
 use Rattle.cg_workers.specs.declared.rule.Hand.{Hand}
-use Rattle.cg_workers.specs.Rounds.{round_of, rounds_of, is_done, hand, Fits, InOrder}
+use Rattle.cg_workers.specs.Rounds.{round_of, rounds_of, is_done, hand, HandFits, InOrder}
 
 rounds-append : (xs ys : List NextRound) → rounds_of (xs ++ ys) ≡ rounds_of xs ++ rounds_of ys
 rounds-append [] ys = refl
@@ -28,7 +28,7 @@ off e = absurd cc
 pub starts : InOrder [] (hand true true [] [] false ∷ [])
 starts = (zero, zero, [], [], refl, only)
   where
-    only : (pass : ℕ) (v : Hand) → get_elem? (hand true true [] [] false ∷ []) pass ≡ some v → Fits zero zero [] [] pass v
+    only : (pass : ℕ) (v : Hand) → get_elem? (hand true true [] [] false ∷ []) pass ≡ some v → HandFits zero zero [] [] pass v
     only zero v e = let s = some-injective _ v e in ((λ p. (refl, ap (λ (h : Hand). h.put) (sym s))), (λ p. (refl, ap (λ (h : Hand). h.taken) (sym s))))
     only (suc j) v e = absurd (some-ne-none v (sym e))
 
@@ -48,7 +48,7 @@ puts n pass v x may not_takes items views room h at =
         taken,
         whole,
         (λ j u e. ⊎_elim
-            (λ (t : (j ≡ pass) × (w ≡ u)). subst (λ (z : Hand). Fits putter taker (put ++ round_of x) taken j z) t.1
+            (λ (t : (j ≡ pass) × (w ≡ u)). subst (λ (z : Hand). HandFits putter taker (put ++ round_of x) taken j z) t.1
             ((λ p. (t.0 ∙ mine.0, ap (λ (ns : List Round). ns ++ round_of x) mine.1)), (λ p. absurd (off (sym not_takes ∙ p)))))
             (λ (t : (j ≢ pass) × (get_elem? views j ≡ some u)). let f = h.5 j u t.1 in
             ((λ p. absurd (t.0 ((f.0 p).0 ∙ sym mine.0))), f.1))
@@ -70,7 +70,7 @@ takes pass v may not_puts x items views h at =
         taken ++ round_of x,
         h.4 ∙ sym (append_assoc taken (round_of x) (rounds_of items)),
         (λ j u e. ⊎_elim
-            (λ (t : (j ≡ pass) × (w ≡ u)). subst (λ (z : Hand). Fits putter taker put (taken ++ round_of x) j z) t.1
+            (λ (t : (j ≡ pass) × (w ≡ u)). subst (λ (z : Hand). HandFits putter taker put (taken ++ round_of x) j z) t.1
             ((λ p. absurd (off (sym not_puts ∙ p))), (λ p. (t.0 ∙ mine.0, ap (λ (ns : List Round). ns ++ round_of x) mine.1))))
             (λ (t : (j ≢ pass) × (get_elem? views j ≡ some u)). let f = h.5 j u t.1 in
             (f.0, (λ p. absurd (t.0 ((f.1 p).0 ∙ sym mine.0)))))
@@ -92,11 +92,11 @@ cuts pass v may can items views h at =
       h.4,
       (λ j u e. ⊎_elim
           (λ (there : get_elem? (set views pass left) j ≡ some u). ⊎_elim
-          (λ (t : (j ≡ pass) × (left ≡ u)). subst (λ (z : Hand). Fits pass new put taken j z) t.1 ((λ p. (t.0, mine.1)), (λ p. absurd (off p))))
+          (λ (t : (j ≡ pass) × (left ≡ u)). subst (λ (z : Hand). HandFits pass new put taken j z) t.1 ((λ p. (t.0, mine.1)), (λ p. absurd (off p))))
           (λ (t : (j ≢ pass) × (get_elem? views j ≡ some u)). let g = h.5 j u t.1 in
           ((λ p. absurd (t.0 ((g.0 p).0 ∙ sym mine.0))), (λ p. absurd (t.0 ((g.1 p).0 ∙ sym his.0)))))
           (at_set views pass j left u there))
-          (λ (t : (j ≡ new) × (right ≡ u)). subst (λ (z : Hand). Fits pass new put taken j z) t.1 ((λ p. absurd (off p)), (λ p. (t.0, his.1))))
+          (λ (t : (j ≡ new) × (right ≡ u)). subst (λ (z : Hand). HandFits pass new put taken j z) t.1 ((λ p. absurd (off p)), (λ p. (t.0, his.1))))
           (at_end (set views pass left) right u j e)),
     )
 
@@ -113,9 +113,9 @@ joins pass v other w may can items views h at apart there =
       taken,
       h.4,
       (λ j u e. ⊎_elim
-          (λ (t : (j ≡ other) × (spent ≡ u)). subst (λ (z : Hand). Fits pass pass put taken j z) t.1 ((λ p. absurd (off p)), (λ p. absurd (off p))))
+          (λ (t : (j ≡ other) × (spent ≡ u)). subst (λ (z : Hand). HandFits pass pass put taken j z) t.1 ((λ p. absurd (off p)), (λ p. absurd (off p))))
           (λ (t : (j ≢ other) × (get_elem? (set views pass both) j ≡ some u)). ⊎_elim
-          (λ (s : (j ≡ pass) × (both ≡ u)). subst (λ (z : Hand). Fits pass pass put taken j z) s.1 ((λ p. (s.0, mine.1)), (λ p. (s.0, his.1))))
+          (λ (s : (j ≡ pass) × (both ≡ u)). subst (λ (z : Hand). HandFits pass pass put taken j z) s.1 ((λ p. (s.0, mine.1)), (λ p. (s.0, his.1))))
           (λ (s : (j ≢ pass) × (get_elem? views j ≡ some u)). let g = h.5 j u s.1 in
           ((λ p. absurd (s.0 ((g.0 p).0 ∙ sym mine.0))), (λ p. absurd (t.0 ((g.1 p).0 ∙ sym his.0)))))
           (at_set views pass j both u t.1))

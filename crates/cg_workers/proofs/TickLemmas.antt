@@ -17,7 +17,7 @@ use Rattle.cg_workers.specs.declared.ticked.Stop.TheVariants as stop
 use Rattle.cg_workers.specs.declared.ticked.Ticked.{Ticked}
 use Rattle.cg_workers.specs.declared.ticking.Turn.{Turn}
 use Rattle.cg_workers.specs.declared.ticking.Turn.TheVariants as turn
-use Rattle.cg_workers.specs.Ticks.{IsTick, round_in, words_in, IsPassedOn, GoesOn, last_of, refusals, HasTicked, IsTurn, AreTurns, HasTurned, Ticks}
+use Rattle.cg_workers.specs.Ticks.{IsTick, round_in, words_in, IsPassedOn, MayGoOn, stopped_turn, refusals, HasTicked, IsTurn, AreTurns, HasTurned, Ticks}
 use Rattle.cg_workers.specs.TickLaws.{rounds_in, words_of, MakesRounds}
 
 -- ---- words
@@ -88,7 +88,7 @@ module _ {S : Type 0} (receipts_of : S → List Receipt) (does : S → Event →
     -- `n` turns were made, and none stopped
     pub record SoFar (n refused : ℕ) (left : Stream) (t : S × Putting) : Type 0 where
       pub turns : List Turn
-      pub go_on : All GoesOn turns
+      pub go_on : All MayGoOn turns
       pub made : AreTurns receipts_of does refuses shows turns words s t
       pub long : length turns ≡ n
       pub count : refused ≡ refusals turns
@@ -96,7 +96,7 @@ module _ {S : Type 0} (receipts_of : S → List Receipt) (does : S → Event →
       pub left_is : left ≡ left_after n words
 
     pub none_so_far : SoFar 0 0 words s
-    none_so_far = record { turns = []; go_on = All-nil GoesOn; made = refl; long = refl; count = refl; few = omega arith; left_is = refl }
+    none_so_far = record { turns = []; go_on = All-nil MayGoOn; made = refl; long = refl; count = refl; few = omega arith; left_is = refl }
 
     module _ (n refused : ℕ) (left : Stream) (u : S × Putting) (so : SoFar n refused left u) (x : Turn) (t : S × Putting) (is : IsTurn receipts_of does refuses shows (four_of left).0 x u t) where
       its_words : (four_of left).0 ≡ (four_of (left_after (length so.turns) words)).0
@@ -108,10 +108,10 @@ module _ {S : Type 0} (receipts_of : S → List Receipt) (does : S → Event →
       longer : length (so.turns ++ x ∷ []) ≡ n + 1
       longer = omega (arith, so.long, length-append so.turns (x ∷ []))
 
-      pub more_so_far : GoesOn x → (next : Stream) → next ≡ (four_of left).1 → (more : ℕ) → more ≡ refused + refusals (x ∷ []) → SoFar (n + 1) more next t
+      pub more_so_far : MayGoOn x → (next : Stream) → next ≡ (four_of left).1 → (more : ℕ) → more ≡ refused + refusals (x ∷ []) → SoFar (n + 1) more next t
       more_so_far goes next is_next more counts = record {
         turns = so.turns ++ x ∷ [];
-        go_on = All-push GoesOn so.turns x so.go_on goes;
+        go_on = All-push MayGoOn so.turns x so.go_on goes;
         made = made_more;
         long = longer;
         count = counts ∙ ap (λ m. m + refusals (x ∷ [])) so.count ∙ sym (refusals-push so.turns x);
@@ -175,7 +175,7 @@ module _ {S : Type 0} (receipts_of : S → List Receipt) (does : S → Event →
     drawn = λ none. ap (λ ws. ws ++ words_of x.passed) more.words ∙ ap (λ ws. (four_of words).0 ++ ws) (x.drawn none) ∙ sym (words_first (length x.passed) words);
   }
 
-  went : (turns : List Turn) (words : Stream) (s t : S × Putting) → All GoesOn turns → AreTurns receipts_of does refuses shows turns words s t → Went turns words s t
+  went : (turns : List Turn) (words : Stream) (s t : S × Putting) → All MayGoOn turns → AreTurns receipts_of does refuses shows turns words s t → Went turns words s t
   went [] words s t go are = record {
     passed = [];
     receipts = ap (λ (v : S × Putting). receipts_of v.0) are ∙ sym (append-nil (receipts_of s.0));
@@ -185,11 +185,11 @@ module _ {S : Type 0} (receipts_of : S → List Receipt) (does : S → Event →
     drawn = λ none. no_words words;
   }
   went (turn.Refused ∷ turns) words s t go are =
-      went_refused turns words s are.0 t are.1.same (went turns (four_of words).1 are.0 t (All-tail GoesOn turn.Refused turns go) are.2)
+      went_refused turns words s are.0 t are.1.same (went turns (four_of words).1 are.0 t (All-tail MayGoOn turn.Refused turns go) are.2)
   went (turn.Put ∷ turns) words s t go are =
       let one = are.1 in
-      went_put turns words s are.0 t one.0 one.1 one.2.0 (went turns (four_of words).1 are.0 t (All-tail GoesOn turn.Put turns go) are.2)
-  went (turn.Stopped why ∷ turns) words s t go are = absurd (All-head GoesOn (turn.Stopped why) turns go)
+      went_put turns words s are.0 t one.0 one.1 one.2.0 (went turns (four_of words).1 are.0 t (All-tail MayGoOn turn.Put turns go) are.2)
+  went (turn.Stopped why ∷ turns) words s t go are = absurd (All-head MayGoOn (turn.Stopped why) turns go)
 
   -- the state before the last turn
   before_last : (ts : List Turn) (x : Turn) (words : Stream) (s t : S × Putting) → AreTurns receipts_of does refuses shows (ts ++ x ∷ []) words s t
@@ -204,8 +204,8 @@ module _ {S : Type 0} (receipts_of : S → List Receipt) (does : S → Event →
   stopped_put stop.NoMemory q before after is = ap put_by is
   stopped_put stop.HandedBack q before after is = is.0
 
-  made_rounds : (stopped : Option Stop) (refused rounds : ℕ) (words : Stream) (s t : S × Putting) (there : Putting) (earlier : List Turn) → All GoesOn earlier
-      → AreTurns receipts_of does refuses shows (earlier ++ last_of stopped) words s (t.0, there) → length (earlier ++ last_of stopped) ≤ rounds → (stopped ≡ None → length earlier ≡ rounds)
+  made_rounds : (stopped : Option Stop) (refused rounds : ℕ) (words : Stream) (s t : S × Putting) (there : Putting) (earlier : List Turn) → All MayGoOn earlier
+      → AreTurns receipts_of does refuses shows (earlier ++ stopped_turn stopped) words s (t.0, there) → length (earlier ++ stopped_turn stopped) ≤ rounds → (stopped ≡ None → length earlier ≡ rounds)
       → refused ≡ refusals earlier → put_by t.1 ≡ put_by there → MakesRounds receipts_of shows rounds words (record { refused = refused; stopped = stopped }) s t
   made_rounds None refused rounds words s t there earlier go made most whole count put =
       let x = went earlier words s (t.0, there) go (subst (λ (ts : List Turn). AreTurns receipts_of does refuses shows ts words s (t.0, there)) (append-nil earlier) made) in

@@ -25,8 +25,8 @@ abbrev pub hand : Bool → Bool → List Round → List Round → Bool → Hand
 hand puts takes put taken said = record { puts = puts; takes = takes; put = put; taken = taken; said = said }
 
 -- One pass alone may put, and knows the rounds put in; one alone may take, and knows the rounds taken.
-abbrev pub Fits : ℕ → ℕ → List Round → List Round → ℕ → Hand → Type 0
-Fits putter taker put taken pass v =
+abbrev pub HandFits : ℕ → ℕ → List Round → List Round → ℕ → Hand → Type 0
+HandFits putter taker put taken pass v =
     (v.puts ≡ true → (pass ≡ putter) × (v.put ≡ put)) × (v.takes ≡ true → (pass ≡ taker) × (v.taken ≡ taken))
 
 -- the rounds taken, and then those that the channel holds, are those put in
@@ -34,4 +34,4 @@ abbrev pub InOrder : List NextRound → List Hand → Type 0
 InOrder items views =
     (putter : ℕ) × (taker : ℕ) × (put : List Round) × (taken : List Round)
     × (put ≡ taken ++ rounds_of items)
-    × ((pass : ℕ) (v : Hand) → get_elem? views pass ≡ some v → Fits putter taker put taken pass v)
+    × ((pass : ℕ) (v : Hand) → get_elem? views pass ≡ some v → HandFits putter taker put taken pass v)

@@ -52,14 +52,14 @@ IsPassedOn q (turn.Stopped stop.HandedBack) before after =
     (put_by after ≡ put_by before) × (said_by after ≡ said_by before) × IsDisconnected after
 
 -- no turn follows one that stopped
-abbrev pub GoesOn : Turn → Type 0
-GoesOn (turn.Stopped why) = ⊥
-GoesOn turn = Unit {0}
+abbrev pub MayGoOn : Turn → Type 0
+MayGoOn (turn.Stopped why) = ⊥
+MayGoOn turn = Unit {0}
 
 -- the last turn of a ticker that stopped
-abbrev pub last_of : Option Stop → List Turn
-last_of None = []
-last_of (Some why) = turn.Stopped why ∷ []
+abbrev pub stopped_turn : Option Stop → List Turn
+stopped_turn None = []
+stopped_turn (Some why) = turn.Stopped why ∷ []
 
 -- the number of refused turns
 abbrev pub refusals : List Turn → ℕ
@@ -101,9 +101,9 @@ module _ {S : Type 0} (receipts_of : S → List Receipt) (does : S → Event →
   -- Turns were made, as many as were wanted, or up to one whose round could not be put in.
   pub record HasTurned (rounds : ℕ) (words : Stream) (left : Ticked) (s t : S × Putting) : Type 0 where
     pub earlier : List Turn
-    pub go_on : All GoesOn earlier
-    pub made : AreTurns (earlier ++ last_of left.stopped) words s t
-    pub most : length (earlier ++ last_of left.stopped) ≤ rounds
+    pub go_on : All MayGoOn earlier
+    pub made : AreTurns (earlier ++ stopped_turn left.stopped) words s t
+    pub most : length (earlier ++ stopped_turn left.stopped) ≤ rounds
     pub whole : left.stopped ≡ None → length earlier ≡ rounds
     pub refused : left.refused ≡ refusals earlier
 

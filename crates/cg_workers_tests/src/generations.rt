@@ -1,13 +1,13 @@
 //! Texts that are a generation, and texts that are none.
 
-use cg_host::{generation_in, generation_text};
+use cg_host::{generation_text, kept_generation_in};
 use cg_testing::expect_eq;
 use cg_types::Generation;
 use std::test::Fail;
 
 // The number that the bytes are, 0 for none.
 fn number_in(bytes: &[u8]) -> u32 {
-    match generation_in(bytes) {
+    match kept_generation_in(bytes) {
         Some(generation) => generation.get(),
         None => 0,
     }

@@ -2,7 +2,7 @@
 
 use crate::samples::{ACK, SYN, Standing, owners, started};
 use cg_core::Peers;
-use cg_engine::{NodeGate, syn_due};
+use cg_engine::{NodeGate, expected_syn};
 use cg_frames::decode;
 use cg_messages::Syn;
 use cg_testing::{A, B, endpoint, expect, expect_eq};
@@ -42,7 +42,7 @@ impl Dial for Book {
 // A's SYN.
 fn opening(alloc: Global) -> Result<Syn, Fail> {
     let (message, _size) = decode(alloc, SYN)?.ok_or("a whole frame")?;
-    Ok(syn_due(message)?)
+    Ok(expected_syn(message)?)
 }
 
 // A round of this number, for the endpoints of these.

@@ -42,9 +42,9 @@ use Rattle.cg_places.proofs.PutLemmas.{test_same, same_number}
 use Rattle.cg_places.proofs.GrowthLemmas.{grown_continue}
 use Rattle.cg_places.proofs.RoomLemmas.{room_for_deltas}
 use Rattle.cg_places.proofs.FollowLemmas.{follow, replaced_spells}
-use Rattle.cg_places.specs.Step.{message_in, message_of, action_at, span_handed, IsPlaced, IsSentBefore, IsSent, Sends, IsStepAt}
+use Rattle.cg_places.specs.Step.{handed_message, message_of, action_at, span_handed, IsPlaced, IsSentBefore, IsSent, Sends, IsStepAt}
 use Rattle.cg_places.proofs.StepLaws.{own_held as own_is_held, steps_are_by_places}
-use Rattle.cg_world.specs.World.{LocalEvent, Beat, Set, Remove, Opening, Tick, Action, Start, Local, Deliver, WorldValue, tables_of, with_node, with_sent, after_step, step_of, step_at, generation_held, event_of, arrival_of, acting, plain_local, plain}
+use Rattle.cg_world.specs.World.{LocalEvent, Beat, Set, Remove, Opening, Tick, Action, Start, Local, Deliver, WorldValue, tables_of, with_node, with_sent, after_step, step_of, step_at, generation_held, event_of, arrival_of, acting, plain_local, plain_action}
 use Rattle.cg_world.specs.Terms.{own_at}
 use Rattle.cg_world.specs.WorldLaws.{AllSent, IsNodeAt, SpellsWorld}
 use Rattle.cg_world.proofs.SpellingLemmas.{Tied, Bounded, BothSent, both_at, all_stay, all_push, nodes_with, replaced, len_with, entries_in, node_spells}
@@ -138,7 +138,7 @@ module _ (c : WorldValue) (w : PlaceWorld) (t : Tied c w) (node generation : ℕ
       ((follow (tables_of c) w t.sound t.is.tables).start node generation (tables_of (with_node c node (starting_node node generation c.settings))) (replaced c node (starting_node node generation c.settings)))
       (grown_continue w.histories node (starting_entry generation)) refl (record { its_settings = refl; its_endpoint = refl }) many_started
 
-  start_agrees : AgreesBy (refusal w (plain (Start node generation))) (after_action w (plain (Start node generation))) (acting c (Start node generation))
+  start_agrees : AgreesBy (refusal w (plain_action (Start node generation))) (after_action w (plain_action (Start node generation))) (acting c (Start node generation))
   unfolding after_action
   start_agrees = start_with (with_node c node (starting_node node generation c.settings)) (with_start w node generation) w start_spells
       (nat_lt (generation_held (map.get c.nodes node)) generation) (may_start w node generation) (map.contains_key c.nodes node) (runs w node) (nat_lt (map.len c.nodes) MEMBER_LIMIT) (nat_lt (length w.owners) MEMBER_LIMIT)
@@ -184,7 +184,7 @@ module _ (c : WorldValue) (w : PlaceWorld) (t : Tied c w) (node : ℕ) (n : Node
       each q m false apart is = t.is.each q m is
 
   -- both agree if the step is refused as it is by places
-  step_agrees : (number : ℕ) (f : Event) → IsSentBefore w number (message_in f) → fault_of (node_step n f) ≡ refusal w (action_at node number f)
+  step_agrees : (number : ℕ) (f : Event) → IsSentBefore w number (handed_message f) → fault_of (node_step n f) ≡ refusal w (action_at node number f)
       → AgreesBy (refusal w (action_at node number f)) (after_action w (action_at node number f)) (after_step c node (node_step n f))
   step_agrees number f sent alike = go (node_step n f) refl alike
     where
@@ -216,8 +216,8 @@ same_by a b e = subst (λ b. same_cluster a b ≡ true) e (rw ((bytes_eq-Decides
 
 module _ (c : WorldValue) (w : PlaceWorld) (t : Tied c w) (b : Bounded w) (node : ℕ) (n : NodeValue) (e : map.get c.nodes node ≡ Some n) where
   -- a SYN of this cluster is answered
-  syn_due : (syn : SynValue) (theirs : ℕ → ℕ) → IsSent c.settings.cluster w.histories (message.Syn syn) (Syn theirs) → fault_of (node_step n (event.Syn syn)) ≡ None
-  syn_due syn theirs s =
+  expected_syn : (syn : SynValue) (theirs : ℕ → ℕ) → IsSent c.settings.cluster w.histories (message.Syn syn) (Syn theirs) → fault_of (node_step n (event.Syn syn)) ≡ None
+  expected_syn syn theirs s =
       let same : same_cluster n.settings.cluster syn.cluster ≡ true = same_by n.settings.cluster syn.cluster (ap (λ s. s.cluster) (at_node c w t node n e).its_settings ∙ sym s.names) in
       let a : IsAnswered w.histories n.table n.settings.cluster syn (w.places node) theirs =
       syn_is_answered w.histories t.sound.histories n.table n.settings.cluster syn (w.places node) theirs (spells_here c w t node n e) s.says same in
@@ -257,7 +257,7 @@ module _ (c : WorldValue) (w : PlaceWorld) (t : Tied c w) (b : Bounded w) (node 
 
   -- no message of the world is refused
   message_due : (now : ℕ) (m : Message) (said : PlaceMessage) → IsSent c.settings.cluster w.histories m said → fault_of (node_step n (arrival_of now m)) ≡ None
-  message_due now (message.Syn syn) (Syn theirs) s = syn_due syn theirs s
+  message_due now (message.Syn syn) (Syn theirs) s = expected_syn syn theirs s
   message_due now (message.Ack ack) (Ack asks spans) s = rw (ack_fits ack asks spans s) refl
   message_due now (message.Ack2 ack2) (Ack2 spans) s = rw (ack2_fits ack2 spans s) refl
   message_due now (message.Syn syn) (Ack asks spans) s = absurd s.says.spells
@@ -313,7 +313,7 @@ module _ (c : WorldValue) (w : PlaceWorld) (t : Tied c w) (b : Bounded w) where
   deliver_agrees number now node (Some m) (Some said) is s None e = rw e (ap (deliver_refusal w node) is ∙ no_delivery node e)
   deliver_agrees number now node (Some m) (Some said) is s (Some n) e = rw e (delivery_agrees c w t b node n e number now m said is s)
 
-  pub action_agrees : (action : Action) → AgreesBy (refusal w (plain action)) (after_action w (plain action)) (acting c action)
+  pub action_agrees : (action : Action) → AgreesBy (refusal w (plain_action action)) (after_action w (plain_action action)) (acting c action)
   action_agrees (Start node generation) = start_agrees c w t node generation
   action_agrees (Local node change) = local_agrees node change (map.get c.nodes node) refl
   action_agrees (Deliver number to now) = deliver_agrees number now to (at_place c.sent number) (at_place w.sent number) refl (both_at c.settings.cluster w.histories c.sent w.sent t.is.messages number) (map.get c.nodes to) refl

@@ -24,7 +24,7 @@ use Rattle.cg_places.specs.Spelling.{StaySpelled}
 use Rattle.cg_world.specs.declared.action.Action.{Action}
 use Rattle.cg_world.specs.declared.action.Action.TheVariants.{Start, Local, Deliver}
 use Rattle.cg_world.specs.declared.action.LocalEvent.TheVariants.{Beat, Set, Remove, Opening, Tick}
-use Rattle.cg_world.specs.World.{starts, WorldValue, acting, or_unchanged, act, run_from, run, new_world, plain, place_world}
+use Rattle.cg_world.specs.World.{starts, WorldValue, acting, or_unchanged, act, run_from, run, new_world, plain_action, place_world}
 use Rattle.cg_world.specs.Terms.{Runs}
 use Rattle.cg_world.specs.WorldLaws.{IsBeatAndOpening}
 use Rattle.cg_world.specs.Exchange.{Exchange, by_nodes, NeverStarts, StartsNeither, ExchangesAreLists, TickedExchangesFollowBeats, plain_exchange, IsPast, ExchangesEndAtTheJoin, UndisturbedExchangesMerge}
@@ -72,7 +72,7 @@ neither_is : (a b : Bool) → (a || b) ≡ false → (a ≡ false) × (b ≡ fal
 neither_is true b e = absurd cc
 neither_is false b e = (refl, e)
 
-no_start : (node : ℕ) (action : Action) → starts node action ≡ false → IsNoStartOf node (plain action)
+no_start : (node : ℕ) (action : Action) → starts node action ≡ false → IsNoStartOf node (plain_action action)
 no_start node (Start other generation) e = λ same. let t : (other == node) ≡ true = ap (λ k. k == node) same ∙ test_same node in cc
 no_start node (Local other Beat) e = tt
 no_start node (Local other (Set key text)) e = tt
@@ -81,7 +81,7 @@ no_start node (Local other Opening) e = tt
 no_start node (Local other (Tick now words)) e = tt
 no_start node (Deliver number to now) e = tt
 
-no_starts : (node : ℕ) (actions : List Action) → NeverStarts node actions → NoStartsOf node (map_list plain actions)
+no_starts : (node : ℕ) (actions : List Action) → NeverStarts node actions → NoStartsOf node (map_list plain_action actions)
 no_starts node [] e = tt
 no_starts node (action ∷ actions) e = let both = neither_is (starts node action) (list_any (starts node) actions) e in (no_start node action both.0, no_starts node actions both.1)
 
@@ -94,10 +94,10 @@ plain_neither x s = record {
 -- ---- an exchange by places
 
 -- an action that is not refused
-act_joined : (c : WorldValue) (w : PlaceWorld) (action : Action) → Joined c w → refusal w (plain action) ≡ None → Joined (act c action) (after_action w (plain action))
+act_joined : (c : WorldValue) (w : PlaceWorld) (action : Action) → Joined c w → refusal w (plain_action action) ≡ None → Joined (act c action) (after_action w (plain_action action))
 act_joined c w action j free = go (acting c action) (action_agrees c w j.tied j.bounded action)
   where
-    go : (left : Result WorldValue Fault) → AgreesBy (refusal w (plain action)) (after_action w (plain action)) left → Joined (or_unchanged c left) (after_action w (plain action))
+    go : (left : Result WorldValue Fault) → AgreesBy (refusal w (plain_action action)) (after_action w (plain_action action)) left → Joined (or_unchanged c left) (after_action w (plain_action action))
     go (Ok d) a = done_joined c w action d j a
     go (Err fault) a = absurd (let due = a in cc)
 

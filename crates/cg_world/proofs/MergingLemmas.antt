@@ -16,7 +16,7 @@ use Rattle.cg_places.specs.Refusals.{done_from}
 use Rattle.cg_places.specs.Join.{join}
 use Rattle.cg_world.specs.Merging.{merged_three, FitTogether, IsJoinIn, TellsOfNodes}
 use Rattle.cg_world.specs.declared.action.Action.{Action}
-use Rattle.cg_world.specs.World.{WorldValue, run, plain}
+use Rattle.cg_world.specs.World.{WorldValue, run, plain_action}
 use Rattle.cg_world.specs.Terms.{Runs}
 use Rattle.cg_world.specs.WorldLaws.{IsReached}
 use Rattle.cg_places.proofs.ListLemmas.{all_done}
@@ -44,10 +44,10 @@ pub record FindTheJoin (c : WorldValue) (x y z : ℕ) (one two three : NodeValue
 module _ (settings : SettingsValue) (actions : List Action) (x y z : ℕ) (one two three : NodeValue)
     (rx : Runs (run settings actions) x one) (ry : Runs (run settings actions) y two) (rz : Runs (run settings actions) z three) where
   abbrev done : List PlaceAction
-  done = done_from nobody (map_list plain actions)
+  done = done_from nobody (map_list plain_action actions)
 
   few : length (world_after done).owners ≤ MEMBER_LIMIT
-  few = (done_actions_keep_limits done (all_done nobody (map_list plain actions))).owners
+  few = (done_actions_keep_limits done (all_done nobody (map_list plain_action actions))).owners
 
   first_room : owners_together one.table.entries two.table.entries ≤ MEMBER_LIMIT
   first_room =

@@ -12,7 +12,7 @@ use Rattle.cg_places.specs.PlaceWorld.{PlaceWorld, runs, grown, with_start, with
 use Rattle.cg_places.specs.Refusals.{change_refusal, removal_refusal, refusal}
 use Rattle.cg_places.proofs.PutLemmas.{same_number, test_same, test_other, put_at-each}
 use Rattle.cg_places.proofs.ExchangeLemmas.{sent_last}
-use Rattle.cg_world.specs.World.{Action, Start, Local, Deliver, Beat, Set, Remove, Opening, Tick, WorldValue, acting, act, run, plain, place_world}
+use Rattle.cg_world.specs.World.{Action, Start, Local, Deliver, Beat, Set, Remove, Opening, Tick, WorldValue, acting, act, run, plain_action, place_world}
 use Rattle.cg_world.specs.Terms.{own_at, after_local, own_after}
 use Rattle.cg_world.proofs.ActionLemmas.{own_last}
 use Rattle.cg_world.proofs.WorldLaws.{Joined, joined, actions_one_by_one, refusals_agree}
@@ -88,7 +88,7 @@ left_as_it_is false o = refl
 
 -- ---- each action that is done, by places
 
-action_last : (w : PlaceWorld) (action : Action) → refusal w (plain action) ≡ None → (node : ℕ) → last_entry ((after_action w (plain action)).histories node) ≡ own_after action node (last_entry (w.histories node))
+action_last : (w : PlaceWorld) (action : Action) → refusal w (plain_action action) ≡ None → (node : ℕ) → last_entry ((after_action w (plain_action action)).histories node) ≡ own_after action node (last_entry (w.histories node))
 unfolding after_action
 action_last w (Start other generation) free node =
     let may : may_start w other generation ≡ true = started_by w other generation (may_start w other generation) refl free in
@@ -112,7 +112,7 @@ own_goes_on settings earlier action done node =
     let w : PlaceWorld = place_world earlier in
     let before : Joined c w = joined settings earlier in
     let after : Joined (run settings (earlier ++ action ∷ [])) (place_world (earlier ++ action ∷ [])) = joined settings (earlier ++ action ∷ []) in
-    let free : refusal w (plain action) ≡ None = sym (refusals_agree settings earlier action) ∙ no_fault (acting c action) done in
+    let free : refusal w (plain_action action) ≡ None = sym (refusals_agree settings earlier action) ∙ no_fault (acting c action) done in
     ap (λ (d : WorldValue). own_at d node) (sym (actions_one_by_one settings earlier action))
     ∙ own_last (run settings (earlier ++ action ∷ [])) (place_world (earlier ++ action ∷ [])) after.tied node
     ∙ ap (λ (v : PlaceWorld). last_entry (v.histories node)) (after_done settings earlier action free)

@@ -25,7 +25,7 @@ use Rattle.cg_silence.specs.Windows.{Heard, arrivals}
 use Rattle.cg_core.specs.Step.{Step, then, starting_node, next_of, beating, setting, removing, opening, round_peers, after_taking, node_step}
 use Rattle.cg_world.specs.World.{LocalEvent, Beat, Set, Remove, Opening, Tick, Action, Start, Deliver, WorldValue, new_world, with_node, with_sent, message_of, after_step, generation_held, has_room, event_of, arrival_of, reply_of, reply_to, acting, or_unchanged, act, run_from, step_of, step_at, message_to}
 use Rattle.cg_world.specs.Terms.{Runs}
-use Rattle.cg_world.specs.SingleActions.{node_of, SettingsStay, OneNodeChanges, RepliesAreOfSteps, outcomes_in, NodesHearByDeliveries}
+use Rattle.cg_world.specs.SingleActions.{node_acted_on, SettingsStay, OneNodeChanges, RepliesAreOfSteps, outcomes_in, NodesHearByDeliveries}
 use Rattle.cg_world.proofs.SpellingLemmas.{node_here, node_elsewhere}
 use Rattle.cg_world.proofs.WorldLaws.{LeftBy, AsItWas, MadeAnew, left_by, nodes_spell_places, same_settings}
 
@@ -50,7 +50,7 @@ module _ (c : WorldValue) (node other : ℕ) (apart : other ≢ node) where
   elsewhere_left o d (MadeAnew n is) = ap (λ (d : WorldValue). map.get d.nodes other) is ∙ sent_elsewhere n o
 
 pub one_node_changes : OneNodeChanges
-one_node_changes c action other apart = elsewhere_left c (node_of action) other apart (message_to c action) (act c action) (left_by c action)
+one_node_changes c action other apart = elsewhere_left c (node_acted_on action) other apart (message_to c action) (act c action) (left_by c action)
 
 -- ---- replies
 

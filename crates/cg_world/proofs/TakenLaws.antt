@@ -34,7 +34,7 @@ use Rattle.cg_exchange.specs.Answering.{answer_to_syn}
 use Rattle.cg_places.specs.PlaceWorld.{PlaceWorld, nobody, runs, with_start, with_entry, with_message, with_spans, taken_with, may_start, last_entry, after_change, removable, after_receipt, after_delivery, after_action, after_actions}
 use Rattle.cg_places.specs.PlaceWorld as places
 use Rattle.cg_places.specs.Refusals.{start_refusal, refusal, unless_refused}
-use Rattle.cg_world.specs.World.{LocalEvent, Beat, Set, Remove, Opening, Tick, Action, Start, Local, Deliver, WorldValue, arrival_of, reply_of, step_of, step_at, reply_to, acting, run, plain, place_world}
+use Rattle.cg_world.specs.World.{LocalEvent, Beat, Set, Remove, Opening, Tick, Action, Start, Local, Deliver, WorldValue, arrival_of, reply_of, step_of, step_at, reply_to, acting, run, plain_action, place_world}
 use Rattle.cg_places.specs.Step.{IsSent}
 use Rattle.cg_world.specs.SingleActions.{outcomes_in}
 use Rattle.cg_world.specs.Terms.{deltas_in}
@@ -139,13 +139,13 @@ module _ (c : WorldValue) (w : PlaceWorld) (t : Tied c w) (b : Bounded w) (node 
 -- more actions are done, or not, after all others
 pub all_more : (w : PlaceWorld) (actions more : List Action) → after_actions w (done_by_places w (actions ++ more)) ≡ after_actions (after_actions w (done_by_places w actions)) (done_by_places (after_actions w (done_by_places w actions)) more)
 all_more w [] more = refl
-all_more w (first ∷ actions) more = go (refusal w (plain first)) (λ v. all_more v actions more)
+all_more w (first ∷ actions) more = go (refusal w (plain_action first)) (λ v. all_more v actions more)
   where
     go : (due : Option Fault) → ((v : PlaceWorld) → after_actions v (done_by_places v (actions ++ more)) ≡ after_actions (after_actions v (done_by_places v actions)) (done_by_places (after_actions v (done_by_places v actions)) more))
-        → after_actions w (unless_refused due (plain first) (done_by_places (after_action w (plain first)) (actions ++ more)) (done_by_places w (actions ++ more)))
-        ≡ after_actions (after_actions w (unless_refused due (plain first) (done_by_places (after_action w (plain first)) actions) (done_by_places w actions)))
-        (done_by_places (after_actions w (unless_refused due (plain first) (done_by_places (after_action w (plain first)) actions) (done_by_places w actions))) more)
-    go None rest = rest (after_action w (plain first))
+        → after_actions w (unless_refused due (plain_action first) (done_by_places (after_action w (plain_action first)) (actions ++ more)) (done_by_places w (actions ++ more)))
+        ≡ after_actions (after_actions w (unless_refused due (plain_action first) (done_by_places (after_action w (plain_action first)) actions) (done_by_places w actions)))
+        (done_by_places (after_actions w (unless_refused due (plain_action first) (done_by_places (after_action w (plain_action first)) actions) (done_by_places w actions))) more)
+    go None rest = rest (after_action w (plain_action first))
     go (Some fault) rest = rest w
 
 one_more : (w : PlaceWorld) (actions : List Action) (action : Action)
@@ -164,7 +164,7 @@ unfolding with_message
 opened_takes_nothing w node true = refl
 opened_takes_nothing w node false = refl
 
-pub local_takes_nothing : (w : PlaceWorld) (node : ℕ) (change : LocalEvent) → (after_action w (plain (Local node change))).taken ≡ w.taken
+pub local_takes_nothing : (w : PlaceWorld) (node : ℕ) (change : LocalEvent) → (after_action w (plain_action (Local node change))).taken ≡ w.taken
 unfolding after_action
 local_takes_nothing w node Beat = changed_takes_nothing w node entry_after_beat (last_entry (w.histories node))
 local_takes_nothing w node (Set key text) = changed_takes_nothing w node (with_state key (Some text)) (last_entry (w.histories node))
@@ -198,7 +198,7 @@ delivered_leaves w node None there is other apart = refl
 delivered_leaves w node (Some said) true is other apart = rw is (received_leaves w node said other apart)
 delivered_leaves w node (Some said) false is other apart = rw is refl
 
-pub action_leaves : (w : PlaceWorld) (action : Action) (other : ℕ) → taker action ≢ Some other → (after_action w (plain action)).taken other ≡ w.taken other
+pub action_leaves : (w : PlaceWorld) (action : Action) (other : ℕ) → taker action ≢ Some other → (after_action w (plain_action action)).taken other ≡ w.taken other
 unfolding after_action
 action_leaves w (Start node generation) other apart = start_leaves w node generation other (may_start w node generation) (λ e. apart (ap Some (sym e)))
 action_leaves w (Local node change) other apart = ap (λ (taken : ℕ → ℕ → List Span). taken other) (local_takes_nothing w node change)
@@ -265,10 +265,10 @@ module _ (settings : SettingsValue) (actions : List Action) where
       (both_at d.settings.cluster v.histories d.sent v.sent (joined settings actions).tied.is.messages number) (map.get d.nodes to) refl is
 
   -- the places after a refused action, and after one that is not
-  after_refusal : (action : Action) (fault : Fault) → refusal v (plain action) ≡ Some fault → place_world (actions ++ action ∷ []) ≡ v
+  after_refusal : (action : Action) (fault : Fault) → refusal v (plain_action action) ≡ Some fault → place_world (actions ++ action ∷ []) ≡ v
   after_refusal action fault due = one_more nobody actions action ∙ rw due refl
 
-  pub after_done : (action : Action) → refusal v (plain action) ≡ None → place_world (actions ++ action ∷ []) ≡ after_action v (plain action)
+  pub after_done : (action : Action) → refusal v (plain_action action) ≡ None → place_world (actions ++ action ∷ []) ≡ after_action v (plain_action action)
   after_done action free = one_more nobody actions action ∙ rw free refl
 
   start_told : (node generation owner : ℕ) → IsOk (acting d (Start node generation)) → (place_world (actions ++ Start node generation ∷ [])).taken node owner ≡ []
@@ -279,9 +279,9 @@ module _ (settings : SettingsValue) (actions : List Action) where
       ap (λ (w : PlaceWorld). w.taken node owner) (after_done (Start node generation) free) ∙ rw may (start_forgets v node generation owner)
 
   others_told : (action : Action) (node owner : ℕ) → taker action ≢ Some node → (place_world (actions ++ action ∷ [])).taken node owner ≡ v.taken node owner
-  others_told action node owner apart = go (refusal v (plain action)) refl
+  others_told action node owner apart = go (refusal v (plain_action action)) refl
     where
-      go : (due : Option Fault) → refusal v (plain action) ≡ due → (place_world (actions ++ action ∷ [])).taken node owner ≡ v.taken node owner
+      go : (due : Option Fault) → refusal v (plain_action action) ≡ due → (place_world (actions ++ action ∷ [])).taken node owner ≡ v.taken node owner
       go None free = ap (λ (w : PlaceWorld). w.taken node owner) (after_done action free) ∙ ap (λ (row : ℕ → List Span). row owner) (action_leaves v action node apart)
       go (Some fault) due = ap (λ (w : PlaceWorld). w.taken node owner) (after_refusal action fault due)
 

@@ -8,7 +8,7 @@ use Rattle.cg_places.specs.PlaceMessages.{PlaceMessage}
 use Rattle.cg_core.specs.SettingsValues.{SettingsValue}
 use Rattle.cg_places.specs.PlaceWorld.{PlaceWorld, PlaceAction, nobody, grown, with_start, with_entry, with_message, with_spans, last_entry, after_action, after_actions}
 use Rattle.cg_places.specs.Refusals.{refusal, unless_refused}
-use Rattle.cg_world.specs.World.{Action, WorldValue, new_world, acting, or_unchanged, act, run_from, plain, place_world}
+use Rattle.cg_world.specs.World.{Action, WorldValue, new_world, acting, or_unchanged, act, run_from, plain_action, place_world}
 use Rattle.cg_entry.specs.Place.{Span}
 use Rattle.cg_world.specs.Terms.{own_at, WasOwn}
 use Rattle.cg_world.specs.WorldLaws.{EntriesAreWhole}
@@ -80,17 +80,17 @@ now_own c w j actions owner entry e = record { earlier = []; later = actions; in
 
 -- one action, and those after it
 next_stood : (c : WorldValue) (w : PlaceWorld) (j : Joined c w) (action : Action) (actions : List Action) → ((d : WorldValue) (v : PlaceWorld) → Joined d v → Stood d v actions (after_actions v (done_by_places v actions)))
-    → (left : Result WorldValue Fault) → acting c action ≡ left → AgreesBy (refusal w (plain action)) (after_action w (plain action)) left
-    → Stood c w (action ∷ actions) (after_actions w (unless_refused (refusal w (plain action)) (plain action) (done_by_places (after_action w (plain action)) actions) (done_by_places w actions)))
-next_stood c w j action actions rest (Ok d) is a = rw a.0 (λ owner place entry e. after owner place entry (rest d (after_action w (plain action)) k owner place entry e))
+    → (left : Result WorldValue Fault) → acting c action ≡ left → AgreesBy (refusal w (plain_action action)) (after_action w (plain_action action)) left
+    → Stood c w (action ∷ actions) (after_actions w (unless_refused (refusal w (plain_action action)) (plain_action action) (done_by_places (after_action w (plain_action action)) actions) (done_by_places w actions)))
+next_stood c w j action actions rest (Ok d) is a = rw a.0 (λ owner place entry e. after owner place entry (rest d (after_action w (plain_action action)) k owner place entry e))
   where
-    k : Joined d (after_action w (plain action))
+    k : Joined d (after_action w (plain_action action))
     k = done_joined c w action d j a
 
-    after : (owner place : ℕ) (entry : EntryValue) → (at_place ((after_action w (plain action)).histories owner) place ≡ Some entry) ⊎ WasOwn d actions owner entry → (at_place (w.histories owner) place ≡ Some entry) ⊎ WasOwn c (action ∷ actions) owner entry
-    after owner place entry (inl e) = elim (action_old w (plain action) owner place entry e) [
+    after : (owner place : ℕ) (entry : EntryValue) → (at_place ((after_action w (plain_action action)).histories owner) place ≡ Some entry) ⊎ WasOwn d actions owner entry → (at_place (w.histories owner) place ≡ Some entry) ⊎ WasOwn c (action ∷ actions) owner entry
+    after owner place entry (inl e) = elim (action_old w (plain_action action) owner place entry e) [
       | inl old ↦ inl old
-      | inr last ↦ inr (was_later c d action actions owner entry (ap (or_unchanged c) is) (now_own d (after_action w (plain action)) k actions owner entry last))
+      | inr last ↦ inr (was_later c d action actions owner entry (ap (or_unchanged c) is) (now_own d (after_action w (plain_action action)) k actions owner entry last))
     ]
     after owner place entry (inr was) = inr (was_later c d action actions owner entry (ap (or_unchanged c) is) was)
 next_stood c w j action actions rest (Err fault) is a = rw a (λ owner place entry e. after owner place entry (rest c w j owner place entry e))

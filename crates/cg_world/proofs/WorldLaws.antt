@@ -23,10 +23,10 @@ use Rattle.cg_core.specs.Values.{NodeValue}
 use Rattle.cg_places.specs.PlaceWorld.{PlaceWorld, PlaceAction, nobody, runs, after_action, after_actions}
 use Rattle.cg_places.specs.Refusals.{deliver_refusal, refusal, unless_refused, done_from}
 use Rattle.cg_places.specs.Spelling.{SpellsNode}
-use Rattle.cg_world.specs.World.{Action, Start, Local, Opening, Deliver, WorldValue, with_node, with_sent, message_of, after_step, generation_held, has_room, event_of, reply_of, message_to, acting, or_unchanged, act, run_from, run, new_world, plain, place_world, step_of, step_at}
+use Rattle.cg_world.specs.World.{Action, Start, Local, Opening, Deliver, WorldValue, with_node, with_sent, message_of, after_step, generation_held, has_room, event_of, reply_of, message_to, acting, or_unchanged, act, run_from, run, new_world, plain_action, place_world, step_of, step_at}
 use Rattle.cg_world.specs.Terms.{Runs, AreEqual}
 use Rattle.cg_world.specs.WorldLaws.{AllSent, ActionsOneByOne, MessagesAreNumbered, IsBeatAndOpening, TicksAreBeatsAndOpenings, NodesSpellPlaces, RefusalsAgree, DeliveriesFindRoom, DeliveriesAreDone, ReachedWorlds, TablesAreTheJoin, EqualSetsGiveEqualTables, EqualDigestsGiveEqualTables, MergesOfNodesAreTheJoin}
-use Rattle.cg_world.specs.SingleActions.{node_of}
+use Rattle.cg_world.specs.SingleActions.{node_acted_on}
 use Rattle.cg_places.proofs.PlaceLaws.{world_is}
 use Rattle.cg_places.proofs.WorldLemmas.{action_sound}
 use Rattle.cg_places.proofs.OwnerLemmas.{action_knows}
@@ -39,7 +39,7 @@ use Rattle.cg_world.proofs.ActionLemmas.{AgreesBy, running, action_agrees}
 
 -- the actions that are done of these
 abbrev pub done_by_places : PlaceWorld → List Action → List PlaceAction
-done_by_places w actions = done_from w (map_list plain actions)
+done_by_places w actions = done_from w (map_list plain_action actions)
 
 -- both are tied, and the places within bounds
 pub record Joined (c : WorldValue) (w : PlaceWorld) : Type 0 where
@@ -47,20 +47,20 @@ pub record Joined (c : WorldValue) (w : PlaceWorld) : Type 0 where
   pub bounded : Bounded w
 
 -- an action that is done
-pub done_joined : (c : WorldValue) (w : PlaceWorld) (action : Action) (d : WorldValue) → Joined c w → AgreesBy (refusal w (plain action)) (after_action w (plain action)) (Ok d) → Joined d (after_action w (plain action))
+pub done_joined : (c : WorldValue) (w : PlaceWorld) (action : Action) (d : WorldValue) → Joined c w → AgreesBy (refusal w (plain_action action)) (after_action w (plain_action action)) (Ok d) → Joined d (after_action w (plain_action action))
 done_joined c w action d j a =
-    let sound = action_sound w (plain action) j.tied.sound in
-    let knows = action_knows w (plain action) j.bounded.knows in
+    let sound = action_sound w (plain_action action) j.tied.sound in
+    let knows = action_knows w (plain_action action) j.bounded.knows in
     record {
-      tied = record { sound = sound; is_world = world_is (after_action w (plain action)) sound knows; is = a.1 };
-      bounded = record { knows = knows; limits = action_limited w (plain action) a.0 j.bounded.limits };
+      tied = record { sound = sound; is_world = world_is (after_action w (plain_action action)) sound knows; is = a.1 };
+      bounded = record { knows = knows; limits = action_limited w (plain_action action) a.0 j.bounded.limits };
     }
 
 -- one action, and those after it
 next_joined : (c : WorldValue) (w : PlaceWorld) (j : Joined c w) (action : Action) (actions : List Action) → ((d : WorldValue) (v : PlaceWorld) → Joined d v → Joined (run_from d actions) (after_actions v (done_by_places v actions)))
-    → (left : Result WorldValue Fault) → AgreesBy (refusal w (plain action)) (after_action w (plain action)) left
-    → Joined (run_from (or_unchanged c left) actions) (after_actions w (unless_refused (refusal w (plain action)) (plain action) (done_by_places (after_action w (plain action)) actions) (done_by_places w actions)))
-next_joined c w j action actions rest (Ok d) a = rw a.0 (rest d (after_action w (plain action)) (done_joined c w action d j a))
+    → (left : Result WorldValue Fault) → AgreesBy (refusal w (plain_action action)) (after_action w (plain_action action)) left
+    → Joined (run_from (or_unchanged c left) actions) (after_actions w (unless_refused (refusal w (plain_action action)) (plain_action action) (done_by_places (after_action w (plain_action action)) actions) (done_by_places w actions)))
+next_joined c w j action actions rest (Ok d) a = rw a.0 (rest d (after_action w (plain_action action)) (done_joined c w action d j a))
 next_joined c w j action actions rest (Err fault) a = rw a (rest c w j)
 
 pub joined_from : (c : WorldValue) (w : PlaceWorld) (actions : List Action) → Joined c w → Joined (run_from c actions) (after_actions w (done_by_places w actions))
@@ -119,7 +119,7 @@ started_leaves c node generation true true = MadeAnew (starting_node node genera
 started_leaves c node generation true false = AsItWas refl refl
 started_leaves c node generation false room = AsItWas refl refl
 
-pub left_by : (c : WorldValue) (action : Action) → LeftBy c (node_of action) (message_to c action) (act c action)
+pub left_by : (c : WorldValue) (action : Action) → LeftBy c (node_acted_on action) (message_to c action) (act c action)
 left_by c (Start node generation) = started_leaves c node generation (nat_lt (generation_held (map.get c.nodes node)) generation) (has_room c node)
 left_by c (Local node change) = stepped_leaves c node (step_of (map.get c.nodes node) (event_of change))
 left_by c (Deliver number to now) = stepped_leaves c to (step_at c to now (at_place c.sent number))
@@ -129,7 +129,7 @@ sent_left c node o d (AsItWas same none) = ap (λ (d : WorldValue). d.sent) same
 sent_left c node o d (MadeAnew n is) = ap (λ (d : WorldValue). d.sent) is ∙ sent_by c node n o
 
 all_sent : (c : WorldValue) (action : Action) → (act c action).sent ≡ c.sent ++ option_to_list (message_to c action)
-all_sent c action = sent_left c (node_of action) (message_to c action) (act c action) (left_by c action)
+all_sent c action = sent_left c (node_acted_on action) (message_to c action) (act c action) (left_by c action)
 
 -- the message that is added is at the number after the last one
 last_number : (ms : List Message) (o : Option Message) → option_and_then (at_place (ms ++ option_to_list o)) (option_map (λ m. length ms + 1) o) ≡ o
@@ -172,7 +172,7 @@ same_refusal due v (Err fault) a = sym a
 pub refusals_agree : RefusalsAgree
 refusals_agree settings actions action =
     let j : Joined (run settings actions) (place_world actions) = joined settings actions in
-    same_refusal (refusal (place_world actions) (plain action)) (after_action (place_world actions) (plain action)) (acting (run settings actions) action) (action_agrees (run settings actions) (place_world actions) j.tied j.bounded action)
+    same_refusal (refusal (place_world actions) (plain_action action)) (after_action (place_world actions) (plain_action action)) (acting (run settings actions) action) (action_agrees (run settings actions) (place_world actions) j.tied j.bounded action)
 
 runs_or_not : (b : Bool) (fault : Fault) → cond b None (Some NoSuchNode) ≡ Some fault → fault ≡ NoSuchNode
 runs_or_not true fault e = absurd cc
@@ -216,7 +216,7 @@ settings_left c node o d (AsItWas same none) = ap (λ (d : WorldValue). d.settin
 settings_left c node o d (MadeAnew n is) = ap (λ (d : WorldValue). d.settings) is ∙ sent_settings c node n o
 
 pub same_settings : (c : WorldValue) (action : Action) → (act c action).settings ≡ c.settings
-same_settings c action = settings_left c (node_of action) (message_to c action) (act c action) (left_by c action)
+same_settings c action = settings_left c (node_acted_on action) (message_to c action) (act c action) (left_by c action)
 
 pub reached_worlds : ReachedWorlds
 reached_worlds = record {

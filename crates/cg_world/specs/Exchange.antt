@@ -12,7 +12,7 @@ use Rattle.cg_places.specs.Exchange.{ExchangeOf, WorldKind, OfBothNodes, PlaceEx
 use Rattle.cg_world.specs.declared.action.Action.{Action}
 use Rattle.cg_world.specs.declared.action.Action.TheVariants.{Local, Deliver}
 use Rattle.cg_world.specs.declared.action.LocalEvent.TheVariants.{Beat, Opening, Tick}
-use Rattle.cg_world.specs.World.{WorldValue, acting, act, run_from, run, plain, starts}
+use Rattle.cg_world.specs.World.{WorldValue, acting, act, run_from, run, plain_action, starts}
 use Rattle.cg_world.specs.Terms.{Runs, AreEqual}
 
 -- the worlds of nodes that run; a delivery has a time in milliseconds
@@ -49,11 +49,11 @@ abbrev pub plain_exchange : Exchange → PlaceExchange
 plain_exchange x = record {
   opener = x.opener;
   answerer = x.answerer;
-  before_syn = map_list plain x.before_syn;
+  before_syn = map_list plain_action x.before_syn;
   syn_at = tt;
-  before_ack = map_list plain x.before_ack;
+  before_ack = map_list plain_action x.before_ack;
   ack_at = tt;
-  before_ack2 = map_list plain x.before_ack2;
+  before_ack2 = map_list plain_action x.before_ack2;
   ack2_at = tt;
 }
 

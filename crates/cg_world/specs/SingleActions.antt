@@ -25,15 +25,15 @@ SettingsStay =
     → Runs (run settings actions) node n → n.settings ≡ settings
 
 -- the node that an action is about
-abbrev pub node_of : Action → ℕ
-node_of (Start node generation) = node
-node_of (Local node change) = node
-node_of (Deliver number to now) = to
+abbrev pub node_acted_on : Action → ℕ
+node_acted_on (Start node generation) = node
+node_acted_on (Local node change) = node
+node_acted_on (Deliver number to now) = to
 
 -- An action changes no other node.
 abbrev pub OneNodeChanges : Type 0
 OneNodeChanges =
-    (c : WorldValue) (action : Action) (other : ℕ) → other ≢ node_of action
+    (c : WorldValue) (action : Action) (other : ℕ) → other ≢ node_acted_on action
     → map.get (act c action).nodes other ≡ map.get c.nodes other
 
 -- ---- replies

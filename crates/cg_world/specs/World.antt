@@ -161,11 +161,11 @@ plain_local node Opening = places.Opening node
 plain_local node (Tick now words) = places.Tick node
 
 -- the action without its time and words
-abbrev pub plain : Action → PlaceAction
-plain (Start node generation) = places.Start node generation
-plain (Local node change) = plain_local node change
-plain (Deliver number to now) = places.Deliver number to
+abbrev pub plain_action : Action → PlaceAction
+plain_action (Start node generation) = places.Start node generation
+plain_action (Local node change) = plain_local node change
+plain_action (Deliver number to now) = places.Deliver number to
 
 -- the world of places after actions, of which the refused ones are left out
 abbrev pub place_world : List Action → PlaceWorld
-place_world actions = world_after (done_from nobody (map_list plain actions))
+place_world actions = world_after (done_from nobody (map_list plain_action actions))

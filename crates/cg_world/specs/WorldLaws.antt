@@ -21,7 +21,7 @@ use Rattle.cg_places.specs.Join.{sources, SamePlaces}
 use Rattle.cg_places.specs.Refusals.{refusal}
 use Rattle.cg_places.specs.Spelling.{SpellsNodes}
 use Rattle.cg_places.specs.TableLaws.{IsJoined, IsMergedOf}
-use Rattle.cg_world.specs.World.{Action, Local, Beat, Opening, Tick, Deliver, WorldValue, new_world, tables_of, message_to, number_to, acting, act, run, plain, place_world}
+use Rattle.cg_world.specs.World.{Action, Local, Beat, Opening, Tick, Deliver, WorldValue, new_world, tables_of, message_to, number_to, acting, act, run, plain_action, place_world}
 use Rattle.cg_world.specs.Terms.{Runs, WasOwn, AreEqual}
 
 -- One more action is done after all others.
@@ -31,14 +31,14 @@ ActionsOneByOne =
     → run settings (actions ++ action ∷ []) ≡ act (run settings actions) action
 
 -- The message that an action sends, and its number.
-pub record IsNumbered (c : WorldValue) (action : Action) : Type 0 where
+pub record SendsAtNumber (c : WorldValue) (action : Action) : Type 0 where
   -- the message that the action sends, if any, is added at the end, and nothing else is
   pub sent : (act c action).sent ≡ c.sent ++ option_to_list (message_to c action)
   -- it is at its number
   pub numbered : option_and_then (at_place (act c action).sent) (number_to c action) ≡ message_to c action
 
 abbrev pub MessagesAreNumbered : Type 0
-MessagesAreNumbered = (c : WorldValue) (action : Action) → IsNumbered c action
+MessagesAreNumbered = (c : WorldValue) (action : Action) → SendsAtNumber c action
 
 -- The results of a beat and of a tick in one world: the tick is refused if the beat is, by the same fault; if the beat
 -- is done, the tick is the opening after the beat.
@@ -93,7 +93,7 @@ NodesSpellPlaces =
 abbrev pub RefusalsAgree : Type 0
 RefusalsAgree =
     (settings : SettingsValue) (actions : List Action) (action : Action)
-    → fault_of (acting (run settings actions) action) ≡ refusal (place_world actions) (plain action)
+    → fault_of (acting (run settings actions) action) ≡ refusal (place_world actions) (plain_action action)
 
 -- A delivery is refused only if there is no such message or no such node, and never for want of room or for another
 -- cluster.

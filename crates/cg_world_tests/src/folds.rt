@@ -96,7 +96,7 @@ fn receipt(alloc: Global, number: u64) -> Result<Receipt, Fail> {
 }
 
 // The place and the number of the fault of the first of these receipts that is not confirmed after a fold of two.
-fn stray(alloc: Global, numbers: &[u64]) -> Result<Option<(usize, u8)>, Fail> {
+fn unconfirmed(alloc: Global, numbers: &[u64]) -> Result<Option<(usize, u8)>, Fail> {
     let mut receipts = Vec::new(alloc);
     for number in numbers {
         receipts.push(receipt(alloc, *number)?)?;
@@ -104,11 +104,11 @@ fn stray(alloc: Global, numbers: &[u64]) -> Result<Option<(usize, u8)>, Fail> {
     let history = folded(alloc, &[2])?;
     match history.confirms(&receipts) {
         Ok(()) => Ok(None),
-        Err(stray) => Ok(Some((stray.place, stray.fault.number()))),
+        Err(unconfirmed) => Ok(Some((unconfirmed.place, unconfirmed.fault.number()))),
     }
 }
 
-const STRAYS: [(&[u64], Option<(usize, u8)>); 7] = [
+const UNCONFIRMED: [(&[u64], Option<(usize, u8)>); 7] = [
     (&[3], None),
     // folded: 18
     (&[1], Some((0, 18))),
@@ -122,9 +122,9 @@ const STRAYS: [(&[u64], Option<(usize, u8)>); 7] = [
 
 #[test]
 fn folded_receipts_are_told_from_strangers(rt: HostRuntime) -> Result<(), Fail> {
-    for (place, (numbers, due)) in STRAYS.into_iter().enumerate() {
-        let stray = stray(rt.alloc(), numbers)?;
-        expect_eq!(stray, due, "row {place}")?;
+    for (place, (numbers, due)) in UNCONFIRMED.into_iter().enumerate() {
+        let unconfirmed = unconfirmed(rt.alloc(), numbers)?;
+        expect_eq!(unconfirmed, due, "row {place}")?;
     }
     Ok(())
 }

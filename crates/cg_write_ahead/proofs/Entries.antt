@@ -13,7 +13,7 @@ use Rattle.cg_history.specs.Items.{puts_of}
 use Rattle.cg_history.specs.History.{HistoryValue, IsFoldOf, IsReplayed, Replays, apply, count_of, unfolded}
 use Rattle.cg_history.proofs.Folding.{all_counted}
 use Rattle.cg_locked.specs.Seat.{SeatState}
-use Rattle.cg_locked.specs.Entry.{IsEntry}
+use Rattle.cg_locked.specs.Entry.{IsEntered}
 use Rattle.cg_locked.proofs.Folding.{whole_replayed}
 use Rattle.cg_locked.proofs.Showing.{entry_done, entry_refused}
 
@@ -26,14 +26,14 @@ module _ (start : NodeValue) (seat : SeatState) (e : Event) (seen : List Item) (
   -- it was entered, or refused
   pub entry_untold : (P R : Type 0) (result : Result Receipt Fault)
       → Answers (λ q. (unfolded more after, q)) (apply (unfolded all h) seat.caller e) result → OnErr result (P × (more ≡ all) × R)
-      → MatchResult result (λ q. IsEntry start seat e seen (Ok (q, None))) (λ f. IsEntry start seat e seen (Err f))
+      → MatchResult result (λ q. IsEntered start seat e seen (Ok (q, None))) (λ f. IsEntered start seat e seen (Err f))
   entry_untold P R (Ok q) due same =
       entry_done start seat e seen (unfolded all h) refl starts (whole_replayed all h fold start starts led replayed) begins long_enough (unfolded more after) q None due sees tt
   entry_untold P R (Err f) due same =
       entry_refused start seat e seen (unfolded all h) refl starts (whole_replayed all h fold start starts led replayed) begins long_enough f due (sees ∙ same.1)
 
 -- the same entry, with the puts that were published behind it
-pub entry_told : (start : NodeValue) (seat : SeatState) (e : Event) (seen : List Item) (q : Receipt) → IsEntry start seat e seen (Ok (q, None)) → (t : List Put) → t ≡ puts_of seen → IsEntry start seat e seen (Ok (q, Some t))
+pub entry_told : (start : NodeValue) (seat : SeatState) (e : Event) (seen : List Item) (q : Receipt) → IsEntered start seat e seen (Ok (q, None)) → (t : List Put) → t ≡ puts_of seen → IsEntered start seat e seen (Ok (q, Some t))
 entry_told start seat e seen q entry t is = record {
   before = entry.before;
   after = entry.after;

@@ -1,7 +1,7 @@
 //! An event that is entered at a board, and not yet told to anybody.
 
 ghost use Rattle.std.specs.Prelude.{◌≡◌, ◌+◌, Ok, Err, None, IfOk, OnOk, OnErr, MatchResult};
-ghost use Rattle.cg_locked.specs.Entry.{IsEntry};
+ghost use Rattle.cg_locked.specs.Entry.{IsEntered};
 ghost use Rattle.cg_write_ahead.specs.Submitting.{IsOneMore};
 
 use cg_core::Event;
@@ -17,8 +17,8 @@ pub(crate) fn entered<N: Name>(
     seat: &mut Seat<N>,
     event: Event,
 ) -> Result<Receipt, Fault>
-    ensures entry { MatchResult result (λ q. IsEntry N.start seat.old event seat.new.seen (Ok (q, None)))
-        (λ f. IsEntry N.start seat.old event seat.new.seen (Err f)) }
+    ensures entry { MatchResult result (λ q. IsEntered N.start seat.old event seat.new.seen (Ok (q, None)))
+        (λ f. IsEntered N.start seat.old event seat.new.seen (Err f)) }
     ensures log { IfOk result (λ q. IsOneMore event q.reply board.old.log board.new.log) }
     ensures records { IfOk result (λ q. IsOneMore event q.reply board.old.history.records board.new.history.records) }
     ensures seen { seat.new.seen ≡ board.new.log }

@@ -10,7 +10,7 @@ ghost use Rattle.cg_links.specs.Counted.{link_of, IsFlushed};
 ghost use Rattle.cg_views.specs.Lists.{opened_with};
 ghost use Rattle.cg_history.specs.Items.{puts_of};
 ghost use Rattle.cg_journal.specs.Text.{event_line};
-ghost use Rattle.cg_locked.specs.Entry.{IsEntry, ShowsChange};
+ghost use Rattle.cg_locked.specs.Entry.{IsEntered, ShowsChange};
 ghost use Rattle.cg_locked.specs.Shared.{callers_up_to};
 ghost use Rattle.cg_locked.specs.declared.limits.TheConstants.{SEAT_LIMIT};
 ghost use Rattle.cg_write_ahead.specs.Text.{AlwaysTells, HoldsText, HoldsText-prop};
@@ -167,8 +167,8 @@ impl<N: Name, W: Write + Drop> Journaled<N, W> {
     ) -> Result<Receipt, Fault>
         requires whole { self.old.torn ≡ false }
         requires line { line.now ≡ event_line event }
-        ensures entry { MatchResult result (λ q. IsEntry N.start seat.old event seat.new.seen (Ok (q, None)))
-            (λ f. (f ≡ faults.WriteFault) ⊎ IsEntry N.start seat.old event seat.new.seen (Err f)) }
+        ensures entry { MatchResult result (λ q. IsEntered N.start seat.old event seat.new.seen (Ok (q, None)))
+            (λ f. (f ≡ faults.WriteFault) ⊎ IsEntered N.start seat.old event seat.new.seen (Err f)) }
         ensures whole { OnOk result (self.new.torn ≡ false) }
         ensures seen { seat.new.seen ≡ self.new.board.log }
         ensures amount { OnOk result (seat.new.amount ≡ seat.old.amount + 1) }

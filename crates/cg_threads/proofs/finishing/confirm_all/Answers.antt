@@ -1,8 +1,8 @@
 use Rattle.std.proofs.Common.{ap, ◌∙◌}
 use Rattle.std.proofs.lemmas.Result.{err_from_is_err_and}
 use Rattle.cg_history.specs.History.{HistoryValue, count_of}
-use Rattle.cg_locked.specs.Shared.{stray_of}
-use Rattle.cg_threads.proofs.Workers.{stray_of_receiver}
+use Rattle.cg_locked.specs.Shared.{unconfirmed_receipt}
+use Rattle.cg_threads.proofs.Workers.{unconfirmed_of_receiver}
 use Rattle.cg_threads.proofs.Confirmed.{as_many, after_receiver, after_sender, after_ticker}
 use Rattle.cg_threads.proofs.finishing.confirm_all.Goals as goal
 
@@ -10,7 +10,7 @@ pub returns-in_err-history-clause-confirmed : goal.returns-in_err-history-clause
 returns-in_err-history-clause-confirmed g c =
     let p = err_from_is_err_and c.from_residual.result c.from_residual.ensures.1 in
     let u = c.in_err-history.field-0.0 in
-    rw (p.1, p.2) (stray_of_receiver c.args.receiver.now c.args.sender.now c.args.ticker.now c.args.operator.now c.requires.receipts u.history.folded u.history.records (stray_of u) c.in_err-history.ensures.confirmed)
+    rw (p.1, p.2) (unconfirmed_of_receiver c.args.receiver.now c.args.sender.now c.args.ticker.now c.args.operator.now c.requires.receipts u.history.folded u.history.records (unconfirmed_receipt u) c.in_err-history.ensures.confirmed)
 
 pub returns-in_err-history-2-clause-confirmed : goal.returns-in_err-history-2-clause-confirmed
 returns-in_err-history-2-clause-confirmed g c =

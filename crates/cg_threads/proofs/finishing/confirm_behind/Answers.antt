@@ -11,4 +11,4 @@ pub returns-in-Err-clause-history : goal.returns-in-Err-clause-history
 returns-in-Err-clause-history c = refl
 
 pub returns-in-Err-clause-confirmed : goal.returns-in-Err-clause-confirmed
-returns-in-Err-clause-confirmed c = (c.in-Err.stray.place, refl, c.in-Err.ensures)
+returns-in-Err-clause-confirmed c = (c.in-Err.unconfirmed.place, refl, c.in-Err.ensures)

@@ -14,7 +14,7 @@ returns-in-Ok-clause-answered g c = (
     text_is = out_of_memory_line;
     status_is = refl;
   })),
-  c.written-in-Err-text_due.ensures,
+  c.written-in-Err-expected_text.ensures,
 )
 
 pub returns-in-ReadFault-clause-answered : goal.returns-in-ReadFault-clause-answered

@@ -15,11 +15,11 @@ returns g c =
     let o = rw (c.start-operator.ensures.promise, operates.0, operates.1) at c.ended-3.ensures in
     record {
       receiver = elim c.if-begins.branch [
-        | then-begins w ↦ rw (sym w.receiver-is) at w.receive-receiver.ensures.left
+        | then-begins w ↦ rw (sym w.receiver-is) at w.run_receiver-receiver.ensures.left
         | else-begins w ↦ left_unused is_received c.captures.first.caller c.captures.first.parts c.if-begins.receiver (w.receiver-is ∙ w.unused-receiver.ensures)
       ];
       received = λ began. elim c.if-begins.branch [
-        | then-begins w ↦ rw (sym w.receiver-is) at w.receive-receiver.ensures.work
+        | then-begins w ↦ rw (sym w.receiver-is) at w.run_receiver-receiver.ensures.work
         | else-begins w ↦ absurd (no_false (sym (ap (λ (l : LeftValue). l.began) (w.receiver-is ∙ w.unused-receiver.ensures)) ∙ began))
       ];
       sender = s.0;

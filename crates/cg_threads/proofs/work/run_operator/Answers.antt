@@ -1,4 +1,4 @@
-use Rattle.cg_threads.proofs.work.operate.Goals as goal
+use Rattle.cg_threads.proofs.work.run_operator.Goals as goal
 
 pub returns-clause-work : goal.returns-clause-work
 returns-clause-work g c began =

@@ -3,7 +3,7 @@ use Rattle.cg_locked.specs.Seats.{SeatValue, Enters, Refuses}
 use Rattle.cg_workers.specs.Workers.{Received}
 use Rattle.cg_threads.specs.Left.{is_received}
 use Rattle.cg_threads.proofs.Gates.{More, left_more, received_more}
-use Rattle.cg_threads.proofs.work.receive.Goals as goal
+use Rattle.cg_threads.proofs.work.run_receiver.Goals as goal
 
 pub returns-clause-left : goal.returns-clause-left
 returns-clause-left g c =

@@ -1,7 +1,7 @@
 //! The expected kind of message.
 
 ghost use Rattle.std.specs.Prelude.{◌≡◌};
-ghost use Rattle.cg_engine.specs.Due as spec;
+ghost use Rattle.cg_engine.specs.Expected as spec;
 
 use cg_messages::{Ack, Ack2, Message, Syn};
 use cg_types::{Cause, Fault};
@@ -14,8 +14,8 @@ pub const UNEXPECTED: Fault = Fault::BadFrame {
 };
 
 /// Returns the SYN of a message; the fault `UNEXPECTED` if it is of another kind.
-pub fn syn_due(message: Message) -> Result<Syn, Fault>
-    ensures { result ≡ spec.syn_due message }
+pub fn expected_syn(message: Message) -> Result<Syn, Fault>
+    ensures { result ≡ spec.expected_syn message }
 {
     match message {
         Message::Syn(syn) => Ok(syn),
@@ -24,8 +24,8 @@ pub fn syn_due(message: Message) -> Result<Syn, Fault>
 }
 
 /// Returns the ACK of a message; the fault `UNEXPECTED` if it is of another kind.
-pub fn ack_due(message: Message) -> Result<Ack, Fault>
-    ensures { result ≡ spec.ack_due message }
+pub fn expected_ack(message: Message) -> Result<Ack, Fault>
+    ensures { result ≡ spec.expected_ack message }
 {
     match message {
         Message::Ack(ack) => Ok(ack),
@@ -34,8 +34,8 @@ pub fn ack_due(message: Message) -> Result<Ack, Fault>
 }
 
 /// Returns the ACK2 of a message; the fault `UNEXPECTED` if it is of another kind.
-pub fn ack2_due(message: Message) -> Result<Ack2, Fault>
-    ensures { result ≡ spec.ack2_due message }
+pub fn expected_ack2(message: Message) -> Result<Ack2, Fault>
+    ensures { result ≡ spec.expected_ack2 message }
 {
     match message {
         Message::Ack2(ack2) => Ok(ack2),

@@ -4,7 +4,7 @@ use Rattle.cg_workers.specs.Ends.{put_by}
 use Rattle.cg_locked.specs.Seats.{SeatValue}
 use Rattle.cg_threads.specs.Left.{AreRoundsOf, is_tick}
 use Rattle.cg_threads.proofs.Gates.{More, left_more, ticked_first, ticked_more}
-use Rattle.cg_threads.proofs.work.tick.Goals as goal
+use Rattle.cg_threads.proofs.work.run_ticker.Goals as goal
 
 pub returns-clause-left : goal.returns-clause-left
 returns-clause-left g c =

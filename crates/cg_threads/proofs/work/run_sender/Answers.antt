@@ -2,7 +2,7 @@ use Rattle.std.proofs.Common.{subst}
 use Rattle.cg_locked.specs.Seats.{SeatValue}
 use Rattle.cg_threads.specs.Left.{is_ack}
 use Rattle.cg_threads.proofs.Gates.{More, left_more, sent_more, sent_all}
-use Rattle.cg_threads.proofs.work.send.Goals as goal
+use Rattle.cg_threads.proofs.work.run_sender.Goals as goal
 
 pub returns-clause-left : goal.returns-clause-left
 returns-clause-left g c =

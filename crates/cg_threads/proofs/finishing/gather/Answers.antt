@@ -1,7 +1,7 @@
 use Rattle.std.proofs.Common.{refl, ◌∙◌}
 use Rattle.cg_threads.specs.Workers.{work_of}
-use Rattle.cg_threads.proofs.Running.{is_run, is_unconfirmed, strays_in}
-use Rattle.cg_threads.proofs.finishing.finish.Goals as goal
+use Rattle.cg_threads.proofs.Running.{is_run, is_unconfirmed, unconfirmed_in}
+use Rattle.cg_threads.proofs.finishing.gather.Goals as goal
 
 pub returns-in-Ok-clause-ran : goal.returns-in-Ok-clause-ran
 returns-in-Ok-clause-ran g c =
@@ -31,10 +31,10 @@ returns-in-Err-clause-not g c =
     is_unconfirmed g.N.Name.start (work_of c.args.work) c.requires.receipts c.in-Err.left c.in-Err.ensures.whole c.in-Err.ensures.start c.show-in-Err.ensures
     (rw (a, b, d, e) at c.in-Err.ensures.count) (rw (a, b, d, e) at c.in-Err.ensures.confirmed)
 
-pub returns-in-Err-clause-stray : goal.returns-in-Err-clause-stray
-returns-in-Err-clause-stray g c =
+pub returns-in-Err-clause-unconfirmed : goal.returns-in-Err-clause-unconfirmed
+returns-in-Err-clause-unconfirmed g c =
     let a = c.deref.ensures.value ∙ c.into_parts-seat.ensures.receipts in
     let b = c.deref-2.ensures.value ∙ c.into_parts-seat-2.ensures.receipts in
     let d = c.deref-3.ensures.value ∙ c.into_parts-seat-3.ensures.receipts in
     let e = c.deref-4.ensures.value ∙ c.into_parts-seat-4.ensures.receipts in
-    strays_in g.N.Name.start (work_of c.args.work) c.requires.receipts c.in-Err.left c.in-Err.ensures.whole (rw (a, b, d, e) at c.in-Err.ensures.count) (rw (a, b, d, e) at c.in-Err.ensures.confirmed)
+    unconfirmed_in g.N.Name.start (work_of c.args.work) c.requires.receipts c.in-Err.left c.in-Err.ensures.whole (rw (a, b, d, e) at c.in-Err.ensures.count) (rw (a, b, d, e) at c.in-Err.ensures.confirmed)
