@@ -21,7 +21,10 @@ fn main(rt: HostRuntime) -> ExitCode {
         "cg audit a.journal b_without_syn.journal",
         "cg audit b6.journal b.journal",
         "cg audit a.journal cut.journal",
+        "cg audit --cut a.journal cut.journal",
+        "cg audit --cut torn_a.journal torn_b.journal torn_c.journal",
         "cg audit a.journal missing.journal",
+        "cg audit --cut a.journal missing.journal",
         "cg audit a.journal b.journal",
         "cg sim",
     ];

@@ -13,8 +13,8 @@ fn words_in(alloc: Global, line: &str) -> Result<Vec<&str>, AllocError> {
     line.split(' ').collect(alloc)
 }
 
-// Tests whether a line names this job, and as its files, in their order, the words after the first, of which there are
-// `files`.
+// Tests whether a line names this job, without the flag of cut journals, and as its files, in their order, the words after
+// the first, of which there are `files`.
 fn names(
     alloc: Global,
     line: &str,
@@ -26,7 +26,7 @@ fn names(
         return Ok(false);
     };
     let is_right = job.files.len() == files && words.as_slice().ends_with(job.files.as_slice());
-    Ok(is_right && job.subcommand == subcommand)
+    Ok(is_right && job.subcommand == subcommand && !job.is_cut)
 }
 
 #[test]
@@ -41,6 +41,26 @@ fn words_name_jobs(rt: HostRuntime) -> Result<(), Fail> {
         ("serve a.toml", Subcommand::Serve, 1),
     ] {
         expect!(names(rt.alloc(), line, subcommand, files)?, "{line}")?;
+    }
+    Ok(())
+}
+
+#[test]
+fn a_flag_names_cut_journals(rt: HostRuntime) -> Result<(), Fail> {
+    for (line, files) in [
+        ("audit --cut a", "a"),
+        ("audit a --cut", "a"),
+        ("audit b.journal --cut a.journal", "b.journal a.journal"),
+    ] {
+        let words = words_in(rt.alloc(), line)?;
+        let Ok(job) = job_of(rt.alloc(), &words) else {
+            return Err("no job".into());
+        };
+        let due = words_in(rt.alloc(), files)?;
+        expect!(
+            job.is_cut && job.files.as_slice() == due.as_slice(),
+            "{line}"
+        )?;
     }
     Ok(())
 }
@@ -72,6 +92,9 @@ fn other_words_are_faults_or_ask_for_texts(rt: HostRuntime) -> Result<(), Fail> 
         ("serve", 2, "error: ", ""),
         ("serve f g", 2, "error: ", ""),
         ("audit", 2, "error: ", ""),
+        ("audit --cut", 2, "error: ", ""),
+        ("audit --cut --cut a", 2, "error: ", ""),
+        ("serve --cut f", 2, "error: ", ""),
         ("--nothing", 2, "error: ", ""),
         ("--version", 0, "", "cg 0.1.0"),
         ("--help", 0, "", "Play a script"),
@@ -85,6 +108,7 @@ fn other_words_are_faults_or_ask_for_texts(rt: HostRuntime) -> Result<(), Fail> 
         ("serve --help", 0, "", "remove KEY"),
         ("--help", 0, "", "one run of the gossip"),
         ("audit --help", 0, "", "stuck EP GENERATION ITEM"),
+        ("audit --help", 0, "", "--cut"),
     ] {
         expect!(
             is_told(rt.alloc(), line, status, start, part)?,

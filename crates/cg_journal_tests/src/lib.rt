@@ -1,10 +1,12 @@
-//! Histories and their journals: records, receipts, folded records, unreadable lines, failing links, and audits.
+//! Histories and their journals: records, receipts, folded records, unreadable lines, failing links, cuts, and audits.
 //!
 //! The vectors (docs/VECTORS.md) have the audits of journals.
 #![tactic(auto)]
 
 #[cfg(test)]
 mod audited;
+#[cfg(test)]
+mod cuts;
 #[cfg(test)]
 mod folded;
 #[cfg(test)]

@@ -1,11 +1,13 @@
 -- Matches that clap finds for a command whose shape is known.
-use Rattle.std.proofs.Common.{◌≡◌, List, [], Option, true, refl, sym, ap, ◌∙◌, codes, option_map, unwrap_or}
-use Rattle.clap.specs.Words.{App, HasMatchesOf, Text, fault_of, is_simple, is_simple_and_free, subcommand_of, subcommand_rows_of, takes, matched_of, raw_values, rows_of}
+use Rattle.std.proofs.Common.{◌≡◌, List, [], Option, true, false, refl, sym, ap, ◌∙◌, codes, option_map, unwrap_or}
+use Rattle.std.specs.Prelude.{bytes_eq}
+use Rattle.std.specs.Option.{option_map_or}
+use Rattle.clap.specs.Words.{App, HasMatchesOf, Text, fault_of, is_simple, is_simple_and_free, subcommand_of, subcommand_rows_of, takes, first_value, matched_of, raw_values, rows_of}
 use Rattle.clap.proofs.OnLiterals.{clap_on_literals}
 use Rattle.clap.specs.declared.parser.matches.ArgMatches.{ArgMatches}
 use Rattle.clap.specs.declared.parser.matches.Found.{Found}
-use Rattle.clap.proofs.WalkLemmas.{raw_values-rows}
-use Rattle.cg_tool.specs.Job.{program, subcommand_in, are_taken, faults_of, files_in}
+use Rattle.clap.proofs.WalkLemmas.{first_value-rows, raw_values-rows}
+use Rattle.cg_tool.specs.Job.{program, subcommand_in, are_taken, faults_of, files_in, is_cut_in}
 
 pub program_is_simple : is_simple program ≡ true
 unfolding program clap_on_literals
@@ -32,3 +34,6 @@ free_by a e = ap is_simple_and_free e ∙ program_is_free
 
 pub files_from : (f : Found) (r : Option (List Text)) → r ≡ option_map raw_values (matched_of f (codes "file")) → files_in (rows_of f) ≡ unwrap_or r []
 files_from f r e = ap (λ (o : Option (List Text)). unwrap_or o []) (sym (raw_values-rows f (codes "file")) ∙ sym e)
+
+pub cut_from : (f : Found) (r : Option Text) → r ≡ first_value f (codes "cut") → is_cut_in (rows_of f) ≡ option_map_or (λ (value : Text). bytes_eq value (codes "true")) r false
+cut_from f r e = ap (λ (o : Option Text). option_map_or (λ (value : Text). bytes_eq value (codes "true")) o false) (sym (first_value-rows f (codes "cut")) ∙ sym e)

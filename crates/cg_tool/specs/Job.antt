@@ -1,8 +1,9 @@
 -- The job of a command line.
-use Rattle.std.specs.Prelude.{Bool, true, List, [], map, codes, Option, Some, None, unwrap_or, if◌then◌else◌, bytes_eq}
+use Rattle.std.specs.Prelude.{Bool, true, false, List, [], map, codes, Option, Some, None, unwrap_or, if◌then◌else◌, bytes_eq}
+use Rattle.std.specs.Option.{option_map_or}
 use Rattle.std.specs.Borrow.{Bor}
-use Rattle.clap.specs.Words.{App, Kinds, Row, Rule, Text, all_of, fault_of, new_app, new_rule, subcommand_of, takes, with_rule, with_subcommand}
-use Rattle.clap.specs.declared.builder.action.ArgAction.TheVariants.{Append}
+use Rattle.clap.specs.Words.{App, Kinds, Row, Rule, Text, all_of, fault_of, first_of, new_app, new_rule, subcommand_of, takes, with_rule, with_subcommand}
+use Rattle.clap.specs.declared.builder.action.ArgAction.TheVariants.{Append, SetTrue}
 use Rattle.cg_tool.specs.declared.job.Subcommand.{Subcommand}
 use Rattle.cg_tool.specs.declared.job.Subcommand.TheVariants.{Answer, Sim, Audit, Serve}
 
@@ -22,9 +23,13 @@ file_rule = record (new_rule (codes "file")) { required = true }
 abbrev pub files_rule : Rule
 files_rule = record (new_rule (codes "file")) { required = true; action = Some Append }
 
--- `audit` with its files
+-- the flag `--cut`
+abbrev pub cut_rule : Rule
+cut_rule = record (new_rule (codes "cut")) { long = Some (codes "cut"); action = Some SetTrue }
+
+-- `audit` with its flag and its files
 abbrev pub audit_command : App
-audit_command = with_rule (new_app (codes "audit")) files_rule
+audit_command = with_rule (with_rule (new_app (codes "audit")) cut_rule) files_rule
 
 -- `serve` with its file
 abbrev pub serve_command : App
@@ -61,6 +66,15 @@ files_in rows = unwrap_or (all_of (codes "file") rows) []
 abbrev pub files_met : Option (Text × List Row) → List Text
 files_met None = []
 files_met (Some met) = files_in met.1
+
+-- `true` if the flag is among the matches of a subcommand
+abbrev pub is_cut_in : List Row → Bool
+is_cut_in rows = option_map_or (λ value. bytes_eq value (codes "true")) (first_of (codes "cut") rows) false
+
+-- `true` if the subcommand that was met has the flag
+abbrev pub cut_met : Option (Text × List Row) → Bool
+cut_met None = false
+cut_met (Some met) = is_cut_in met.1
 
 -- the texts that references point to
 abbrev pub texts : List (Bor Text) → List Text

@@ -3,11 +3,11 @@
 ghost use Rattle.std.specs.Prelude.{◌≡◌, IfOk, IfErr, true, false, codes};
 ghost use Rattle.clap.specs.Words.{app_of, found_of, new_app, rows_of, subcommand_rows_of, kind_of, FailsBy};
 ghost use Rattle.clap.specs.declared.builder.command.Command.TheViews.{out-Command};
-ghost use Rattle.cg_tool.specs.Job.{with_version, without_name, audit_command, serve_command, program, subcommand_named as named_subcommand, subcommand_met, files_met, files_in, texts, subcommand_in, are_taken, faults_of};
+ghost use Rattle.cg_tool.specs.Job.{with_version, without_name, audit_command, serve_command, program, subcommand_named as named_subcommand, subcommand_met, files_met, files_in, cut_met, is_cut_in, texts, subcommand_in, are_taken, faults_of};
 
 use crate::texts::{
-    ABOUT, ANSWER_ABOUT, ANSWER_HELP, AUDIT_ABOUT, AUDIT_HELP, SERVE_ABOUT, SERVE_HELP, SIM_ABOUT,
-    SIM_HELP, STATUSES, VERSION,
+    ABOUT, ANSWER_ABOUT, ANSWER_HELP, AUDIT_ABOUT, AUDIT_HELP, CUT_HELP, SERVE_ABOUT, SERVE_HELP,
+    SIM_ABOUT, SIM_HELP, STATUSES, VERSION,
 };
 use clap::error::ErrorKind;
 use clap::{Arg, ArgAction, ArgMatches, Command, Error};
@@ -30,6 +30,8 @@ pub enum Subcommand {
 #[derive(Debug, Drop)]
 pub struct Job<'a> {
     pub subcommand: Subcommand,
+    /// `true` if of a journal only lines with their line feeds count.
+    pub is_cut: bool,
     pub files: Vec<&'a str>,
 }
 
@@ -53,12 +55,17 @@ fn audit<'a>(alloc: Global) -> Result<Command<'a>, AllocError>
     ensures app { IfOk result (λ c. app_of c ≡ audit_command) }
     ensures local { IfOk result (λ c. (out-Command c).has_globals ≡ false) }
 {
+    let cut = Arg::new(alloc, "cut")
+        .long("cut")
+        .action(ArgAction::SetTrue)
+        .help(CUT_HELP);
     let files = Arg::new(alloc, "file")
         .required(true)
         .action(ArgAction::Append);
     let command = Command::new(alloc, "audit").about(AUDIT_ABOUT);
     let helped = command.after_help(AUDIT_HELP);
-    let with_files = helped.arg(files)?;
+    let with_cut = helped.arg(cut)?;
+    let with_files = with_cut.arg(files)?;
     Ok(with_files)
 }
 
@@ -125,12 +132,22 @@ fn files_of<'a>(alloc: Global, found: &ArgMatches<'a>) -> Result<Vec<&'a str>, A
     }
 }
 
+fn is_cut(found: &ArgMatches<'_>) -> bool
+    ensures { result ≡ is_cut_in (rows_of (found_of found.now)) }
+{
+    match found.get_str("cut") {
+        Some(value) => value == "true",
+        None => false,
+    }
+}
+
 /// Reads the job from the words of a command line after the program's name.
 ///
-/// The job is the subcommand that `clap` finds, or `answer` if it finds none, with the files that it finds. The error
-/// is `clap`'s; for a request of help or of the version, it is their text.
+/// The job is the subcommand that `clap` finds, or `answer` if it finds none, with the flag and the files that it finds.
+/// The error is `clap`'s; for a request of help or of the version, it is their text.
 pub fn job_of<'a>(alloc: Global, words: &'a [&'a str]) -> Result<Job<'a>, Error>
     ensures subcommand { IfOk result (λ job. job.subcommand ≡ subcommand_met (subcommand_in (texts words.entry.now))) }
+    ensures cut { IfOk result (λ job. job.is_cut ≡ cut_met (subcommand_in (texts words.entry.now))) }
     ensures files { IfOk result (λ job. texts job.files.items ≡ files_met (subcommand_in (texts words.entry.now))) }
     // If the words name what the command has, only memory fails.
     ensures passes { IfErr result (λ e. are_taken (texts words.entry.now) ≡ true → kind_of e ≡ ErrorKind.OutOfMemory) }
@@ -141,12 +158,14 @@ pub fn job_of<'a>(alloc: Global, words: &'a [&'a str]) -> Result<Job<'a>, Error>
     let Some((name, found)) = matches.subcommand() else {
         return Ok(Job {
             subcommand: Subcommand::Answer,
+            is_cut: false,
             files: Vec::new(alloc),
         });
     };
     let files = files_of(alloc, found)?;
     Ok(Job {
         subcommand: subcommand_named(name),
+        is_cut: is_cut(found),
         files,
     })
 }

@@ -5,13 +5,14 @@ use crate::auditing::audit_files;
 use crate::job::{Job, Subcommand, job_of};
 use crate::source::Source;
 use crate::{Error, ErrorKind, Unread};
+use cg_cut::whole_length;
 use cg_history::History;
 use cg_journal::read_journal_telling;
 use cg_links::Counted;
 use cg_sim::sim;
 use cg_types::Fault;
 use std::alloc::{AllocError, Global};
-use std::io::{Eprint, Print};
+use std::io::{Eprint, Print, Read};
 use std::rt::{Env, Files, Runtime};
 use std::{env, fs, io};
 
@@ -69,11 +70,12 @@ fn told<R: Print + Eprint>(rt: &R, error: &Error) -> u8 {
     if error.use_stderr() { MISUSED } else { 0 }
 }
 
-// A file with a journal, which is opened when it is read.
+// A file with a journal, which is opened when it is read, up to this many bytes.
 #[derive(Drop)]
 struct JournalFile<'a, R> {
     rt: &'a R,
     path: &'a str,
+    length: u64,
 }
 
 // What a file holds is not known to a clause.
@@ -86,7 +88,7 @@ impl<'a, R: Files + Eprint> Source for JournalFile<'a, R> {
 
     fn read_history(&mut self, alloc: Global) -> Result<History, Unread> {
         match fs::open(self.rt, self.path) {
-            Ok(link) => read_journal_telling(alloc, &mut Counted::new(link)),
+            Ok(link) => read_journal_telling(alloc, &mut Counted::new(link.take(self.length))),
             Err(error) => Err(Unread {
                 line: 0,
                 fault: fault_of_open(&error),
@@ -105,6 +107,17 @@ impl<'a, R: Files + Eprint> Source for JournalFile<'a, R> {
     }
 }
 
+impl<'a, R: Files + Eprint> JournalFile<'a, R> {
+    // Lets only the lines with their line feeds count. Returns `false` if there are none.
+    fn cut(&mut self) -> Result<bool, Fault> {
+        match fs::open(self.rt, self.path) {
+            Ok(link) => self.length = whole_length(&mut Counted::new(link))?,
+            Err(error) => return Err(fault_of_open(&error)),
+        }
+        Ok(self.length > 0)
+    }
+}
+
 fn journal_files<'a, R>(
     rt: &'a R,
     alloc: Global,
@@ -112,15 +125,55 @@ fn journal_files<'a, R>(
 ) -> Result<Vec<JournalFile<'a, R>>, AllocError> {
     let mut files = Vec::with_capacity(alloc, paths.len())?;
     for path in paths {
-        files.push(JournalFile { rt, path })?;
+        let length = u64::MAX;
+        files.push(JournalFile { rt, path, length })?;
     }
     Ok(files)
 }
 
-// Audits the journals of the files.
-fn audit<R: Print + Eprint + Files>(rt: &R, alloc: Global, paths: &[&str]) -> u8 {
+// Returns the files that have a line with its line feed, of which only such lines count.
+fn cut_files<'a, R: Files + Eprint>(
+    alloc: Global,
+    files: Vec<JournalFile<'a, R>>,
+) -> Result<Vec<JournalFile<'a, R>>, Fault> {
+    let mut cut = Vec::with_capacity(alloc, files.len())?;
+    for mut file in files {
+        match file.cut() {
+            Ok(true) => cut.push(file)?,
+            Ok(false) => {}
+            Err(fault) => {
+                file.tell(&Unread { line: 0, fault });
+                return Err(fault);
+            }
+        }
+    }
+    Ok(cut)
+}
+
+// Prints a fault that came before any journal was read, if it can be printed.
+fn faulted<R: Print>(rt: &R, fault: Fault) -> u8 {
+    let _ = println!(rt; "fault {fault}");
+    FAILED
+}
+
+// Audits the journals of files, of which only lines with their line feeds count.
+fn audit_cut<R: Print + Eprint + Files>(
+    rt: &R,
+    alloc: Global,
+    files: Vec<JournalFile<'_, R>>,
+) -> u8 {
     let mut writer = Counted::new(io::writer(rt));
-    match journal_files(rt, alloc, paths) {
+    match cut_files(alloc, files) {
+        Ok(mut files) => audit_files(alloc, &mut files, &mut writer),
+        Err(fault) => faulted(rt, fault),
+    }
+}
+
+// Audits the journals of the files.
+fn audit<R: Print + Eprint + Files>(rt: &R, alloc: Global, job: &Job) -> u8 {
+    let mut writer = Counted::new(io::writer(rt));
+    match journal_files(rt, alloc, job.files.as_slice()) {
+        Ok(files) if job.is_cut => audit_cut(rt, alloc, files),
         Ok(mut files) => audit_files(alloc, &mut files, &mut writer),
         Err(_) => out_of_memory(rt),
     }
@@ -145,7 +198,7 @@ fn done<R: Runtime>(rt: &R, alloc: Global, job: &Job) -> Ending {
     Ending::Status(match job.subcommand {
         Subcommand::Answer => answer(alloc, &mut reader, &mut writer),
         Subcommand::Sim => sim(alloc, &mut reader, &mut writer),
-        Subcommand::Audit => audit(rt, alloc, job.files.as_slice()),
+        Subcommand::Audit => audit(rt, alloc, job),
         Subcommand::Serve => return serves(rt, alloc, job.files.as_slice()),
     })
 }

@@ -75,8 +75,14 @@ and then `one run`, with status 0. Where there is no such order: a line `stuck E
 that cannot be done, then `fault 17 Stuck`; where the lives of an endpoint do not rise in generation, `fault 11 NotRising`; \
 where a journal can't be read, a fault line; each with status 1.\n\
 \n\
+A node that writes its journal as it runs leaves one that ends anywhere when it is killed. With --cut, a line counts only \
+with its line feed, and a file without one is no life.\n\
+\n\
 Example:\n\
 \n  cg audit a.journal b.journal";
+
+/// The flag of `audit`.
+pub const CUT_HELP: &str = "Read each journal up to its last line feed";
 
 /// `serve` in a line.
 pub const SERVE_ABOUT: &str = "Run a node over TCP, with an operator at standard input";
