@@ -1,4 +1,4 @@
-//! Tests of a node, of its settings, and of windows of silence, over their public calls.
+//! Tests of a node and its settings, of tokens and rings, and of windows of silence, over their public calls.
 #![tactic(auto)]
 
 #[cfg(test)]
@@ -14,6 +14,10 @@ mod parts;
 #[cfg(test)]
 mod removing;
 #[cfg(test)]
+mod ring;
+#[cfg(test)]
+mod ring_moves;
+#[cfg(test)]
 mod samples;
 #[cfg(test)]
 mod settings;
@@ -21,3 +25,5 @@ mod settings;
 mod silence;
 #[cfg(test)]
 mod spent;
+#[cfg(test)]
+mod tokens;

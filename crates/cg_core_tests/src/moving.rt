@@ -7,11 +7,15 @@ use cg_testing::{A, B, C, delta, endpoint, expect_eq, state};
 use std::alloc::Global;
 use std::test::Fail;
 
-const AT_20: &str = "00000000000000000000000000000020";
+/// A text of tokens.
+pub(crate) const AT_20: &str = "00000000000000000000000000000020";
 
-const AT_50: &str = "00000000000000000000000000000050";
+/// A text of tokens.
+pub(crate) const AT_50: &str = "00000000000000000000000000000050";
 
-const AT_20_AND_50: &str = "00000000000000000000000000000020,00000000000000000000000000000050";
+/// A text of tokens.
+pub(crate) const AT_20_AND_50: &str =
+    "00000000000000000000000000000020,00000000000000000000000000000050";
 
 // A token, and the last byte of the address of the endpoint that has it.
 type Place = (u128, u8);

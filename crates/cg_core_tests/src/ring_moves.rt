@@ -1,5 +1,6 @@
 //! Rings that are moved, each against the ring of the table after the move.
 
+use crate::moving::{AT_20, AT_20_AND_50, AT_50};
 use crate::ring::{Claiming, table};
 use cg_table::{Puts, Table};
 use cg_testing::{endpoint, expect, expect_eq};
@@ -7,12 +8,6 @@ use cg_tokens::Ring;
 use cg_types::{Endpoint, endpoints_rise};
 use std::alloc::Global;
 use std::test::Fail;
-
-const AT_20: &str = "00000000000000000000000000000020";
-
-const AT_50: &str = "00000000000000000000000000000050";
-
-const AT_20_AND_50: &str = "00000000000000000000000000000020,00000000000000000000000000000050";
 
 // The owners of the first three positions, each by the last byte of its address, and 0 for no position.
 fn winners(ring: &Ring) -> [u8; 3] {
