@@ -7,7 +7,7 @@ use crate::rings::{claimed, digests, key_tokens, places, replicas, replicas_of_k
 use crate::texts::{copies, headed, joined, room_for, text_of, texts_of};
 use crate::windows::{heard, last_verdict, silence, verdicts};
 use cg_entry::{Delta, Entry};
-use cg_measure::{Failure, Name, Work, add_message, add_ring};
+use cg_measure::{CaseName, Failure, Work, add_message, add_ring};
 use cg_silence::{Silence, Verdict, Window};
 use cg_table::Table;
 use cg_tokens::{Ring, Token};
@@ -166,10 +166,10 @@ fn work_of(alloc: Global, task: LocalTask) -> Result<LocalWork, Failure> {
 }
 
 /// Makes the cases of rings, texts, windows and entries.
-pub(crate) fn local_cases(alloc: Global) -> Result<Vec<(Name, LocalWork)>, Failure> {
+pub(crate) fn local_cases(alloc: Global) -> Result<Vec<(CaseName, LocalWork)>, Failure> {
     let mut cases = Vec::new(alloc);
     for (work, on, tag, task) in LOCAL {
-        cases.push((Name { work, on, tag }, work_of(alloc, task)?))?;
+        cases.push((CaseName { work, on, tag }, work_of(alloc, task)?))?;
     }
     Ok(cases)
 }

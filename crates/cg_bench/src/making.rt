@@ -6,7 +6,7 @@ use crate::messages::{Brings, Opens, Said, ack2_of, held_in, message, tables_of}
 use crate::work::GossipWork;
 use bytes::Bytes;
 use cg_frames::encode;
-use cg_measure::{Failure, Held, Name, Shape};
+use cg_measure::{CaseName, Failure, Held, Shape};
 use cg_table::Table;
 use cg_testing::cluster;
 use std::alloc::Global;
@@ -86,11 +86,11 @@ fn work_of(alloc: Global, tables: &[Table], task: GossipTask) -> Result<GossipWo
 }
 
 /// Makes the cases of a SYN and of heartbeats.
-pub(crate) fn small(alloc: Global) -> Result<Vec<(Name, GossipWork)>, Failure> {
+pub(crate) fn small(alloc: Global) -> Result<Vec<(CaseName, GossipWork)>, Failure> {
     let tables = tables_of(alloc, SMALL_SHAPE)?;
     let mut cases = Vec::new(alloc);
     for (work, on, tag, task) in SMALL {
-        cases.push((Name { work, on, tag }, work_of(alloc, &tables, task)?))?;
+        cases.push((CaseName { work, on, tag }, work_of(alloc, &tables, task)?))?;
     }
     Ok(cases)
 }
@@ -100,22 +100,22 @@ pub(crate) fn shaped(
     alloc: Global,
     tag: &'static str,
     shape: Shape,
-) -> Result<Vec<(Name, GossipWork)>, Failure> {
+) -> Result<Vec<(CaseName, GossipWork)>, Failure> {
     let tables = tables_of(alloc, shape)?;
     let mut cases = Vec::new(alloc);
     for (work, on, task) in SHAPED {
-        cases.push((Name { work, on, tag }, work_of(alloc, &tables, task)?))?;
+        cases.push((CaseName { work, on, tag }, work_of(alloc, &tables, task)?))?;
     }
     Ok(cases)
 }
 
 /// Makes the cases at full tables.
-pub(crate) fn wide(alloc: Global) -> Result<Vec<(Name, GossipWork)>, Failure> {
+pub(crate) fn wide(alloc: Global) -> Result<Vec<(CaseName, GossipWork)>, Failure> {
     let tables = tables_of(alloc, WIDE_SHAPE)?;
     let tag = "512x16x64";
     let mut cases = Vec::new(alloc);
     for (work, on, task) in WIDE {
-        cases.push((Name { work, on, tag }, work_of(alloc, &tables, task)?))?;
+        cases.push((CaseName { work, on, tag }, work_of(alloc, &tables, task)?))?;
     }
     Ok(cases)
 }

@@ -15,7 +15,7 @@ pub enum Mode {
 
 /// The name of a case: the work, its subject, and a tag for the subject's shape.
 #[derive(Clone, Copy)]
-pub struct Name {
+pub struct CaseName {
     pub work: &'static str,
     pub on: &'static str,
     pub tag: &'static str,
@@ -41,15 +41,15 @@ fn digest_of<W: Work>(alloc: Global, work: &W) -> Result<String, Failure> {
     Ok(hex::encode(alloc, &digest.finalize())?)
 }
 
-fn print_digest(rt: &impl Print, name: Name, digest: &str) -> Result<(), Failure> {
-    let Name { work, on, tag } = name;
+fn print_digest(rt: &impl Print, name: CaseName, digest: &str) -> Result<(), Failure> {
+    let CaseName { work, on, tag } = name;
     println!(rt; "case ours_{work}_{on}_{tag} {digest}")?;
     Ok(())
 }
 
 // Prints the middle and the least of sorted samples, which are tenths of nanoseconds.
-fn print_times(rt: &impl Print, name: Name, samples: &[u128]) -> Result<(), Failure> {
-    let Name { work, on, tag } = name;
+fn print_times(rt: &impl Print, name: CaseName, samples: &[u128]) -> Result<(), Failure> {
+    let CaseName { work, on, tag } = name;
     let middle = samples.get(samples.len() / 2).copied().unwrap_or(0);
     let least = samples.first().copied().unwrap_or(0);
     println!(rt;
@@ -66,7 +66,7 @@ fn run_case<W: Work>(
     rt: &(impl Clock + Print),
     alloc: Global,
     mode: Mode,
-    name: Name,
+    name: CaseName,
     work: &W,
 ) -> Result<(), Failure> {
     match mode {
@@ -83,7 +83,7 @@ pub fn run_cases<W: Work>(
     rt: &(impl Clock + Print),
     alloc: Global,
     mode: Mode,
-    cases: &[(Name, W)],
+    cases: &[(CaseName, W)],
 ) -> Result<(), Failure> {
     for (name, work) in cases {
         run_case(rt, alloc, mode, *name, work)?;

@@ -12,7 +12,7 @@ mod sampling;
 mod tables;
 mod words;
 
-pub use case::{Mode, Name, Work, run_cases};
+pub use case::{CaseName, Mode, Work, run_cases};
 pub use claims::{claiming, leaving, tokens_text};
 pub use digest::{add_message, add_ring, add_table};
 pub use failure::Failure;

@@ -12,7 +12,7 @@ use bytes::Bytes;
 use cg_core::{Event, Node};
 use cg_frames::encode;
 use cg_history::{History, Receipt};
-use cg_measure::{Failure, Name, Shape, add_message, add_ring, add_table};
+use cg_measure::{CaseName, Failure, Shape, add_message, add_ring, add_table};
 use cg_messages::Message;
 use cg_world::{Action, World};
 use md5::{Digest, Md5};
@@ -193,7 +193,7 @@ fn work_of(alloc: Global, task: Task, shape: Shape) -> Result<Work, Failure> {
 }
 
 /// A case made ready.
-pub(crate) fn case_of(alloc: Global, case: Case) -> Result<(Name, Work), Failure> {
+pub(crate) fn case_of(alloc: Global, case: Case) -> Result<(CaseName, Work), Failure> {
     let (work, on, tag, task, shape) = case;
-    Ok((Name { work, on, tag }, work_of(alloc, task, shape)?))
+    Ok((CaseName { work, on, tag }, work_of(alloc, task, shape)?))
 }

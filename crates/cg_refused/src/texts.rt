@@ -8,12 +8,12 @@ use cg_world::World;
 use std::alloc::{AllocError, Global};
 use std::fmt::Write;
 
-// The moments, in milliseconds, at which the windows of a node are asked. Between two of them the verdict turns of a
+// The times, in milliseconds, at which the windows of a node are asked. Between two of them the verdict turns of a
 // window that took an arrival, that took its gap alone, and that took none: first of those with few arrivals, then of
 // those with a full tail.
 const MOMENTS: [u64; 8] = [0, 27_000, 28_500, 30_000, 39_320, 39_800, 40_320, u64::MAX];
 
-// Adds the verdict of each owner at each of the moments.
+// Adds the verdict of each owner at each of the times.
 fn add_verdicts(text: &mut String, node: &Node) -> Result<(), AllocError> {
     for row in node.table().owners() {
         for now in MOMENTS {

@@ -66,7 +66,7 @@ fn tick_at<N: Name, R: Wait + Clock>(
 }
 
 // The time and the first word of a tick, 0 if it is none.
-fn moment_and_word(receipt: Option<&Receipt>) -> (u64, u64) {
+fn time_and_word(receipt: Option<&Receipt>) -> (u64, u64) {
     match receipt {
         Some(receipt) => match &receipt.event {
             Event::Tick { now, words } => (*now, words[0]),
@@ -117,7 +117,7 @@ fn left_by<N: Name, R: Wait + Clock>(
     let seat = seats.pop().unwrap();
     let Done { left, ticked } = tick_at(rt, alloc, &shared, seat, to, count);
     let (seat, receipts) = left.into_parts();
-    let last = moment_and_word(receipts.last());
+    let last = time_and_word(receipts.last());
     seats.push_reserved(seat);
     let (records, confirmed) = match shared.finish(rt, seats, &receipts) {
         Ok(history) => (history.records().len(), receipts.len()),

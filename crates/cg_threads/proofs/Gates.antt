@@ -82,29 +82,29 @@ syn_received : (now : ℕ) (e : Event) → IsEventAt kind.Syn now e → is_recei
 syn_received now (event.Syn m) is = refl
 syn_received now event.Beat is = absurd is
 syn_received now (event.Set key text) is = absurd is
-syn_received now (event.Tick moment words) is = absurd is
+syn_received now (event.Tick time words) is = absurd is
 syn_received now (event.Remove key) is = absurd is
 syn_received now event.Opening is = absurd is
-syn_received now (event.Ack moment m) is = absurd is
-syn_received now (event.Ack2 moment m) is = absurd is
+syn_received now (event.Ack time m) is = absurd is
+syn_received now (event.Ack2 time m) is = absurd is
 
 ack2_received : (now : ℕ) (e : Event) → IsEventAt kind.Ack2 now e → is_received e ≡ true
-ack2_received now (event.Ack2 moment m) is = refl
+ack2_received now (event.Ack2 time m) is = refl
 ack2_received now (event.Syn m) is = absurd is
 ack2_received now event.Beat is = absurd is
 ack2_received now (event.Set key text) is = absurd is
-ack2_received now (event.Tick moment words) is = absurd is
+ack2_received now (event.Tick time words) is = absurd is
 ack2_received now (event.Remove key) is = absurd is
 ack2_received now event.Opening is = absurd is
-ack2_received now (event.Ack moment m) is = absurd is
+ack2_received now (event.Ack time m) is = absurd is
 
 ack_sent : (now : ℕ) (e : Event) → IsEventAt kind.Ack now e → is_ack e ≡ true
-ack_sent now (event.Ack moment m) is = refl
-ack_sent now (event.Ack2 moment m) is = absurd is
+ack_sent now (event.Ack time m) is = refl
+ack_sent now (event.Ack2 time m) is = absurd is
 ack_sent now (event.Syn m) is = absurd is
 ack_sent now event.Beat is = absurd is
 ack_sent now (event.Set key text) is = absurd is
-ack_sent now (event.Tick moment words) is = absurd is
+ack_sent now (event.Tick time words) is = absurd is
 ack_sent now (event.Remove key) is = absurd is
 ack_sent now event.Opening is = absurd is
 

@@ -86,7 +86,7 @@ fn answer_links<R: Read, W: Write>(
 ) -> u8
     ensures answered { (text : List ℕ) × (status : ℕ)
         × IsExpectedAnswer (R.remaining (link_of reader.old)) (R.remaining (link_of reader.new))
-            reader.old reader.new text status
+        reader.old reader.new text status
         × WroteOut
         (W.contents (link_of writer.old)) (W.contents (link_of writer.new))
         writer.old writer.new text status result }
@@ -126,7 +126,7 @@ pub fn answer<R: Read, W: Write>(
     // The expected text, and the prefix of it that was written.
     ensures answered { (text : List ℕ) × (status : ℕ)
         × IsExpectedAnswer (R.remaining (link_of reader.old)) (R.remaining (link_of reader.new))
-            reader.old reader.new text status
+        reader.old reader.new text status
         × WroteOut
         (W.contents (link_of writer.old)) (W.contents (link_of writer.new))
         writer.old writer.new text status result }

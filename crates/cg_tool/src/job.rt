@@ -3,7 +3,8 @@
 ghost use Rattle.std.specs.Prelude.{◌≡◌, IfOk, IfErr, true, false, codes};
 ghost use Rattle.clap.specs.Words.{app_of, found_of, new_app, rows_of, subcommand_rows_of, kind_of, FailsBy};
 ghost use Rattle.clap.specs.declared.builder.command.Command.TheViews.{out-Command};
-ghost use Rattle.cg_tool.specs.Job.{with_version, without_name, audit_command, serve_command, program, subcommand_named as named_subcommand, subcommand_met, files_met, files_in, cut_met, is_cut_in, texts, subcommand_in, are_taken, faults_of};
+ghost use Rattle.cg_tool.specs.Job as spec;
+ghost use Rattle.cg_tool.specs.Job.{with_version, without_name, audit_command, serve_command, program, subcommand_met, files_met, files_in, cut_met, is_cut_in, texts, subcommand_in, are_taken, faults_of};
 
 use crate::texts::{
     ABOUT, ANSWER_ABOUT, ANSWER_HELP, AUDIT_ABOUT, AUDIT_HELP, CUT_HELP, SERVE_ABOUT, SERVE_HELP,
@@ -113,7 +114,7 @@ fn matches<'a>(alloc: Global, words: &'a [&'a str]) -> Result<ArgMatches<'a>, Er
 }
 
 fn subcommand_named(name: &str) -> Subcommand
-    ensures { result ≡ named_subcommand name.now }
+    ensures { result ≡ spec.subcommand_named name.now }
 {
     match name {
         "sim" => Subcommand::Sim,
