@@ -28,7 +28,7 @@ pub use Rattle.cg_silence.specs.Values as SilenceValues
 pub use Rattle.cg_tokens.specs.Ring
 pub use Rattle.cg_tokens.specs.Moving
 pub use Rattle.cg_exchange.specs.Changes as ExchangeChanges
-pub use Rattle.cg_messages.specs.Borrowed
+pub use Rattle.cg_messages.specs.Borrowed as BorrowedMessages
 pub use Rattle.cg_messages.specs.Members
 pub use Rattle.cg_silence.specs.Windows
 pub use Rattle.cg_types.specs.Text

@@ -13,7 +13,7 @@ changed_rows-requires c =
     let n = c.args.self.now in
     let own : c.own.result ≡ n.table.own = c.own.ensures.value ∙ ap (λ (t : TableValue). t.own) c.table.ensures in
     let owners = ap (λ (o : ℕ). changed_owners o c.in_ok-node.reply) own in
-    subst Rises (sym owners) (changed_owners_rise n c.args.event.now c.in_ok-node.node c.in_ok-node.reply c.deltas-deltas.ensures.rise c.in_ok-node.ensures)
+    subst Rises (sym owners) (changed_owners_rise n c.args.event.now c.in_ok-node.node c.in_ok-node.reply c.show.ensures c.in_ok-node.ensures)
 
 pub returns : goal.returns
 returns c =
@@ -22,5 +22,5 @@ returns c =
     let owners = ap (λ (o : ℕ). changed_owners o c.in_ok-node.reply) own in
     let held : is_some (get n.table.entries n.table.own) ≡ true = ap (λ (t : TableValue). is_some (get t.entries t.own)) (sym c.table.ensures) ∙ c.own.ensures.own_held in
     let puts = c.in_ok-puts.ensures ∙ (λ i. rows_at (c.table-2.ensures i).entries (owners i)) in
-    let law = puts_are_the_changed_rows n c.args.event.now c.in_ok-node.node c.in_ok-node.reply held c.deltas-deltas.ensures.rise c.in_ok-node.ensures in
+    let law = puts_are_the_changed_rows n c.args.event.now c.in_ok-node.node c.in_ok-node.reply held c.show.ensures c.in_ok-node.ensures in
     rw c.in_ok-node.ensures (λ i. Ok (c.in_ok-node.node, c.in_ok-node.reply, (law ∙ sym puts) i))
