@@ -1,5 +1,7 @@
 //! The promises of a worker's thread about the values that it leaves.
 
+ghost use Rattle.std.specs.Prelude.{◌≡◌};
+
 use crate::left::{SeatLeft, SenderLeft, TickerLeft};
 use cg_locked::{Name, Operate, Seat};
 use cg_workers::{Dial, Milliseconds, Putting, Taking, Turns};
@@ -12,6 +14,18 @@ use std::thread::Promise;
 pub(crate) struct Operates<N: Name, O: Operate> {
     pub(crate) seat: Snapshot<Seat<N>>,
     pub(crate) operator: Snapshot<O>,
+}
+
+impl<N: Name, O: Operate> Operates<N, O> {
+    // The promise of a thread that takes these over.
+    pub(crate) fn of(seat: &Seat<N>, operator: &O) -> Operates<N, O>
+        ensures { (result.seat.value ≡ seat.now) × (result.operator.value ≡ operator.now) }
+    {
+        Operates {
+            seat: Snapshot::of(seat),
+            operator: Snapshot::of(operator),
+        }
+    }
 }
 
 impl<N: Name, O: Operate> Promise<SeatLeft<N>> for Operates<N, O> {
@@ -31,6 +45,21 @@ pub(crate) struct Sends<N: Name, D: Dial, C: Milliseconds> {
     pub(crate) taking: Snapshot<Taking>,
     pub(crate) dialer: Snapshot<D>,
     pub(crate) clock: Snapshot<C>,
+}
+
+impl<N: Name, D: Dial, C: Milliseconds> Sends<N, D, C> {
+    // The promise of a thread that takes these over.
+    pub(crate) fn of(seat: &Seat<N>, taking: &Taking, dialer: &D, clock: &C) -> Sends<N, D, C>
+        ensures { (result.seat.value ≡ seat.now) × (result.taking.value ≡ taking.now)
+            × (result.dialer.value ≡ dialer.now) × (result.clock.value ≡ clock.now) }
+    {
+        Sends {
+            seat: Snapshot::of(seat),
+            taking: Snapshot::of(taking),
+            dialer: Snapshot::of(dialer),
+            clock: Snapshot::of(clock),
+        }
+    }
 }
 
 impl<N: Name, D: Dial, C: Milliseconds> Promise<SenderLeft<N>> for Sends<N, D, C> {
@@ -54,6 +83,28 @@ pub(crate) struct TicksOn<N: Name, C: Milliseconds, G: Rng> {
     pub(crate) clock: Snapshot<C>,
     pub(crate) generator: Snapshot<G>,
     pub(crate) turns: Turns,
+}
+
+impl<N: Name, C: Milliseconds, G: Rng> TicksOn<N, C, G> {
+    // The promise of a thread that takes these over.
+    pub(crate) fn of(
+        seat: &Seat<N>,
+        putting: &Putting,
+        clock: &C,
+        generator: &G,
+        turns: Turns,
+    ) -> TicksOn<N, C, G>
+        ensures { (result.seat.value ≡ seat.now) × (result.putting.value ≡ putting.now)
+            × (result.clock.value ≡ clock.now) × (result.generator.value ≡ generator.now) × (result.turns ≡ turns) }
+    {
+        TicksOn {
+            seat: Snapshot::of(seat),
+            putting: Snapshot::of(putting),
+            clock: Snapshot::of(clock),
+            generator: Snapshot::of(generator),
+            turns,
+        }
+    }
 }
 
 impl<N: Name, C: Milliseconds, G: Rng> Promise<TickerLeft<N>> for TicksOn<N, C, G> {

@@ -7,20 +7,19 @@ ghost use Rattle.cg_threads.specs.Left.{IsLeft, HasTaken, HasPut, AreOfWorkers, 
 ghost use Rattle.cg_threads.specs.Workers.{all_began, work_of};
 ghost use Rattle.cg_threads.specs.Worked.{HasReceived, HasSent, HasBegun, HasOperated, HaveWorked};
 
-use crate::left::{SeatLeft, SenderLeft, TickerLeft, WorkersLeft};
+use crate::left::WorkersLeft;
 use crate::promises::{Operates, Sends, TicksOn};
 use crate::seats::Seats;
 use crate::site::Site;
 use crate::started::{start, told};
 use crate::tools::Tools;
-use crate::work::{run_operator, run_receiver, run_sender, run_ticker};
+use crate::work::{receive_told, run_operator, run_sender, run_ticker};
 use cg_locked::{Name, Operate};
 use cg_views::Pass;
 use cg_workers::{Dial, Listen, Milliseconds, Putting, Taking, Turns};
 use rand_core::Rng;
 use std::alloc::Global;
 use std::rt::Clock;
-use std::snapshot::Snapshot;
 use std::sync::Wait;
 use std::thread;
 use std::thread::Threads;
@@ -72,104 +71,57 @@ where
         operator,
     } = parts;
     let Seats {
-        receiver: first,
-        sender: second,
-        ticker: third,
-        operator: fourth,
+        receiver: receiver_seat,
+        sender: sender_seat,
+        ticker: ticker_seat,
+        operator: operator_seat,
     } = seats;
     let (putting, taking) = ends;
-    let sends = Sends {
-        seat: Snapshot::of(&second),
-        taking: Snapshot::of(&taking),
-        dialer: Snapshot::of(&dialer),
-        clock: Snapshot::of(&site.clock),
-    };
-    let ticks = TicksOn {
-        seat: Snapshot::of(&third),
-        putting: Snapshot::of(&putting),
-        clock: Snapshot::of(&site.clock),
-        generator: Snapshot::of(&generator),
-        turns,
-    };
-    let operates = Operates {
-        seat: Snapshot::of(&fourth),
-        operator: Snapshot::of(&operator),
-    };
+    let sends = Sends::of(&sender_seat, &taking, &dialer, &site.clock);
+    let ticks = TicksOn::of(&ticker_seat, &putting, &site.clock, &generator, turns);
+    let operates = Operates::of(&operator_seat, &operator);
     thread::scope(
         thread::scope_env(),
         rt,
         move |scope| -> WorkersLeft<N>
-            requires sends { (sends.seat.value ≡ second) × (sends.taking.value ≡ taking)
+            requires sends { (sends.seat.value ≡ sender_seat) × (sends.taking.value ≡ taking)
                 × (sends.dialer.value ≡ dialer) × (sends.clock.value ≡ site.now.clock) }
-            requires ticks { (ticks.seat.value ≡ third) × (ticks.putting.value ≡ putting)
+            requires ticks { (ticks.seat.value ≡ ticker_seat) × (ticks.putting.value ≡ putting)
                 × (ticks.clock.value ≡ site.now.clock) × (ticks.generator.value ≡ generator) × (ticks.turns ≡ turns) }
-            requires operates { (operates.seat.value ≡ fourth) × (operates.operator.value ≡ operator) }
-            requires amounts { (first.amount ≡ 0) × (second.amount ≡ 0) × (third.amount ≡ 0)
-                × (fourth.amount ≡ 0) }
+            requires operates { (operates.seat.value ≡ operator_seat) × (operates.operator.value ≡ operator) }
+            requires amounts { (receiver_seat.amount ≡ 0) × (sender_seat.amount ≡ 0) × (ticker_seat.amount ≡ 0)
+                × (operator_seat.amount ≡ 0) }
             requires none { (put_by putting ≡ []) × (taken_by taking ≡ []) × (pass ≡ []) }
-            ensures receiver { IsLeft is_received first.caller first.parts result.receiver }
+            ensures receiver { IsLeft is_received receiver_seat.caller receiver_seat.parts result.receiver }
             ensures received { result.receiver.began ≡ true → HasReceived N.start N.opening.own L.Reader.remaining
-                L.Writer.contents (C.shows site.entry.now.clock) first.caller L.accepts turns.exchanges listener
+                L.Writer.contents (C.shows site.entry.now.clock) receiver_seat.caller L.accepts turns.exchanges listener
                 result.receiver.receipts }
-            ensures sender { IsLeft is_ack second.caller second.parts result.sender.left }
+            ensures sender { IsLeft is_ack sender_seat.caller sender_seat.parts result.sender.left }
             ensures taken { HasTaken taking result.sender.taken result.sender.numbers.items }
             ensures sent { result.sender.left.began ≡ true → HasSent N.start N.opening.own D.Reader.remaining
-                D.Writer.contents (C.shows site.entry.now.clock) second.caller D.dials dialer (taken_in result.sender.taken)
+                D.Writer.contents (C.shows site.entry.now.clock) sender_seat.caller D.dials dialer (taken_in result.sender.taken)
                 result.sender.left.receipts }
-            ensures ticker { IsLeft is_tick third.caller third.parts result.ticker.left }
+            ensures ticker { IsLeft is_tick ticker_seat.caller ticker_seat.parts result.ticker.left }
             ensures put { HasPut putting result.ticker.putting result.ticker.left.receipts }
             ensures begun { result.ticker.left.began ≡ true → HasBegun N.start N.opening.own
-                (C.shows site.entry.now.clock) third.caller turns.rounds (G.stream generator)
+                (C.shows site.entry.now.clock) ticker_seat.caller turns.rounds (G.stream generator)
                 result.ticker.left.receipts }
-            ensures operator { IsLeft is_any fourth.caller fourth.parts result.operator }
-            ensures operated { result.operator.began ≡ true → HasOperated N.start N.opening fourth.caller O.works
+            ensures operator { IsLeft is_any operator_seat.caller operator_seat.parts result.operator }
+            ensures operated { result.operator.began ≡ true → HasOperated N.start N.opening operator_seat.caller O.works
                 operator result.operator.receipts }
         {
-            let sender = start(
-                scope,
-                sends,
-                move || -> SenderLeft<N>
-                    requires { (second.amount ≡ 0) × (taken_by taking ≡ []) }
-                    ensures left { IsLeft is_ack second.caller second.parts result.left }
-                    ensures taken { HasTaken taking result.taken result.numbers.items }
-                    ensures sent { result.left.began ≡ true → HasSent N.start N.opening.own D.Reader.remaining
-                        D.Writer.contents (C.shows site.entry.now.clock) second.caller D.dials dialer
-                        (taken_in result.taken) result.left.receipts }
-                { run_sender(rt, alloc, site, second, dialer, taking) },
-            );
-            let ticker = start(
-                scope,
-                ticks,
-                move || -> TickerLeft<N>
-                    requires { (third.amount ≡ 0) × (put_by putting ≡ []) }
-                    ensures left { IsLeft is_tick third.caller third.parts result.left }
-                    ensures put { HasPut putting result.putting result.left.receipts }
-                    ensures begun { result.left.began ≡ true → HasBegun N.start N.opening.own
-                        (C.shows site.entry.now.clock) third.caller turns.rounds (G.stream generator)
-                        result.left.receipts }
-                { run_ticker(rt, alloc, site, third, generator, putting, turns) },
-            );
-            let operator = start(
-                scope,
-                operates,
-                move || -> SeatLeft<N>
-                    requires { (fourth.amount ≡ 0) × (pass ≡ []) }
-                    ensures left { IsLeft is_any fourth.caller fourth.parts result }
-                    ensures operated { result.began ≡ true → HasOperated N.start N.opening fourth.caller O.works
-                        operator result.receipts }
-                { run_operator(rt, alloc, site, fourth, operator, pass) },
-            );
-            let begins = match &told(&site.go, &sender, &ticker, &operator) {
-                Some(token) => *site.go.value(token),
-                None => false,
-            };
-            let receiver = if begins {
-                run_receiver(rt, alloc, site, first, listener, turns.exchanges)
-            } else {
-                SeatLeft::unused(alloc, first)
-            };
+            let sender = start(scope, sends, move || {
+                run_sender(rt, alloc, site, sender_seat, dialer, taking)
+            });
+            let ticker = start(scope, ticks, move || {
+                run_ticker(rt, alloc, site, ticker_seat, generator, putting, turns)
+            });
+            let operator = start(scope, operates, move || {
+                run_operator(rt, alloc, site, operator_seat, operator, pass)
+            });
+            let token = told(&site.go, &sender, &ticker, &operator);
             WorkersLeft {
-                receiver,
+                receiver: receive_told(rt, alloc, site, token, receiver_seat, listener, turns),
                 sender: sender.ended(rt),
                 ticker: ticker.ended(rt),
                 operator: operator.ended(rt),

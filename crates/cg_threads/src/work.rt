@@ -1,7 +1,7 @@
 //! The workers: each works over a gate of its seat, and gives the seat back. All but the receiver wait for the start
 //! signal first.
 
-ghost use Rattle.std.specs.Prelude.{◌≡◌, [], true};
+ghost use Rattle.std.specs.Prelude.{◌≡◌, [], true, IfSome};
 ghost use Rattle.cg_workers.specs.Ends.{put_by, taken_by, taken_in};
 ghost use Rattle.cg_locked.specs.Seats.{AreOfCaller};
 ghost use Rattle.cg_threads.specs.Left.{IsLeft, HasTaken, HasPut, is_received, is_ack, is_tick, is_any};
@@ -15,7 +15,7 @@ use cg_workers::{Dial, Listen, Milliseconds, Putting, Taking, Turns, receiver, s
 use rand_core::Rng;
 use std::alloc::Global;
 use std::rt::Clock;
-use std::sync::Wait;
+use std::sync::{OnceToken, Wait};
 
 // Takes a gate apart: its seat and its receipts, which are all of the seat's caller.
 fn left_of<N: Name, R: Wait>(gate: SeatGate<'_, N, R>) -> SeatLeft<N>
@@ -36,7 +36,7 @@ pub fn run_receiver<N: Name, R: Wait, L: Listen + Drop, C: Milliseconds>(
     alloc: Global,
     site: &Site<N, C>,
     seat: Seat<N>,
-    listener: L,
+    mut listener: L,
     exchanges: u32,
 ) -> SeatLeft<N>
     requires { seat.amount ≡ 0 }
@@ -45,10 +45,35 @@ pub fn run_receiver<N: Name, R: Wait, L: Listen + Drop, C: Milliseconds>(
     ensures work { HasReceived N.start N.opening.own L.Reader.remaining L.Writer.contents (C.shows site.now.clock)
         seat.caller L.accepts exchanges listener result.receipts }
 {
-    let mut listener = listener;
     let mut gate = SeatGate::new(rt, alloc, &site.shared, seat);
     let _came = receiver(alloc, &mut gate, &mut listener, &site.clock, exchanges);
     left_of(gate)
+}
+
+// Does the receiver's work if all workers were told to begin, and returns its seat with its receipts.
+pub(crate) fn receive_told<N: Name, R: Wait, L: Listen + Drop, C: Milliseconds>(
+    rt: &R,
+    alloc: Global,
+    site: &Site<N, C>,
+    told: Option<OnceToken<'_, bool>>,
+    seat: Seat<N>,
+    listener: L,
+    turns: Turns,
+) -> SeatLeft<N>
+    requires told { IfSome told (λ t. t.of ≡ site.now.go.id) }
+    requires seat { seat.amount ≡ 0 }
+    ensures left { IsLeft is_received seat.caller seat.parts result }
+    ensures work { result.began ≡ true → HasReceived N.start N.opening.own L.Reader.remaining L.Writer.contents
+        (C.shows site.now.clock) seat.caller L.accepts turns.exchanges listener result.receipts }
+{
+    let begins = match &told {
+        Some(token) => *site.go.value(token),
+        None => false,
+    };
+    if !begins {
+        return SeatLeft::unused(alloc, seat);
+    }
+    run_receiver(rt, alloc, site, seat, listener, turns.exchanges)
 }
 
 /// Does the sender's work if all workers were started, and returns its seat with its receipts and the rounds taken.
@@ -59,8 +84,8 @@ pub fn run_sender<N: Name, R: Wait, D: Dial + Drop, C: Milliseconds>(
     alloc: Global,
     site: &Site<N, C>,
     seat: Seat<N>,
-    dialer: D,
-    taking: Taking,
+    mut dialer: D,
+    mut taking: Taking,
 ) -> SenderLeft<N>
     requires seat { seat.amount ≡ 0 }
     requires taking { taken_by taking ≡ [] }
@@ -76,8 +101,6 @@ pub fn run_sender<N: Name, R: Wait, D: Dial + Drop, C: Milliseconds>(
             numbers: Vec::new(alloc),
         };
     }
-    let mut dialer = dialer;
-    let mut taking = taking;
     let mut gate = SeatGate::new(rt, alloc, &site.shared, seat);
     let numbers = sender(rt, alloc, &mut gate, &mut dialer, &site.clock, &mut taking);
     SenderLeft {
@@ -96,8 +119,8 @@ pub fn run_ticker<N: Name, R: Wait + Clock, C: Milliseconds, G: Rng + Drop>(
     alloc: Global,
     site: &Site<N, C>,
     seat: Seat<N>,
-    generator: G,
-    putting: Putting,
+    mut generator: G,
+    mut putting: Putting,
     turns: Turns,
 ) -> TickerLeft<N>
     requires seat { seat.amount ≡ 0 }
@@ -114,8 +137,6 @@ pub fn run_ticker<N: Name, R: Wait + Clock, C: Milliseconds, G: Rng + Drop>(
             putting,
         };
     }
-    let mut generator = generator;
-    let mut putting = putting;
     let mut gate = SeatGate::new(rt, alloc, &site.shared, seat);
     let _ticked = ticker(
         rt,
@@ -139,8 +160,8 @@ pub fn run_operator<N: Name, R: Wait, C: Milliseconds, O: Operate + Drop>(
     alloc: Global,
     site: &Site<N, C>,
     seat: Seat<N>,
-    operates: O,
-    pass: Pass<N>,
+    mut operates: O,
+    mut pass: Pass<N>,
 ) -> SeatLeft<N>
     requires seat { seat.amount ≡ 0 }
     requires pass { pass ≡ [] }
@@ -151,8 +172,6 @@ pub fn run_operator<N: Name, R: Wait, C: Milliseconds, O: Operate + Drop>(
     if !*site.go.wait(rt) {
         return SeatLeft::unused(alloc, seat);
     }
-    let mut operates = operates;
-    let mut pass = pass;
     let mut gate = SeatGate::new(rt, alloc, &site.shared, seat);
     let _ended = operator(alloc, &mut gate, &mut pass, &mut operates);
     left_of(gate)
