@@ -105,8 +105,9 @@ pub(crate) fn advanced(lives: &Lives, cursor: Cursor) -> Cursor
 pub(crate) fn cursors(alloc: Global, lives: &[Lives]) -> Result<Vec<Cursor>, AllocError>
     ensures { IfOk result (λ v. v.items ≡ first_cursors lives.now) }
 {
-    lives
-        .iter()
-        .map(|_| Cursor { life: 0, number: 0 })
-        .collect(alloc)
+    let mut cursors = Vec::with_capacity(alloc, lives.len())?;
+    for _ in lives {
+        cursors.push(Cursor { life: 0, number: 0 })?;
+    }
+    Ok(cursors)
 }
