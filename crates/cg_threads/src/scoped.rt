@@ -119,9 +119,12 @@ where
             let operator = start(scope, operates, move || {
                 run_operator(rt, alloc, site, operator_seat, operator, pass)
             });
-            let token = told(&site.go, &sender, &ticker, &operator);
+            let begins = match &told(&site.go, &sender, &ticker, &operator) {
+                Some(token) => *site.go.value(token),
+                None => false,
+            };
             WorkersLeft {
-                receiver: receive_told(rt, alloc, site, token, receiver_seat, listener, turns),
+                receiver: receive_told(rt, alloc, site, begins, receiver_seat, listener, turns),
                 sender: sender.ended(rt),
                 ticker: ticker.ended(rt),
                 operator: operator.ended(rt),

@@ -1,7 +1,7 @@
 //! The workers: each works over a gate of its seat, and gives the seat back. All but the receiver wait for the start
 //! signal first.
 
-ghost use Rattle.std.specs.Prelude.{◌≡◌, [], true, IfSome};
+ghost use Rattle.std.specs.Prelude.{◌≡◌, [], true};
 ghost use Rattle.cg_workers.specs.Ends.{put_by, taken_by, taken_in};
 ghost use Rattle.cg_locked.specs.Seats.{AreOfCaller};
 ghost use Rattle.cg_threads.specs.Left.{IsLeft, HasTaken, HasPut, is_received, is_ack, is_tick, is_any};
@@ -15,7 +15,7 @@ use cg_workers::{Dial, Listen, Milliseconds, Putting, Taking, Turns, receiver, s
 use rand_core::Rng;
 use std::alloc::Global;
 use std::rt::Clock;
-use std::sync::{OnceToken, Wait};
+use std::sync::Wait;
 
 // Takes a gate apart: its seat and its receipts, which are all of the seat's caller.
 fn left_of<N: Name, R: Wait>(gate: SeatGate<'_, N, R>) -> SeatLeft<N>
@@ -55,21 +55,16 @@ pub(crate) fn receive_told<N: Name, R: Wait, L: Listen + Drop, C: Milliseconds>(
     rt: &R,
     alloc: Global,
     site: &Site<N, C>,
-    told: Option<OnceToken<'_, bool>>,
+    begins: bool,
     seat: Seat<N>,
     listener: L,
     turns: Turns,
 ) -> SeatLeft<N>
-    requires told { IfSome told (λ t. t.of ≡ site.now.go.id) }
     requires seat { seat.amount ≡ 0 }
     ensures left { IsLeft is_received seat.caller seat.parts result }
     ensures work { result.began ≡ true → HasReceived N.start N.opening.own L.Reader.remaining L.Writer.contents
         (C.shows site.now.clock) seat.caller L.accepts turns.exchanges listener result.receipts }
 {
-    let begins = match &told {
-        Some(token) => *site.go.value(token),
-        None => false,
-    };
     if !begins {
         return SeatLeft::unused(alloc, seat);
     }
