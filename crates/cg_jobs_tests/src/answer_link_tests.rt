@@ -1,8 +1,8 @@
 //! `answer` over links of which each call fails in turn or moves a byte, and over inputs of one chunk and of two.
 
 use cg_links::{Counted, CountingLink, FailingLink, SlowLink};
-use cg_text::written;
 use cg_testing::{expect, expect_eq};
+use cg_text::written;
 use cg_tool::answer;
 use std::alloc::{AllocError, Global};
 use std::test::Fail;

@@ -66,8 +66,10 @@ fn answer<N: Name, R: Wait>(
         Err(fault) => return fault.number(),
     };
     match board.submit(rt, alloc, seat, event) {
-        Ok((_receipt, Some(_told))) => 0,
-        Ok((_receipt, None)) => 1,
+        Ok((_receipt, told)) => match told {
+            Some(_told) => 0,
+            None => 1,
+        },
         Err(fault) => fault.number(),
     }
 }
@@ -110,7 +112,7 @@ fn left_by<N: Name, R: Wait>(
     table: Table,
     history: History,
     fresh: Fresh,
-    sink: Sink,
+    turn: u64,
     keep: usize,
     letters: &[u8],
 ) -> Result<Left, Fail>
@@ -121,7 +123,7 @@ fn left_by<N: Name, R: Wait>(
     requires fresh { (fresh.name ≡ N.name) × (fresh.parts ≡ N.parts) × (fresh.log ≡ N.log) × (N.parts ≡ 1) }
 {
     let (publisher, _passes) = views::<N>(alloc, opened, table, 1)?;
-    let sink = Counted::new(sink);
+    let sink = Counted::new(FailingLink::new(Vec::new(alloc), turn));
     let (mut board, mut seats) = match Journaled::begin(
         rt, alloc, history, publisher, fresh, 1, sink, keep,
     ) {
@@ -149,7 +151,7 @@ fn left_by<N: Name, R: Wait>(
 
 /// Has the events of all letters done at a board that keeps this many records. The call of its writer with this number
 /// fails.
-pub(crate) fn left<R: Wait>(
+pub(crate) fn what_is_left<R: Wait>(
     rt: &R,
     alloc: Global,
     turn: u64,
@@ -165,7 +167,7 @@ pub(crate) fn left<R: Wait>(
         table,
         history,
         Fresh::new(1),
-        FailingLink::new(Vec::new(alloc), turn),
+        turn,
         keep,
         letters,
     )

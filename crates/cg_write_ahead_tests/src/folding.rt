@@ -1,6 +1,6 @@
 //! Records that are folded, so that few stay in memory.
 
-use crate::boards::left;
+use crate::boards::what_is_left;
 use cg_testing::expect_eq;
 use std::test::Fail;
 
@@ -19,7 +19,7 @@ fn lines_in(text: &[u8]) -> usize {
 fn few_records_stay(rt: HostRuntime) -> Result<(), Fail> {
     let alloc = rt.alloc();
     let beats = [b'b'; 200];
-    let done = left(&rt, alloc, 0, 10, &beats)?;
+    let done = what_is_left(&rt, alloc, 0, 10, &beats)?;
     expect_eq!(
         (done.counted, done.kept <= 75, lines_in(&done.text)),
         (200, true, 201)

@@ -1,6 +1,6 @@
 //! Writes of a journal that fail.
 
-use crate::boards::left;
+use crate::boards::what_is_left;
 use cg_testing::expect_eq;
 use std::test::Fail;
 
@@ -8,8 +8,8 @@ use std::test::Fail;
 #[test]
 fn nothing_is_written_behind_a_torn_line(rt: HostRuntime) -> Result<(), Fail> {
     let alloc = rt.alloc();
-    let whole = left(&rt, alloc, 0, 10, b"b")?;
-    let torn = left(&rt, alloc, 5, 10, b"bbb")?;
+    let whole = what_is_left(&rt, alloc, 0, 10, b"b")?;
+    let torn = what_is_left(&rt, alloc, 5, 10, b"bbb")?;
     expect_eq!(
         (
             torn.answers.as_slice(),
@@ -24,8 +24,8 @@ fn nothing_is_written_behind_a_torn_line(rt: HostRuntime) -> Result<(), Fail> {
 #[test]
 fn an_unflushed_line_is_not_answered(rt: HostRuntime) -> Result<(), Fail> {
     let alloc = rt.alloc();
-    let whole = left(&rt, alloc, 0, 10, b"bb")?;
-    let torn = left(&rt, alloc, 6, 10, b"bbb")?;
+    let whole = what_is_left(&rt, alloc, 0, 10, b"bb")?;
+    let torn = what_is_left(&rt, alloc, 6, 10, b"bbb")?;
     expect_eq!(
         (
             torn.answers.as_slice(),
@@ -39,6 +39,6 @@ fn an_unflushed_line_is_not_answered(rt: HostRuntime) -> Result<(), Fail> {
 
 #[test]
 fn a_life_does_not_begin_without_its_line(rt: HostRuntime) -> Result<(), Fail> {
-    let unbegun = left(&rt, rt.alloc(), 1, 10, b"b")?;
+    let unbegun = what_is_left(&rt, rt.alloc(), 1, 10, b"b")?;
     expect_eq!(unbegun.answers.as_slice(), &[15u8][..])
 }

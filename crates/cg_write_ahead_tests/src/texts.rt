@@ -1,6 +1,6 @@
 //! Journals that were written ahead, against the text of the same history.
 
-use crate::boards::{event_of, left, new_history};
+use crate::boards::{event_of, new_history, what_is_left};
 use cg_history::History;
 use cg_journal::write_journal;
 use cg_links::Counted;
@@ -22,7 +22,7 @@ fn text_of(alloc: Global, letters: &[u8]) -> Result<Vec<u8>, Fail> {
 #[test]
 fn each_record_has_its_line(rt: HostRuntime) -> Result<(), Fail> {
     let alloc = rt.alloc();
-    let done = left(&rt, alloc, 0, 10, b"bsob")?;
+    let done = what_is_left(&rt, alloc, 0, 10, b"bsob")?;
     let text = text_of(alloc, b"bsob")?;
     expect_eq!(
         (
@@ -38,7 +38,7 @@ fn each_record_has_its_line(rt: HostRuntime) -> Result<(), Fail> {
 #[test]
 fn a_life_without_records_has_its_first_line(rt: HostRuntime) -> Result<(), Fail> {
     let alloc = rt.alloc();
-    let done = left(&rt, alloc, 0, 10, b"")?;
+    let done = what_is_left(&rt, alloc, 0, 10, b"")?;
     expect_eq!(
         done.text.as_slice(),
         &b"life 10.0.0.1:7000 9 1000 2000 60000 18421 - c1\n"[..]
@@ -48,7 +48,7 @@ fn a_life_without_records_has_its_first_line(rt: HostRuntime) -> Result<(), Fail
 #[test]
 fn a_refused_event_has_no_line(rt: HostRuntime) -> Result<(), Fail> {
     let alloc = rt.alloc();
-    let done = left(&rt, alloc, 0, 10, b"brs")?;
+    let done = what_is_left(&rt, alloc, 0, 10, b"brs")?;
     let text = text_of(alloc, b"bs")?;
     expect_eq!(
         (done.counted, done.torn, done.text == text),
