@@ -1,21 +1,24 @@
 -- The gaps that a window keeps, and shows after one more arrival.
-use Rattle.std.proofs.Common.{◌≡◌, ℕ, zero, suc, ◌+◌, ◌-◌, ◌*◌, ◌≤◌, min, Bool, true, false, cond, List, [], ◌∷◌, ◌++◌, length, drop, take, sum, Option, Some, None, Result, Ok, Err, IfOk, All, refl, sym, ap, arith, length-append, append_assoc, ◌∙◌}
+use Rattle.std.proofs.Common.{◌≡◌, ℕ, zero, suc, ◌+◌, ◌-◌, ◌*◌, ◌≤◌, min, Bool, true, false, cond, List, [], ◌∷◌, ◌++◌, length, drop, take, sum, Option, Some, None, All, refl, sym, ap, arith, length-append, append_assoc, ◌∙◌}
 use Rattle.std.specs.Prelude.{filter}
-use Rattle.std.proofs.lemmas.List.{append-nil, drop-append-le, drop-drop, length-drop, take-append-drop}
+use Rattle.std.proofs.lemmas.List.{append-nil, drop-append-le, drop-drop, length-drop}
 use Rattle.std.proofs.lemmas.List.Elements.{filter-append, All-nil, All-cons, All-drop, All-append}
-use Rattle.std.proofs.lemmas.List.Sums.{sum_by-le, sum_by-cons, sum_by-append}
+use Rattle.std.proofs.lemmas.List.Sums.{sum_by-le, sum_by-cons, sum_by-append, sum_by-take-drop}
 use Rattle.std.proofs.lemmas.Nat.{mul-le}
 use Rattle.circular_buffer.specs.Buffer.{keep_last}
 use Rattle.cg_silence.specs.declared.limits.TheConstants.{WINDOW_LIMIT, GAP_LIMIT}
-use Rattle.cg_silence.specs.declared.tail.TheConstants.{TAIL_ROOM}
-use Rattle.cg_silence.specs.Values.{SilenceValue, IsSilence, Shown, WindowValue, IsWindow, IsSharedWindow}
+use Rattle.cg_silence.specs.declared.tail.TheConstants.{TAIL_ROOM, RECENT_ROOM}
+use Rattle.cg_silence.specs.Values.{SilenceValue, IsSilence, Shown, WindowValue, IsWindow, IsPast, IsSharedWindow}
 use Rattle.cg_silence.specs.Silence.{gap, latest, greatest_arrival, gaps_of, is_recorded, window_of_all, after_arrival, Shows}
 
--- the last of a list's last, with one more after them
-keep_last-push : (n : ℕ) (xs : List ℕ) (x : ℕ) → keep_last n (keep_last n xs ++ x ∷ []) ≡ keep_last n (xs ++ x ∷ [])
-keep_last-push n xs x =
+-- the last of a list's last, with others after them
+keep_last-front : (n : ℕ) (xs ys : List ℕ) → keep_last n (keep_last n xs ++ ys) ≡ keep_last n (xs ++ ys)
+keep_last-front n xs ys =
     let k = length xs - n in
-    rw (← drop-append-le k xs (x ∷ []) (omega arith), drop-drop, length-drop, length-append) (ap (λ (m : ℕ). drop m (xs ++ x ∷ [])) (omega arith))
+    rw (length-append xs ys, ← drop-append-le k xs ys (omega arith), drop-drop, length-drop, length-append) (ap (λ (m : ℕ). drop m (xs ++ ys)) (omega arith))
+
+keep_last-push : (n : ℕ) (xs : List ℕ) (x : ℕ) → keep_last n (keep_last n xs ++ x ∷ []) ≡ keep_last n (xs ++ x ∷ [])
+keep_last-push n xs x = keep_last-front n xs (x ∷ [])
 
 gaps_of-push : (s : SilenceValue) (before : Option ℕ) (arrivals : List ℕ) (now : ℕ) → gaps_of s before (arrivals ++ now ∷ []) ≡ gaps_of s before arrivals ++ gap s (greatest_arrival before arrivals) now ∷ []
 gaps_of-push s before [] now = refl
@@ -93,25 +96,69 @@ drop_of_two (x ∷ past) tail (suc from) =
     let rest : suc from - suc (min from (length past)) ≡ from - min from (length past) = omega arith in
     rw (first, rest) (drop_of_two past tail from)
 
-sum_parted : (k : ℕ) (xs : List ℕ) → sum (take k xs) + sum (drop k xs) ≡ sum xs
-sum_parted k xs = sym (sum_by-append (λ x. x) (take k xs) (drop k xs)) ∙ ap (λ (ys : List ℕ). sum ys) (take-append-drop k xs)
+-- the last of two lists, of which the second may begin later
+keep_last-back : (n : ℕ) (xs ys : List ℕ) → keep_last n (xs ++ keep_last n ys) ≡ keep_last n (xs ++ ys)
+keep_last-back n xs ys =
+    let k = length ys - n in
+    let short = length xs + length (drop k ys) - n in
+    let long = length xs + length ys - n in
+    let same : min short (length xs) ≡ min long (length xs) = omega (arith, length-drop k ys) in
+    let rest : k + (short - min short (length xs)) ≡ long - min long (length xs) = omega (arith, length-drop k ys) in
+    rw (length-append xs ys, length-append xs (drop k ys), ← drop_of_two xs ys long, ← drop_of_two xs (drop k ys) short, drop-drop, rest, same) refl
 
--- the gaps left out of two lists, and those kept
-pub sum_left_out : (window : ℕ) (past tail : List ℕ) (from skipped : ℕ) → from ≡ length past + length tail - window → skipped ≡ min from (length past)
-    → sum (take skipped past) + sum (take (from - skipped) tail) + sum (keep_last window (past ++ tail)) ≡ sum (past ++ tail)
-sum_left_out window past tail from skipped is at =
-    let rest = from - skipped in
-    let kept : drop skipped past ++ drop rest tail ≡ keep_last window (past ++ tail) =
-    rw (length-append past tail, ← is, at) (drop_of_two past tail from) in
-    let both : sum (drop skipped past ++ drop rest tail) ≡ sum (drop skipped past) + sum (drop rest tail) = sum_by-append (λ x. x) (drop skipped past) (drop rest tail) in
-    rw (← kept) (omega (arith, both, sum_by-append (λ x. x) past tail, sum_parted skipped past, sum_parted rest tail))
+-- a list's last, where it has room for all
+keep_last_within : (n room : ℕ) (xs : List ℕ) → length xs ≤ room → keep_last (min n room) xs ≡ keep_last n xs
+keep_last_within n room xs fits = ap (λ (k : ℕ). drop k xs) (omega arith)
 
--- the sum of those kept
-pub kept_sum : (past tail past_of tail_of : List ℕ) (window window_of left total : ℕ) → past_of ≡ past → tail_of ≡ tail → window_of ≡ window
-    → left + sum (keep_last window_of (past_of ++ tail_of)) ≡ sum (past_of ++ tail_of) → total ≡ sum (past ++ tail) → total - left ≡ sum (keep_last window (past ++ tail))
-kept_sum past tail past_of tail_of window window_of left total p t n parted all =
-    let both : left + sum (keep_last window (past ++ tail)) ≡ sum (past ++ tail) = rw (← p, ← t, ← n) parted in
-    omega arith
+-- shared gaps with a tail behind the recent ones, or with all in the long list
+pub recent_more : (n : ℕ) (long recent tail : List ℕ) → IsPast n long recent → length tail ≤ TAIL_ROOM
+    → keep_last n (long ++ keep_last (min n RECENT_ROOM) (recent ++ tail)) ≡ keep_last n (keep_last n (long ++ recent) ++ tail)
+recent_more n long recent tail p short =
+    let fits : length (recent ++ tail) ≤ RECENT_ROOM = let room = p.room in omega (arith, length-append recent tail) in
+    rw (keep_last_within n RECENT_ROOM (recent ++ tail) fits, keep_last-back n long (recent ++ tail), ← append_assoc long recent tail) (sym (keep_last-front n (long ++ recent) tail))
+
+pub all_joined : (n : ℕ) (long recent tail : List ℕ) → IsPast n long recent → length tail ≤ TAIL_ROOM
+    → keep_last n (keep_last n (long ++ keep_last (min n RECENT_ROOM) (recent ++ tail)) ++ []) ≡ keep_last n (keep_last n (long ++ recent) ++ tail)
+all_joined n long recent tail p short =
+    let more = long ++ keep_last (min n RECENT_ROOM) (recent ++ tail) in
+    rw (keep_last-front n more [], append-nil more) (recent_more n long recent tail p short)
+
+-- the first of two lists
+take_of_two : (k : ℕ) (xs ys : List ℕ) → take k xs ++ take (k - length xs) ys ≡ take k (xs ++ ys)
+take_of_two zero [] ys = refl
+take_of_two (suc k) [] ys =
+    let all : suc k - 0 ≡ suc k = omega arith in
+    rw all refl
+take_of_two zero (x ∷ xs) ys =
+    let none : 0 - suc (length xs) ≡ 0 = omega arith in
+    rw none refl
+take_of_two (suc k) (x ∷ xs) ys =
+    let rest : suc k - suc (length xs) ≡ k - length xs = omega arith in
+    rw rest (ap (λ (zs : List ℕ). x ∷ zs) (take_of_two k xs ys))
+
+sum_of_two : (k : ℕ) (xs ys : List ℕ) → sum (take k xs) + sum (take (k - length xs) ys) ≡ sum (take k (xs ++ ys))
+sum_of_two k xs ys = rw (← take_of_two k xs ys) (sym (sum_by-append (λ x. x) (take k xs) (take (k - length xs) ys)))
+
+-- the sum of the first of three lists
+pub sum_of_three : (k : ℕ) (xs ys zs : List ℕ) → sum (take k xs) + sum (take (k - length xs) ys) + sum (take (k - length xs - length ys) zs) ≡ sum (take k ((xs ++ ys) ++ zs))
+sum_of_three k xs ys zs =
+    let rest : k - length xs - length ys ≡ k - length (xs ++ ys) = omega (arith, length-append xs ys) in
+    rw (rest, sum_of_two k xs ys) (sum_of_two k (xs ++ ys) zs)
+
+-- the sum of the last of three lists, which together are xs
+pub sum_kept : (n total left skipped : ℕ) (long recent tail xs : List ℕ) → (long ++ recent) ++ tail ≡ xs → left ≡ length long + length recent + length tail - n
+    → skipped ≡ sum (take left ((long ++ recent) ++ tail)) → total ≡ sum xs → total - skipped ≡ sum (keep_last n xs)
+sum_kept n total left skipped long recent tail xs is count first all =
+    let at : length xs - n ≡ left = omega (arith, ap (λ (ys : List ℕ). length ys) is, length-append (long ++ recent) tail, length-append long recent) in
+    let parted : sum (take left xs) + sum (drop left xs) ≡ sum xs = sum_by-take-drop (λ x. x) xs left in
+    let those : skipped ≡ sum (take left xs) = first ∙ ap (λ (ys : List ℕ). sum (take left ys)) is in
+    rw at (omega arith)
+
+-- it is far below 2 ^ 64
+pub small_sum : (s : SilenceValue) (past tail : List ℕ) (total : ℕ) → IsSharedWindow s past tail total → sum (keep_last s.window (past ++ tail)) ≤ WINDOW_LIMIT * GAP_LIMIT
+small_sum s past tail total w =
+    let few : length (keep_last s.window (past ++ tail)) ≤ WINDOW_LIMIT = let most = w.settings.few_gaps in omega (arith, few_kept s.window (past ++ tail)) in
+    few_summed s WINDOW_LIMIT (keep_last s.window (past ++ tail)) w.settings few (small_kept s.max_gap s.window (past ++ tail) w.small)
 
 -- a shared window with one more gap behind the last few, or with all gaps in one list and this one behind them
 pub shared_more : (s : SilenceValue) (past tail : List ℕ) (total g : ℕ) → IsSharedWindow s past tail total → g ≤ s.max_gap → IsSharedWindow s past (tail ++ g ∷ []) (total + g)

@@ -1,6 +1,7 @@
 -- Values of silence's settings and windows, as contracts see them.
-use Rattle.std.specs.Prelude.{ℕ, ◌≡◌, ◌<◌, ◌≤◌, List, ◌++◌, length, sum, Option, All, refl}
+use Rattle.std.specs.Prelude.{ℕ, ◌≡◌, ◌+◌, ◌<◌, ◌≤◌, List, ◌++◌, length, sum, Option, All, refl}
 use Rattle.std.specs.Coded.{Coded, code_by, coded×, coded_ℕ, coded_list, coded_option}
+use Rattle.cg_silence.specs.declared.tail.TheConstants.{TAIL_ROOM, RECENT_ROOM}
 use Rattle.cg_silence.specs.declared.limits.TheConstants.{WINDOW_LIMIT, GAP_LIMIT, THRESHOLD_LIMIT, DEFAULT_WINDOW, DEFAULT_INITIAL_GAP, DEFAULT_MAX_GAP, DEFAULT_THRESHOLD}
 
 -- the settings of silence: gaps kept, gaps in milliseconds, and thousandths of the mean gap
@@ -46,6 +47,17 @@ pub record IsWindow (s : SilenceValue) (gaps : List ℕ) (capacity total : ℕ) 
   pub few : length gaps ≤ s.window
   pub small : All (λ g. g ≤ s.max_gap) gaps
   pub summed : total ≡ sum gaps
+
+-- the settings of windows, and the gaps that these share
+pub record PastValue : Type 0 where
+  pub silence : SilenceValue
+  pub gaps : List ℕ
+
+-- Neither list is longer than the window, and behind the recent gaps there is room for a tail.
+pub record IsPast (window : ℕ) (long recent : List ℕ) : Type 0 where
+  pub few_long : length long ≤ window
+  pub few_recent : length recent ≤ window
+  pub room : length recent + TAIL_ROOM ≤ RECENT_ROOM
 
 -- The shared gaps are no more than there is room for. Of them and the few behind them none is over the settings'
 -- greatest, and the total is their sum.

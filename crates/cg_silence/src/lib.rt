@@ -11,6 +11,7 @@ mod fault;
 pub mod laws;
 mod limits;
 mod outcomes;
+mod past;
 mod rows;
 mod shared;
 mod silence;

@@ -1,12 +1,13 @@
 //! A window whose copies share most of its gaps.
 
-ghost use Rattle.std.specs.Prelude.{◌≡◌, ◌+◌, ◌*◌, ◌≤◌, ◌^◌, ℕ, List, [], ◌∷◌, ◌++◌, length, sum, IfOk, OnOk, OnErr, Some};
+ghost use Rattle.std.specs.Prelude.{◌≡◌, ◌-◌, ◌*◌, ◌≤◌, ◌^◌, ℕ, List, [], ◌∷◌, ◌++◌, length, take, sum, IfOk, OnOk, OnErr, Some};
 ghost use Rattle.circular_buffer.specs.Buffer.{keep_last};
 ghost use Rattle.cg_silence.specs.Silence.{Shows, after_arrival, verdict};
 
 use crate::limits::WINDOW_LIMIT;
+use crate::past::Past;
 use crate::silence::Silence;
-use crate::tail::{TAIL_ROOM, Tail};
+use crate::tail::Tail;
 use crate::verdict::Verdict;
 use crate::window::{gap, judged, latest};
 use std::alloc::{AllocError, Global};
@@ -14,15 +15,8 @@ use std::marker::Model;
 use std::ops::Deref;
 use std::sync::Arc;
 
-// What windows that were made from one another share: the settings, and all gaps but the last few.
-#[derive(Drop)]
-struct Past {
-    silence: Silence,
-    gaps: Vec<u32>,
-}
-
 /// A window whose copies share all gaps but the last few. So a copy and an arrival cost as little for a window of 1,000
-/// gaps as for a short one, but for one arrival in as many as are not shared, which copies all gaps.
+/// gaps as for a short one, but for one arrival in as many as are not shared, which puts these behind the shared ones.
 #[derive(Drop)]
 pub struct SharedWindow {
     past: Arc<Past, Global>,
@@ -43,12 +37,12 @@ impl Model for SharedWindow {
     ghost view = { λ w. record {
       silence = (arc_value w.past).silence;
       shown = record {
-        gaps = keep_last (arc_value w.past).silence.window ((arc_value w.past).gaps.items ++ w.tail);
+        gaps = keep_last (arc_value w.past).silence.window ((arc_value w.past).gaps ++ w.tail);
         last = w.last;
       };
     } };
 
-    ghost invariant = { λ w. IsSharedWindow (arc_value w.past).silence (arc_value w.past).gaps.items w.tail w.total };
+    ghost invariant = { λ w. IsSharedWindow (arc_value w.past).silence (arc_value w.past).gaps w.tail w.total };
 }
 
 // The sum of a few gaps.
@@ -64,28 +58,28 @@ fn sum_of(gaps: &[u32]) -> u64
     total
 }
 
-// The sum of the gaps that a window keeps no more.
-fn sum_left(past: &[u32], tail: &[u32], window: usize) -> u64
-    requires past { length past.now ≤ WINDOW_LIMIT }
-    requires tail { length tail.now ≤ TAIL_ROOM }
-    ensures { result + sum (keep_last window (past.now ++ tail.now)) ≡ sum (past.now ++ tail.now) }
+// The sum of a list's first gaps, and how many of `count` are left for the next list.
+fn sum_first(gaps: &[u32], count: usize) -> (u64, usize)
+    requires { length gaps.now ≤ WINDOW_LIMIT }
+    ensures sum { result.0 ≡ sum (take count gaps.now) }
+    ensures left { result.1 ≡ count - length gaps.now }
+    ensures small { result.0 ≤ WINDOW_LIMIT * 2 ^ 32 }
 {
-    let from = (past.len() + tail.len()).saturating_sub(window);
-    let skipped = from.min(past.len());
-    sum_of(&past[..skipped]) + sum_of(&tail[..from - skipped])
+    let first = count.min(gaps.len());
+    (sum_of(&gaps[..first]), count - first)
 }
 
-// The gaps kept, in one list with room for all that the window will ever keep: so a node's memory does not grow while its
-// windows fill.
-fn joined(alloc: Global, past: &[u32], tail: &[u32], window: usize) -> Result<Vec<u32>, AllocError>
-    ensures { IfOk result (λ v. v.items ≡ keep_last window (past.now ++ tail.now)) }
+// The sum of the first gaps of three lists, one behind another.
+fn sum_of_three(long: &[u32], recent: &[u32], tail: &[u32], count: usize) -> u64
+    requires long { length long.now ≤ WINDOW_LIMIT }
+    requires recent { length recent.now ≤ WINDOW_LIMIT }
+    requires tail { length tail.now ≤ WINDOW_LIMIT }
+    ensures { result ≡ sum (take count (long.now ++ recent.now ++ tail.now)) }
 {
-    let from = (past.len() + tail.len()).saturating_sub(window);
-    let skipped = from.min(past.len());
-    let mut gaps = Vec::with_capacity(alloc, window)?;
-    gaps.extend_from_slice(&past[skipped..])?;
-    gaps.extend_from_slice(&tail[from - skipped..])?;
-    Ok(gaps)
+    let (of_long, count) = sum_first(long, count);
+    let (of_recent, count) = sum_first(recent, count);
+    let (of_tail, _) = sum_first(tail, count);
+    of_long + of_recent + of_tail
 }
 
 impl SharedWindow {
@@ -94,9 +88,8 @@ impl SharedWindow {
         ensures settings { IfOk result (λ w. w.silence ≡ silence) }
         ensures shows { IfOk result (λ w. Shows w []) }
     {
-        let gaps = Vec::new(alloc);
         Ok(SharedWindow {
-            past: Arc::new(alloc, Past { silence, gaps })?,
+            past: Arc::new(alloc, Past::new(alloc, silence)?)?,
             total: 0,
             last: None,
             tail: Tail::none(),
@@ -128,7 +121,7 @@ impl SharedWindow {
             → Shows self.new (arrivals ++ now ∷ [])) }
         ensures err { OnErr result (self.new ≡ self.old) }
     {
-        let silence = self.past.deref().silence;
+        let silence = self.past.deref().silence();
         let gap = gap(silence, self.last, now);
         if gap <= u64::from(silence.max_gap()) {
             self.keep_gap(alloc, gap as u32)?;
@@ -155,7 +148,7 @@ impl SharedWindow {
         Ok(())
     }
 
-    // Adds a gap behind the others, once they are in one list.
+    // Adds a gap behind the others, once the tail is behind the shared ones.
     fn keep_behind_joined(&mut self, alloc: Global, gap: u32) -> Result<(), AllocError>
         requires { gap ≤ self.old.silence.max_gap }
         ensures ok { OnOk result (self.new ≡ record self.old {
@@ -165,18 +158,31 @@ impl SharedWindow {
         }) }
         ensures err { OnErr result (self.new ≡ self.old) }
     {
-        let silence = self.past.deref().silence;
-        let past = self.past.deref().gaps.as_slice();
-        let tail = self.tail.as_slice();
-        let window = silence.window();
-        let kept = self.total - sum_left(past, tail, window);
-        let gaps = joined(alloc, past, tail, window)?;
+        let (_, kept) = self.kept();
+        let past = self.past.deref().with(alloc, self.tail.as_slice())?;
         let mut tail = Tail::none();
         tail.push(gap);
-        self.past = Arc::new(alloc, Past { silence, gaps })?;
+        self.past = Arc::new(alloc, past)?;
         self.tail = tail;
         self.total = kept + u64::from(gap);
         Ok(())
+    }
+
+    // The number of the gaps that the window shows, and their sum.
+    fn kept(&self) -> (usize, u64)
+        ensures count { result.0 ≡ length self.now.shown.gaps }
+        ensures few { result.0 ≤ WINDOW_LIMIT }
+        ensures total { result.1 ≡ sum self.now.shown.gaps }
+    {
+        let past = self.past.deref();
+        let (long, recent) = past.as_slices();
+        let tail = self.tail.as_slice();
+        let count = long.len() + recent.len() + tail.len();
+        let left = count.saturating_sub(past.silence().window());
+        (
+            count - left,
+            self.total - sum_of_three(long, recent, tail, left),
+        )
     }
 
     /// Returns the verdict at `now`, in milliseconds. A time before the last arrival counts as no elapsed time. It
@@ -184,16 +190,8 @@ impl SharedWindow {
     pub fn verdict(&self, now: u64) -> Verdict
         ensures { result ≡ verdict self.now.silence self.now.shown now }
     {
-        let silence = self.past.deref().silence;
-        let past = self.past.deref().gaps.as_slice();
-        let tail = self.tail.as_slice();
-        let window = silence.window();
-        judged(
-            silence.threshold(),
-            self.last,
-            (past.len() + tail.len()).min(window),
-            self.total - sum_left(past, tail, window),
-            now,
-        )
+        let (count, total) = self.kept();
+        let silence = self.past.deref().silence();
+        judged(silence.threshold(), self.last, count, total, now)
     }
 }

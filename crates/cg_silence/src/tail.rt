@@ -7,6 +7,10 @@ use std::marker::Model;
 /// The most gaps in a tail.
 pub(crate) const TAIL_ROOM: usize = 16;
 
+/// The room of the gaps between the long list and the tail. They are copied once for each full tail, and the long list
+/// only once for each 128 gaps.
+pub(crate) const RECENT_ROOM: usize = 128;
+
 // At most `TAIL_ROOM` gaps, the oldest first.
 #[derive(Drop)]
 pub(crate) struct Tail {
