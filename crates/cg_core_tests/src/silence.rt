@@ -1,8 +1,8 @@
 //! Verdicts at worked times, settings of silence and their faults, and each call once with ample memory.
 
 use cg_silence::{
-    DEFAULT_INITIAL_GAP, DEFAULT_MAX_GAP, DEFAULT_THRESHOLD, DEFAULT_WINDOW, GAP_LIMIT, Silence,
-    SilenceFault, THRESHOLD_LIMIT, Verdict, WINDOW_LIMIT, Window,
+    DEFAULT_INITIAL_GAP, DEFAULT_MAX_GAP, DEFAULT_THRESHOLD, DEFAULT_WINDOW, GAP_LIMIT,
+    SharedWindow, Silence, SilenceFault, THRESHOLD_LIMIT, Verdict, WINDOW_LIMIT, Window,
 };
 use cg_testing::expect_eq;
 use std::alloc::Global;
@@ -162,4 +162,39 @@ fn the_greatest_products(rt: HostRuntime) -> Result<(), Fail> {
     expect_eq!(window.verdict(86486313600000), Verdict::Alive)?;
     expect_eq!(window.verdict(86486313600001), Verdict::Silent)?;
     expect_eq!(window.verdict(u64::MAX), Verdict::Silent)
+}
+
+// Tests whether the two windows judge differently at a time or just after it.
+fn are_apart(window: &Window, shared: &SharedWindow, at: u64) -> bool {
+    let later = at.saturating_add(1);
+    window.verdict(at) != shared.verdict(at) || window.verdict(later) != shared.verdict(later)
+}
+
+// The first arrival behind which a window that shares its gaps judges not as one that does not. Each gap is greater by
+// 1 than the last; the times are about the mean of those kept, so one more or less would be seen.
+fn first_apart(alloc: Global, silence: Silence) -> Result<Option<u64>, Fail> {
+    let half = silence.window() as u64 / 2;
+    let mut window = Window::new(alloc, silence)?;
+    let mut shared = SharedWindow::new(alloc, silence)?;
+    let mut now = 0u64;
+    for gap in 1..1500u64 {
+        now = now.saturating_add(gap);
+        window.arrived(now);
+        shared.arrived(alloc, now)?;
+        let mean = gap.saturating_sub(half.min(gap / 2));
+        if are_apart(&window, &shared, now.saturating_add(mean)) {
+            return Ok(Some(gap));
+        }
+    }
+    Ok(None)
+}
+
+// A tail is put behind the shared gaps at each 17th arrival, and all of them into one list at some.
+#[test]
+fn windows_agree_that_share_or_not(rt: HostRuntime) -> Result<(), Fail> {
+    for size in [1, 20, 114, 1000] {
+        let apart = first_apart(rt.alloc(), silence(size, 1, 5000, 1000)?)?;
+        expect_eq!(apart, None, "of {size} gaps")?;
+    }
+    Ok(())
 }
