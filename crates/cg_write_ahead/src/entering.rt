@@ -1,6 +1,7 @@
 //! An event that is entered at a board, and not yet told to anybody.
 
-ghost use Rattle.std.specs.Prelude.{◌≡◌, ◌+◌, Ok, Err, None, IfOk, OnOk, OnErr, MatchResult};
+ghost use Rattle.std.specs.Prelude.{◌≡◌, ◌+◌, ◌<◌, Ok, Err, None, IfOk, OnOk, OnErr, MatchResult};
+ghost use mathlib.Core.List.{IsPrefix};
 ghost use Rattle.cg_locked.specs.Entry.{IsEntered};
 ghost use Rattle.cg_write_ahead.specs.Submitting.{IsOneMore};
 
@@ -21,7 +22,9 @@ pub(crate) fn entered<N: Name>(
         (λ f. IsEntered N.start seat.old event seat.new.seen (Err f)) }
     ensures log { IfOk result (λ q. IsOneMore event q.reply board.old.log board.new.log) }
     ensures records { IfOk result (λ q. IsOneMore event q.reply board.old.history.records board.new.history.records) }
+    ensures number { IfOk result (λ q. board.new.history.folded < q.number) }
     ensures seen { seat.new.seen ≡ board.new.log }
+    ensures begins { IsPrefix seat.old.seen seat.new.seen }
     ensures amount { OnOk result (seat.new.amount ≡ seat.old.amount + 1) }
     ensures published { board.new.published ≡ board.old.published }
     ensures err { OnErr result ((board.new.history ≡ board.old.history) × (board.new.log ≡ board.old.log)

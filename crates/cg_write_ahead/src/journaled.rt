@@ -169,8 +169,10 @@ impl<N: Name, W: Write + Drop> Journaled<N, W> {
         requires line { line.now ≡ event_line event }
         ensures entry { MatchResult result (λ q. IsEntered N.start seat.old event seat.new.seen (Ok (q, None)))
             (λ f. (f ≡ faults.WriteFault) ⊎ IsEntered N.start seat.old event seat.new.seen (Err f)) }
+        ensures number { IfOk result (λ q. self.new.board.history.folded < q.number) }
         ensures whole { OnOk result (self.new.torn ≡ false) }
         ensures seen { seat.new.seen ≡ self.new.board.log }
+        ensures begins { IsPrefix seat.old.seen seat.new.seen }
         ensures amount { OnOk result (seat.new.amount ≡ seat.old.amount + 1) }
         ensures err { IfErr result (λ f. (f ≡ faults.WriteFault)
             ⊎ ((self.new.board.log ≡ self.old.board.log) × (seat.new.amount ≡ seat.old.amount))) }
@@ -227,8 +229,10 @@ impl<N: Name, W: Write + Drop> Journaled<N, W> {
     ) -> Result<(Receipt, Option<Told<N>>), Fault>
         ensures entry { IsEntryAhead N.start seat.old event seat.new.seen result }
         ensures shown { IfOk result (λ r. IfSome r.1 (λ t. ShowsChange t N.opening.own event r.0.reply)) }
+        ensures number { IfOk result (λ r. self.new.board.history.folded < r.0.number) }
         ensures whole { OnOk result (self.new.torn ≡ false) }
         ensures seen { OnOk result (seat.new.seen ≡ self.new.board.log) }
+        ensures begins { IsPrefix seat.old.seen seat.new.seen }
         ensures amount { OnOk result (seat.new.amount ≡ seat.old.amount + 1) }
         ensures err { IfErr result (λ f. (f ≡ faults.WriteFault)
             ⊎ ((self.new.board.log ≡ self.old.board.log) × (seat.new.amount ≡ seat.old.amount))) }

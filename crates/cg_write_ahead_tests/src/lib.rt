@@ -8,6 +8,8 @@ mod boards;
 #[cfg(test)]
 mod folding;
 #[cfg(test)]
+mod gates;
+#[cfg(test)]
 mod tearing;
 #[cfg(test)]
 mod texts;

@@ -1,8 +1,15 @@
-use Rattle.std.proofs.Common.{sym, ap, ◌∙◌}
+use Rattle.std.proofs.Common.{inr, sym, ap, ◌∙◌}
+use Rattle.std.proofs.lemmas.Result.{err_from_is_err_and}
 use Rattle.cg_history.specs.Items.{puts_of}
 use Rattle.cg_locked.proofs.Showing.{entry_shows}
 use Rattle.cg_write_ahead.proofs.Entries.{entry_told}
 use Rattle.cg_write_ahead.proofs.journaled.Journaled.submit.Goals as goal
+
+pub returns-in_err-receipt-clause-entry : goal.returns-in_err-receipt-clause-entry
+returns-in_err-receipt-clause-entry g c =
+    let made = c.from_residual-in_err-receipt in
+    let p = err_from_is_err_and made.result made.ensures.1 in
+    rw (p.1, p.2) (inr c.in_err-receipt.ensures.entry)
 
 pub returns-in-Ok-clause-entry : goal.returns-in-Ok-clause-entry
 returns-in-Ok-clause-entry g c =

@@ -1,0 +1,10 @@
+pub mod Confirmed
+pub mod Gates
+pub use Rattle.cg_history.specs.Confirming
+pub use Rattle.cg_history.specs.History
+pub use Rattle.cg_links.specs.Counted
+pub use Rattle.cg_locked.specs.Seat
+pub use Rattle.cg_locked.specs.Entry
+pub use Rattle.cg_locked.specs.Shared
+pub use Rattle.cg_write_ahead.specs.Text
+pub use Rattle.cg_write_ahead.specs.Submitting
