@@ -207,8 +207,8 @@ fn fill<N: Name, R: Wait>(
     }
 }
 
-// The number of all records.
-fn counted(history: &History) -> u64 {
+/// The number of all records.
+pub(crate) fn counted(history: &History) -> u64 {
     history
         .folded()
         .saturating_add(history.records().len() as u64)

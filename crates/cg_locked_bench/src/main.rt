@@ -1,15 +1,18 @@
 //! Measures a board: events that threads have done on a node whose table has 256 owners, beside the same events on a
-//! history alone; and beats of two threads that fold the board's records.
+//! history alone; beats of two threads that fold the board's records; and beats whose journal is written ahead, with
+//! and without folds.
 //!
 //! With no words it does each event a hundred times and prints the number of records. With the word `time` it measures
 //! each, and with the word `few` it does each twice, with a table of three.
 #![tactic(auto)]
 
+mod ahead;
 mod alone;
 mod boards;
 mod counts;
 mod inputs;
 
+use crate::ahead::measure_ahead;
 use crate::alone::measure_alone;
 use crate::boards::{Workers, measure};
 use crate::counts::{Counts, counts_by_word};
@@ -47,5 +50,7 @@ fn main(rt: HostRuntime) -> Result<()> {
         Work::BeatAndFold,
         counts,
         "beat_and_fold",
-    )
+    )?;
+    measure_ahead(&rt, alloc, usize::MAX, counts, "ahead_beat_by_1")?;
+    measure_ahead(&rt, alloc, 1_000, counts, "ahead_beat_by_1_folds")
 }
