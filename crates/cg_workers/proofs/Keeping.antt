@@ -1,5 +1,5 @@
 -- Whole exchanges keep what each event and each refusal keeps, and so do the workers.
-use Rattle.std.proofs.Common.{◌≡◌, ℕ, List, [], ◌∷◌, ◌++◌, Option, Result, Ok, Err, refl, sym, subst, inl, inr}
+use Rattle.std.proofs.Common.{◌≡◌, ℕ, List, [], ◌∷◌, ◌++◌, Option, None, Some, Result, Ok, Err, refl, sym, subst, inl, inr}
 use Rattle.cg_types.specs.declared.fault.Fault.{Fault}
 use Rattle.cg_messages.specs.declared.kind.Kind.{Kind}
 use Rattle.cg_messages.specs.declared.kind.Kind.TheVariants as kind
@@ -17,7 +17,7 @@ use Rattle.cg_core.specs.Replies.{IsReplyTo}
 use Rattle.cg_engine.specs.Events.{expected_event}
 use Rattle.cg_engine.specs.Exchanged.{Turn, AreTurns, TurnsLead, Turned, Exchanges}
 use Rattle.cg_workers.specs.declared.ends.Taking.{Taking}
-use Rattle.cg_workers.specs.Workers.{Exchanged, BegunWith, Came, Received, Reached, SentRound, SentRounds}
+use Rattle.cg_workers.specs.Workers.{Exchanged, BegunWith, Came, NextCame, Received, Reached, SentRound, SentRounds}
 use Rattle.cg_workers.proofs.EachLemmas.{each_keeps}
 
 -- the event is of a message of this kind, at this time
@@ -99,9 +99,20 @@ module _ {S : Type 0} (does : S → Event → Reply → S → Type 0) (refuses :
         each_keeps (Came does refuses stays remaining contents accepts shows) (λ (a b : L × S). keeps a.1 b.1) (λ a. same a.1) (λ a b c. both a.1 b.1 c.1)
         (λ link a b one. exchanged_keeps (kind.Syn ∷ (kind.Ack2 ∷ [])) [] link a.1 b.1 (syn, (ack2, tt)) one.answered) x.all.links s (x.here, t.1) x.all.came
 
+    -- and so does the answer to the next connection, if one comes
+    pub next_keeps : {L : Type 0} (accepts : L → Result (Option (R × W)) Fault → L → Type 0) (came : Option (Option Fault)) (s t : L × S)
+        → KeptBy kind.Syn → KeptBy kind.Ack2 → NextCame does refuses stays remaining contents accepts shows came s t → keeps s.1 t.1
+    next_keeps accepts (Some broken) s t syn ack2 x = exchanged_keeps (kind.Syn ∷ (kind.Ack2 ∷ [])) [] x.link s.1 t.1 (syn, (ack2, tt)) x.answered.0
+    next_keeps accepts None s t syn ack2 x = subst (keeps s.1) (sym x.1) (same s.1)
+
     begun_keeps : (syn : SynValue) (answer : Result (R × W) Fault) (s t : S) → KeptBy kind.Ack → BegunWith does refuses stays remaining contents shows syn answer s t → keeps s t
     begun_keeps syn (Ok link) s t ack x = exchanged_keeps (kind.Ack ∷ []) _ link s t (ack, tt) x
     begun_keeps syn (Err f) s t ack x = subst (keeps s) (sym x) (same s)
+
+    -- an exchange with a peer keeps what the events of ACKs keep
+    pub reached_keeps : {D : Type 0} (dials : D → ℕ → Result (R × W) Fault → D → Type 0) (syn : SynValue) (peer : ℕ) (s t : D × S)
+        → KeptBy kind.Ack → Reached does refuses stays remaining contents dials shows syn peer s t → keeps s.1 t.1
+    reached_keeps dials syn peer s t ack x = begun_keeps syn x.answer s.1 t.1 ack x.begun
 
     -- the sender keeps what the events of ACKs keep
     pub sent_keeps : {D : Type 0} (dials : D → ℕ → Result (R × W) Fault → D → Type 0) (before after : Taking) (numbers : List ℕ) (s t : D × S)

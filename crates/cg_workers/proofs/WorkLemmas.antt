@@ -1,10 +1,11 @@
--- One connection more, and one round more.
-use Rattle.std.proofs.Common.{◌≡◌, ℕ, ◌+◌, List, [], ◌∷◌, ◌++◌, length-append, Option, Result, refl, ap, ◌∙◌, append_assoc}
+-- One connection more, one peer more, and one round more.
+use Rattle.std.proofs.Common.{◌≡◌, ℕ, ◌+◌, List, [], ◌∷◌, ◌++◌, length-append, Option, Result, Ok, Err, refl, ap, ◌∙◌, append_assoc}
 use Rattle.cg_types.specs.declared.fault.Fault.{Fault}
 use Rattle.cg_core.specs.declared.event.Event.{Event}
 use Rattle.cg_core.specs.declared.reply.Reply.{Reply}
 use Rattle.cg_workers.specs.declared.round.Round.{Round}
-use Rattle.cg_workers.specs.Workers.{numbers_of, Came, AllCame}
+use Rattle.cg_messages.specs.Values.{SynValue}
+use Rattle.cg_workers.specs.Workers.{numbers_of, Came, AllCame, BegunWith, BegunWithTo, Reached, ReachedTo}
 use Rattle.cg_workers.proofs.EachLemmas.{each_more}
 
 module _ {S R W L : Type 0} (does : S → Event → Reply → S → Type 0) (refuses : S → Event → Fault → Type 0)
@@ -17,6 +18,19 @@ module _ {S R W L : Type 0} (does : S → Event → Reply → S → Type 0) (ref
     counted = length-append all.links (link ∷ []) ∙ ap (λ (n : ℕ). n + 1) all.counted;
     came = each_more (Came does refuses stays remaining contents accepts shows) all.links link s u t all.came one;
   }
+
+module _ {S R W D : Type 0} (does : S → Event → Reply → S → Type 0) (refuses : S → Event → Fault → Type 0)
+    (stays : S → S → Type 0) (remaining : R → Option (List ℕ)) (contents : W → Option (List ℕ))
+    (dials : D → ℕ → Result (R × W) Fault → D → Type 0) (shows : ℕ → Type 0) where
+  begun : (broken : Option Fault) (syn : SynValue) (answer : Result (R × W) Fault) (s t : S) → BegunWithTo does refuses stays remaining contents shows broken syn answer s t
+      → BegunWith does refuses stays remaining contents shows syn answer s t
+  begun broken syn (Ok link) s t x = x.0
+  begun broken syn (Err f) s t x = x.0
+
+  -- a peer was reached, whatever broke the exchange off
+  pub reached : (broken : Option Fault) (syn : SynValue) (peer : ℕ) (s t : D × S) → ReachedTo does refuses stays remaining contents dials shows broken syn peer s t
+      → Reached does refuses stays remaining contents dials shows syn peer s t
+  reached broken syn peer s t x = record { answer = x.answer; dialed = x.dialed; begun = begun broken syn x.answer s.1 t.1 x.begun }
 
 numbers_more : (rounds : List Round) (round : Round) → numbers_of rounds ++ (round.number ∷ []) ≡ numbers_of (rounds ++ (round ∷ []))
 numbers_more [] round = refl

@@ -1,5 +1,5 @@
 -- The exchanges, connections and rounds of a node's workers over links.
-use Rattle.std.specs.Prelude.{◌≡◌, ℕ, ◌<◌, ◌⊎◌, List, [], ◌∷◌, ◌++◌, length, map, Option, Some, Result, Ok, Err}
+use Rattle.std.specs.Prelude.{◌≡◌, ℕ, ◌<◌, ◌⊎◌, List, [], ◌∷◌, ◌++◌, length, map, Option, None, Some, Result, Ok, Err}
 use Rattle.cg_types.specs.declared.fault.Fault.{Fault}
 use Rattle.cg_types.specs.declared.fault.Fault.TheVariants as fault
 use Rattle.cg_messages.specs.declared.kind.Kind.{Kind}
@@ -28,6 +28,11 @@ IsLinkFault f = (f ≡ fault.OutOfMemory) ⊎ (f ≡ fault.ReadFault)
 abbrev pub IsNoLink : {X : Type 0} → Result (Option X) Fault → Type 0
 IsNoLink (Ok (Some link)) = ⊥
 IsNoLink r = Unit {0}
+
+-- the fault that broke an exchange off, if one did
+abbrev pub fault_in : Result Ended Broken → Option Fault
+fault_in (Ok end) = None
+fault_in (Err broken) = Some broken.fault
 
 -- the numbers of rounds
 abbrev pub numbers_of : List Round → List ℕ
@@ -61,10 +66,22 @@ module _ {S R W : Type 0} (does : S → Event → Reply → S → Type 0) (refus
   abbrev pub Begun : SynValue → R × W → S → S → Type 0
   Begun syn link s t = Exchanged (kind.Ack ∷ []) (frame WRITTEN (messages.Syn syn)) link s t
 
+  -- The exchange was broken off by this fault, if by any.
+  abbrev pub AnsweredTo : Option Fault → R × W → S → S → Type 0
+  AnsweredTo broken link s t = (x : Answered link s t) × (broken ≡ fault_in x.ended)
+
+  abbrev pub BegunTo : Option Fault → SynValue → R × W → S → S → Type 0
+  BegunTo broken syn link s t = (x : Begun syn link s t) × (broken ≡ fault_in x.ended)
+
   -- the outcome of dialing a peer: an exchange was begun, or nothing was done
   abbrev pub BegunWith : SynValue → Result (R × W) Fault → S → S → Type 0
   BegunWith syn (Ok link) s t = Begun syn link s t
   BegunWith syn (Err fault) s t = t ≡ s
+
+  -- The exchange that was begun, if one was, was broken off by this fault, if by any.
+  abbrev pub BegunWithTo : Option Fault → SynValue → Result (R × W) Fault → S → S → Type 0
+  BegunWithTo broken syn (Ok link) s t = BegunTo broken syn link s t
+  BegunWithTo broken syn (Err fault) s t = (t ≡ s) × (broken ≡ None)
 
 -- Parameters: the same, and a listener's answers.
 module _ {S R W L : Type 0} (does : S → Event → Reply → S → Type 0) (refuses : S → Event → Fault → Type 0)
@@ -87,6 +104,17 @@ module _ {S R W L : Type 0} (does : S → Event → Reply → S → Type 0) (ref
     pub accepted : accepts s answer t
     pub none : IsNoLink answer
 
+  -- a connection came, and the exchange over it was answered, and broken off by this fault, if by any
+  pub record CameTo (broken : Option Fault) (s t : L × S) : Type 0 where
+    pub link : R × W
+    pub accepted : accepts s.0 (Ok (Some link)) t.0
+    pub answered : AnsweredTo does refuses stays remaining contents shows broken link s.1 t.1
+
+  -- the outcome of waiting for a connection: it was answered, or none came
+  abbrev pub NextCame : Option (Option Fault) → L × S → L × S → Type 0
+  NextCame (Some broken) s t = CameTo broken s t
+  NextCame None s t = NoneCame s.0 t.0 × (t.1 ≡ s.1)
+
   -- `count` connections came, each was answered, and there were as many as were wanted, or no further one came.
   pub record Received (wanted count : ℕ) (s t : L × S) : Type 0 where
     pub here : L
@@ -102,6 +130,12 @@ module _ {S R W D : Type 0} (does : S → Event → Reply → S → Type 0) (ref
     pub answer : Result (R × W) Fault
     pub dialed : dials s.0 peer answer t.0
     pub begun : BegunWith does refuses stays remaining contents shows syn answer s.1 t.1
+
+  -- the same, and the exchange was broken off by this fault, if by any
+  pub record ReachedTo (broken : Option Fault) (syn : SynValue) (peer : ℕ) (s t : D × S) : Type 0 where
+    pub answer : Result (R × W) Fault
+    pub dialed : dials s.0 peer answer t.0
+    pub begun : BegunWithTo does refuses stays remaining contents shows broken syn answer s.1 t.1
 
   -- each peer of a round was dialed, in their order
   abbrev pub SentRound : Round → D × S → D × S → Type 0

@@ -12,6 +12,7 @@
 #![tactic(auto)]
 
 mod accept_errors;
+mod breaking;
 mod clock;
 mod connection_lines;
 mod dialing;
@@ -47,9 +48,9 @@ pub use limits::{
 pub use links::{Dial, Listen};
 pub use listening::Listener;
 pub use making::{ROOM, rounds};
-pub use receiving::receiver;
+pub use receiving::{answer_next, receiver};
 pub use round::Round;
-pub use sending::{ROUNDS_AT_ONCE, sender};
+pub use sending::{ROUNDS_AT_ONCE, reach, sender};
 pub use side::Side;
 pub use ticked::{Stop, Ticked};
 pub use ticking::ticker;

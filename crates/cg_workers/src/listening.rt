@@ -1,6 +1,6 @@
 //! Connections that come in over TCP.
 
-ghost use Rattle.std.specs.Prelude.{◌≡◌, ◌⊎◌, IfErr};
+ghost use Rattle.std.specs.Prelude.{◌≡◌, ◌⊎◌, IfOk, IfErr};
 ghost use Rattle.cg_types.specs.declared.fault.Fault.TheVariants as faults;
 
 use crate::accept_errors::is_passing_error;
@@ -29,8 +29,23 @@ pub struct Listener<'a, R: Net<Stream = TcpStream> + Clock> {
 }
 
 impl<'a, R: Net<Stream = TcpStream> + Clock> Listener<'a, R> {
-    /// Listens at an endpoint, and gives each exchange `limit` milliseconds. `ReadFault` if that can't be, for example
-    /// because another program listens there, which a line on standard error says; `OutOfMemory` if memory is refused.
+    /// Listens at an endpoint, and gives each exchange `limit` milliseconds.
+    pub fn open(rt: &'a R, alloc: Global, at: Endpoint, limit: u32) -> io::Result<Listener<'a, R>>
+        ensures { IfOk result (λ l. l.limit ≡ limit) }
+    {
+        let address = SocketAddr::from((at.address(), at.port()));
+        let listener = TcpListener::bind(rt, address)?;
+        Ok(Listener {
+            rt,
+            alloc,
+            listener,
+            limit,
+            lines: Lines::new(),
+        })
+    }
+
+    /// Listens at an endpoint by `open`. `ReadFault` if that can't be, for example because another program listens
+    /// there, which a line on standard error says; `OutOfMemory` if memory is refused.
     pub fn bind(
         rt: &'a R,
         alloc: Global,
@@ -39,17 +54,11 @@ impl<'a, R: Net<Stream = TcpStream> + Clock> Listener<'a, R> {
     ) -> Result<Listener<'a, R>, Fault>
     where
         R: Eprint,
-        ensures { IfErr result (λ f. (f ≡ faults.OutOfMemory) ⊎ (f ≡ faults.ReadFault)) }
+        ensures limit { IfOk result (λ l. l.limit ≡ limit) }
+        ensures fault { IfErr result (λ f. (f ≡ faults.OutOfMemory) ⊎ (f ≡ faults.ReadFault)) }
     {
-        let address = SocketAddr::from((at.address(), at.port()));
-        match TcpListener::bind(rt, address) {
-            Ok(listener) => Ok(Listener {
-                rt,
-                alloc,
-                listener,
-                limit,
-                lines: Lines::new(),
-            }),
+        match Listener::open(rt, alloc, at, limit) {
+            Ok(listener) => Ok(listener),
             Err(error) => {
                 let _ = eprintln!(rt; "cg: can't listen at {at}: {error}");
                 match error.kind() {
@@ -58,6 +67,19 @@ impl<'a, R: Net<Stream = TcpStream> + Clock> Listener<'a, R> {
                 }
             }
         }
+    }
+
+    /// Makes another listener of the same connections, with the same limit: each connection comes to one of the two.
+    pub fn again(&self) -> io::Result<Listener<'a, R>>
+        ensures { IfOk result (λ l. l.limit ≡ self.now.limit) }
+    {
+        Ok(Listener {
+            rt: self.rt,
+            alloc: self.alloc,
+            listener: self.listener.try_clone()?,
+            limit: self.limit,
+            lines: Lines::new(),
+        })
     }
 
     /// Returns the address at which it listens.

@@ -3,15 +3,16 @@
 ghost use Rattle.std.specs.Prelude.{◌≡◌, ◌≤◌, ◌⊎◌, [], vec_capacity};
 ghost use Rattle.cg_workers.specs.Ends.{TakesWhere};
 ghost use Rattle.cg_workers.specs.declared.sending.TheConstants.{ROUNDS_AT_ONCE};
-ghost use Rattle.cg_workers.specs.Workers.{Begun, Reached, SentRound, SentRounds};
+ghost use Rattle.cg_workers.specs.Workers.{BegunTo, ReachedTo, SentRound, SentRounds};
 
+use crate::breaking::broken_by;
 use crate::clock::Milliseconds;
 use crate::ends::Taking;
 use crate::links::Dial;
 use crate::round::Round;
 use cg_engine::{Counted, Gate, initiate};
 use cg_messages::Syn;
-use cg_types::Endpoint;
+use cg_types::{Endpoint, Fault};
 use std::alloc::Global;
 use std::io::{Read, Write};
 use std::sync::Wait;
@@ -19,37 +20,39 @@ use std::sync::Wait;
 /// The number of rounds for whose numbers room is made at once.
 pub const ROUNDS_AT_ONCE: usize = 1_000_000;
 
-// Begins an exchange over a link, with this SYN.
+// Begins an exchange over a link, with this SYN. Returns the fault that broke it off, if one did.
 fn begin<G: Gate, R: Read + Drop, W: Write + Drop, C: Milliseconds>(
     alloc: Global,
     gate: &mut G,
     clock: &C,
     syn: &Syn,
     link: (R, W),
-)
-    ensures { Begun G.does G.refuses G.stays R.remaining W.contents (C.shows clock.now) syn.now link gate.old gate.new }
+) -> Option<Fault>
+    ensures { BegunTo G.does G.refuses G.stays R.remaining W.contents (C.shows clock.now) result syn.now link gate.old gate.new }
 {
     let (reader, writer) = link;
     let mut reader = Counted::new(reader);
     let mut writer = Counted::new(writer);
     let now = clock.now();
-    let _ended = initiate(alloc, gate, now, syn, &mut reader, &mut writer);
+    broken_by(initiate(alloc, gate, now, syn, &mut reader, &mut writer))
 }
 
-// Dials a peer, and begins an exchange with it if it can be reached.
-fn reach<G: Gate, D: Dial, C: Milliseconds>(
+/// Dials a peer, and begins an exchange with it if it can be reached. Returns the fault that broke the exchange off, if
+/// one did.
+pub fn reach<G: Gate, D: Dial, C: Milliseconds>(
     alloc: Global,
     gate: &mut G,
     dialer: &mut D,
     clock: &C,
     syn: &Syn,
     peer: Endpoint,
-)
-    ensures { Reached G.does G.refuses G.stays D.Reader.remaining D.Writer.contents D.dials (C.shows clock.now) syn.now
-        peer (dialer.old, gate.old) (dialer.new, gate.new) }
+) -> Option<Fault>
+    ensures { ReachedTo G.does G.refuses G.stays D.Reader.remaining D.Writer.contents D.dials (C.shows clock.now) result
+        syn.now peer (dialer.old, gate.old) (dialer.new, gate.new) }
 {
-    if let Ok(link) = dialer.dial(peer) {
-        begin(alloc, gate, clock, syn, link);
+    match dialer.dial(peer) {
+        Ok(link) => begin(alloc, gate, clock, syn, link),
+        Err(_) => None,
     }
 }
 
@@ -65,7 +68,7 @@ fn send_round<G: Gate, D: Dial, C: Milliseconds>(
         round.now (dialer.old, gate.old) (dialer.new, gate.new) }
 {
     for peer in round.peers.endpoints() {
-        reach(alloc, gate, dialer, clock, &round.syn, *peer);
+        let _broken = reach(alloc, gate, dialer, clock, &round.syn, *peer);
     }
 }
 

@@ -41,9 +41,23 @@ fn a_word_is_answered(rt: HostRuntime) -> Result<(), Fail> {
 }
 
 #[test]
+fn another_listener_takes_the_same_connections(rt: HostRuntime) -> Result<(), Fail> {
+    let to = free_endpoint(&rt)?;
+    let first = Listener::open(&rt, rt.alloc(), to, 2000)?;
+    let mut second = first.again()?;
+    drop(first);
+    let mut dialer = Dialer::new(&rt, rt.alloc(), 2000);
+    let (answered, asked) = thread::join(&rt, || echo(&mut second), || ask(&mut dialer, to));
+    expect!(answered)?;
+    expect!(asked == Some(*b"syn"))
+}
+
+#[test]
 fn a_place_is_taken_once(rt: HostRuntime) -> Result<(), Fail> {
     let at = free_endpoint(&rt)?;
     let _listener = Listener::bind(&rt, rt.alloc(), at, 2000)?;
+    let again = Listener::open(&rt, rt.alloc(), at, 2000).err();
+    expect!(matches!(again, Some(error) if error.kind() == ErrorKind::AddrInUse))?;
     expect!(Listener::bind(&rt, rt.alloc(), at, 2000).err() == Some(Fault::ReadFault))
 }
 

@@ -3,7 +3,7 @@
 use crate::samples::{SYN, SYN_AND_ACK2, Standing, owners, started};
 use cg_testing::{B, expect_eq};
 use cg_types::Fault;
-use cg_workers::{Listen, receiver};
+use cg_workers::{Listen, answer_next, receiver};
 use std::alloc::Global;
 use std::test::Fail;
 
@@ -86,4 +86,31 @@ fn no_more_come_than_are_wanted(rt: HostRuntime) -> Result<(), Fail> {
         received(alloc, &[Ok(Some(SYN)), WHOLE, WHOLE], 2)?,
         (2, 2, 2)
     )
+}
+
+// The outcome of waiting for one connection, and the number of owners that B holds then: the fault that broke the
+// exchange off, if one came and one did.
+fn came_next(alloc: Global, coming: Coming) -> Result<(Option<Option<Fault>>, usize), Fail> {
+    let mut gate = started(alloc, B, 5)?;
+    let mut listener = Script {
+        alloc,
+        comings: &[coming],
+        calls: 0,
+    };
+    let came = answer_next(alloc, &mut gate, &mut listener, &Standing(1000));
+    Ok((came, owners(&gate)))
+}
+
+#[test]
+fn the_next_exchange_tells_what_broke_it_off(rt: HostRuntime) -> Result<(), Fail> {
+    let alloc = rt.alloc();
+    expect_eq!(came_next(alloc, WHOLE)?, (Some(None), 2))?;
+    expect_eq!(came_next(alloc, Ok(Some(SYN)))?, (Some(None), 1))?;
+    let cut = SYN.get(..9).ok_or("nine bytes")?;
+    expect_eq!(
+        came_next(alloc, Ok(Some(cut)))?,
+        (Some(Some(Fault::Truncated)), 1)
+    )?;
+    expect_eq!(came_next(alloc, Ok(None))?, (None, 1))?;
+    expect_eq!(came_next(alloc, Err(Fault::ReadFault))?, (None, 1))
 }

@@ -7,7 +7,7 @@ use cg_frames::decode;
 use cg_messages::Syn;
 use cg_testing::{A, B, endpoint, expect, expect_eq};
 use cg_types::{Endpoint, Fault};
-use cg_workers::{Dial, Round, rounds, sender};
+use cg_workers::{Dial, Round, reach, rounds, sender};
 use std::alloc::Global;
 use std::sync::Wait;
 use std::test::Fail;
@@ -167,4 +167,35 @@ fn taken<R: Wait>(rt: &R, alloc: Global) -> Result<(usize, usize), Fail> {
 fn it_ends_where_nobody_puts_any_in(rt: HostRuntime) -> Result<(), Fail> {
     let (taken, room) = taken(&rt, rt.alloc())?;
     expect!(taken == 0 && room >= 1_000_000, "{room}")
+}
+
+// The fault that breaks off an exchange of A with a peer of which these bytes are read, if one does, and the number of
+// owners that A holds then.
+fn reached(alloc: Global, peer: u16, bytes: &'static [u8]) -> Result<(Option<Fault>, usize), Fail> {
+    let mut gate = started(alloc, A, 9)?;
+    let mut dialer = Book {
+        alloc,
+        reached: endpoint(B),
+        bytes,
+        dialed: Vec::new(alloc),
+    };
+    let syn = opening(alloc)?;
+    let broken = reach(
+        alloc,
+        &mut gate,
+        &mut dialer,
+        &Standing(1000),
+        &syn,
+        endpoint(peer),
+    );
+    Ok((broken, owners(&gate)))
+}
+
+#[test]
+fn a_peer_tells_what_broke_its_exchange_off(rt: HostRuntime) -> Result<(), Fail> {
+    let alloc = rt.alloc();
+    let cut = ACK.get(..9).ok_or("nine bytes")?;
+    expect_eq!(reached(alloc, B, ACK)?, (None, 2))?;
+    expect_eq!(reached(alloc, B, cut)?, (Some(Fault::Truncated), 1))?;
+    expect_eq!(reached(alloc, 3, ACK)?, (None, 1))
 }

@@ -1,16 +1,19 @@
 use Rattle.cg_workers.proofs.sending.begin.Goals as goal
 
 pub returns : goal.returns
-returns g c = record {
-  now = c.now-now.result;
-  shown = c.now-now.ensures;
-  r0 = c.new-reader.result;
-  r1 = c.initiate-ended.new.reader;
-  w0 = c.new-writer.result;
-  w1 = c.initiate-ended.new.writer;
-  read = c.new-reader.ensures.link;
-  written = c.new-writer.ensures.link;
-  fresh = (c.new-reader.ensures.counts, c.new-writer.ensures.counts);
-  ended = c.initiate-ended.result;
-  done = c.initiate-ended.ensures;
-}
+returns g c = (
+  record {
+    now = c.now-now.result;
+    shown = c.now-now.ensures;
+    r0 = c.new-reader.result;
+    r1 = c.initiate.new.reader;
+    w0 = c.new-writer.result;
+    w1 = c.initiate.new.writer;
+    read = c.new-reader.ensures.link;
+    written = c.new-writer.ensures.link;
+    fresh = (c.new-reader.ensures.counts, c.new-writer.ensures.counts);
+    ended = c.initiate.result;
+    done = c.initiate.ensures;
+  },
+  c.broken_by.ensures,
+)
