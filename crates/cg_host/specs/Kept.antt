@@ -12,6 +12,11 @@ use Rattle.cg_settings_file.specs.Seen.{RefusesKey}
 use Rattle.cg_version.specs.Version.{generation_at_start}
 use Rattle.cg_host.specs.declared.settings.TheConstants.{SETTINGS_MOST}
 
+-- A settings file can't be read, or is missing.
+abbrev pub IsUnreadable : {F : Type 0} → (Call F → Type 0) → (F → Option (List ℕ)) → List ℕ → Fault → Type 0
+IsUnreadable did remaining path f =
+    Unfound did remaining path SETTINGS_MOST f ⊎ ((f ≡ fault.ReadFault) × did (Opened path (Ok None)))
+
 -- by the calls of a disk that were made, and the bytes that an open file has left or holds
 module _ {F : Type 0} (did : Call F → Type 0) (remaining contents : F → Option (List ℕ)) (path : List ℕ) where
   -- ---- settings
@@ -54,7 +59,7 @@ module _ {F : Type 0} (did : Call F → Type 0) (remaining contents : F → Opti
   -- The file can't be read or is missing, and no key is told; or it holds no settings by which the files are three.
   abbrev pub Unsettled : Fault → Option (List ℕ) → Type 0
   Unsettled f key =
-      ((key ≡ None) × (Unfound did remaining path SETTINGS_MOST f ⊎ ((f ≡ fault.ReadFault) × did (Opened path (Ok None)))))
+      ((key ≡ None) × IsUnreadable did remaining path f)
       ⊎ (HoldsNone f key ⊎ IsShared f key)
 
   -- ---- a generation, by the one that was stored and the seconds since 1970

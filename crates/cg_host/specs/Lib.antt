@@ -3,6 +3,8 @@ pub mod Generation
 pub mod Replacing
 pub mod Storing
 pub mod Kept
+pub mod AgentKept
 pub use Rattle.cg_links.specs.Counted
 pub use Rattle.cg_settings_file.specs.Seen
+pub use Rattle.cg_settings_file.specs.AgentSeen
 pub use Rattle.cg_version.specs.Version

@@ -21,4 +21,4 @@ pub use journal::{try_journal, write_journal_to};
 pub use kept_generation::next_life;
 pub use reading::read_file;
 pub use replacing::{Replacement, replace};
-pub use settings::{SETTINGS_MOST, settings_telling};
+pub use settings::{SETTINGS_MOST, agent_settings_telling, settings_telling};

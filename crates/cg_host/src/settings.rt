@@ -3,11 +3,15 @@
 ghost use Rattle.std.specs.Prelude.{◌≡◌, ◌⊎◌, None, Some, MatchResult};
 ghost use Rattle.cg_types.specs.declared.fault.Fault.TheVariants.{OutOfMemory, BadText};
 ghost use Rattle.cg_settings_file.specs.Seen.{settings_view, told_key};
-ghost use Rattle.cg_host.specs.Kept.{AreApart, AreShared, Settles, Unsettled};
+ghost use Rattle.cg_settings_file.specs.AgentSeen.{agent_view};
+ghost use Rattle.cg_host.specs.Disk.{HasBytes};
+ghost use Rattle.cg_host.specs.Kept.{AreApart, AreShared, IsUnreadable, Settles, Unsettled};
+ghost use Rattle.cg_host.specs.declared.settings.TheConstants.{SETTINGS_MOST};
+ghost use Rattle.cg_host.specs.AgentKept.{AgentSettles, AgentUnsettled};
 
 use crate::disk::Disk;
 use crate::reading::read_file;
-use cg_settings_file::{ServeSettings, Unset, settings_or_key};
+use cg_settings_file::{AgentSettings, ServeSettings, Unset, agent_or_key, settings_or_key};
 use cg_types::Fault;
 use std::alloc::Global;
 
@@ -32,6 +36,19 @@ fn shared(alloc: Global, key: &str) -> Unset
             key: Some(key),
         },
         Err(_) => without_key(Fault::OutOfMemory),
+    }
+}
+
+// Returns the bytes of a settings file.
+fn settings_bytes<D: Disk>(disk: &D, alloc: Global, file: &str) -> Result<Vec<u8>, Unset>
+    ensures { MatchResult result
+        (λ bytes. HasBytes D.did D.File.remaining file.now SETTINGS_MOST bytes.items)
+        (λ u. (told_key u ≡ None) × IsUnreadable D.did D.File.remaining file.now u.fault) }
+{
+    match read_file(disk, alloc, file, SETTINGS_MOST) {
+        Ok(Some(bytes)) => Ok(bytes),
+        Ok(None) => Err(without_key(Fault::ReadFault)),
+        Err(fault) => Err(without_key(fault)),
     }
 }
 
@@ -68,10 +85,9 @@ pub fn settings_telling<D: Disk>(
         (λ s. Settles D.did D.File.remaining D.File.contents file.now (settings_view s))
         (λ u. Unsettled D.did D.File.remaining D.File.contents file.now u.fault (told_key u)) }
 {
-    let bytes = match read_file(disk, alloc, file, SETTINGS_MOST) {
-        Ok(Some(bytes)) => bytes,
-        Ok(None) => return Err(without_key(Fault::ReadFault)),
-        Err(fault) => return Err(without_key(fault)),
+    let bytes = match settings_bytes(disk, alloc, file) {
+        Ok(bytes) => bytes,
+        Err(unset) => return Err(unset),
     };
     let settings = match settings_or_key(alloc, &bytes) {
         Ok(settings) => settings,
@@ -81,4 +97,29 @@ pub fn settings_telling<D: Disk>(
         Ok(()) => Ok(settings),
         Err(key) => Err(shared(alloc, key)),
     }
+}
+
+/// Reads the settings in a file of a node that runs until it is stopped, as `settings_telling` does. `BadText` too if the
+/// generation's file is this one.
+pub fn agent_settings_telling<D: Disk>(
+    disk: &D,
+    alloc: Global,
+    file: &str,
+) -> Result<AgentSettings, Unset>
+    ensures { MatchResult result
+        (λ s. AgentSettles D.did D.File.remaining file.now (agent_view s))
+        (λ u. AgentUnsettled D.did D.File.remaining file.now u.fault (told_key u)) }
+{
+    let bytes = match settings_bytes(disk, alloc, file) {
+        Ok(bytes) => bytes,
+        Err(unset) => return Err(unset),
+    };
+    let settings = match agent_or_key(alloc, &bytes) {
+        Ok(settings) => settings,
+        Err(unset) => return Err(unset),
+    };
+    if disk.are_one(file, settings.generation_file.as_str()) {
+        return Err(shared(alloc, "generation_file"));
+    }
+    Ok(settings)
 }

@@ -7,6 +7,7 @@ use Rattle.std.proofs.lemmas.Str.{IsUtf8-from_is_utf8}
 use Rattle.std.specs.declared.alloc.Global.{Global}
 use Rattle.toml.specs.View.{members_view}
 use Rattle.toml.specs.declared.value.Value.{Value}
+use Rattle.cg_settings_file.specs.Agent.{unknown_to_agents, is_agent_key}
 use Rattle.cg_settings_file.specs.Keys.{unknown_in, is_known}
 use Rattle.cg_settings_file.specs.Settings.{text_in}
 
@@ -20,6 +21,16 @@ unknown_key [] = refl
 unknown_key (e ∷ es) =
     elim (is_known (string_bytes e.0)) as (λ b. option_map string_bytes (cond (not b) (Some e.0) (find (λ k. not (is_known (string_bytes k))) (map (λ f. f.0) es))) ≡ cond b (unknown_in (members_view es)) (Some (string_bytes e.0))) [
       | true ↦ unknown_key es
+      | false ↦ refl
+    ]
+
+pub unknown_agent_key : (es : List Entry)
+    → option_map string_bytes (find (λ k. not (is_agent_key (string_bytes k))) (map (λ e. e.0) es)) ≡ unknown_to_agents (members_view es)
+unfolding unknown_to_agents
+unknown_agent_key [] = refl
+unknown_agent_key (e ∷ es) =
+    elim (is_agent_key (string_bytes e.0)) as (λ b. option_map string_bytes (cond (not b) (Some e.0) (find (λ k. not (is_agent_key (string_bytes k))) (map (λ f. f.0) es))) ≡ cond b (unknown_to_agents (members_view es)) (Some (string_bytes e.0))) [
+      | true ↦ unknown_agent_key es
       | false ↦ refl
     ]
 

@@ -6,3 +6,5 @@ pub mod Settings
 pub mod Seen
 pub use Rattle.toml.specs.Data
 pub use Rattle.toml.specs.View
+pub mod Agent
+pub mod AgentSeen

@@ -1,5 +1,5 @@
 -- The settings that a text holds, or the key by which it holds none.
-use Rattle.std.specs.Prelude.{ℕ, List, [], codes, Option, Some, None, Result, Ok, Err, if◌then◌else◌}
+use Rattle.std.specs.Prelude.{ℕ, List, codes, Option, Some, None, Result, Ok, Err, if◌then◌else◌}
 use Rattle.std.specs.Option.{ok_or}
 use Rattle.std.specs.Result.{result_ok, result_map_both}
 use Rattle.std.specs.Str.{is_utf8}

@@ -27,7 +27,7 @@ fn is_turn_key(key: &str) -> bool
 }
 
 #[tactic(auto, unfolding(crate::specs::Keys::is_silence_key))]
-fn is_silence_key(key: &str) -> bool
+pub(crate) fn is_silence_key(key: &str) -> bool
     ensures { result ≡ spec.is_silence_key key.now }
 {
     key == "window" || key == "initial_gap" || key == "max_gap" || key == "threshold"

@@ -99,7 +99,7 @@ fn silence_in(table: &Table) -> Result<Silence, &'static str>
     )
 }
 
-/// GivesOrStops the settings of the node itself.
+/// Reads the settings of the node itself.
 #[tactic(auto, unfolding(crate::specs::Settings::node_from))]
 pub(crate) fn node_in(alloc: Global, table: &Table) -> Result<Settings, Stop<'static>>
     ensures { GivesOrStops (λ s. s) result (settings_spec.node_from (table_view table.now)) }

@@ -49,7 +49,7 @@ fn turns_in(table: &Table) -> Result<Turns, &'static str>
 }
 
 #[tactic(auto, unfolding(crate::specs::Settings::random_from))]
-fn random_in(table: &Table) -> Option<u64>
+pub(crate) fn random_in(table: &Table) -> Option<u64>
     ensures { result ≡ spec.random_from (table_view table.now) }
 {
     match value_at(table, "random") {
@@ -67,7 +67,7 @@ fn paths_in(table: &Table) -> Result<(&str, &str), &'static str>
     Ok((generation_file, journal))
 }
 
-// GivesOrStops the settings of a table, or the first key that is refused: by its value, or else since it has no meaning.
+// Reads the settings of a table, or the first key that is refused: by its value, or else since it has no meaning.
 #[tactic(auto, unfolding(crate::specs::Settings::settings_from))]
 fn settings_in_table(alloc: Global, table: &Table) -> Result<ServeSettings, Stop<'_>>
     ensures { GivesOrStops settings_view result (spec.settings_from (table_view table.now)) }
@@ -101,7 +101,7 @@ fn settings_in_table(alloc: Global, table: &Table) -> Result<ServeSettings, Stop
 }
 
 // Returns the fault by which the reading of a table ended, with the key that is refused.
-fn unset(alloc: Global, stop: Stop<'_>) -> Unset
+pub(crate) fn unset(alloc: Global, stop: Stop<'_>) -> Unset
     ensures { IsUnsetBy stop.entry result }
 {
     let Stop::Key(key) = stop else {
@@ -138,7 +138,7 @@ fn settings_in_text(alloc: Global, text: &str) -> Result<ServeSettings, Unset>
 
 // Returns the text that bytes are, if they are UTF-8.
 #[tactic(auto, unfolding(crate::specs::Settings::text_in))]
-fn text_in(bytes: &[u8]) -> Option<&str>
+pub(crate) fn text_in(bytes: &[u8]) -> Option<&str>
     ensures { option_map (λ t. t.now) result ≡ spec.text_in bytes.now }
 {
     match std::str::from_utf8(bytes) {
@@ -147,7 +147,7 @@ fn text_in(bytes: &[u8]) -> Option<&str>
     }
 }
 
-/// GivesOrStops the settings in the bytes of a file, which are the text of a TOML table.
+/// Reads the settings in the bytes of a file, which are the text of a TOML table.
 ///
 /// `OutOfMemory` if memory runs out on the way. Else `BadText` if and only if the bytes are no UTF-8 or no TOML table, or
 /// break one of these rules: no key that is needed is missing; each value is of its type and in its range; each key has
@@ -162,7 +162,7 @@ pub fn settings_or_key(alloc: Global, bytes: &[u8]) -> Result<ServeSettings, Uns
     }
 }
 
-/// GivesOrStops the settings in a text, which is a TOML table, as `settings_or_key` does, and returns the fault without the
+/// Reads the settings in a text, which is a TOML table, as `settings_or_key` does, and returns the fault without the
 /// key.
 pub fn settings_of(alloc: Global, text: &str) -> Result<ServeSettings, Fault>
     ensures { Finds settings_view result (settings_in text.now) }
@@ -173,7 +173,7 @@ pub fn settings_of(alloc: Global, text: &str) -> Result<ServeSettings, Fault>
     }
 }
 
-/// GivesOrStops the settings in the bytes of a file: as `settings_of`, and `BadText` too if they are not UTF-8.
+/// Reads the settings in the bytes of a file: as `settings_of`, and `BadText` too if they are not UTF-8.
 pub fn settings_of_bytes(alloc: Global, bytes: &[u8]) -> Result<ServeSettings, Fault>
     ensures { Finds settings_view result (settings_in_bytes bytes.now) }
 {

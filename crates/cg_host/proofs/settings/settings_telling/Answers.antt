@@ -7,10 +7,10 @@ use Rattle.cg_host.proofs.settings.settings_telling.Goals as goal
 pub returns : goal.returns
 returns g c =
     inr (inr (record {
-      bytes = c.in-Ok-Some.bytes.items;
-      are = rw c.in-Ok-Some.field-0-is at c.in-Ok-Some.ensures;
-      settings = settings_view c.in-Ok.settings;
-      hold = ap settings_in_bytes (sym c.deref.ensures.value) ∙ ap result_ok c.in-Ok.ensures;
+      bytes = c.in-Ok.bytes.items;
+      are = c.in-Ok.ensures;
+      settings = settings_view c.in-Ok-settings_or_key.settings;
+      hold = ap settings_in_bytes (sym c.deref.ensures.value) ∙ ap result_ok c.in-Ok-settings_or_key.ensures;
       at = c.in-Err-apart.key.now;
       shared = c.in-Err-apart.ensures;
       is = c.shared.ensures;
