@@ -1,6 +1,7 @@
-//! The program `cg`: `answer`, `sim`, `audit` and `serve`.
+//! The program `cg`: `answer`, `sim`, `audit`, `serve` and `agent`.
 #![tactic(auto)]
 
+use cg_agent::agent;
 use cg_links::Counted;
 use cg_serve::serve;
 use cg_tool::{Ending, run};
@@ -15,5 +16,6 @@ fn main(rt: HostRuntime) -> ExitCode {
             let mut writer = Counted::new(io::writer(&rt));
             serve(&rt, rt.alloc(), file.as_str(), &mut writer)
         }
+        Ending::Agent(file) => agent(&rt, rt.alloc(), file.as_str()),
     })
 }

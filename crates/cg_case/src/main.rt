@@ -15,6 +15,7 @@ fn main(rt: HostRuntime) -> ExitCode {
         "cg sim --help",
         "cg answer --help",
         "cg serve --help",
+        "cg agent --help",
         "cg --version",
         "cg sim x",
         "cg answer x",

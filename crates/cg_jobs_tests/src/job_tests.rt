@@ -39,6 +39,7 @@ fn words_name_jobs(rt: HostRuntime) -> Result<(), Fail> {
         ("audit b.journal a.journal b.journal", Subcommand::Audit, 3),
         ("serve f", Subcommand::Serve, 1),
         ("serve a.toml", Subcommand::Serve, 1),
+        ("agent a.toml", Subcommand::Agent, 1),
     ] {
         expect!(names(rt.alloc(), line, subcommand, files)?, "{line}")?;
     }
@@ -95,6 +96,9 @@ fn other_words_are_faults_or_ask_for_texts(rt: HostRuntime) -> Result<(), Fail> 
         ("audit --cut", 2, "error: ", ""),
         ("audit --cut --cut a", 2, "error: ", ""),
         ("serve --cut f", 2, "error: ", ""),
+        ("agent", 2, "error: ", ""),
+        ("agent f g", 2, "error: ", ""),
+        ("agent --cut f", 2, "error: ", ""),
         ("--nothing", 2, "error: ", ""),
         ("--version", 0, "", "cg 0.1.0"),
         ("--help", 0, "", "Play a script"),
@@ -106,6 +110,9 @@ fn other_words_are_faults_or_ask_for_texts(rt: HostRuntime) -> Result<(), Fail> 
         ("serve --help", 0, "", "generation_file"),
         ("serve --help", 0, "", "replicas RF TEXT"),
         ("serve --help", 0, "", "remove KEY"),
+        ("--help", 0, "", "Run a node over TCP until it is stopped"),
+        ("agent --help", 0, "", "journal_mb"),
+        ("agent --help", 0, "", "silent EP"),
         ("--help", 0, "", "one run of the gossip"),
         ("audit --help", 0, "", "stuck EP GENERATION ITEM"),
         ("audit --help", 0, "", "--cut"),

@@ -4,6 +4,8 @@
 #![tactic(auto)]
 
 #[cfg(test)]
+mod agent_settings_tests;
+#[cfg(test)]
 mod answer_link_tests;
 #[cfg(test)]
 mod job_tests;

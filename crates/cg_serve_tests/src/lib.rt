@@ -1,5 +1,7 @@
-//! Lives of nodes that serve on the loopback, with their files in the folder where the tests run.
+//! Lives of nodes on the loopback, served or until they are stopped, with their files in the folder where the tests run.
 #![tactic(auto)]
 
+#[cfg(test)]
+mod agents;
 #[cfg(test)]
 mod lives;

@@ -5,7 +5,7 @@ use Rattle.std.specs.Borrow.{Bor}
 use Rattle.clap.specs.Words.{App, Kinds, Row, Rule, Text, all_of, fault_of, first_of, new_app, new_rule, subcommand_of, takes, with_rule, with_subcommand}
 use Rattle.clap.specs.declared.builder.action.ArgAction.TheVariants.{Append, SetTrue}
 use Rattle.cg_tool.specs.declared.job.Subcommand.{Subcommand}
-use Rattle.cg_tool.specs.declared.job.Subcommand.TheVariants.{Answer, Sim, Audit, Serve}
+use Rattle.cg_tool.specs.declared.job.Subcommand.TheVariants.{Answer, Sim, Audit, Serve, Agent}
 
 -- a command with a version
 abbrev pub with_version : App → App
@@ -35,15 +35,21 @@ audit_command = with_rule (with_rule (new_app (codes "audit")) cut_rule) files_r
 abbrev pub serve_command : App
 serve_command = with_rule (new_app (codes "serve")) file_rule
 
+-- `agent` with its file
+abbrev pub agent_command : App
+agent_command = with_rule (new_app (codes "agent")) file_rule
+
 -- the command with its subcommands
 unfoldable pub program : App
 program =
     with_subcommand
     (with_subcommand
+    (with_subcommand
     (with_subcommand (with_subcommand (without_name (with_version (new_app (codes "cg")))) (new_app (codes "answer")).top)
     (new_app (codes "sim")).top)
     audit_command.top)
-    serve_command.top
+    serve_command.top)
+    agent_command.top
 
 -- the subcommand of this name
 abbrev pub subcommand_named : Text → Subcommand
@@ -51,6 +57,7 @@ subcommand_named name =
     if bytes_eq name (codes "sim") then Sim
     else if bytes_eq name (codes "audit") then Audit
     else if bytes_eq name (codes "serve") then Serve
+    else if bytes_eq name (codes "agent") then Agent
     else Answer
 
 -- the subcommand that was met, or `answer` if none was

@@ -4,11 +4,11 @@ ghost use Rattle.std.specs.Prelude.{◌≡◌, IfOk, IfErr, true, false, codes};
 ghost use Rattle.clap.specs.Words.{app_of, found_of, new_app, rows_of, subcommand_rows_of, kind_of, FailsBy};
 ghost use Rattle.clap.specs.declared.builder.command.Command.TheViews.{out-Command};
 ghost use Rattle.cg_tool.specs.Job as spec;
-ghost use Rattle.cg_tool.specs.Job.{with_version, without_name, audit_command, serve_command, program, subcommand_met, files_met, files_in, cut_met, is_cut_in, texts, subcommand_in, are_taken, faults_of};
+ghost use Rattle.cg_tool.specs.Job.{with_version, without_name, audit_command, serve_command, agent_command, program, subcommand_met, files_met, files_in, cut_met, is_cut_in, texts, subcommand_in, are_taken, faults_of};
 
 use crate::texts::{
-    ABOUT, ANSWER_ABOUT, ANSWER_HELP, AUDIT_ABOUT, AUDIT_HELP, CUT_HELP, SERVE_ABOUT, SERVE_HELP,
-    SIM_ABOUT, SIM_HELP, STATUSES, VERSION,
+    ABOUT, AGENT_ABOUT, AGENT_HELP, ANSWER_ABOUT, ANSWER_HELP, AUDIT_ABOUT, AUDIT_HELP, CUT_HELP,
+    SERVE_ABOUT, SERVE_HELP, SIM_ABOUT, SIM_HELP, STATUSES, VERSION,
 };
 use clap::error::ErrorKind;
 use clap::{Arg, ArgAction, ArgMatches, Command, Error};
@@ -25,6 +25,8 @@ pub enum Subcommand {
     Audit,
     /// Run a node.
     Serve,
+    /// Run a node until it is stopped.
+    Agent,
 }
 
 /// The job of the program, and its files, in the order of the words.
@@ -81,6 +83,17 @@ fn serve<'a>(alloc: Global) -> Result<Command<'a>, AllocError>
     Ok(with_file)
 }
 
+fn agent<'a>(alloc: Global) -> Result<Command<'a>, AllocError>
+    ensures app { IfOk result (λ c. app_of c ≡ agent_command) }
+    ensures local { IfOk result (λ c. (out-Command c).has_globals ≡ false) }
+{
+    let file = Arg::new(alloc, "file").required(true);
+    let command = Command::new(alloc, "agent").about(AGENT_ABOUT);
+    let helped = command.after_help(AGENT_HELP);
+    let with_file = helped.arg(file)?;
+    Ok(with_file)
+}
+
 fn top<'a>(alloc: Global) -> Result<Command<'a>, AllocError>
     ensures { IfOk result (λ c. app_of c ≡ without_name (with_version (new_app (codes "cg")))) }
 {
@@ -96,11 +109,13 @@ fn command<'a>(alloc: Global) -> Result<Command<'a>, AllocError>
     let top = top(alloc)?;
     let audit = audit(alloc)?;
     let serve = serve(alloc)?;
+    let agent = agent(alloc)?;
     let with_answer = top.subcommand(answer(alloc))?;
     let with_sim = with_answer.subcommand(sim(alloc))?;
     let with_audit = with_sim.subcommand(audit)?;
     let with_serve = with_audit.subcommand(serve)?;
-    Ok(with_serve)
+    let with_agent = with_serve.subcommand(agent)?;
+    Ok(with_agent)
 }
 
 // Returns the matches of the words after the program's name.
@@ -120,6 +135,7 @@ fn subcommand_named(name: &str) -> Subcommand
         "sim" => Subcommand::Sim,
         "audit" => Subcommand::Audit,
         "serve" => Subcommand::Serve,
+        "agent" => Subcommand::Agent,
         _ => Subcommand::Answer,
     }
 }

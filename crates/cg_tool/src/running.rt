@@ -29,6 +29,8 @@ pub enum Ending {
     Status(u8),
     /// A node is to be served by the settings in this file.
     Serve(String),
+    /// A node is to run until it is stopped, by the settings in this file.
+    Agent(String),
 }
 
 // The words after the first one.
@@ -191,7 +193,19 @@ fn serves<R: Print>(rt: &R, alloc: Global, files: &[&str]) -> Ending {
     }
 }
 
-// Runs a job over the standard streams and over files, except serving.
+// Returns the settings file of the node that is to run until it is stopped.
+fn runs<R: Print>(rt: &R, alloc: Global, files: &[&str]) -> Ending {
+    match files {
+        [file] => match file.to_string(alloc) {
+            Ok(file) => Ending::Agent(file),
+            Err(_) => Ending::Status(out_of_memory(rt)),
+        },
+        // Never true: the command line requires one.
+        _ => Ending::Status(MISUSED),
+    }
+}
+
+// Runs a job over the standard streams and over files, except of a node.
 fn done<R: Runtime>(rt: &R, alloc: Global, job: &Job) -> Ending {
     let mut reader = Counted::new(rt.reader());
     let mut writer = Counted::new(io::writer(rt));
@@ -200,6 +214,7 @@ fn done<R: Runtime>(rt: &R, alloc: Global, job: &Job) -> Ending {
         Subcommand::Sim => sim(alloc, &mut reader, &mut writer),
         Subcommand::Audit => audit(rt, alloc, job),
         Subcommand::Serve => return serves(rt, alloc, job.files.as_slice()),
+        Subcommand::Agent => return runs(rt, alloc, job.files.as_slice()),
     })
 }
 
@@ -241,8 +256,8 @@ fn words<R: Env + AllocGlobal>(rt: &R) -> io::Result<Vec<String>> {
 }
 
 /// Runs the job that the words of the command line name, over the standard streams and the named files. The first word
-/// is the program's name; with no further words the job is `answer`. A node is not served here: the caller serves it by
-/// the file that is returned. Help and the version go to standard output, with status 0. A fault of the command line
+/// is the program's name; with no further words the job is `answer`. No node runs here: the caller runs it by the
+/// file that is returned. Help and the version go to standard output, with status 0. A fault of the command line
 /// goes to standard error, with status 2, as does a word that is not UTF-8. Want of memory before the work begins is
 /// the line `fault 1 OutOfMemory`, with status 1.
 pub fn run<R: Runtime + AllocGlobal>(rt: &R) -> Ending {

@@ -18,7 +18,7 @@ fn words_in(alloc: Global, line: &str) -> io::Result<Vec<String>> {
 fn status_of(ending: Ending) -> u8 {
     match ending {
         Ending::Status(status) => status,
-        Ending::Serve(_) => MISUSED,
+        Ending::Serve(_) | Ending::Agent(_) => MISUSED,
     }
 }
 
@@ -30,8 +30,7 @@ fn show<R: Runtime>(rt: &R, alloc: Global, line: &str) {
 }
 
 /// Runs the job of each line of words, after a line that shows them and before one with the status. Then it runs the
-/// job of the command line's words, and returns its status. If words ask to serve, no node is served, and the status is
-/// 2.
+/// job of the command line's words, and returns its status. If words ask for a node, none runs, and the status is 2.
 pub fn show_run<R: Runtime + AllocGlobal>(rt: &R, lines: &[&str]) -> u8 {
     for line in lines {
         show(rt, rt.alloc(), line);

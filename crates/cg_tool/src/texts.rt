@@ -9,7 +9,7 @@ pub const ABOUT: &str =
 
 /// The input, the output and the statuses of all commands.
 pub const STATUSES: &str =
-    "answer and sim read standard input, audit reads files, serve reads both; all write standard output. \
+    "answer and sim read standard input, audit reads files, serve and agent read both; all write standard output. \
 Endpoints are written as 10.0.0.1:7000.\n\
 \n\
 Exit status: 0 when done; 1 after a fault that ended the work, told by a line as `fault 9 OtherCluster`; \
@@ -129,3 +129,29 @@ Example:\n\
 \n    generation:1700000000\
 \n    heartbeat:1\
 \n    LOAD:2:x";
+
+/// `agent` in a line.
+pub const AGENT_ABOUT: &str =
+    "Run a node over TCP until it is stopped, with a journal that a kill leaves whole";
+
+/// The input and the output of `agent`.
+pub const AGENT_HELP: &str =
+    "Reads the node's settings from a file, a TOML table, with the keys of serve but rounds, \
+exchanges and journal, and these:\n\
+\n  journals = PATH          a folder that is there; the life's journal is ENDPOINT.GENERATION.journal in it; none is kept\
+\n  journal_mb = N           MiB of journal that a life writes, 1 to 1000000; then it goes on without; 1024\
+\n  keep = N                 records that stay in memory, 1 to 1000000; 1000\
+\n  receivers = N            threads that answer connections, 1 to 8; 2\
+\n  stdin = TEXT             ignore; stop: its end stops the node; lines: an operator's, as serve has them, and quit or the \
+end stops it; ignore\n\
+\n\
+Then it keeps a greater generation in the file, listens, and runs until it is stopped. It writes:\n\
+\n  ready EP GENERATION      it listens\
+\n  joined EP GENERATION     a member that it had not seen\
+\n  restarted EP GENERATION  a member in a new life\
+\n  silent EP, alive EP      a member that it no longer hears of, or hears of again\
+\n  stopped                  the end\n\
+\n\
+A line of the journal stands before the message of its event leaves, so a node may be killed at any time, and \
+`cg audit --cut` reads what it left. Status 0; 1 after a fault, told by a line as serve has it: also 15 WriteFault where its \
+journal can't be written, and 14 ReadFault where no further connection is taken. Standard error says what and where.";

@@ -1,0 +1,4 @@
+mod AllWorked
+mod LifeLemmas
+mod MoreWork
+mod SeatKeeping

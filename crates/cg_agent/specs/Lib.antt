@@ -1,0 +1,12 @@
+pub mod Limits
+pub mod Work
+pub mod Lines
+pub mod Worked
+pub mod Seats
+pub mod Lives
+pub use Rattle.cg_ahead_seats.specs.Gates
+pub use Rattle.cg_workers.specs.Workers
+pub use Rattle.cg_host.specs.Kept
+pub use Rattle.cg_host.specs.AgentKept
+pub use Rattle.cg_write_ahead.specs.Text
+pub use Rattle.cg_history.specs.History
