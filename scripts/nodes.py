@@ -4,8 +4,10 @@ import contextlib
 import os
 import select
 import socket
+import struct
 import subprocess
 import sys
+import tempfile
 import threading
 import time
 
@@ -147,6 +149,18 @@ def claim(node, place, count):
     node.ask("set 1 NORMAL")
 
 
+def deltas(owners, states, size, above=0):
+    """Returns the frame of an ACK2 with that many owners, each in its first generation with so many states of this many bytes, in
+    deltas above a version."""
+    first, newest = above + 2, above + 1 + states
+    texts = b"".join(struct.pack(">BIH", key + 1, first + key, size) + b"x" * size for key in range(states))
+    parts = [struct.pack(">BBH", 2, 3, owners)]
+    for place in range(owners):
+        parts += [struct.pack(">BBHHIIIB", 10, 0, place, 7000, 1, above, newest, states), texts]
+    body = b"".join(parts)
+    return struct.pack(">I", len(body)) + body
+
+
 def frame_from(link):
     """Returns the bytes of a frame behind its length, as they come from a connection."""
 
@@ -209,8 +223,10 @@ def end_all(cluster, seconds):
         raise Failed("; ".join(failed))
 
 
-def audit(journals):
+def audit(journals, *flags):
     """Returns the last line that an audit of journals writes."""
-    audited = subprocess.run([program(), "audit"] + journals, stdout=subprocess.PIPE, timeout=600)
-    lines = audited.stdout.decode().splitlines()
+    with tempfile.TemporaryFile() as said:
+        subprocess.run([program(), "audit", *flags, *journals], stdout=said, timeout=3600)
+        said.seek(max(0, said.seek(0, os.SEEK_END) - 4096))
+        lines = said.read().decode().splitlines()
     return lines[-1] if lines else "nothing"
