@@ -1,5 +1,9 @@
 -- Values of silence's settings and windows, as contracts see them.
-use Rattle.std.specs.Prelude.{ℕ, ◌≡◌, ◌+◌, ◌<◌, ◌≤◌, List, ◌++◌, length, sum, Option, All, refl}
+use Rattle.std.specs.Prelude.{ℕ, ◌≡◌, ◌+◌, ◌<◌, ◌≤◌, List, [], ◌++◌, length, sum, Option, Some, None, All, refl}
+use Rattle.std.specs.Arc.{arc_value}
+use Rattle.std.specs.declared.alloc.Global.{Global}
+use Rattle.std.specs.declared.sync.Arc.{Arc}
+use Rattle.std.specs.declared.vec.Vec.{Vec}
 use Rattle.std.specs.Coded.{Coded, code_by, coded×, coded_ℕ, coded_list, coded_option}
 use Rattle.cg_silence.specs.declared.tail.TheConstants.{TAIL_ROOM, RECENT_ROOM}
 use Rattle.cg_silence.specs.declared.limits.TheConstants.{WINDOW_LIMIT, GAP_LIMIT, THRESHOLD_LIMIT, DEFAULT_WINDOW, DEFAULT_INITIAL_GAP, DEFAULT_MAX_GAP, DEFAULT_THRESHOLD}
@@ -52,6 +56,11 @@ pub record IsWindow (s : SilenceValue) (gaps : List ℕ) (capacity total : ℕ) 
 pub record PastValue : Type 0 where
   pub silence : SilenceValue
   pub gaps : List ℕ
+
+-- the gaps of the long list, none before there is one
+abbrev pub long_gaps : Option (Arc (Vec ℕ Global) Global) → List ℕ
+long_gaps None = []
+long_gaps (Some gaps) = (arc_value gaps).items
 
 -- Neither list is longer than the window, and behind the recent gaps there is room for a tail.
 pub record IsPast (window : ℕ) (long recent : List ℕ) : Type 0 where

@@ -2,6 +2,7 @@
 
 ghost use Rattle.std.specs.Prelude.{◌≡◌, ◌++◌, ◌≤◌, [], length, IfOk};
 ghost use Rattle.circular_buffer.specs.Buffer.{keep_last};
+ghost use Rattle.cg_silence.specs.Values.{long_gaps};
 
 use crate::silence::Silence;
 use crate::tail::{RECENT_ROOM, TAIL_ROOM};
@@ -10,30 +11,32 @@ use std::marker::Model;
 use std::ops::Deref;
 use std::sync::Arc;
 
+// No gaps take no memory.
+type Long = Option<Arc<Vec<u32>, Global>>;
+
 /// The settings, and all gaps but the last few, which windows share that were made from one another. The recent gaps
 /// stand behind a long list, which is copied only when they fill their room.
 #[derive(Drop)]
 pub(crate) struct Past {
     silence: Silence,
-    long: Arc<Vec<u32>, Global>,
+    long: Long,
     recent: Vec<u32>,
 }
 
 /// A contract sees the settings, and the gaps of both lists that a window keeps.
 impl Model for Past {
     ghost use Rattle.std.specs.Prelude.{◌++◌};
-    ghost use Rattle.std.specs.Arc.{arc_value};
     ghost use Rattle.circular_buffer.specs.Buffer.{keep_last};
-    ghost use Rattle.cg_silence.specs.Values.{PastValue, IsPast};
+    ghost use Rattle.cg_silence.specs.Values.{PastValue, IsPast, long_gaps};
 
     ghost Value = { PastValue };
 
     ghost view = { λ p. record {
       silence = p.silence;
-      gaps = keep_last p.silence.window ((arc_value p.long).items ++ p.recent.items);
+      gaps = keep_last p.silence.window (long_gaps p.long ++ p.recent.items);
     } };
 
-    ghost invariant = { λ p. IsPast p.silence.window (arc_value p.long).items p.recent.items };
+    ghost invariant = { λ p. IsPast p.silence.window (long_gaps p.long) p.recent.items };
 }
 
 // The last gaps of two lists, at most so many, in one list with room for as many: so a node's memory does not grow while
@@ -49,17 +52,35 @@ fn joined(alloc: Global, first: &[u32], second: &[u32], most: usize) -> Result<V
     Ok(gaps)
 }
 
+fn gaps_of(long: &Long) -> &[u32]
+    ensures { result.now ≡ long_gaps long.now }
+{
+    match long {
+        Some(gaps) => gaps.deref(),
+        None => &[],
+    }
+}
+
+fn shared(long: &Long) -> Result<Long, AllocError>
+    ensures { IfOk result (λ l. long_gaps l ≡ long_gaps long.now) }
+{
+    match long {
+        Some(gaps) => Ok(Some(Arc::try_clone(gaps)?)),
+        None => Ok(None),
+    }
+}
+
 impl Past {
-    /// No gaps, with these settings.
-    pub(crate) fn new(alloc: Global, silence: Silence) -> Result<Past, AllocError>
-        ensures settings { IfOk result (λ p. p.silence ≡ silence) }
-        ensures none { IfOk result (λ p. p.gaps ≡ []) }
+    /// No gaps, with these settings. It takes no memory.
+    pub(crate) fn new(alloc: Global, silence: Silence) -> Past
+        ensures settings { result.silence ≡ silence }
+        ensures none { result.gaps ≡ [] }
     {
-        Ok(Past {
+        Past {
             silence,
-            long: Arc::new(alloc, Vec::new(alloc))?,
+            long: None,
             recent: Vec::new(alloc),
-        })
+        }
     }
 
     /// The settings.
@@ -73,7 +94,7 @@ impl Past {
     pub(crate) fn as_slices(&self) -> (&[u32], &[u32])
         ensures { result.0.now ++ result.1.now ≡ self.now.gaps }
     {
-        let long = self.long.deref();
+        let long = gaps_of(&self.long);
         let from = (long.len() + self.recent.len()).saturating_sub(self.silence.window());
         (&long[from..], &self.recent)
     }
@@ -87,18 +108,18 @@ impl Past {
     {
         let silence = self.silence;
         let window = silence.window();
-        let long = self.long.deref();
+        let long = gaps_of(&self.long);
         let recent = joined(alloc, &self.recent, tail, window.min(RECENT_ROOM))?;
         if long.is_empty() || recent.len() + TAIL_ROOM > RECENT_ROOM {
             return Ok(Past {
                 silence,
-                long: Arc::new(alloc, joined(alloc, long, &recent, window)?)?,
+                long: Some(Arc::new(alloc, joined(alloc, long, &recent, window)?)?),
                 recent: Vec::new(alloc),
             });
         }
         Ok(Past {
             silence,
-            long: Arc::try_clone(&self.long)?,
+            long: shared(&self.long)?,
             recent,
         })
     }

@@ -89,7 +89,7 @@ impl SharedWindow {
         ensures shows { IfOk result (λ w. Shows w []) }
     {
         Ok(SharedWindow {
-            past: Arc::new(alloc, Past::new(alloc, silence)?)?,
+            past: Arc::new(alloc, Past::new(alloc, silence))?,
             total: 0,
             last: None,
             tail: Tail::none(),
