@@ -12,7 +12,7 @@ use crate::decoding::decode_among;
 use crate::layout::{LAYOUTS, Layout};
 use cg_messages::Message;
 use cg_types::Fault;
-use std::alloc::Global;
+use std::alloc::{AllocError, Global};
 use std::marker::Model;
 
 /// The messages and the fault of a chunk.
@@ -86,6 +86,18 @@ fn begin(alloc: Global, layouts: &[Layout], held: &mut Vec<u8>, piece: &[u8]) ->
     Ok(cutting.fed)
 }
 
+// Makes room for all that the frame lacks, or for the chunk if it is longer, once more than half of the frame is held. Until
+// then the room grows as that of each list.
+fn make_room(held: &mut Vec<u8>, piece: usize) -> Result<(), AllocError>
+    ensures { held.new.items ≡ held.old.items }
+{
+    let lacking = lack(held.as_slice());
+    if lacking >= held.len() {
+        return Ok(());
+    }
+    held.reserve_exact(lacking.max(piece))
+}
+
 // Appends the chunk and cuts off all messages; a refusal changes nothing.
 fn extend(alloc: Global, layouts: &[Layout], held: &mut Vec<u8>, piece: &[u8]) -> Result<Fed, Fault>
     requires { AreRead layouts.now }
@@ -96,6 +108,7 @@ fn extend(alloc: Global, layouts: &[Layout], held: &mut Vec<u8>, piece: &[u8]) -
     ensures err { IfErr result (λ f. f ≡ faults.OutOfMemory) }
 {
     let before = held.len();
+    make_room(held, piece.len())?;
     held.extend_from_slice(piece)?;
     let Ok(cutting) = cut(alloc, layouts, held.as_slice()) else {
         held.truncate(before);
@@ -138,8 +151,8 @@ fn take(alloc: Global, layouts: &[Layout], held: &mut Vec<u8>, piece: &[u8]) -> 
 }
 
 /// A stream of frames that comes in chunks. It holds the bytes of the next frame that have come, or its lasting fault.
-/// Between chunks it holds less than one frame of the greatest length. It takes room for bytes that came, never for a
-/// frame's length that was announced; for the counts within a whole frame it does as `decode`.
+/// Between chunks it holds less than one frame of the greatest length. It takes room for at most twice the bytes that
+/// came, and not for a frame's length that was announced; for the counts within a whole frame it does as `decode`.
 #[derive(Drop)]
 pub struct Feed {
     alloc: Global,
