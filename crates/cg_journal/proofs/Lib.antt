@@ -1,4 +1,5 @@
 pub mod WrittenLemmas
+pub mod LineLemmas
 pub mod ReadLemmas
 pub mod OfLines
 pub mod Fronts

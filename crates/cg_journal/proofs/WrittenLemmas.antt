@@ -48,6 +48,16 @@ module _ {L : Type 0} where
     kept = KeepsCounts-trans u v w one.kept two.kept;
   }
 
+  pub breaks_on : (a b c : Option (List ℕ)) (u v w : Counted L) (xs ys : List (List ℕ)) (f : Fault) → WritesAll a b u v xs → BreaksOff b c v w ys f → BreaksOff a c u w (xs ++ ys) f
+  breaks_on a b c u v w xs ys f one two = record {
+    fault = two.fault;
+    count = length (joined xs) + two.count;
+    written = subst (λ (t : List ℕ). Appends a c t)
+        (sym (ap (take (length (joined xs) + two.count)) (joined-append xs ys) ∙ take-append-add (joined xs) (joined ys) two.count))
+        (Appends-trans a b c _ _ one.written two.written);
+    caused = caused_later u v w one.kept two.caused;
+  }
+
   pub fails_on : (a b c : Option (List ℕ)) (u v w : Counted L) (xs ys : List (List ℕ)) (f : Fault) → WritesAll a b u v xs
       → WritesFirst b c v w ys f ⊎ BreaksOff b c v w ys f → WritesFirst a c u w (xs ++ ys) f ⊎ BreaksOff a c u w (xs ++ ys) f
   fails_on a b c u v w xs ys f one (inl two) = inl (record {
@@ -58,14 +68,7 @@ module _ {L : Type 0} where
     written = subst (λ (t : List ℕ). Appends a c t) (sym (joined-append xs two.front)) (Appends-trans a b c _ _ one.written two.written);
     kept = KeepsCounts-trans u v w one.kept two.kept;
   })
-  fails_on a b c u v w xs ys f one (inr two) = inr (record {
-    fault = two.fault;
-    count = length (joined xs) + two.count;
-    written = subst (λ (t : List ℕ). Appends a c t)
-        (sym (ap (take (length (joined xs) + two.count)) (joined-append xs ys) ∙ take-append-add (joined xs) (joined ys) two.count))
-        (Appends-trans a b c _ _ one.written two.written);
-    caused = caused_later u v w one.kept two.caused;
-  })
+  fails_on a b c u v w xs ys f one (inr two) = inr (breaks_on a b c u v w xs ys f one two)
 
   -- all that a call wrote follows the bytes written before
   pub all_on : {T : Type 0} (a b c : Option (List ℕ)) (u v w : Counted L) (xs ys : List (List ℕ)) (r : Result T Fault) → WritesAll a b u v xs
@@ -74,6 +77,16 @@ module _ {L : Type 0} where
   all_on a b c u v w xs ys (Err f) one two = fails_on a b c u v w xs ys f one two
 
   -- with further lines
+  pub breaks_wider : (a b : Option (List ℕ)) (u v : Counted L) (xs ys : List (List ℕ)) (f : Fault) → BreaksOff a b u v xs f → BreaksOff a b u v (xs ++ ys) f
+  breaks_wider a b u v xs ys f h =
+      let front = take_front h.count (joined xs) (joined ys) in
+      record {
+        fault = h.fault;
+        count = front.0;
+        written = subst (λ (t : List ℕ). Appends a b t) (front.1 ∙ ap (take front.0) (sym (joined-append xs ys))) h.written;
+        caused = h.caused;
+      }
+
   pub fails_wider : (a b : Option (List ℕ)) (u v : Counted L) (xs ys : List (List ℕ)) (f : Fault)
       → WritesFirst a b u v xs f ⊎ BreaksOff a b u v xs f → WritesFirst a b u v (xs ++ ys) f ⊎ BreaksOff a b u v (xs ++ ys) f
   fails_wider a b u v xs ys f (inl h) = inl (record {
@@ -84,14 +97,7 @@ module _ {L : Type 0} where
     written = h.written;
     kept = h.kept;
   })
-  fails_wider a b u v xs ys f (inr h) =
-      let front = take_front h.count (joined xs) (joined ys) in
-      inr (record {
-        fault = h.fault;
-        count = front.0;
-        written = subst (λ (t : List ℕ). Appends a b t) (front.1 ∙ ap (take front.0) (sym (joined-append xs ys))) h.written;
-        caused = h.caused;
-      })
+  fails_wider a b u v xs ys f (inr h) = inr (breaks_wider a b u v xs ys f h)
 
   -- ---- one line
 

@@ -13,6 +13,7 @@ mod history;
 /// Laws of journals.
 pub mod laws;
 mod life;
+mod line;
 mod reading;
 mod text;
 mod unread;
@@ -20,7 +21,7 @@ mod writing;
 
 pub use fitting::every_event_fits;
 pub use history::every_history_fits;
+pub use line::EventLine;
 pub use reading::{read_journal, read_journal_telling};
-pub use text::event_text;
 pub use unread::Unread;
 pub use writing::write_journal;

@@ -6,7 +6,8 @@ ghost use Rattle.cg_links.specs.Counted.{link_of, IsFlushed};
 ghost use Rattle.cg_journal.specs.Text.{life_line, event_line, event_lines, journal_lines};
 ghost use Rattle.cg_journal.specs.Written.{Writes};
 
-use crate::text::{event_text, life_text};
+use crate::line::EventLine;
+use crate::text::life_text;
 use cg_core::{Event, Node};
 use cg_history::{History, Item};
 use cg_links::{Counted, write_bytes};
@@ -35,8 +36,8 @@ fn write_event<W: Write>(alloc: Global, event: &Event, writer: &mut Counted<W>) 
     ensures { Writes (W.contents (link_of writer.old)) (W.contents (link_of writer.new))
         writer.old writer.new (event_line event.now ∷ []) result }
 {
-    match event_text(alloc, event) {
-        Ok(text) => write_line(writer, text.as_bytes()),
+    match EventLine::new(alloc, event) {
+        Ok(line) => line.write(writer),
         Err(_) => Err(Fault::OutOfMemory),
     }
 }

@@ -1,4 +1,4 @@
-//! Histories and their journals: records, receipts, folded records, unreadable lines, failing links, cuts, and audits.
+//! Histories and their journals: records, receipts, folded records, unreadable lines, lines in pieces, failing links, cuts, and audits.
 //!
 //! The vectors (docs/VECTORS.md) have the audits of journals.
 #![tactic(auto)]
@@ -11,6 +11,8 @@ mod cuts;
 mod folded;
 #[cfg(test)]
 mod journals;
+#[cfg(test)]
+mod lines;
 #[cfg(test)]
 mod links;
 #[cfg(test)]

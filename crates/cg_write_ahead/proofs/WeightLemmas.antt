@@ -29,6 +29,10 @@ still_covers all before w more new covers less is short =
     let few = covers small in
     omega (arith, is, short, less, few)
 
+-- a sum up to the greatest number, of a length up to it
+pub counted : (before line few members new most : ℕ) → few ≡ min line most → new ≡ min (before + few + members) most → new ≡ min (before + line + members) most
+counted before line few members new most is sum = omega (arith, is, sum)
+
 -- what is folded no longer weighs
 pub folded_lighter : (n : ℕ) (h g : HistoryValue) → g ≡ with_folded n h → weight_of_all g.records ≤ weight_of_all h.records
 folded_lighter n h g is =

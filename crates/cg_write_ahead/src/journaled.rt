@@ -22,8 +22,8 @@ use crate::limits::{FOLD_LENGTH, WEIGHT_LIMIT};
 use crate::weights::with_record;
 use cg_core::Event;
 use cg_history::{History, Receipt};
-use cg_journal::{event_text, write_journal};
-use cg_links::{Counted, write_and_flush};
+use cg_journal::{EventLine, write_journal};
+use cg_links::Counted;
 use cg_locked::{Board, Fresh, Name, Seat};
 use cg_types::Fault;
 use cg_views::{Publisher, Told};
@@ -163,7 +163,7 @@ impl<N: Name, W: Write + Drop> Journaled<N, W> {
         alloc: Global,
         seat: &mut Seat<N>,
         event: Event,
-        line: &[u8],
+        line: &EventLine,
     ) -> Result<Receipt, Fault>
         requires whole { self.old.torn ≡ false }
         requires line { line.now ≡ event_line event }
@@ -189,8 +189,8 @@ impl<N: Name, W: Write + Drop> Journaled<N, W> {
             ..
         } = self;
         let receipt = entered(board, alloc, seat, event)?;
-        *weight = with_record(*weight, line.len(), &receipt.reply);
-        match write_and_flush(sink, line) {
+        *weight = with_record(*weight, line.length(), &receipt.reply);
+        match line.write_and_flush(sink) {
             Ok(()) => Ok(receipt),
             Err(fault) => {
                 *torn = true;
@@ -248,8 +248,8 @@ impl<N: Name, W: Write + Drop> Journaled<N, W> {
             return Err(Fault::WriteFault);
         }
         self.trim(alloc)?;
-        let line = event_text(alloc, &event)?;
-        let receipt = self.enter_and_write(alloc, seat, event, line.as_bytes())?;
+        let line = EventLine::new(alloc, &event)?;
+        let receipt = self.enter_and_write(alloc, seat, event, &line)?;
         match self.board.catch_up(rt, alloc) {
             Ok(told) => Ok((receipt, Some(told))),
             Err(_) => Ok((receipt, None)),
