@@ -158,7 +158,7 @@ where
     let parts = Parts {
         listeners,
         dialer: Dialer::new(rt, alloc, limit),
-        waker: Dialer::new(rt, alloc, limit),
+        waker: Dialer::silent(rt, alloc, limit),
         clock: HostClock::new(rt),
         generator: generator(random),
         sink: Counted::new(Sink::new(rt, file, bound_of(&loads))),

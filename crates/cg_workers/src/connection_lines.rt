@@ -9,12 +9,25 @@ use std::time::{Duration, Instant};
 pub(crate) struct Lines {
     // when the last one was printed
     last: Option<Instant>,
+    // `true` if none is printed ever
+    is_silent: bool,
 }
 
 impl Lines {
     /// Begins with no line.
     pub(crate) fn new() -> Lines {
-        Lines { last: None }
+        Lines {
+            last: None,
+            is_silent: false,
+        }
+    }
+
+    /// Prints no line ever.
+    pub(crate) fn silent() -> Lines {
+        Lines {
+            last: None,
+            is_silent: true,
+        }
     }
 
     // Tests whether the last line is as old as it has to be before the next one.
@@ -30,6 +43,9 @@ impl Lines {
 
     /// Tests whether a line may be printed now, and takes it as printed if so. None may if the clock can't be read.
     pub(crate) fn may_print<R: Clock>(&mut self, rt: &R) -> bool {
+        if self.is_silent {
+            return false;
+        }
         let Ok(now) = Instant::now(rt) else {
             return false;
         };

@@ -35,6 +35,14 @@ impl<'a, R: Net<Stream = TcpStream> + Clock> Dialer<'a, R> {
         }
     }
 
+    /// Makes a dialer as `new` does, which prints nothing.
+    pub fn silent(rt: &'a R, alloc: Global, limit: u32) -> Dialer<'a, R> {
+        Dialer {
+            lines: Lines::silent(),
+            ..Dialer::new(rt, alloc, limit)
+        }
+    }
+
     // Connects to a peer, before an end time.
     fn connect(&self, peer: Endpoint, end: Instant) -> io::Result<TcpStream> {
         let address = SocketAddr::from((peer.address(), peer.port()));

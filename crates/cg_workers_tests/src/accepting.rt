@@ -200,3 +200,10 @@ fn peers_that_are_gone_are_told_a_second_apart(rt: HostRuntime) -> Result<(), Fa
     expect!(dialed(&mut dialer, &faulty, &peers, 10) == (0, 1))?;
     expect!(dialed(&mut dialer, &faulty, &peers, 30) == (0, 2))
 }
+
+#[test]
+fn a_silent_dialer_tells_of_nobody(rt: HostRuntime) -> Result<(), Fail> {
+    let faulty = Faulty::new(&rt, &[]);
+    let mut dialer = Dialer::silent(&faulty, rt.alloc(), 10000);
+    expect!(dialed(&mut dialer, &faulty, &[at_port(1)?], 30) == (0, 0))
+}
