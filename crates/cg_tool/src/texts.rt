@@ -1,7 +1,7 @@
 //! The texts of the command's help.
 
-/// The version that `--version` prints.
-pub const VERSION: &str = "0.1.0";
+/// The version that `--version` prints, with the layouts of frames that are read and the one that is written.
+pub const VERSION: &str = "0.1.0 (frames: layouts 1 to 3 are read, 3 is written)";
 
 /// The description of the program.
 pub const ABOUT: &str =
