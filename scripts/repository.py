@@ -86,7 +86,7 @@ QUIET = re.compile(
 BRACKET = re.compile(r"[()\[\]{};]")
 ANGLE = re.compile(r"->|[<>(\[{]")
 HEAD = re.compile(
-    r"(pub(?:\([^)]*\))?\s+)?(?:(?:const|unsafe)\s+(?=(?:unsafe\s+)?fn\b|impl\b|trait\b))*"
+    r"(pub(?:\([^)]*\))?\s+)?(?:(?:const|unsafe|extern)\s+(?=(?:(?:unsafe|extern)\s+)*fn\b|impl\b|trait\b))*"
     r"(fn|struct|enum|trait|impl|mod|use|const|static|type|ghost|macro_rules!)\s*(?:\b(\w+))?"
 )
 IMPL = re.compile(r"(?:(?:\w+::)*(\w+)\s*(<.*>)?\s+for\s+)?&?(?:'\w+\s+)?(?:\w+::)*(\w+)")
@@ -341,9 +341,11 @@ def public_modules(crate: str) -> Set[str]:
 
 @functools.lru_cache(None)
 def public_items(crate: str) -> List[Item]:
-    """Returns the items that callers of a crate can name, and the methods of such types and traits."""
+    """Returns the items that callers of a crate can name, the functions that C can call, and the methods of such types and
+    traits."""
     modules = public_modules(crate)
-    is_seen = lambda it: it.is_public and not it.owner and (it.module in modules or (it.module, it.name) in passed_on(crate))
+    is_named = lambda it: it.module in modules or (it.module, it.name) in passed_on(crate) or "no_mangle" in it.attributes
+    is_seen = lambda it: it.is_public and not it.owner and is_named(it)
     named = [it for it in items_of(crate) if it.kind in ("fn", "struct", "enum", "trait", "const", "type") and is_seen(it)]
     types = {it.name for it in named if it.kind in ("struct", "enum", "trait", "type")}
     methods = [it for it in items_of(crate) if it.kind in ("fn", "const") and it.owner in types]

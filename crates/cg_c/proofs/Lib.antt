@@ -1,0 +1,3 @@
+pub mod BytesHandles
+pub mod LooseValues
+pub mod NodeHandles

@@ -1,0 +1,10 @@
+pub mod Ranges
+pub mod Held
+pub mod Bytes
+pub mod Told
+pub mod Own
+pub mod Starting
+pub mod Entries
+pub mod Leading
+pub mod Announced
+pub mod Reading

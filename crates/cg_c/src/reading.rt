@@ -1,0 +1,99 @@
+//! Calls by which C reads a node's table as text.
+
+ghost use Rattle.std.specs.Prelude.{◌≡◌, IfOk};
+ghost use Rattle.cg_text.specs.declared.view.View.TheVariants as views;
+ghost use Rattle.cg_tokens.specs.Tokens.{token_of};
+ghost use Rattle.cg_c.specs.Told.{Tells};
+ghost use Rattle.cg_c.specs.Bytes.{held_items};
+ghost use Rattle.cg_c.specs.Reading.{view_lines, held_view};
+
+use crate::given::Bytes;
+use crate::held_node::HeldNode;
+use crate::told::{DONE, number};
+use cg_core::Node;
+use cg_text::{View, add_digests, add_gossipinfo, add_replicas, add_ring};
+use cg_tokens::token_of;
+use cg_types::Fault;
+use std::alloc::{AllocError, Global};
+
+// A view of a node's table, as text.
+fn view_text(alloc: Global, node: &Node, view: View) -> Result<Box<Vec<u8>>, AllocError>
+    ensures { IfOk result (λ b. b.value.items ≡ view_lines node.now.table view) }
+{
+    let mut text = String::new(alloc);
+    match view {
+        View::Gossipinfo => add_gossipinfo(&mut text, node.table())?,
+        View::Digests => add_digests(&mut text, node.table())?,
+        View::Ring => add_ring(&mut text, node.ring())?,
+        View::Replicas { token, rf } => {
+            add_replicas(alloc, &mut text, node.ring(), token, rf as usize)?
+        }
+    }
+    Ok(Box::new(alloc, text.into_bytes())?)
+}
+
+// Gives a view of the table of the node that is held.
+fn show(alloc: Global, node: &mut HeldNode, view: View, text: &mut Bytes) -> u32
+    ensures told { Tells (held_view node.old.value view) (held_items text.new.held.value) (text.new ≡ text.old) result }
+    ensures same { node.new.value ≡ node.old.value }
+{
+    let Some(inside) = node.take(alloc) else {
+        return number(Fault::NoSuchNode);
+    };
+    let shown = view_text(alloc, &inside, view);
+    node.put(alloc, inside);
+    match shown {
+        Ok(shown) => {
+            text.put(alloc, shown);
+            DONE
+        }
+        Err(_) => number(Fault::OutOfMemory),
+    }
+}
+
+/// Gives the entry of each endpoint, as text.
+#[unsafe(no_mangle)]
+pub extern "C" fn cg_gossipinfo(alloc: Global, node: &mut HeldNode, text: &mut Bytes) -> u32
+    ensures told { Tells (held_view node.old.value views.Gossipinfo) (held_items text.new.held.value)
+        (text.new ≡ text.old) result }
+    ensures same { node.new.value ≡ node.old.value }
+{
+    show(alloc, node, View::Gossipinfo, text)
+}
+
+/// Gives a digest of each entry, as text.
+#[unsafe(no_mangle)]
+pub extern "C" fn cg_digests(alloc: Global, node: &mut HeldNode, text: &mut Bytes) -> u32
+    ensures told { Tells (held_view node.old.value views.Digests) (held_items text.new.held.value)
+        (text.new ≡ text.old) result }
+    ensures same { node.new.value ≡ node.old.value }
+{
+    show(alloc, node, View::Digests, text)
+}
+
+/// Gives the ring of the table, as text.
+#[unsafe(no_mangle)]
+pub extern "C" fn cg_ring(alloc: Global, node: &mut HeldNode, text: &mut Bytes) -> u32
+    ensures told { Tells (held_view node.old.value views.Ring) (held_items text.new.held.value)
+        (text.new ≡ text.old) result }
+    ensures same { node.new.value ≡ node.old.value }
+{
+    show(alloc, node, View::Ring, text)
+}
+
+/// Gives the first `rf` replicas of a key, one a line.
+#[unsafe(no_mangle)]
+pub extern "C" fn cg_replicas(
+    alloc: Global,
+    node: &mut HeldNode,
+    key: &[u8],
+    rf: u64,
+    text: &mut Bytes,
+) -> u32
+    ensures told { Tells (held_view node.old.value (views.Replicas (token_of key.now) rf))
+        (held_items text.new.held.value) (text.new ≡ text.old) result }
+    ensures same { node.new.value ≡ node.old.value }
+{
+    let token = token_of(key);
+    show(alloc, node, View::Replicas { token, rf }, text)
+}
