@@ -1,4 +1,4 @@
-/* Measures calls of the library for C at a node of 256 endpoints, each with one state of 200 bytes. It prints a line for each call:
+/* Measures calls of the library for C at a node of 256 endpoints, each with 16 states of 64 bytes. It prints a line for each call:
  * `bench NAME least N`, the least of nine samples, in nanoseconds a call. See embed. */
 #include <stdio.h>
 #include <stdlib.h>
@@ -29,14 +29,14 @@ static double now(void) {
 
 /* Starts a node at the endpoint of a number, with its state. */
 static void start(cg_node *it, int number) {
-    char endpoint[32], state[201];
+    char endpoint[32], state[65];
     cg_judgement judgement;
     cg_defaults(&judgement);
     snprintf(endpoint, sizeof endpoint, "10.0.%d.%d:7000", number / 256, number % 256);
-    memset(state, 'x', 200);
-    state[200] = 0;
+    memset(state, 'x', 64);
+    state[64] = 0;
     pass(cg_start(it, TEXT(endpoint), 5, TEXT("c1"), TEXT(""), &judgement));
-    pass(cg_set(it, 1, TEXT(state), &version));
+    for (int key = 1; key <= 16; key++) pass(cg_set(it, key, TEXT(state), &version));
 }
 
 /* Has the node and another hold the same. */

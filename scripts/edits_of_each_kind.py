@@ -163,10 +163,28 @@ def misjudged(top):
         yield f"of a crate that is not there it says {lines[0]}, with status {status}"
 
 
+def kept_wrongly(top):
+    """Yields what is said otherwise than it has to be of a crate whose edits are all refused: that they are kept, as long
+    as comments alone change."""
+    for name, _, _, wanted in EDITS:
+        if not wanted.startswith("refused: "):
+            os.remove(f"{top}/crates/small/edits/{name}.edit")
+    for words, change, wanted in [
+        ([], "", r"small: 3 of 3 edits refused, .*"),
+        (["--changed"], "// A comment.\n", r"small: 3 edits were refused, and nothing that they rest on has changed"),
+        (["--changed"], "const ONE: u8 = 1;\n", r"small: 3 of 3 edits refused, .*"),
+    ]:
+        write(f"{top}/crates/small/src/lib.rt", CODE + change)
+        lines, status = said_by(top, "--jobs", "1", *words, "small")
+        if status or lines[-1] != "3 passed, 0 failed" or not re.fullmatch(wanted, lines[-2]):
+            yield f"{' '.join(words)} behind the change {change!r} says {lines[-2:]}, with status {status}"
+
+
 def main():
     with tempfile.TemporaryDirectory(prefix="edits-") as top:
         furnish(top)
-        wrong = [*misjudged(top)]
+        wrong = [*misjudged(top), *kept_wrongly(top)]
         shutil.rmtree(f"{tempfile.gettempdir()}/try-edits{top.replace('/', '-')}", ignore_errors=True)
-    print("\n".join(wrong) if wrong else f"{len(EDITS)} edits and a name of no crate are judged as they must be")
+    what = f"{len(EDITS)} edits, a name of no crate, and what is kept of a crate"
+    print("\n".join(wrong) if wrong else f"{what} are judged as they must be")
     return 1 if wrong else 0

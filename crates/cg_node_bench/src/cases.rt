@@ -23,6 +23,8 @@ pub(crate) enum Task {
     Beats(u32),
     /// An exchange of two nodes that hold the same, over links in memory.
     Links,
+    /// A node handles the frame of a SYN of one that holds the same: from bytes to bytes.
+    Handles,
     /// The ACK that brings a whole table is read from a link.
     Receive,
     /// A number of heartbeats, one by one.
@@ -86,7 +88,7 @@ const CALLER_BY_CALLER: Task = Task::Confirms {
 
 /// All cases: steps of nodes at tables of each shape, at claims of tokens and at full windows, exchanges over links,
 /// histories, and scripts of 8 nodes with a hundred thousand lines and of 256 nodes.
-pub(crate) const ALL: [Case; 29] = [
+pub(crate) const ALL: [Case; 30] = [
     ("node", "heartbeat", "1x200", Task::Heartbeat, SMALLEST),
     ("node", "beat", "1x200", Task::Beat, SMALLEST),
     ("node", "set", "1x200", Task::Set, SMALLEST),
@@ -107,6 +109,13 @@ pub(crate) const ALL: [Case; 29] = [
         "256x16",
         Task::TakesStatus,
         SMALLEST,
+    ),
+    (
+        "node",
+        "handles_equal_syn",
+        "256x16",
+        Task::Handles,
+        MIDDLE,
     ),
     ("64", "node_beats_256", "w1000", Task::Beats(64), MIDDLE),
     ("64", "node_beats_512", "w1000", Task::Beats(64), WIDE),

@@ -5,7 +5,7 @@ use bytes::Bytes;
 use cg_core::{Event, Node, Reply};
 use cg_engine::{Ended, NodeGate, initiate, receive, respond};
 use cg_exchange::{answer_syn, syn};
-use cg_frames::encode;
+use cg_frames::{decode, encode};
 use cg_links::Counted;
 use cg_measure::{Failure, Shape};
 use cg_messages::{Ack, Ack2, Message, Syn};
@@ -132,4 +132,23 @@ fn sides(alloc: Global, opener: Node, answerer: Node) -> Result<(Side, Side), Fa
 pub(crate) fn equal_sides(alloc: Global, shape: Shape) -> Result<(Side, Side), Failure> {
     let (opener, answerer) = equal_nodes(alloc, shape)?;
     sides(alloc, opener, answerer)
+}
+
+/// A node, and the frame of a SYN of another that holds the same.
+pub(crate) fn equal_syn(alloc: Global, shape: Shape) -> Result<(Node, Bytes), Failure> {
+    let (opener, answerer) = equal_nodes(alloc, shape)?;
+    let frame = syn_frame(alloc, &opener)?;
+    Ok((answerer, frame))
+}
+
+/// The node after the frame of a SYN, and the frame of its answer.
+pub(crate) fn handled(alloc: Global, node: &Node, frame: &[u8]) -> Result<(Node, Bytes), Failure> {
+    let event = match decode(alloc, frame)? {
+        Some((Message::Syn(m), _)) => Event::Syn { m },
+        _ => return Err(Failure::Lacking("a SYN")),
+    };
+    match node.stepped(alloc, &event)? {
+        (node, Reply::Sent(ack)) => Ok((node, encode(alloc, &ack)?)),
+        _ => Err(Failure::Lacking("an answer")),
+    }
 }

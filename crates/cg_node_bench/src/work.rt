@@ -3,7 +3,7 @@
 use crate::cases::{Case, Task};
 use crate::claims::{claimed, joins, leaves, left};
 use crate::histories::{beats, events, folded, receipts, recorded, stepped, unconfirmed};
-use crate::links::{Side, answerer_part, equal_sides, opener_part, received};
+use crate::links::{Side, answerer_part, equal_sides, equal_syn, handled, opener_part, received};
 use crate::nodes::{
     after, after_all, heard, heartbeat, joined, load, rounds_of_beats, started, unload, whole,
 };
@@ -29,6 +29,8 @@ pub(crate) enum Work {
     Further(Node, Vec<Event>),
     /// Both parts of an exchange, over links in memory.
     Links(Side, Side),
+    /// A node handles a frame.
+    Handle(Node, Bytes),
     /// Reads the one message of a link.
     Receive(Bytes),
     /// Steps of a node that starts, one after the other.
@@ -50,6 +52,8 @@ pub(crate) enum Made {
     Claimed(Node),
     /// Two nodes, each with the bytes that it wrote.
     Linked((Node, Vec<u8>), (Node, Vec<u8>)),
+    /// A node, and the frame that it answers.
+    Handled(Node, Bytes),
     Message(Message),
     History(History),
     UnconfirmedReceipt(Option<usize>),
@@ -105,6 +109,10 @@ impl cg_measure::Work for Work {
             Work::Claim(node, event) => Ok(Made::Claimed(after(alloc, node, event)?)),
             Work::Further(node, events) => Ok(Made::Node(after_all(alloc, node, events)?)),
             Work::Links(opener, answerer) => linked(alloc, opener, answerer),
+            Work::Handle(node, frame) => {
+                let (node, answer) = handled(alloc, node, frame)?;
+                Ok(Made::Handled(node, answer))
+            }
             Work::Receive(frame) => Ok(Made::Message(received(alloc, frame)?)),
             Work::Steps(events) => Ok(Made::Node(stepped(alloc, events)?)),
             Work::Records(events) => Ok(Made::History(recorded(alloc, events)?)),
@@ -124,6 +132,11 @@ impl cg_measure::Work for Work {
             Made::Linked(opener, answerer) => {
                 add_part(alloc, digest, opener)?;
                 add_part(alloc, digest, answerer)
+            }
+            Made::Handled(node, answer) => {
+                add_table(alloc, digest, node.table())?;
+                digest.update(answer);
+                Ok(())
             }
             Made::Message(message) => add_message(alloc, digest, message),
             Made::History(history) => add_table(alloc, digest, history.node().table()),
@@ -157,6 +170,11 @@ fn links(alloc: Global, shape: Shape) -> Result<Work, Failure> {
     Ok(Work::Links(opener, answerer))
 }
 
+fn handles(alloc: Global, shape: Shape) -> Result<Work, Failure> {
+    let (node, frame) = equal_syn(alloc, shape)?;
+    Ok(Work::Handle(node, frame))
+}
+
 fn receive(alloc: Global, shape: Shape) -> Result<Work, Failure> {
     let whole = Message::Ack(whole(alloc, shape)?);
     Ok(Work::Receive(encode(alloc, &whole)?))
@@ -179,6 +197,7 @@ fn work_of(alloc: Global, task: Task, shape: Shape) -> Result<Work, Failure> {
         Task::TakesStatus => Ok(Work::Claim(claimed(alloc)?, left(alloc)?)),
         Task::Beats(count) => beats_of_all(alloc, count, shape),
         Task::Links => links(alloc, shape),
+        Task::Handles => handles(alloc, shape),
         Task::Receive => receive(alloc, shape),
         Task::Steps(count) => Ok(Work::Steps(events(alloc, shape, count)?)),
         Task::Records(count) => Ok(Work::Records(events(alloc, shape, count)?)),
