@@ -112,7 +112,7 @@ static void show(struct held *it, char *to) {
     size_t at = sizeof at;
     memset(to, 0, sizeof shown[0]);
     memcpy(to, &at, sizeof at);
-    uint32_t (*const views[])(cg_node *, cg_bytes *) = {cg_gossipinfo, cg_digests, cg_ring, cg_opening};
+    uint32_t (*const views[])(cg_node *, cg_bytes *) = {cg_owners, cg_gossipinfo, cg_digests, cg_ring, cg_opening};
     for (size_t view = 0; view < sizeof views / sizeof views[0]; view++) {
         uint32_t fault = views[view](&it->node, &text);
         add(to, &fault, sizeof fault);
@@ -154,6 +154,7 @@ static uint32_t frame_length(struct held *it) { return cg_frame_length(syn.start
 static uint32_t entry(struct held *it) { return cg_entry(&it->node, TEXT(OTHER), &it->version, &it->newest); }
 static uint32_t state(struct held *it) { return cg_state(&it->node, TEXT(OTHER), 1, &it->text, &it->version); }
 static uint32_t verdict(struct held *it) { return cg_verdict(&it->node, TEXT(OTHER), 2000, &it->verdict); }
+static uint32_t owners(struct held *it) { return cg_owners(&it->node, &it->text); }
 static uint32_t gossipinfo(struct held *it) { return cg_gossipinfo(&it->node, &it->text); }
 static uint32_t digests(struct held *it) { return cg_digests(&it->node, &it->frame); }
 static uint32_t ring(struct held *it) { return cg_ring(&it->node, &it->text); }
@@ -170,8 +171,8 @@ static const struct {
     {"cg_tick", tick, 0, 1}, {"cg_opening", opening, 0, 1}, {"cg_handle of a SYN", handle_syn, 0, 1},
     {"cg_handle of an ACK", handle_ack, 0, 1}, {"cg_handle of an old ACK2", handle_ack2, 0, 1},
     {"cg_handle of a cut frame", handle_cut, CG_TRUNCATED, 0}, {"cg_frame_length", frame_length, 0, 0}, {"cg_entry", entry, 0, 0},
-    {"cg_state", state, 0, 1}, {"cg_verdict", verdict, 0, 0}, {"cg_gossipinfo", gossipinfo, 0, 1}, {"cg_digests", digests, 0, 1},
-    {"cg_ring", ring, 0, 1}, {"cg_replicas", replicas, 0, 1},
+    {"cg_state", state, 0, 1}, {"cg_verdict", verdict, 0, 0}, {"cg_owners", owners, 0, 1}, {"cg_gossipinfo", gossipinfo, 0, 1},
+    {"cg_digests", digests, 0, 1}, {"cg_ring", ring, 0, 1}, {"cg_replicas", replicas, 0, 1},
 };
 
 /* Makes a call with each of its requests refused in turn. Returns how many there were, or -1 if a run did what it may not do; it

@@ -114,6 +114,9 @@ uint32_t cg_state(cg_node *node, const uint8_t *endpoint, size_t endpoint_length
  * CG_BAD_TEXT if the endpoint is not one. */
 uint32_t cg_verdict(cg_node *node, const uint8_t *endpoint, size_t endpoint_length, uint64_t now, uint8_t *verdict);
 
+/* Gives the endpoint of each entry, one a line, rising by endpoint. */
+uint32_t cg_owners(cg_node *node, cg_bytes *text);
+
 /* Gives the entry of each endpoint, as text. */
 uint32_t cg_gossipinfo(cg_node *node, cg_bytes *text);
 

@@ -4,8 +4,7 @@ import ctypes
 import os
 import re
 
-HERE = os.path.dirname(os.path.abspath(__file__))
-HEADER = os.path.join(HERE, "..", "..", "crates", "cg_c", "cg.h")
+HEADER = os.path.join(os.path.dirname(os.path.abspath(__file__)), "..", "..", "crates", "cg_c", "cg.h")
 
 
 class _Node(ctypes.Structure):
@@ -134,6 +133,9 @@ class Node:
         verdict = ctypes.c_uint8()
         self._do("cg_verdict", *self._slice(endpoint.encode()), ctypes.c_uint64(now), ctypes.byref(verdict))
         return verdict.value
+
+    def owners(self):
+        return self._bytes("cg_owners", 1)[0].decode().split()
 
     def gossipinfo(self):
         return self._bytes("cg_gossipinfo", 1)[0].decode()

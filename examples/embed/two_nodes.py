@@ -34,6 +34,7 @@ def main():
     print("verdict", second.verdict("10.0.0.1:7000", 1000), second.verdict("10.0.0.9:7000", 1000))
     print("replicas", second.replicas(b"some key", 2), "ring", second.ring().split())
     assert first.digests() == second.digests()
+    assert first.owners() == second.owners() == ["10.0.0.1:7000", "10.0.0.2:7000"]
     second.close()
     print("a node that is freed", refused(second.beat))
     print("both hold the same")
