@@ -124,6 +124,7 @@ class Item(NamedTuple):
     parts: Tuple[str, ...]
     has_body: bool
     start: int
+    body: int
     end: int
 
     @property
@@ -277,6 +278,7 @@ class Reader:
                 tuple(parts),
                 is_braced,
                 head.start(),
+                body,
                 end,
             )
         )
