@@ -4,7 +4,8 @@ import ctypes
 import os
 import re
 
-HEADER = os.path.join(os.path.dirname(os.path.abspath(__file__)), "..", "..", "crates", "cg_c", "cg.h")
+HERE = os.path.dirname(os.path.abspath(__file__))
+HEADER = os.path.join(HERE, "..", "..", "crates", "cg_c", "cg.h")
 
 
 class _Node(ctypes.Structure):
