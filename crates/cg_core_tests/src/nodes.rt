@@ -98,6 +98,19 @@ fn own_delta(rt: HostRuntime) -> Result<(), Fail> {
     expect_eq!(seen, (Some(Took::Own), Some((5, 1)), Verdict::Unheard, 1))
 }
 
+#[test]
+fn a_taken_delta_is_the_last_arrival(rt: HostRuntime) -> Result<(), Fail> {
+    let node = node(rt.alloc(), B, 5)?;
+    let event = comes(rt.alloc(), 10000, A, (9, 0, 1))?;
+    let (after, _reply) = node.stepped(rt.alloc(), &event)?;
+    let (before, own) = (
+        node.last_arrival(endpoint(A)),
+        after.last_arrival(endpoint(B)),
+    );
+    let last = after.last_arrival(endpoint(A));
+    expect_eq!((before, last, own), (None, Some(10000), None))
+}
+
 // ---- refused events
 
 #[test]

@@ -29,25 +29,29 @@ fn taken_deltas_alone_are_taken(_rt: HostRuntime) -> Result<(), Fail> {
     expect_eq!((any_taken(&some), any_taken(&none)), (true, false))
 }
 
-// The verdicts of B's window, and of C, which has none, after one outcome of B at time 0.
-fn verdicts(alloc: Global, took: Took, now: u64) -> Result<(Verdict, Verdict), Fail> {
+// What windows say of an endpoint: its last arrival, and the verdict at a time.
+type Said = (Option<u64>, Verdict);
+
+// What is said of B's window, and of C, which has none, after one outcome of B at time 0.
+fn said(alloc: Global, took: Took, now: u64) -> Result<(Said, Said), Fail> {
     let none = Windows::none(alloc, Silence::default());
     let windows = none.after(alloc, &[outcome(took)], 0)?;
+    let (b, c) = (endpoint(B), endpoint(C));
     Ok((
-        windows.verdict(endpoint(B), now),
-        windows.verdict(endpoint(C), now),
+        (windows.last_arrival(b), windows.verdict(b, now)),
+        (windows.last_arrival(c), windows.verdict(c, now)),
     ))
 }
 
 #[test]
 fn a_taken_delta_is_an_arrival(rt: HostRuntime) -> Result<(), Fail> {
     for (took, now, due) in [
-        (Took::Taken, 1, Verdict::Alive),
-        (Took::Taken, 50001, Verdict::Silent),
-        (Took::Gap, 1, Verdict::Unheard),
+        (Took::Taken, 1, (Some(0), Verdict::Alive)),
+        (Took::Taken, 50001, (Some(0), Verdict::Silent)),
+        (Took::Gap, 1, (None, Verdict::Unheard)),
     ] {
-        let verdicts = verdicts(rt.alloc(), took, now)?;
-        expect_eq!(verdicts, (due, Verdict::Unheard))?;
+        let said = said(rt.alloc(), took, now)?;
+        expect_eq!(said, (due, (None, Verdict::Unheard)))?;
     }
     Ok(())
 }

@@ -17,7 +17,7 @@ use Rattle.cg_silence.specs.Values.{SilenceValue, Shown, WindowValue}
 use Rattle.cg_silence.specs.Silence.{after_arrival, verdict}
 use Rattle.cg_silence.specs.declared.verdict.Verdict.{Verdict}
 use Rattle.cg_silence.specs.declared.verdict.Verdict.TheVariants.{Unheard}
-use Rattle.cg_silence.specs.Windows.{Heard, was_taken, with_arrival, arrivals, shown_in, AllJudge, WindowsValue, window_after, arrival, verdict_by}
+use Rattle.cg_silence.specs.Windows.{Heard, was_taken, with_arrival, arrivals, shown_in, AllJudge, WindowsValue, window_after, arrival, verdict_by, last_arrival}
 
 abbrev Kept : Type 0
 Kept = FinMap nat_cmp WindowValue
@@ -132,6 +132,23 @@ module _ (w : WindowsValue) (s : SilenceValue) (m : Kept) (is : ◌≡◌ {A = W
   verdict_none here =
       let shows : None ≡ get (shown_in m) endpoint = ap (option_map (λ (w : WindowValue). w.shown)) here ∙ sym (get-shown_in m endpoint) in
       subst (VerdictIs Unheard) is (ap (λ (o : Option Shown). verdict_by s o now) shows)
+
+-- ---- last arrivals
+
+module _ (w : WindowsValue) (s : SilenceValue) (m : Kept) (is : ◌≡◌ {A = WindowsValue} (record { silence = s; shown = shown_in m }) w) (endpoint : ℕ) where
+  abbrev LastIs : Option ℕ → WindowsValue → Type 0
+  LastIs last w = last ≡ last_arrival (get w.shown endpoint)
+
+  -- an endpoint's window, of those that are kept, gives its last arrival
+  pub last_held : (v : WindowValue) → Some v ≡ get m endpoint → LastIs v.shown.last w
+  last_held v here =
+      let shows : Some v.shown ≡ get (shown_in m) endpoint = ap (option_map (λ (w : WindowValue). w.shown)) here ∙ sym (get-shown_in m endpoint) in
+      subst (LastIs v.shown.last) is (ap last_arrival shows)
+
+  pub last_none : None ≡ get m endpoint → LastIs None w
+  last_none here =
+      let shows : None ≡ get (shown_in m) endpoint = ap (option_map (λ (w : WindowValue). w.shown)) here ∙ sym (get-shown_in m endpoint) in
+      subst (LastIs None) is (ap last_arrival shows)
 
 -- ---- windows in the form that the code has them
 

@@ -49,6 +49,11 @@ abbrev pub verdict_by : SilenceValue → Option Shown → ℕ → Verdict
 verdict_by s None now = Unheard
 verdict_by s (Some w) now = verdict s w now
 
+-- the greatest arrival of an endpoint, if it has a window
+abbrev pub last_arrival : Option Shown → Option ℕ
+last_arrival None = None
+last_arrival (Some w) = w.last
+
 -- ---- as they are kept
 
 -- the settings of all windows, and what each shows

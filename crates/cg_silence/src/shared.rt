@@ -185,6 +185,13 @@ impl SharedWindow {
         )
     }
 
+    /// The greatest of the arrivals, in milliseconds; `None` before the first.
+    pub fn last_arrival(&self) -> Option<u64>
+        ensures { result ≡ self.now.shown.last }
+    {
+        self.last
+    }
+
     /// Returns the verdict at `now`, in milliseconds. A time before the last arrival counts as no elapsed time. It
     /// takes no memory.
     pub fn verdict(&self, now: u64) -> Verdict

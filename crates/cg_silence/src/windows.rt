@@ -5,6 +5,7 @@ ghost use Rattle.std.specs.FinMap as map;
 ghost use Rattle.cg_types.specs.Rising.{Rises};
 ghost use Rattle.cg_messages.specs.Members.{endpoints_of_outcomes};
 ghost use Rattle.cg_silence.specs.Windows.{arrivals, verdict_by};
+ghost use Rattle.cg_silence.specs.Windows as spec;
 
 use crate::chunks::Chunks;
 use crate::silence::Silence;
@@ -53,6 +54,17 @@ impl Windows {
         match self.windows.get(endpoint) {
             Some(window) => window.verdict(now),
             None => Verdict::Unheard,
+        }
+    }
+
+    /// The greatest arrival of an endpoint, in milliseconds of the clock of the arrivals; `None` if it has no window. It
+    /// takes no memory.
+    pub fn last_arrival(&self, endpoint: Endpoint) -> Option<u64>
+        ensures { result ≡ spec.last_arrival (map.get self.now.shown endpoint) }
+    {
+        match self.windows.get(endpoint) {
+            Some(window) => window.last_arrival(),
+            None => None,
         }
     }
 
