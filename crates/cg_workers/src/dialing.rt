@@ -3,12 +3,14 @@
 use crate::connection_lines::Lines;
 use crate::links::Dial;
 use crate::side::{Side, end_in, left_until};
+use crate::traffic::{Counting, Traffic};
 use cg_types::{Endpoint, Fault};
 use std::alloc::Global;
 use std::io;
 use std::io::{Eprint, Error, ErrorKind};
 use std::net::{Net, SocketAddr, TcpStream};
 use std::rt::Clock;
+use std::sync::Arc;
 use std::time::Instant;
 
 /// A dialer of peers over TCP. Dialing a peer and the exchange with it have one end time. It says on standard error that
@@ -18,6 +20,7 @@ pub struct Dialer<'a, R: Net<Stream = TcpStream> + Clock> {
     rt: &'a R,
     alloc: Global,
     limit: u32,
+    counting: Counting,
     lines: Lines,
     // the peers of which the last line says that they can't be dialed
     gone: Vec<Endpoint>,
@@ -30,6 +33,7 @@ impl<'a, R: Net<Stream = TcpStream> + Clock> Dialer<'a, R> {
             rt,
             alloc,
             limit,
+            counting: Counting::none(),
             lines: Lines::new(),
             gone: Vec::new(alloc),
         }
@@ -40,6 +44,14 @@ impl<'a, R: Net<Stream = TcpStream> + Clock> Dialer<'a, R> {
         Dialer {
             lines: Lines::silent(),
             ..Dialer::new(rt, alloc, limit)
+        }
+    }
+
+    /// Counts the bytes of its connections in this traffic.
+    pub fn counting(self, traffic: Arc<Traffic, Global>) -> Dialer<'a, R> {
+        Dialer {
+            counting: Counting::of(traffic),
+            ..self
         }
     }
 
@@ -90,7 +102,7 @@ impl<'a, R: Net<Stream = TcpStream> + Clock + Eprint> Dial for Dialer<'a, R> {
         match self.connect(peer, end) {
             Ok(stream) => {
                 self.tell_back(peer);
-                Side::pair(self.rt, self.alloc, stream, end, end)
+                Side::pair(self.rt, self.alloc, stream, &self.counting, end, end)
             }
             Err(error) => {
                 self.tell_gone(peer, &error);

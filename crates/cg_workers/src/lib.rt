@@ -34,6 +34,7 @@ mod side;
 mod taking;
 mod ticked;
 mod ticking;
+mod traffic;
 mod turns;
 mod words;
 
@@ -54,5 +55,6 @@ pub use sending::{ROUNDS_AT_ONCE, reach, sender};
 pub use side::Side;
 pub use ticked::{Stop, Ticked};
 pub use ticking::ticker;
+pub use traffic::Traffic;
 pub use turns::Turns;
 pub use words::{generator, next_words};

@@ -8,12 +8,13 @@ use crate::connection_lines::Lines;
 use crate::limits::{ACCEPT_PAUSE, first_byte_limit};
 use crate::links::Listen;
 use crate::side::{Side, end_in};
+use crate::traffic::{Counting, Traffic};
 use cg_types::{Endpoint, Fault};
 use std::alloc::Global;
 use std::io::{Eprint, Error, ErrorKind};
 use std::net::{Net, OpenListener, SocketAddr, TcpListener, TcpStream};
 use std::rt::Clock;
-use std::sync::Wait;
+use std::sync::{Arc, Wait};
 use std::time::Duration;
 use std::{io, thread};
 
@@ -24,8 +25,17 @@ pub struct Listener<'a, R: Net<Stream = TcpStream> + Clock> {
     rt: &'a R,
     alloc: Global,
     listener: R::Listener,
+    counting: Counting,
     limit: u32,
     lines: Lines,
+}
+
+// The same counting, as an error of the system would tell it.
+fn counting_again(counting: &Counting) -> io::Result<Counting> {
+    match counting.copy() {
+        Ok(counting) => Ok(counting),
+        Err(_) => Err(Error::from(ErrorKind::OutOfMemory)),
+    }
 }
 
 impl<'a, R: Net<Stream = TcpStream> + Clock> Listener<'a, R> {
@@ -39,6 +49,7 @@ impl<'a, R: Net<Stream = TcpStream> + Clock> Listener<'a, R> {
             rt,
             alloc,
             listener,
+            counting: Counting::none(),
             limit,
             lines: Lines::new(),
         })
@@ -77,9 +88,20 @@ impl<'a, R: Net<Stream = TcpStream> + Clock> Listener<'a, R> {
             rt: self.rt,
             alloc: self.alloc,
             listener: self.listener.try_clone()?,
+            counting: counting_again(&self.counting)?,
             limit: self.limit,
             lines: Lines::new(),
         })
+    }
+
+    /// Counts the bytes of its connections in this traffic.
+    pub fn counting(self, traffic: Arc<Traffic, Global>) -> Listener<'a, R>
+        ensures { result.limit ≡ self.entry.limit }
+    {
+        Listener {
+            counting: Counting::of(traffic),
+            ..self
+        }
     }
 
     /// Returns the address at which it listens.
@@ -91,7 +113,7 @@ impl<'a, R: Net<Stream = TcpStream> + Clock> Listener<'a, R> {
     fn sides(&self, stream: TcpStream) -> io::Result<(Side<'a, R>, Side<'a, R>)> {
         let end = end_in(self.rt, self.limit)?;
         let first_end = end_in(self.rt, first_byte_limit(self.limit))?.min(end);
-        match Side::pair(self.rt, self.alloc, stream, first_end, end) {
+        match Side::pair(self.rt, self.alloc, stream, &self.counting, first_end, end) {
             Ok(sides) => Ok(sides),
             Err(_) => Err(Error::from(ErrorKind::OutOfMemory)),
         }

@@ -5,6 +5,7 @@ ghost use Rattle.std.specs.Io.{ReadsAtMost, WritesAtMost};
 ghost use Rattle.cg_types.specs.declared.fault.Fault.TheVariants as faults;
 
 use crate::limits::CALL_TRIES;
+use crate::traffic::Counting;
 use cg_types::Fault;
 use std::alloc::Global;
 use std::io;
@@ -20,6 +21,7 @@ use std::time::{Duration, Instant};
 pub struct Side<'a, R: Clock> {
     rt: &'a R,
     stream: Arc<TcpStream, Global>,
+    counting: Counting,
     read_end: Instant,
     end: Instant,
 }
@@ -49,11 +51,14 @@ impl<'a, R: Clock> Side<'a, R> {
         rt: &'a R,
         alloc: Global,
         stream: TcpStream,
+        counting: &Counting,
         first_end: Instant,
         end: Instant,
     ) -> Result<(Side<'a, R>, Side<'a, R>), Fault>
         ensures { IfErr result (λ f. f ≡ faults.OutOfMemory) }
     {
+        let read = counting.copy()?;
+        let written = counting.copy()?;
         let stream = match Arc::new(alloc, stream) {
             Ok(stream) => stream,
             Err(_) => return Err(Fault::OutOfMemory),
@@ -65,12 +70,14 @@ impl<'a, R: Clock> Side<'a, R> {
         let reader = Side {
             rt,
             stream,
+            counting: read,
             read_end: first_end,
             end,
         };
         let writer = Side {
             rt,
             stream: twin,
+            counting: written,
             read_end: first_end,
             end,
         };
@@ -106,6 +113,7 @@ impl<'a, R: Clock> Read for Side<'a, R> {
                     if count > 0 {
                         self.read_end = self.end;
                     }
+                    self.counting.add_read(count);
                     return Ok(count);
                 }
                 Err(error) => {
@@ -123,7 +131,10 @@ impl<'a, R: Clock> Write for Side<'a, R> {
     fn write(&mut self, buf: &[u8]) -> io::Result<usize> {
         for _ in 0..CALL_TRIES {
             match self.write_once(buf) {
-                Ok(count) => return Ok(count),
+                Ok(count) => {
+                    self.counting.add_written(count);
+                    return Ok(count);
+                }
                 Err(error) => {
                     if error.kind() != ErrorKind::Interrupted {
                         return Err(error);

@@ -1,13 +1,14 @@
 //! Connections over the loopback: an answer, an endpoint in use, nobody there, silent and slow peers.
 
 use crate::ports::free_endpoint;
-use cg_testing::expect;
+use cg_testing::{expect, expect_eq};
 use cg_types::{Endpoint, Fault};
-use cg_workers::{Dial, Dialer, Listen, Listener};
-use std::alloc::Global;
+use cg_workers::{Dial, Dialer, Listen, Listener, Traffic};
+use std::alloc::{AllocError, Global};
 use std::io::{Eprint, ErrorKind, Read, Write};
 use std::net::{Net, TcpStream};
 use std::rt::Clock;
+use std::sync::Arc;
 use std::test::Fail;
 use std::time::{Duration, Instant};
 use std::{io, thread};
@@ -30,6 +31,11 @@ fn ask<D: Dial>(dialer: &mut D, to: Endpoint) -> Option<[u8; 3]> {
     Some(word)
 }
 
+// Traffic of no bytes so far, to be shared.
+fn shared_traffic(alloc: Global) -> Result<Arc<Traffic, Global>, AllocError> {
+    Ok(Arc::new(alloc, Traffic::new())?)
+}
+
 #[test]
 fn a_word_is_answered(rt: HostRuntime) -> Result<(), Fail> {
     let to = free_endpoint(&rt)?;
@@ -50,6 +56,19 @@ fn another_listener_takes_the_same_connections(rt: HostRuntime) -> Result<(), Fa
     let (answered, asked) = thread::join(&rt, || echo(&mut second), || ask(&mut dialer, to));
     expect!(answered)?;
     expect!(asked == Some(*b"syn"))
+}
+
+#[test]
+fn bytes_of_both_sides_are_counted(rt: HostRuntime) -> Result<(), Fail> {
+    let to = free_endpoint(&rt)?;
+    let (taken, made) = (shared_traffic(rt.alloc())?, shared_traffic(rt.alloc())?);
+    let first = Listener::open(&rt, rt.alloc(), to, 2000)?.counting(Arc::try_clone(&taken)?);
+    let mut listener = first.again()?;
+    let mut dialer = Dialer::new(&rt, rt.alloc(), 2000).counting(Arc::try_clone(&made)?);
+    let (_, asked) = thread::join(&rt, || echo(&mut listener), || ask(&mut dialer, to));
+    expect!(asked == Some(*b"syn"))?;
+    expect_eq!((taken.read(), taken.written()), (3, 3))?;
+    expect_eq!((made.read(), made.written()), (3, 3))
 }
 
 #[test]
