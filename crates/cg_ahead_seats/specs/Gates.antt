@@ -39,6 +39,10 @@ new_gate seat = record { seat = seat; last = None; told = None; torn = false }
 abbrev pub with_told : AheadValue → Option (List Put) → AheadValue
 with_told g told = record { seat = g.seat; last = g.last; told = told; torn = g.torn }
 
+-- the gate without its last receipt and its told
+abbrev pub forgotten : AheadValue → AheadValue
+forgotten g = record { seat = g.seat; last = None; told = None; torn = g.torn }
+
 -- The gate went on by one event with its reply. From its seat, which counted it, one record was made, of its caller and
 -- the event. Its receipt was confirmed by the history that has the record as its last one, and is the gate's last
 -- receipt. Its told shows its change of the views' own endpoint.

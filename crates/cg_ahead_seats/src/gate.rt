@@ -1,7 +1,7 @@
 //! The gate over a seat, whose receipts are confirmed at once.
 
 ghost use Rattle.std.specs.Prelude.{◌≡◌, None};
-ghost use Rattle.cg_ahead_seats.specs.Gates.{new_gate, with_told};
+ghost use Rattle.cg_ahead_seats.specs.Gates.{new_gate, with_told, forgotten};
 
 use crate::shared::SharedAhead;
 use cg_core::{Event, Reply};
@@ -68,6 +68,14 @@ impl<'a, N: Name, W: Write + Drop, R: Wait> AheadGate<'a, N, W, R> {
         ensures gate { self.new ≡ with_told self.old None }
     {
         self.told.take()
+    }
+
+    /// Lets go of the last receipt and the `Told`, whose message would else stay in memory until the next event.
+    pub fn forget(&mut self)
+        ensures { self.new ≡ forgotten self.old }
+    {
+        self.last = None;
+        self.told = None;
     }
 
     /// Returns `true` if an event of the gate met a journal that could not be written: then the node has to end.

@@ -31,9 +31,9 @@ fn answer<N: Name, R: Wait>(alloc: Global, gate: &mut AheadGate<'_, N, Sink, R>,
     }
 }
 
-// The numbers of the faults of three events; whether the gate has a reply and told, and whether a write failed, as the
-// gate and the board know it; and the number of all records.
-type Done = ([u8; 3], [bool; 4], u64);
+// The numbers of the faults of three events; whether the gate has a reply and told, and no reply once it forgets, and
+// whether a write failed, as the gate and the board know it; and the number of all records.
+type Done = ([u8; 3], [bool; 5], u64);
 
 fn left_by<N: Name, R: Wait>(
     rt: &R,
@@ -65,13 +65,19 @@ fn left_by<N: Name, R: Wait>(
     let replied = gate.reply().is_some();
     let told = gate.told().is_some();
     let torn = gate.is_torn();
+    gate.forget();
+    let forgotten = gate.reply().is_none();
     seats.push_reserved(gate.into_seat());
     let torn_at_all = shared.is_torn(rt);
     let Ended { history, .. } = shared.finish(rt, seats);
     let counted = history
         .folded()
         .saturating_add(history.records().len() as u64);
-    Ok((answers, [replied, told, torn, torn_at_all], counted))
+    Ok((
+        answers,
+        [replied, told, forgotten, torn, torn_at_all],
+        counted,
+    ))
 }
 
 // Has the events of letters done by a gate. The call of its journal's writer with this number fails.
@@ -94,7 +100,7 @@ fn left_after<R: Wait>(rt: &R, alloc: Global, turn: u64, letters: [u8; 3]) -> Re
 fn a_gate_does_events(rt: HostRuntime) -> Result<(), Fail> {
     expect_eq!(
         left_after(&rt, rt.alloc(), 0, *b"bsb")?,
-        ([0, 0, 0], [true, true, false, false], 3)
+        ([0, 0, 0], [true, true, true, false, false], 3)
     )
 }
 
@@ -102,7 +108,7 @@ fn a_gate_does_events(rt: HostRuntime) -> Result<(), Fail> {
 fn a_gate_passes_on_refusals(rt: HostRuntime) -> Result<(), Fail> {
     expect_eq!(
         left_after(&rt, rt.alloc(), 0, *b"brb")?,
-        ([0, 20, 0], [true, true, false, false], 2)
+        ([0, 20, 0], [true, true, true, false, false], 2)
     )
 }
 
@@ -110,6 +116,6 @@ fn a_gate_passes_on_refusals(rt: HostRuntime) -> Result<(), Fail> {
 fn a_torn_journal_is_want_of_memory(rt: HostRuntime) -> Result<(), Fail> {
     expect_eq!(
         left_after(&rt, rt.alloc(), 5, *b"bbb")?,
-        ([0, 1, 1], [true, true, true, true], 2)
+        ([0, 1, 1], [true, true, true, true, true], 2)
     )
 }
