@@ -27,6 +27,8 @@ keep = 4
 receivers = 5
 random = 6
 stdin = \"lines\"
+http = \"10.0.0.3:8000\"
+http_writes = true
 window = 7
 initial_gap = 8
 max_gap = 9
@@ -34,7 +36,7 @@ threshold = 10
 ";
 
 // Keys, and values that are read.
-const TAKEN: [(&str, &str); 18] = [
+const TAKEN: [(&str, &str); 21] = [
     ("journals", "\"\""),
     ("journals", "\"a folder\""),
     ("interval", "0"),
@@ -53,10 +55,13 @@ const TAKEN: [(&str, &str); 18] = [
     ("window", "1000"),
     ("max_gap", "86400000"),
     ("threshold", "1000000000"),
+    ("http", "\"127.0.0.1:8000\""),
+    ("http_writes", "true"),
+    ("http_writes", "false"),
 ];
 
 // Keys, and values out of their ranges, of another type, or of a key that has no meaning.
-const REFUSED: [(&str, &str); 30] = [
+const REFUSED: [(&str, &str); 32] = [
     ("cluster", "\"\""),
     ("listen", "\"127.0.0.1:0\""),
     ("generation_file", "1"),
@@ -83,8 +88,10 @@ const REFUSED: [(&str, &str); 30] = [
     ("journal", "\"j\""),
     ("rounds", "1"),
     ("exchanges", "1"),
-    ("http", "\"127.0.0.1:8000\""),
-    ("http_writes", "true"),
+    ("http", "8000"),
+    ("http", "\"127.0.0.1\""),
+    ("http_writes", "\"true\""),
+    ("http_write", "true"),
     ("Keep", "1"),
     ("other", "1"),
 ];
@@ -136,6 +143,15 @@ fn numbers(
     ))
 }
 
+// The port where HTTP is served, if anywhere, and whether it may write.
+fn http_of(settings: &AgentSettings) -> (Option<u16>, bool) {
+    let port = match settings.http.at {
+        Some(at) => Some(at.port()),
+        None => None,
+    };
+    (port, settings.http.writes)
+}
+
 #[test]
 fn each_key_of_an_agent_is_read_or_has_its_default(rt: HostRuntime) -> Result<(), Fail> {
     let few = text_with(rt.alloc(), "cluster", "\"c1\"")?;
@@ -153,6 +169,7 @@ fn each_key_of_an_agent_is_read_or_has_its_default(rt: HostRuntime) -> Result<()
         numbers(&few, ("c1", "g", None)),
         Some((7000, 0, loads, 0, AgentInput::Ignore, silence))
     )?;
+    expect_eq!(http_of(&few), (None, false))?;
     let Ok(all) = agent_or_key(rt.alloc(), ALL.as_bytes()) else {
         return Err("no settings".into());
     };
@@ -165,7 +182,8 @@ fn each_key_of_an_agent_is_read_or_has_its_default(rt: HostRuntime) -> Result<()
     expect_eq!(
         numbers(&all, ("c2", "/var/lib/cg/generation", Some("/var/lib/cg"))),
         Some((65535, 1, loads, 6, AgentInput::Lines, (7, 8, 9, 10)))
-    )
+    )?;
+    expect_eq!(http_of(&all), (Some(8000), true))
 }
 
 #[test]
@@ -226,13 +244,15 @@ fn a_key_of_an_agent_wants_values() -> Result<(), Fail> {
         ("receivers", "1 to 8"),
         ("stdin", "\"ignore\", \"stop\" or \"lines\""),
         ("window", "1 to 1000"),
+        ("http", "an endpoint as 127.0.0.1:8000"),
+        ("http_writes", "true or false"),
     ] {
         expect_eq!(wanted_by_agents(key), Some(wanted), "{key}")?;
     }
     for (key, _) in TAKEN {
         expect!(wanted_by_agents(key).is_some(), "{key}")?;
     }
-    for key in ["rounds", "exchanges", "journal", "http", "", "Keep"] {
+    for key in ["rounds", "exchanges", "journal", "http_write", "", "Keep"] {
         expect_eq!(wanted_by_agents(key), None, "{key}")?;
     }
     Ok(())

@@ -1,8 +1,8 @@
 -- The settings of a node that runs until it is stopped, or the key by which a text holds none.
-use Rattle.std.specs.Prelude.{ℕ, ◌||◌, nat_lt, Bool, List, codes, bytes_eq, Option, Some, None, Result, Ok, Err, if◌then◌else◌}
+use Rattle.std.specs.Prelude.{ℕ, ◌||◌, nat_lt, Bool, false, List, codes, bytes_eq, Option, Some, None, Result, Ok, Err, if◌then◌else◌}
 use Rattle.std.specs.Option.{ok_or}
 use Rattle.std.specs.Result.{result_map_both}
-use Rattle.toml.specs.Data.{Data, Members, no_members, member, as_str, get_member}
+use Rattle.toml.specs.Data.{Data, Members, no_members, member, as_str, as_bool, get_member}
 use Rattle.toml.specs.Parse.{parse_document}
 use Rattle.cg_types.specs.ResultSteps.{◌>>=◌}
 use Rattle.cg_core.specs.SettingsValues.{SettingsValue}
@@ -27,9 +27,13 @@ is_load_key key =
     bytes_eq key (codes "interval") || (bytes_eq key (codes "random") || (bytes_eq key (codes "journal_mb")
     || (bytes_eq key (codes "keep") || bytes_eq key (codes "receivers"))))
 
+-- keys of HTTP
+unfoldable pub is_http_key : List ℕ → Bool
+is_http_key key = bytes_eq key (codes "http") || bytes_eq key (codes "http_writes")
+
 -- a key that has a meaning
 unfoldable pub is_agent_key : List ℕ → Bool
-is_agent_key key = is_agent_text_key key || (is_load_key key || is_silence_key key)
+is_agent_key key = is_agent_text_key key || (is_load_key key || (is_http_key key || is_silence_key key))
 
 -- the first key that has no meaning
 unfoldable pub unknown_to_agents : Members → Option (List ℕ)
@@ -86,6 +90,28 @@ unfoldable pub input_from : Option Data → Option AgentInput
 input_from None = Some Ignore
 input_from (Some value) = input_of (as_str value)
 
+-- where HTTP is served, if anywhere, and whether it may change keys and stop the node
+pub record HttpValue : Type 0 where
+  pub at : Option ℕ
+  pub writes : Bool
+
+abbrev pub http_at_or : Members → Option Data → Result (Option ℕ) (List ℕ)
+http_at_or table None = Ok None
+http_at_or table (Some value) = ok_or (endpoint_at (codes "http") table) (codes "http") >>= λ at. Ok (Some at)
+
+unfoldable pub http_at_from : Members → Result (Option ℕ) (List ℕ)
+http_at_from table = http_at_or table (get_member (codes "http") table)
+
+unfoldable pub writes_from : Option Data → Option Bool
+writes_from None = Some false
+writes_from (Some value) = as_bool value
+
+unfoldable pub http_from : Members → Result HttpValue (List ℕ)
+http_from table = do
+  at ← http_at_from table
+  writes ← ok_or (writes_from (get_member (codes "http_writes") table)) (codes "http_writes")
+  Ok (record { at = at; writes = writes })
+
 -- the settings of a node that runs until it is stopped
 pub record AgentValue : Type 0 where
   pub node : SettingsValue
@@ -95,6 +121,7 @@ pub record AgentValue : Type 0 where
   pub loads : LoadsValue
   pub random : ℕ
   pub input : AgentInput
+  pub http : HttpValue
 
 -- the settings, unless a key has no meaning
 abbrev pub if_agent_known : Option (List ℕ) → AgentValue → Result AgentValue (List ℕ)
@@ -112,8 +139,9 @@ agent_from table = do
   loads ← loads_from table
   random ← ok_or (random_from table) (codes "random")
   input ← ok_or (input_from (get_member (codes "stdin") table)) (codes "stdin")
+  http ← http_from table
   if_agent_known (unknown_to_agents table)
-      (record { node = told; listen = listen; generation_file = generation_file; journals = journals; loads = loads; random = random; input = input })
+      (record { node = told; listen = listen; generation_file = generation_file; journals = journals; loads = loads; random = random; input = input; http = http })
 
 -- the settings in a text, or the key by which it holds none, if it is a table
 unfoldable pub agent_or_key : List ℕ → Result AgentValue (Option (List ℕ))

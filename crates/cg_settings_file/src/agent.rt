@@ -2,8 +2,8 @@
 
 ghost use Rattle.std.specs.Prelude.{◌≡◌, IfOk, Ok, Err, None, option_map, codes, string_bytes};
 ghost use Rattle.toml.specs.View.{table_view, view};
-ghost use Rattle.cg_settings_file.specs.Agent.{journals_from as told_journals, input_from as told_input, loads_from as told_loads, agent_from as told_agent, agent_or_key as told_agent_or_key, agent_or_key_in_bytes, positive_or_key as told_positive};
-ghost use Rattle.cg_settings_file.specs.AgentSeen.{agent_view, loads_view};
+ghost use Rattle.cg_settings_file.specs.Agent.{journals_from as told_journals, input_from as told_input, loads_from as told_loads, http_at_from as told_http_at, writes_from as told_writes, http_from as told_http, agent_from as told_agent, agent_or_key as told_agent_or_key, agent_or_key_in_bytes, positive_or_key as told_positive};
+ghost use Rattle.cg_settings_file.specs.AgentSeen.{agent_view, http_view, loads_view};
 ghost use Rattle.cg_settings_file.specs.Seen.{GivesOrStops, Names, Tells};
 
 use crate::agent_keys::unknown_to_agents;
@@ -44,6 +44,15 @@ pub struct Loads {
     pub receivers: u32,
 }
 
+/// The use that a node makes of HTTP.
+#[derive(Clone, Copy, Debug)]
+pub struct Http {
+    /// The endpoint at which it is served, if at any.
+    pub at: Option<Endpoint>,
+    /// `true` if it may change keys and stop the node.
+    pub writes: bool,
+}
+
 /// The settings of a node that runs until it is stopped.
 #[derive(Debug, Drop)]
 pub struct AgentSettings {
@@ -61,6 +70,8 @@ pub struct AgentSettings {
     pub random: u64,
     /// The use of standard input.
     pub input: AgentInput,
+    /// The use of HTTP.
+    pub http: Http,
 }
 
 // The whole number from 1 to `most` at a key, or the default if the key is missing; or the key.
@@ -116,6 +127,41 @@ fn input_in(value: Option<&Value>) -> Option<AgentInput>
     }
 }
 
+// The endpoint where HTTP is served, `None` if the key is missing; or the key.
+#[tactic(auto, unfolding(crate::specs::Agent::http_at_from))]
+fn http_at(table: &Table) -> Result<Option<Endpoint>, &'static str>
+    ensures { Names (λ at. at) result (told_http_at (table_view table.now)) }
+{
+    if value_at(table, "http").is_none() {
+        return Ok(None);
+    }
+    match endpoint_at(table, "http") {
+        Some(at) => Ok(Some(at)),
+        None => Err("http"),
+    }
+}
+
+#[tactic(auto, unfolding(crate::specs::Agent::writes_from))]
+fn writes_in(value: Option<&Value>) -> Option<bool>
+    ensures { result ≡ told_writes (option_map (λ v. view v.now) value.entry) }
+{
+    match value {
+        Some(value) => value.as_bool(),
+        None => Some(false),
+    }
+}
+
+#[tactic(auto, unfolding(crate::specs::Agent::http_from))]
+fn http_in(table: &Table) -> Result<Http, &'static str>
+    ensures { Names http_view result (told_http (table_view table.now)) }
+{
+    let at = http_at(table)?;
+    let Some(writes) = writes_in(value_at(table, "http_writes")) else {
+        return Err("http_writes");
+    };
+    Ok(Http { at, writes })
+}
+
 // Copies a text, if there is one.
 fn owned(alloc: Global, text: Option<&str>) -> Result<Option<String>, AllocError>
     ensures { IfOk result (λ copy. option_map string_bytes copy ≡ option_map (λ t. t.now) text.entry) }
@@ -147,6 +193,7 @@ fn agent_in_table(alloc: Global, table: &Table) -> Result<AgentSettings, Stop<'_
     let Some(input) = input_in(value_at(table, "stdin")) else {
         return Err(Stop::Key("stdin"));
     };
+    let http = http_in(table)?;
     if let Some(key) = unknown_to_agents(table) {
         return Err(Stop::Key(key));
     }
@@ -164,6 +211,7 @@ fn agent_in_table(alloc: Global, table: &Table) -> Result<AgentSettings, Stop<'_
         loads,
         random,
         input,
+        http,
     })
 }
 

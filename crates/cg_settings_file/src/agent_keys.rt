@@ -4,7 +4,7 @@ ghost use Rattle.std.specs.Prelude.{◌≡◌, not, option_map, string_bytes};
 ghost use Rattle.std.specs.List.{find};
 ghost use Rattle.std.specs.BTreeMap.{keys};
 ghost use Rattle.toml.specs.View.{table_view};
-ghost use Rattle.cg_settings_file.specs.Agent.{is_load_key as names_load, is_agent_text_key as names_text, is_agent_key as names_agent, unknown_to_agents as unknown_key};
+ghost use Rattle.cg_settings_file.specs.Agent.{is_load_key as names_load, is_http_key as names_http, is_agent_text_key as names_text, is_agent_key as names_agent, unknown_to_agents as unknown_key};
 
 use crate::keys::is_silence_key;
 use toml::Table;
@@ -32,11 +32,18 @@ fn is_load_key(key: &str) -> bool
         || key == "receivers"
 }
 
+#[tactic(auto, unfolding(crate::specs::Agent::is_http_key))]
+fn is_http_key(key: &str) -> bool
+    ensures { result ≡ names_http key.now }
+{
+    key == "http" || key == "http_writes"
+}
+
 #[tactic(auto, unfolding(crate::specs::Agent::is_agent_key))]
 fn is_agent_key(key: &str) -> bool
     ensures { result ≡ names_agent key.now }
 {
-    is_text_key(key) || is_load_key(key) || is_silence_key(key)
+    is_text_key(key) || is_load_key(key) || is_http_key(key) || is_silence_key(key)
 }
 
 fn first_unknown(table: &Table) -> Option<&String>

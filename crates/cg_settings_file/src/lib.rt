@@ -16,7 +16,7 @@ mod stop;
 mod values;
 mod wanted;
 
-pub use agent::{AgentInput, AgentSettings, Loads, agent_or_key};
+pub use agent::{AgentInput, AgentSettings, Http, Loads, agent_or_key};
 pub use cg_workers::Turns;
 pub use limits::{
     DEFAULT_INTERVAL, DEFAULT_JOURNAL_MB, DEFAULT_KEEP, DEFAULT_RANDOM, DEFAULT_RECEIVERS,

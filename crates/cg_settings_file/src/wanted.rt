@@ -1,7 +1,7 @@
 //! The values that an agent's settings want, as texts for a person.
 
 ghost use Rattle.std.specs.Prelude.{◌≡◌, is_some};
-ghost use Rattle.cg_settings_file.specs.Agent.{is_load_key as names_load, is_agent_text_key as names_text, is_agent_key as names_agent};
+ghost use Rattle.cg_settings_file.specs.Agent.{is_load_key as names_load, is_http_key as names_http, is_agent_text_key as names_text, is_agent_key as names_agent};
 ghost use Rattle.cg_settings_file.specs.Keys as spec;
 
 // What a key with a text wants.
@@ -35,6 +35,18 @@ fn load_wanted(key: &str) -> Option<&'static str>
     }
 }
 
+// What a key of HTTP wants.
+#[tactic(auto, unfolding(crate::specs::Agent::is_http_key))]
+fn http_wanted(key: &str) -> Option<&'static str>
+    ensures { is_some result ≡ names_http key.now }
+{
+    match key {
+        "http" => Some("an endpoint as 127.0.0.1:8000"),
+        "http_writes" => Some("true or false"),
+        _ => None,
+    }
+}
+
 // What a key of silence wants.
 #[tactic(auto, unfolding(crate::specs::Keys::is_silence_key))]
 fn silence_wanted(key: &str) -> Option<&'static str>
@@ -54,9 +66,10 @@ fn silence_wanted(key: &str) -> Option<&'static str>
 pub fn wanted_by_agents(key: &str) -> Option<&'static str>
     ensures { is_some result ≡ names_agent key.now }
 {
-    match (text_wanted(key), load_wanted(key)) {
-        (Some(wanted), _) => Some(wanted),
-        (None, Some(wanted)) => Some(wanted),
-        (None, None) => silence_wanted(key),
+    match (text_wanted(key), load_wanted(key), http_wanted(key)) {
+        (Some(wanted), _, _) => Some(wanted),
+        (None, Some(wanted), _) => Some(wanted),
+        (None, None, Some(wanted)) => Some(wanted),
+        (None, None, None) => silence_wanted(key),
     }
 }

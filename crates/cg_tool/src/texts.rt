@@ -143,7 +143,9 @@ exchanges and journal, and these:\n\
 \n  keep = N                 records that stay in memory, 1 to 1000000; 1000\
 \n  receivers = N            threads that answer connections, 1 to 8; 2\
 \n  stdin = TEXT             ignore; stop: its end stops the node; lines: an operator's, as serve has them, and quit or the \
-end stops it; ignore\n\
+end stops it; ignore\
+\n  http = ENDPOINT          where HTTP shows the node: a page at /, /status, /metrics, /health, /replicas; nowhere\
+\n  http_writes = BOOL       true: HTTP may set and remove keys and stop the node; false\n\
 \n\
 Then it keeps a greater generation in the file, listens, and runs until it is stopped. It writes:\n\
 \n  ready EP GENERATION      it listens\
