@@ -1,0 +1,11 @@
+pub mod Status
+pub mod Health
+pub mod Metrics
+pub mod Flat
+pub use Rattle.cg_types.specs.EndpointText
+pub use Rattle.cg_types.specs.Key
+pub use Rattle.json.specs.Json
+pub use Rattle.json.specs.Token
+pub use Rattle.json.specs.Tree
+pub use Rattle.json.specs.Print
+pub use Rattle.cg_tokens.specs.Ring
