@@ -1,0 +1,5 @@
+mod FieldLemmas
+pub mod RequestLemmas
+pub mod SeatLemmas
+mod ShowingLemmas
+mod SpeakLemmas
