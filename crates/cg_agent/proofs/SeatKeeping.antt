@@ -1,5 +1,5 @@
 -- All work keeps the caller and the parts of a seat.
-use Rattle.std.proofs.Common.{◌≡◌, ℕ, List, Option, Result, Ok, Err, refl, sym, ◌∙◌, subst, inl, inr}
+use Rattle.std.proofs.Common.{◌≡◌, ◌⊎◌, ℕ, List, Option, Result, Ok, Err, refl, sym, ◌∙◌, subst, inl, inr}
 use Rattle.std.specs.Prelude.{None, Some}
 use Rattle.rand_core.specs.Stream.{Stream}
 use Rattle.cg_types.specs.declared.fault.Fault.{Fault}
@@ -12,12 +12,13 @@ use Rattle.cg_core.specs.declared.reply.Reply.TheVariants as reply
 use Rattle.cg_core.specs.Values.{NodeValue}
 use Rattle.cg_operator.specs.declared.command.OperatorCommand.{OperatorCommand}
 use Rattle.cg_operator.specs.declared.command.OperatorCommand.TheVariants as command
-use Rattle.cg_workers.specs.Workers.{Reached}
 use Rattle.cg_workers.proofs.EachLemmas.{each_keeps}
 use Rattle.cg_workers.proofs.Keeping.{KeptBy, next_keeps, reached_keeps}
-use Rattle.cg_ahead_seats.specs.Gates.{AheadValue, Enters, Refuses, Stays}
-use Rattle.cg_agent.specs.Work.{Came, HasAnswered, SentTo, SentRoundOf, TickSent, TurnedBy, TurnedOn}
-use Rattle.cg_agent.specs.Lines.{Entered, Changed, Obeyed, DoneLine, DoneLines}
+use Rattle.cg_ahead_seats.specs.Gates.{AheadValue, Enters, Refuses, Stays, forgotten}
+use Rattle.cg_agent.specs.Work.{ThenForgets, Came, HasAnswered, ReachedBy, SentTo, SentRoundOf, TickSent, TurnedBy, TurnedOn}
+use Rattle.cg_web.specs.Changes.{Entered, Changed}
+use Rattle.cg_web.specs.Requests.{DoneChange, DoneRequests}
+use Rattle.cg_agent.specs.Lines.{Obeyed, DoneLine, DoneLines}
 
 abbrev pub Keeps : AheadValue → AheadValue → Type 0
 Keeps g h = (h.seat.caller ≡ g.seat.caller) × (h.seat.parts ≡ g.seat.parts)
@@ -34,24 +35,36 @@ stayed g h x = x.seat
 same_after : (g h : AheadValue) → h ≡ g → Keeps g h
 same_after g h is = subst (Keeps g) (sym is) (same g)
 
+forgot_keeps : (g h k : AheadValue) → Keeps g h → k ≡ forgotten h → Keeps g k
+forgot_keeps g h k kept is = subst (Keeps g) (sym is) kept
+
 module _ (start : NodeValue) (own : ℕ) (shows : ℕ → Type 0) where
   done : (k : Kind) → KeptBy (Enters start own) (Refuses start) Stays shows Keeps same both stayed k
   done k now e r g h shown at is x = x.seat
 
   module _ {R W L : Type 0} (remaining : R → Option (List ℕ)) (contents : W → Option (List ℕ))
       (accepts : L → Result (Option (R × W)) Fault → L → Type 0) where
+    came_keeps : (came : Option (Option Fault)) (s t : L × AheadValue) → Came start own remaining contents accepts shows came s t → Keeps s.1 t.1
+    came_keeps came s t x = next_keeps (Enters start own) (Refuses start) Stays shows Keeps same both stayed remaining contents accepts came s t (done kind.Syn) (done kind.Ack2) x
+
+    end_keeps : (s t : L × AheadValue) → (t ≡ s) ⊎ Came start own remaining contents accepts shows None s t → Keeps s.1 t.1
+    end_keeps s t (inl is) = subst (λ (v : L × AheadValue). Keeps s.1 v.1) (sym is) (same s.1)
+    end_keeps s t (inr x) = came_keeps None s t x
+
     pub answered_keeps : (s t : L × AheadValue) → HasAnswered start own remaining contents accepts shows s t → Keeps s.1 t.1
     answered_keeps s t x =
-        each_keeps (Came start own remaining contents accepts shows) (λ (a b : L × AheadValue). Keeps a.1 b.1) (λ a. same a.1) (λ a b c. both a.1 b.1 c.1)
-        (λ came a b one. next_keeps (Enters start own) (Refuses start) Stays shows Keeps same both stayed remaining contents accepts came a b (done kind.Syn) (done kind.Ack2) one)
-        x.each s t x.came
+        both s.1 x.here.1 t.1
+        (each_keeps (ThenForgets (λ b. Came start own remaining contents accepts shows (Some b))) (λ (a b : L × AheadValue). Keeps a.1 b.1) (λ a. same a.1) (λ a b c. both a.1 b.1 c.1)
+        (λ broken a b one. forgot_keeps a.1 one.0 b.1 (came_keeps (Some broken) a (b.0, one.0) one.1) one.2)
+        x.each s x.here x.came)
+        (end_keeps x.here t x.end)
 
   module _ {R W D : Type 0} (remaining : R → Option (List ℕ)) (contents : W → Option (List ℕ))
       (dials : D → ℕ → Result (R × W) Fault → D → Type 0) where
     sent_keeps : (syn : SynValue) (peers : List ℕ) (s t : D × AheadValue) → SentTo start own remaining contents dials shows syn peers s t → Keeps s.1 t.1
     sent_keeps syn peers s t x =
-        each_keeps (Reached (Enters start own) (Refuses start) Stays remaining contents dials shows syn) (λ (a b : D × AheadValue). Keeps a.1 b.1) (λ a. same a.1) (λ a b c. both a.1 b.1 c.1)
-        (λ peer a b one. reached_keeps (Enters start own) (Refuses start) Stays shows Keeps same both stayed remaining contents dials syn peer a b (done kind.Ack) one)
+        each_keeps (ThenForgets (ReachedBy start own remaining contents dials shows syn)) (λ (a b : D × AheadValue). Keeps a.1 b.1) (λ a. same a.1) (λ a b c. both a.1 b.1 c.1)
+        (λ peer a b one. forgot_keeps a.1 one.0 b.1 (reached_keeps (Enters start own) (Refuses start) Stays shows Keeps same both stayed remaining contents dials syn peer a (b.0, one.0) (done kind.Ack) one.1) one.2)
         peers s t x
 
     round_keeps : (answer : Reply) (s t : D × AheadValue) → SentRoundOf start own remaining contents dials shows answer s t → Keeps s.1 t.1
@@ -78,6 +91,9 @@ module _ (start : NodeValue) (own : ℕ) (shows : ℕ → Type 0) where
   changed_keeps e None g h x = entered_keeps e g h x
   changed_keeps e (Some f) g h (inl x) = x.seat
   changed_keeps e (Some f) g h (inr x) = entered_keeps e g h x
+
+  pub requests_keep : (g h : AheadValue) → DoneRequests start own g h → Keeps g h
+  requests_keep g h x = each_keeps (DoneChange start own) Keeps same both (λ c a b one. changed_keeps c.0 c.1 a b one) x.0 g h x.1
 
   obeyed_keeps : (c : OperatorCommand) (told : Option Fault) (g h : AheadValue) → Obeyed start own c told g h → Keeps g h
   obeyed_keeps (command.Set key text) told g h x = changed_keeps _ told g h x

@@ -2,6 +2,7 @@ pub mod Limits
 pub mod Work
 pub mod Lines
 pub mod Worked
+pub mod Posts
 pub mod Seats
 pub mod Lives
 pub use Rattle.cg_ahead_seats.specs.Gates

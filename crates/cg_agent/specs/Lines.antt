@@ -1,35 +1,20 @@
 -- The work of an operator's lines, by the gate of a seat.
-use Rattle.std.specs.Prelude.{◌≡◌, ◌⊎◌, ℕ, List, Option, None, Some, Result, Ok, Err}
+use Rattle.std.specs.Prelude.{◌≡◌, ◌⊎◌, ℕ, List, Option, Ok}
 use Rattle.cg_types.specs.declared.fault.Fault.{Fault}
 use Rattle.cg_core.specs.Values.{NodeValue}
-use Rattle.cg_core.specs.declared.event.Event.{Event}
 use Rattle.cg_core.specs.declared.event.Event.TheVariants as event
-use Rattle.cg_core.specs.declared.reply.Reply.{Reply}
 use Rattle.cg_operator.specs.declared.command.OperatorCommand.{OperatorCommand}
 use Rattle.cg_operator.specs.declared.command.OperatorCommand.TheVariants.{Set, Remove}
 use Rattle.cg_operator.specs.Commands.{command_in}
 use Rattle.cg_workers.specs.Each.{Each}
-use Rattle.cg_ahead_seats.specs.Gates.{AheadValue, Enters, Stays, with_told}
-
--- the fault that is told, if one is
-abbrev pub fault_told : {X : Type 0} → Result X Fault → Option Fault
-fault_told (Ok text) = None
-fault_told (Err f) = Some f
+use Rattle.cg_ahead_seats.specs.Gates.{AheadValue}
+pub use Rattle.cg_web.specs.Changes.{fault_told, Changed}
 
 module _ (start : NodeValue) (own : ℕ) where
-  -- The event was entered, and its told handed over.
-  abbrev pub Entered : Event → AheadValue → AheadValue → Type 0
-  Entered e g h = (answer : Reply) × (u : AheadValue) × Enters start own g e answer u × (h ≡ with_told u None)
-
-  -- It was; or a fault is told: it was refused, or memory ran out after it.
-  abbrev pub Changed : Event → Option Fault → AheadValue → AheadValue → Type 0
-  Changed e None g h = Entered e g h
-  Changed e (Some f) g h = Stays g h ⊎ Entered e g h
-
   -- A command that changes a key is done by its event; no other does anything.
   abbrev pub Obeyed : OperatorCommand → Option Fault → AheadValue → AheadValue → Type 0
-  Obeyed (Set key text) told g h = Changed (event.Set key text) told g h
-  Obeyed (Remove key) told g h = Changed (event.Remove key) told g h
+  Obeyed (Set key text) told g h = Changed start own (event.Set key text) told g h
+  Obeyed (Remove key) told g h = Changed start own (event.Remove key) told g h
   Obeyed command told g h = h ≡ g
 
   -- The line has this command, which was done; or memory ran out before, or the line has none, and nothing was done.

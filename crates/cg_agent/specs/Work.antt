@@ -1,5 +1,5 @@
 -- The work of receivers and of rounds, by the gate of a seat.
-use Rattle.std.specs.Prelude.{◌≡◌, ◌⊎◌, ℕ, List, Option, Result, Ok, Err}
+use Rattle.std.specs.Prelude.{◌≡◌, ◌⊎◌, ℕ, List, Option, None, Some, Result, Ok, Err}
 use Rattle.rand_core.specs.Stream.{Stream}
 use Rattle.cg_types.specs.declared.fault.Fault.{Fault}
 use Rattle.cg_types.specs.declared.fault.Fault.TheVariants as fault
@@ -11,7 +11,11 @@ use Rattle.cg_core.specs.declared.reply.Reply.TheVariants as reply
 use Rattle.cg_workers.specs.Each.{Each}
 use Rattle.cg_workers.specs.Words.{four_of}
 use Rattle.cg_workers.specs.Workers.{NextCame, Reached}
-use Rattle.cg_ahead_seats.specs.Gates.{AheadValue, Enters, Refuses, Stays}
+use Rattle.cg_ahead_seats.specs.Gates.{AheadValue, Enters, Refuses, Stays, forgotten}
+
+-- A step was done, and then the gate let go of its last receipt.
+abbrev pub ThenForgets : {X L : Type 0} → (X → L × AheadValue → L × AheadValue → Type 0) → X → L × AheadValue → L × AheadValue → Type 0
+ThenForgets step x s t = (h : AheadValue) × step x s (t.0, h) × (t.1 ≡ forgotten h)
 
 -- Parameters: the start of the node, the own endpoint of its views, a reader's rest, a writer's contents, a listener's
 -- answers, and the times of a clock.
@@ -21,17 +25,28 @@ module _ (start : NodeValue) (own : ℕ) {R W L : Type 0} (remaining : R → Opt
   abbrev pub Came : Option (Option Fault) → L × AheadValue → L × AheadValue → Type 0
   Came came s t = NextCame (Enters start own) (Refuses start) Stays remaining contents accepts shows came s t
 
-  -- Connections were waited for, one after the other, and each that came was answered.
+  -- Each of these connections came and was answered, and the gate let go of the receipt.
+  abbrev pub AllCame : List (Option Fault) → L × AheadValue → L × AheadValue → Type 0
+  AllCame each s t = Each (ThenForgets (λ broken. Came (Some broken))) each s t
+
+  -- Connections were waited for, one after the other, and each that came was answered; at last none came, or no further
+  -- one was waited for.
   pub record HasAnswered (s t : L × AheadValue) : Type 0 where
-    pub each : List (Option (Option Fault))
-    pub came : Each Came each s t
+    pub each : List (Option Fault)
+    pub here : L × AheadValue
+    pub came : AllCame each s here
+    pub end : (t ≡ here) ⊎ Came None here t
 
 -- Parameters: the same, with a dialer's answers.
 module _ (start : NodeValue) (own : ℕ) {R W D : Type 0} (remaining : R → Option (List ℕ)) (contents : W → Option (List ℕ))
     (dials : D → ℕ → Result (R × W) Fault → D → Type 0) (shows : ℕ → Type 0) where
-  -- each peer was dialed, in their order, and an exchange was begun with this SYN if it was reached
+  -- a peer was dialed, and an exchange was begun with this SYN if it was reached
+  abbrev pub ReachedBy : SynValue → ℕ → D × AheadValue → D × AheadValue → Type 0
+  ReachedBy syn peer s t = Reached (Enters start own) (Refuses start) Stays remaining contents dials shows syn peer s t
+
+  -- each peer was, in their order, and each time the gate let go of the receipt
   abbrev pub SentTo : SynValue → List ℕ → D × AheadValue → D × AheadValue → Type 0
-  SentTo syn peers s t = Each (Reached (Enters start own) (Refuses start) Stays remaining contents dials shows syn) peers s t
+  SentTo syn peers s t = Each (ThenForgets (ReachedBy syn)) peers s t
 
   -- the round of a tick's reply was sent
   abbrev pub SentRoundOf : Reply → D × AheadValue → D × AheadValue → Type 0

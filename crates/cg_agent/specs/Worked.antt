@@ -7,6 +7,7 @@ use Rattle.cg_locked.specs.Seat.{SeatState}
 use Rattle.cg_ahead_seats.specs.Gates.{AheadValue, new_gate}
 use Rattle.cg_agent.specs.Work.{HasAnswered, TurnedOn}
 use Rattle.cg_agent.specs.Lines.{DoneLines}
+use Rattle.cg_web.specs.Requests.{DoneRequests}
 
 -- A worker began with the first seat and left the other: it answered the connections of a listener.
 pub record LeftByAnswers (start : NodeValue) (own : ℕ) {R W L : Type 0} (remaining : R → Option (List ℕ))
@@ -33,6 +34,12 @@ pub record LeftByLines (start : NodeValue) (own : ℕ) (first seat : SeatState) 
   pub done : DoneLines start own (new_gate first) gate
   pub is : seat ≡ gate.seat
 
+-- The same of one that answered requests over HTTP.
+pub record LeftByRequests (start : NodeValue) (own : ℕ) (first seat : SeatState) : Type 0 where
+  pub gate : AheadValue
+  pub done : DoneRequests start own (new_gate first) gate
+  pub is : seat ≡ gate.seat
+
 -- The seat had counted nothing at first, and was left by one of these.
 pub record SeatWorked (start : NodeValue) (own : ℕ) {R W L S V D : Type 0} (remaining : R → Option (List ℕ))
     (contents : W → Option (List ℕ)) (accepts : L → Result (Option (R × W)) Fault → L → Type 0)
@@ -41,4 +48,5 @@ pub record SeatWorked (start : NodeValue) (own : ℕ) {R W L S V D : Type 0} (re
   pub first : SeatState
   pub unused : first.amount ≡ 0
   pub work : ((listener : L) × LeftByAnswers start own remaining contents accepts shows listener first seat)
-      ⊎ (LeftByTurns start own rest written dials shows words dialer first seat ⊎ LeftByLines start own first seat)
+      ⊎ (LeftByTurns start own rest written dials shows words dialer first seat
+      ⊎ (LeftByLines start own first seat ⊎ LeftByRequests start own first seat))

@@ -5,14 +5,20 @@
 //! leaves, and records that are written and published are folded, so that memory stays bounded.
 #![tactic(auto)]
 
+mod breaks;
+mod browsers;
 mod chores;
+mod counts;
 pub mod laws;
 mod limits;
 mod lines;
 mod living;
+mod looking;
 mod members;
 mod parts;
+mod posts;
 mod promises;
+mod publishing;
 mod reading;
 mod receivers;
 mod rounds;
@@ -26,7 +32,7 @@ mod tally;
 mod telling;
 mod work;
 
-pub use limits::{LINE_MOST, MEBIBYTE, NAP, PAUSE};
+pub use limits::{LINE_MOST, MEBIBYTE, NAP, PAUSE, WEB_LIMIT, WEB_TIME};
 pub use living::agent;
 pub use parts::{Parts, Plan};
 pub use running::{Ran, run_agent};

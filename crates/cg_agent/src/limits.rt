@@ -12,3 +12,9 @@ pub const NAP: u64 = 200;
 
 /// The fewest milliseconds between two syncs of the journal, and between two lines about broken exchanges.
 pub const PAUSE: u64 = 1000;
+
+/// The threads that answer requests over HTTP, if it is served.
+pub const WEB_LIMIT: usize = 2;
+
+/// The milliseconds that a connection over HTTP has.
+pub const WEB_TIME: u32 = 1000;

@@ -1,21 +1,21 @@
 //! Standard input: an operator's lines, or its end.
 
 ghost use Rattle.std.specs.Prelude.{◌≡◌};
-ghost use Rattle.cg_agent.specs.Lines.{fault_told, Changed, Obeyed, DoneLine, DoneLines};
+ghost use Rattle.cg_agent.specs.Lines.{fault_told, Obeyed, DoneLine, DoneLines};
 ghost use Rattle.cg_agent.specs.Worked.{LeftByLines};
 
 use crate::limits::LINE_MOST;
 use crate::site::Site;
 use crate::standard_input::StandardInput;
 use cg_ahead_seats::AheadGate;
-use cg_core::{Event, Reply};
-use cg_engine::Gate;
+use cg_core::Event;
 use cg_locked::{Name, Seat};
-use cg_operator::{OperatorCommand, add_unpublished, read_command, table_text};
-use cg_text::{View, add_version};
-use cg_types::{Fault, Version};
-use cg_views::{Pass, Told};
-use std::alloc::{AllocError, Global};
+use cg_operator::{OperatorCommand, read_command, table_text};
+use cg_text::View;
+use cg_types::Fault;
+use cg_views::Pass;
+use cg_web::change;
+use std::alloc::Global;
 use std::io::{BufRead, BufReader, Input, Print, Read, Write};
 use std::sync::Wait;
 
@@ -26,45 +26,6 @@ fn show<N: Name>(alloc: Global, pass: &mut Pass<N>, view: View) -> Result<String
         Err(fault) => return Err(fault),
     };
     match table_text(alloc, snapshot.table(), view) {
-        Ok(text) => Ok(text),
-        Err(_) => Err(Fault::OutOfMemory),
-    }
-}
-
-// Returns the answer to a change, once the pass has learnt the `Told` of it.
-fn change_text<N: Name>(
-    alloc: Global,
-    pass: &mut Pass<N>,
-    told: Option<Told<N>>,
-    version: Version,
-) -> Result<String, AllocError> {
-    let mut text = String::new(alloc);
-    match told {
-        Some(told) => {
-            pass.learn(told);
-            add_version(&mut text, version)?;
-        }
-        None => add_unpublished(&mut text, version)?,
-    }
-    Ok(text)
-}
-
-// Changes a key by an event, and returns the answer.
-fn change<N: Name, W: Write + Drop, R: Wait>(
-    alloc: Global,
-    gate: &mut AheadGate<'_, N, W, R>,
-    pass: &mut Pass<N>,
-    event: Event,
-) -> Result<String, Fault>
-    ensures { Changed N.start N.opening.own event (fault_told result) gate.old gate.new }
-{
-    gate.event(alloc, event)?;
-    let told = gate.told();
-    let version = match gate.reply() {
-        Some(Reply::Done(version)) => *version,
-        _ => return Err(Fault::OutOfMemory),
-    };
-    match change_text(alloc, pass, told, version) {
         Ok(text) => Ok(text),
         Err(_) => Err(Fault::OutOfMemory),
     }

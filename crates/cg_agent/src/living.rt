@@ -1,12 +1,12 @@
 //! The life of a node that runs until it is stopped.
 
-ghost use Rattle.std.specs.Prelude.{◌≡◌, ◌*◌, ◌≤◌, vec_len, IfOk, MatchResult};
+ghost use Rattle.std.specs.Prelude.{◌≡◌, ◌*◌, ◌≤◌, max, vec_len, IfOk, MatchResult};
 ghost use Rattle.cg_settings_file.specs.declared.limits.TheConstants.{RECEIVER_LIMIT};
-ghost use Rattle.cg_agent.specs.declared.limits.TheConstants.{MEBIBYTE};
+ghost use Rattle.cg_agent.specs.declared.limits.TheConstants.{MEBIBYTE, WEB_LIMIT};
 ghost use Rattle.cg_core.specs.Step.{starting_node};
 ghost use Rattle.cg_agent.specs.Lives.{fault_after, status_after, IsLived, IsUnlived, AgentLives};
 
-use crate::limits::MEBIBYTE;
+use crate::limits::{MEBIBYTE, WEB_LIMIT, WEB_TIME};
 use crate::parts::{Parts, Plan};
 use crate::running::{Ran, run_agent};
 use crate::sink::Sink;
@@ -16,14 +16,15 @@ use cg_host::{Disk, agent_settings_telling, next_life};
 use cg_links::Counted;
 use cg_settings_file::{AgentSettings, Loads, RECEIVER_LIMIT};
 use cg_types::{Endpoint, Fault, Generation};
-use cg_workers::{Dialer, HostClock, Listener, answer_limit, generator, limit_for};
+use cg_workers::{Dialer, HostClock, Listener, Traffic, answer_limit, generator, limit_for};
 use std::alloc::Global;
 use std::fs::{OpenFile, OpenOptions};
 use std::io;
 use std::io::{Eprint, ErrorKind, Input, Print, Read, Write};
 use std::net::{Net, TcpListener, TcpStream};
+use std::random::RandomSource;
 use std::rt::{Clock, Files};
-use std::sync::Wait;
+use std::sync::{Arc, Wait};
 use std::thread::Threads;
 
 // Returns the bytes of journal that a life writes.
@@ -33,48 +34,119 @@ fn bound_of(loads: &Loads) -> u64
     u64::from(loads.journal_mb) * MEBIBYTE
 }
 
-// Listens at an endpoint, with a listener for each receiver.
+// Listens by a first listener, with as many in all as said, or one.
 fn listen<'a, R>(
-    rt: &'a R,
     alloc: Global,
-    own: Endpoint,
-    loads: &Loads,
+    first: io::Result<Listener<'a, R>>,
+    count: u32,
 ) -> io::Result<Vec<Listener<'a, R>>>
 where
     R: Clock + Net<Listener = TcpListener, Stream = TcpStream>,
-    ensures { IfOk result (λ ls. vec_len ls ≤ RECEIVER_LIMIT) }
+    ensures { IfOk result (λ ls. vec_len ls ≤ max 1 count) }
 {
-    let others = loads.receivers.saturating_sub(1).min(RECEIVER_LIMIT - 1);
+    let first = first?;
     let mut listeners = Vec::new(alloc);
-    let first = Listener::open(rt, alloc, own, answer_limit(loads.interval))?;
-    for _ in 0..others {
+    for _ in 0..count.saturating_sub(1) {
         listeners.push(first.again()?)?;
     }
     listeners.push(first)?;
     Ok(listeners)
 }
 
-// Listens at an endpoint, or prints why it can't.
+// Listens as `listen` does, or prints why it can't at this endpoint.
 fn listening<'a, R>(
     rt: &'a R,
     alloc: Global,
-    own: Endpoint,
-    loads: &Loads,
+    at: Endpoint,
+    first: io::Result<Listener<'a, R>>,
+    count: u32,
 ) -> Result<Vec<Listener<'a, R>>, Fault>
 where
     R: Clock + Eprint + Net<Listener = TcpListener, Stream = TcpStream>,
-    ensures { IfOk result (λ ls. vec_len ls ≤ RECEIVER_LIMIT) }
+    ensures { IfOk result (λ ls. vec_len ls ≤ max 1 count) }
 {
-    match listen(rt, alloc, own, loads) {
+    match listen(alloc, first, count) {
         Ok(listeners) => Ok(listeners),
         Err(error) => {
-            tell_deaf(rt, own, &error);
+            tell_deaf(rt, at, &error);
             match error.kind() {
                 ErrorKind::OutOfMemory => Err(Fault::OutOfMemory),
                 _ => Err(Fault::ReadFault),
             }
         }
     }
+}
+
+// Listens for peers, whose bytes are counted in this traffic, with a listener for each receiver.
+fn listening_to_peers<'a, R>(
+    rt: &'a R,
+    alloc: Global,
+    own: Endpoint,
+    loads: &Loads,
+    traffic: &Arc<Traffic, Global>,
+) -> Result<Vec<Listener<'a, R>>, Fault>
+where
+    R: Clock + Eprint + Net<Listener = TcpListener, Stream = TcpStream>,
+    ensures { IfOk result (λ ls. vec_len ls ≤ RECEIVER_LIMIT) }
+{
+    let traffic = Arc::try_clone(traffic)?;
+    let first = match Listener::open(rt, alloc, own, answer_limit(loads.interval)) {
+        Ok(listener) => Ok(listener.counting(traffic)),
+        Err(error) => Err(error),
+    };
+    let count = loads.receivers.min(RECEIVER_LIMIT);
+    listening(rt, alloc, own, first, count)
+}
+
+// Listens for requests over HTTP, if it is served.
+fn listening_to_browsers<'a, R>(
+    rt: &'a R,
+    alloc: Global,
+    at: Option<Endpoint>,
+) -> Result<Vec<Listener<'a, R>>, Fault>
+where
+    R: Clock + Eprint + Net<Listener = TcpListener, Stream = TcpStream>,
+    ensures { IfOk result (λ ls. vec_len ls ≤ WEB_LIMIT) }
+{
+    let Some(at) = at else {
+        return Ok(Vec::new(alloc));
+    };
+    let first = Listener::open(rt, alloc, at, WEB_TIME);
+    listening(rt, alloc, at, first, WEB_LIMIT as u32)
+}
+
+// The sockets of a node: the listeners of peers and of requests over HTTP, and the dialer of peers; and the traffic in
+// which the bytes of peers are counted.
+struct Sockets<'a, R: Clock + Net<Listener = TcpListener, Stream = TcpStream>> {
+    listeners: Vec<Listener<'a, R>>,
+    web: Vec<Listener<'a, R>>,
+    dialer: Dialer<'a, R>,
+    traffic: Arc<Traffic, Global>,
+}
+
+// Opens the sockets of a node.
+fn open_sockets<'a, R>(
+    rt: &'a R,
+    alloc: Global,
+    own: Endpoint,
+    http: Option<Endpoint>,
+    loads: &Loads,
+) -> Result<Sockets<'a, R>, Fault>
+where
+    R: Clock + Eprint + Net<Listener = TcpListener, Stream = TcpStream>,
+    ensures peers { IfOk result (λ s. vec_len s.listeners ≤ RECEIVER_LIMIT) }
+    ensures web { IfOk result (λ s. vec_len s.web ≤ WEB_LIMIT) }
+{
+    let traffic = Arc::new(alloc, Traffic::new())?;
+    let dialed = Arc::try_clone(&traffic)?;
+    let listeners = listening_to_peers(rt, alloc, own, loads, &traffic)?;
+    let web = listening_to_browsers(rt, alloc, http)?;
+    Ok(Sockets {
+        listeners,
+        web,
+        dialer: Dialer::new(rt, alloc, limit_for(loads.interval)).counting(dialed),
+        traffic,
+    })
 }
 
 // Opens a new file to append to it, with two more handles. An error if something stands there.
@@ -133,6 +205,7 @@ where
     R: Threads
         + Wait
         + Clock
+        + RandomSource
         + Sync
         + Files<File = F>
         + Input
@@ -150,19 +223,26 @@ where
         loads,
         random,
         input,
+        http,
     } = settings;
-    let listeners = listening(rt, alloc, own, &loads)?;
+    let Sockets {
+        listeners,
+        web,
+        dialer,
+        traffic,
+    } = open_sockets(rt, alloc, own, http.at, &loads)?;
     let (file, files) = journal_if(rt, alloc, &journals, own, generation)?;
     let history = History::begin(alloc, own, generation, node)?;
-    let limit = limit_for(loads.interval);
     let parts = Parts {
         listeners,
-        dialer: Dialer::new(rt, alloc, limit),
-        waker: Dialer::silent(rt, alloc, limit),
+        web,
+        dialer,
+        waker: Dialer::silent(rt, alloc, limit_for(loads.interval)),
         clock: HostClock::new(rt),
         generator: generator(random),
         sink: Counted::new(Sink::new(rt, file, bound_of(&loads))),
         files,
+        traffic,
     };
     let plan = Plan {
         own,
@@ -170,6 +250,8 @@ where
         interval: loads.interval,
         keep: loads.keep,
         input,
+        http: http.at,
+        writes: http.writes,
     };
     run_agent(rt, alloc, history, parts, plan)
 }
@@ -180,6 +262,7 @@ where
     R: Threads
         + Wait
         + Clock
+        + RandomSource
         + Sync
         + Files<File = F>
         + Disk<File = F>
@@ -251,6 +334,7 @@ where
     R: Threads
         + Wait
         + Clock
+        + RandomSource
         + Sync
         + Files<File = F>
         + Disk<File = F>

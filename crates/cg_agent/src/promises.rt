@@ -2,42 +2,43 @@
 
 ghost use Rattle.std.specs.Prelude.{◌≡◌};
 
+use crate::posts::Post;
 use cg_locked::{Name, Seat};
 use cg_workers::{Dial, Listen, Milliseconds};
 use rand_core::Rng;
 use std::snapshot::Snapshot;
 use std::thread::Promise;
 
-// The promise of a receiver's thread.
+// The promise of the thread of a worker at a post.
 #[derive(Drop)]
-pub(crate) struct Answers<N: Name, L: Listen, C: Milliseconds> {
+pub(crate) struct Answers<N: Name, L: Listen + Drop, C: Milliseconds> {
     pub(crate) seat: Snapshot<Seat<N>>,
-    pub(crate) listener: Snapshot<L>,
+    pub(crate) post: Snapshot<Post<N, L>>,
     pub(crate) clock: Snapshot<C>,
 }
 
-impl<N: Name, L: Listen, C: Milliseconds> Answers<N, L, C> {
+impl<N: Name, L: Listen + Drop, C: Milliseconds> Answers<N, L, C> {
     // The promise of a thread that takes these over.
-    pub(crate) fn of(seat: &Seat<N>, listener: &L, clock: &C) -> Answers<N, L, C>
-        ensures { (result.seat.value ≡ seat.now) × (result.listener.value ≡ listener.now)
+    pub(crate) fn of(seat: &Seat<N>, post: &Post<N, L>, clock: &C) -> Answers<N, L, C>
+        ensures { (result.seat.value ≡ seat.now) × (result.post.value ≡ post.now)
             × (result.clock.value ≡ clock.now) }
     {
         Answers {
             seat: Snapshot::of(seat),
-            listener: Snapshot::of(listener),
+            post: Snapshot::of(post),
             clock: Snapshot::of(clock),
         }
     }
 }
 
-impl<N: Name, L: Listen, C: Milliseconds> Promise<Seat<N>> for Answers<N, L, C> {
+impl<N: Name, L: Listen + Drop, C: Milliseconds> Promise<Seat<N>> for Answers<N, L, C> {
     ghost use Rattle.std.specs.Prelude.{◌≡◌};
-    ghost use Rattle.cg_agent.specs.Worked.{LeftByAnswers};
+    ghost use Rattle.cg_agent.specs.Posts.{LeftAt};
 
     ghost kept_by = { λ p r.
         (r.parts ≡ p.seat.value.parts)
-        × LeftByAnswers N.start N.opening.own L.Reader.remaining L.Writer.contents L.accepts (C.shows p.clock.value)
-        p.listener.value p.seat.value r };
+        × LeftAt N.start N.opening.own L.Reader.remaining L.Writer.contents L.accepts (C.shows p.clock.value)
+        p.post.value p.seat.value r };
 }
 
 // The promise of the thread that does rounds.

@@ -6,6 +6,7 @@ ghost use Rattle.cg_agent.specs.Worked.{LeftByAnswers};
 
 use crate::site::Site;
 use cg_ahead_seats::AheadGate;
+use cg_engine::Gate;
 use cg_locked::{Name, Seat};
 use cg_types::Endpoint;
 use cg_workers::{Dial, Listen, Milliseconds, answer_next};
@@ -29,7 +30,10 @@ fn answer_at<N: Name, W: Write + Drop, R: Wait, L: Listen, C: Milliseconds>(
             break;
         }
         match answer_next(alloc, gate, listener, &site.clock) {
-            Some(broken) => site.count(rt, broken),
+            Some(broken) => {
+                site.count_answered(rt, broken, gate.reply());
+                gate.forget();
+            }
             None => {
                 site.end_deaf();
                 break;
@@ -38,7 +42,8 @@ fn answer_at<N: Name, W: Write + Drop, R: Wait, L: Listen, C: Milliseconds>(
     }
 }
 
-/// Answers connections from a seat until the node is to end, or until none comes any more; then the node is to end.
+/// Answers connections from a seat until the node is to end, or until none comes any more; then the node is to end. No
+/// message of a connection stays in memory once it was answered.
 pub(crate) fn answer_all<N: Name, W: Write + Drop, R: Wait, L: Listen + Drop, C: Milliseconds>(
     rt: &R,
     alloc: Global,

@@ -6,7 +6,9 @@ ghost use Rattle.cg_agent.specs.Worked.{LeftByTurns};
 
 use crate::chores::Chores;
 use crate::limits::NAP;
-use crate::members::{Member, members_of, tell_changes};
+use crate::looking::{members_seen, publish};
+use crate::members::{Member, tell_changes};
+use crate::publishing::Publishing;
 use crate::site::Site;
 use cg_ahead_seats::AheadGate;
 use cg_core::{Event, Peers, Reply};
@@ -20,7 +22,7 @@ use std::alloc::Global;
 use std::fs::OpenFile;
 use std::io::{Eprint, Print, Write};
 use std::rt::Clock;
-use std::sync::{MutexGuard, Wait};
+use std::sync::Wait;
 use std::thread;
 use std::time::Duration;
 
@@ -49,7 +51,8 @@ fn send<N: Name, W: Write + Drop, R: Wait, D: Dial, C: Milliseconds>(
 {
     for peer in peers.endpoints() {
         let broken = reach(alloc, gate, dialer, &site.clock, syn, *peer);
-        site.count(rt, broken);
+        site.count_begun(rt, broken, gate.reply());
+        gate.forget();
     }
 }
 
@@ -104,11 +107,7 @@ fn tell_members<N: Name, W: Write + Drop, R: Wait + Print, C: Milliseconds>(
     site: &Site<N, W, C>,
     before: Vec<Member>,
 ) -> Vec<Member> {
-    let now = site.clock.now();
-    let board = site.shared.lend(rt);
-    let members = members_of(alloc, board.history().node(), now);
-    MutexGuard::unlock(board);
-    match members {
+    match members_seen(rt, alloc, site) {
         Ok(after) => {
             tell_changes(rt, &before, &after);
             after
@@ -117,7 +116,23 @@ fn tell_members<N: Name, W: Write + Drop, R: Wait + Print, C: Milliseconds>(
     }
 }
 
-// Does rounds at a gate until the node is to end, each an interval after the one before. After each it tells of members.
+// Tells of the members behind a round, and publishes the status, if that is read.
+fn tell_round<N: Name, W: Write + Drop, R: Wait + Print, C: Milliseconds>(
+    rt: &R,
+    alloc: Global,
+    site: &Site<N, W, C>,
+    publishing: &mut Option<Publishing<'_, R>>,
+    before: Vec<Member>,
+) -> Vec<Member> {
+    site.counts.count_round(site.clock.now());
+    if let Some(publishing) = publishing {
+        let _ = publish(rt, alloc, site, publishing);
+    }
+    tell_members(rt, alloc, site, before)
+}
+
+// Does rounds at a gate until the node is to end, each an interval after the one before. After each it tells of members,
+// and publishes the status.
 fn turn_at<N: Name, W: Write + Drop, R, D, C, G, F>(
     rt: &R,
     alloc: Global,
@@ -126,6 +141,7 @@ fn turn_at<N: Name, W: Write + Drop, R, D, C, G, F>(
     dialer: &mut D,
     generator: &mut G,
     chores: &mut Chores<F>,
+    publishing: &mut Option<Publishing<'_, R>>,
     interval: u32,
 )
 where
@@ -145,18 +161,20 @@ where
         let due = site.clock.now().saturating_add(u64::from(interval));
         let words = next_words(generator);
         let _turned = turn(rt, alloc, site, gate, dialer, words);
-        members = tell_members(rt, alloc, site, members);
+        members = tell_round(rt, alloc, site, publishing, members);
         rest(rt, site, chores, due);
     }
 }
 
-/// Does rounds from a seat until the node is to end, and has the journal on the disk once a second.
+/// Does rounds from a seat until the node is to end, publishes the status behind each if that is read, and has the journal
+/// on the disk once a second.
 pub(crate) fn do_rounds<N: Name, W: Write + Drop, R, D, C, G, F>(
     rt: &R,
     alloc: Global,
     site: &Site<N, W, C>,
     seat: Seat<N>,
     rounds: Rounds<D, G, F>,
+    publishing: Option<Publishing<'_, R>>,
 ) -> Seat<N>
 where
     R: Wait + Clock + Print + Eprint,
@@ -174,6 +192,7 @@ where
         interval,
         file,
     } = rounds;
+    let mut publishing = publishing;
     let mut gate = AheadGate::new(rt, &site.shared, seat);
     let mut chores = Chores {
         file,
@@ -187,6 +206,7 @@ where
         &mut dialer,
         &mut generator,
         &mut chores,
+        &mut publishing,
         interval,
     );
     gate.into_seat()

@@ -1,20 +1,20 @@
-use Rattle.std.proofs.Common.{ℕ, sym, ap, ◌∙◌, arith}
+use Rattle.std.proofs.Common.{◌+◌, sym, ap, ◌∙◌, arith}
 use Rattle.std.specs.Prelude.{vec_len}
 use Rattle.cg_table.specs.Values.{TableValue}
-use Rattle.cg_agent.specs.Seats.{seats_for}
 use Rattle.cg_agent.proofs.AllWorked.{as_many}
 use Rattle.cg_agent.proofs.running.run_named.Goals as goal
 
 pub work-back-requires-clause-seats : goal.work-back-requires-clause-seats
 work-back-requires-clause-seats g c κs within =
-    as_many (vec_len c.give_out-seats.result.receivers) (vec_len c.args.parts.listeners) c.args.plan.input
-    (sym c.give_out-seats.ensures.seats ∙ c.in_ok-shared.ensures.seats.0 ∙ c.seats_of.ensures ∙ ap (λ (n : ℕ). seats_for n c.args.plan.input) c.len-receivers.ensures)
+    let same = as_many (vec_len c.give_out-seats.result.posts) (c.len-receivers.result + c.len-web.result) c.args.plan.input
+    (sym c.give_out-seats.ensures.seats ∙ c.in_ok-shared.ensures.seats.0 ∙ c.seats_of.ensures) in
+    omega (arith, same, c.len-receivers.ensures, c.len-web.ensures, c.posts_at-posts.ensures)
 
 pub work-back-requires-clause-room : goal.work-back-requires-clause-room
 work-back-requires-clause-room g c κs within =
-    let same = as_many (vec_len c.give_out-seats.result.receivers) (vec_len c.args.parts.listeners) c.args.plan.input
-    (sym c.give_out-seats.ensures.seats ∙ c.in_ok-shared.ensures.seats.0 ∙ c.seats_of.ensures ∙ ap (λ (n : ℕ). seats_for n c.args.plan.input) c.len-receivers.ensures) in
-    omega (arith, same, c.len-receivers.ensures, c.in_ok-back.ensures.capacity)
+    let same = as_many (vec_len c.give_out-seats.result.posts) (c.len-receivers.result + c.len-web.result) c.args.plan.input
+    (sym c.give_out-seats.ensures.seats ∙ c.in_ok-shared.ensures.seats.0 ∙ c.seats_of.ensures) in
+    omega (arith, same, c.in_ok-publisher.ensures.back.1)
 
 pub returns : goal.returns
 returns g c =
