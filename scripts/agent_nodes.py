@@ -1,5 +1,6 @@
-"""Agents, each a process, as the scripts agents, exchanges and hostile-agent run them. Every wait has an end."""
+"""Agents, each a process, as the scripts agents, exchanges, hostile-agent and rig run them. Every wait has an end."""
 
+import collections
 import contextlib
 import os
 import re
@@ -16,7 +17,7 @@ SETTINGS = """\
 cluster = "{cluster}"
 listen = "{listen}"
 seeds = [{seeds}]
-generation_file = "{place}.generation"
+generation_file = "{folder}/{place}.generation"
 random = {place}
 stdin = "lines"
 """
@@ -30,11 +31,18 @@ def end_as_by_interrupt():
 class Agent(nodes.Node):
     """A process that is an agent, with an operator's lines. A thread reads what it prints."""
 
+    # Seconds until it has to listen.
+    READY = 20
+
     def __init__(self, settings, listen, folder, place):
         super().__init__(settings, listen, folder)
         self.place, self.lives, self.began = place, 0, 0.0
         self.shown, self.told, self.is_over = [], [], True
         self.heard, self.reader = threading.Condition(), None
+
+    def words(self):
+        """Returns the words of its command."""
+        return [nodes.program(), "agent", self.settings]
 
     def start(self, **how):
         """Starts a life, and waits until it listens. `how` are further words of the process."""
@@ -42,7 +50,7 @@ class Agent(nodes.Node):
         self.lives, self.began = self.lives + 1, time.monotonic()
         with open(os.path.join(self.folder, f"{self.place}.errors"), "a") as errors:
             self.process = subprocess.Popen(
-                [nodes.program(), "agent", self.settings],
+                self.words(),
                 stdin=subprocess.PIPE,
                 stdout=subprocess.PIPE,
                 stderr=errors,
@@ -52,7 +60,7 @@ class Agent(nodes.Node):
             )
         self.reader = threading.Thread(target=self.hear, args=(self.process.stdout,), daemon=True)
         self.reader.start()
-        self.wait_for(lambda: self.told, 20, "is not ready")
+        self.wait_for(lambda: self.told, self.READY, "is not ready")
 
     def hear(self, stream):
         """Keeps the lines that come, until they end."""
@@ -116,22 +124,36 @@ class Agent(nodes.Node):
 def made(count, folder, seeds=3, **keys):
     """Returns agents that know each other by the first ones, with these further keys of their settings."""
     listens = [f"127.0.0.1:{nodes.FIRST_PORT + place}" for place in range(count)]
+    paths = [written(folder, place, listens, seeds, **keys) for place in range(count)]
+    return [Agent(path, listen, folder, place) for place, (path, listen) in enumerate(zip(paths, listens))]
+
+
+def written(folder, place, listens, seeds, **keys):
+    """Writes the settings of the agent of a place, and returns their path."""
+    path = os.path.join(folder, f"{place}.toml")
     known = ", ".join(f'"{listen}"' for listen in listens[:seeds])
     further = "".join(f"{key} = {value}\n" for key, value in keys.items())
-    agents = []
-    for place, listen in enumerate(listens):
-        path = os.path.join(folder, f"{place}.toml")
-        with open(path, "w") as settings:
-            settings.write(SETTINGS.format(cluster=nodes.CLUSTER, listen=listen, seeds=known, place=place) + further)
-        agents.append(Agent(path, listen, folder, place))
-    return agents
+    with open(path, "w") as settings:
+        here = SETTINGS.format(cluster=nodes.CLUSTER, listen=listens[place], seeds=known, folder=folder, place=place)
+        settings.write(here + further)
+    return path
 
 
 def journals(folder):
     """Returns the paths of the journals in a folder, those of an endpoint by generation."""
+    found = [name for name in os.listdir(folder) if name.endswith(".journal")]
 
     def life(name):
         endpoint, generation = re.fullmatch(r"(.+)\.(\d+)\.journal", name).groups()
         return endpoint, int(generation)
 
-    return [os.path.join(folder, name) for name in sorted(os.listdir(folder), key=life)]
+    return [os.path.join(folder, name) for name in sorted(found, key=life)]
+
+
+def lines_of(journals):
+    """Returns how many lines of journals begin with each word."""
+    count = collections.Counter()
+    for path in journals:
+        with open(path, "rb") as lines:
+            count.update(line.split(None, 1)[0] for line in lines if line.endswith(b"\n"))
+    return count
