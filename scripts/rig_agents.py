@@ -47,6 +47,10 @@ class RigAgent(agent_nodes.Agent):
             file.write(f"{seconds:+d}\n")
         os.replace(f"{self.clock}.new", self.clock)
 
+    def words(self):
+        # (it ends with the rig, even if that is killed)
+        return ["setpriv", "--pdeathsig", "KILL", *super().words()]
+
     def environment(self):
         """Returns the words of its environment."""
         library, words = clock_library(), dict(os.environ)
@@ -106,7 +110,7 @@ class Planted(RigAgent):
 
     def words(self):
         tried = f"cd {self.repository}/crates/cg && exec rt try --seconds {self.seconds} -- agent {self.settings}"
-        return ["setsid", "--wait", "sh", "-c", tried]
+        return ["setsid", "--wait", "setpriv", "--pdeathsig", "KILL", "sh", "-c", tried]
 
     def signal(self, number):
         for process in processes_below(self.process.pid):

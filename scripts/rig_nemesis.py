@@ -196,5 +196,5 @@ class Nemesis:
             self.network.end(fault.number)
 
 
-KINDS = {name[len("do_") :]: act for name, act in vars(Nemesis).items() if name.startswith("do_")}
-APART_KINDS = ("cut", "one_way", "delay", "drop")
+KINDS = {name[len("do_") :].replace("_", " "): act for name, act in vars(Nemesis).items() if name.startswith("do_")}
+APART_KINDS = ("cut", "one way", "delay", "drop")
