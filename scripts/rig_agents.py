@@ -1,4 +1,5 @@
-"""The agents of a rig: each in a network namespace, with its journals on a file system of its own and a clock that can be moved."""
+"""The agents of a rig: each in a network namespace, with its journals on a file system of its own and a clock that can be
+moved."""
 
 import glob
 import os
@@ -87,7 +88,8 @@ class RigAgent(agent_nodes.Agent):
         status = self.end(ENDED)
         self.kill()
         if status != 1 or self.shown[-1:] != ["fault 15 WriteFault\n"]:
-            raise nodes.Failed(f"{self.listen}: its disk is full, and it ends with status {status}: {self.shown[-3:]}{self.errors()}")
+            told = f"its disk is full, and it ends with status {status}: {self.shown[-3:]}{self.errors()}"
+            raise nodes.Failed(f"{self.listen}: {told}")
         return time.monotonic() - begun
 
     def free_disk(self):

@@ -1,5 +1,5 @@
-"""The clients of a rig: one for each node, a thread in the node's namespace, which sets and removes keys over HTTP and reads. A client
-reaches its node also while that is cut off from the others."""
+"""The clients of a rig: one for each node, a thread in the node's namespace, which sets and removes keys over HTTP and reads. A
+client reaches its node also while that is cut off from the others."""
 
 import array
 import json
@@ -124,7 +124,8 @@ class Client(threading.Thread):
     def put(self, name, text):
         """Sets a key, or removes it. Returns True if that was answered by a version."""
         method, body = ("DELETE", b"") if text is None else ("PUT", text.encode())
-        head = f"{method} /states/{name} HTTP/1.1\r\nhost: {self.agent.http}\r\nx-cg-write: 1\r\ncontent-length: {len(body)}\r\n\r\n"
+        fields = f"host: {self.agent.http}\r\nx-cg-write: 1\r\ncontent-length: {len(body)}\r\n"
+        head = f"{method} /states/{name} HTTP/1.1\r\n{fields}\r\n"
         life, is_answered = self.reader.life, False
         try:
             answer = http_agents.answer_in(http_agents.sent(self.agent, head.encode() + body, CHANGE))

@@ -1,13 +1,13 @@
 """The law of what the clients of agents read, and the judge of it.
 
-The owner of an entry is the agent that it is about. The history of an owner's life is what its journal says: a start, with heartbeat
-version 1 and no text, and then for each line `tick`, `beat`, `set` and `remove` the same entry with the next version.
+The owner of an entry is the agent that it is about. The history of an owner's life is what its journal says: a start, with
+heartbeat version 1 and no text, and then for each line `tick`, `beat`, `set` and `remove` the same entry with the next version.
 
-1. A change that was answered, `version N`, is in that history as change N, with the key and the text that the client asked for. One
-   whose answer was lost may be there or not, as the journal says.
-2. What a read shows of an owner is one entry of the owner's history, whole: heartbeat and texts are those after the newest version
-   that it shows, and no other. Where a read shows no newest version, it has to fit a version from the greatest that it shows on,
-   and the version beside each text is that of the change which set it.
+1. A change that was answered, `version N`, is in that history as change N, with the key and the text that the client asked for.
+   One whose answer was lost may be there or not, as the journal says.
+2. What a read shows of an owner is one entry of the owner's history, whole: heartbeat and texts are those after the newest
+   version that it shows, and no other. Where a read shows no newest version, it has to fit a version from the greatest that it
+   shows on, and the version beside each text is that of the change which set it.
 3. Of one life of a node, a client's reads never go back. No later one shows an owner in an older generation or version than an
    earlier one did, or not at all. A change of the client's own that was answered counts as a read.
 
@@ -142,7 +142,7 @@ class Record:
     """What all clients were answered, and what is unlawful of it."""
 
     def __init__(self):
-        self.changes, self.lock = [], threading.Lock()
+        self.changes, self.lock, self.texts = [], threading.Lock(), {}
         self.shown: Dict[Shown, Tuple[str, Tuple[int, int]]] = {}
         self.broken = []
 
@@ -156,6 +156,7 @@ class Record:
         if floor[0] > shown.generation:
             self.break_law(f"{node} shows {shown.owner} in generation {shown.generation}, and earlier in {floor[0]}")
         least = floor if floor[0] == shown.generation else (0, 0)
+        shown = shown._replace(texts=tuple(self.texts.setdefault(pair, pair) for pair in shown.texts))
         with self.lock:
             first, known = self.shown.get(shown, (node, least))
             self.shown[shown] = first, max(known, least)
@@ -221,7 +222,8 @@ def digests(owner_at, life=7):
 
 
 def entry(newest, heartbeat, *texts, generation=5):
-    return lambda record, reader: reader.read_whole([Shown(OWNER, generation, newest, heartbeat, texts), Shown(NODE, 7, newest and 3, 3, ())])
+    both = [Shown(OWNER, generation, newest, heartbeat, texts), Shown(NODE, 7, newest and 3, 3, ())]
+    return lambda record, reader: reader.read_whole(both)
 
 
 def answered(version, name, text, generation=5):
@@ -234,7 +236,10 @@ CASES = {
         [entry(1, 1), entry(3, 2, ("LOAD", "a")), entry(6, 4, ("SCHEMA", "b")), entry(8, 7, ("LOAD", ""), ("SCHEMA", "b"))],
         "",
     ),
-    "versions beside texts": ([entry(None, 4, ("LOAD", (3, "a")), ("SCHEMA", (5, "b"))), entry(None, 4, ("SCHEMA", (5, "b")))], ""),
+    "versions beside texts": (
+        [entry(None, 4, ("LOAD", (3, "a")), ("SCHEMA", (5, "b"))), entry(None, 4, ("SCHEMA", (5, "b")))],
+        "",
+    ),
     "answers in the journal": ([answered(3, "LOAD", "a"), answered(6, "LOAD", None), answered(8, "LOAD", "")], ""),
     "a new life of the node": ([digests((5, 6)), digests((5, 2), life=8)], ""),
     "a mixed entry": ([entry(5, 4, ("LOAD", "b"), ("SCHEMA", "b"))], "never had"),

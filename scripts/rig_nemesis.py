@@ -121,7 +121,7 @@ class Nemesis:
         except (nodes.Failed, OSError) as why:
             self.failed.append(f"{fault.kind} of {fault.places}: {why}")
         now = time.monotonic()
-        if fault.kind not in ("delay", "drop"):
+        if fault.kind not in ("delay", "drop") and fault.numbers[1:] != (0,):
             self.away += [(place, begun, now) for place in fault.places]
             self.healed.append((fault.kind, fault.places, now))
 

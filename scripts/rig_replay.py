@@ -1,5 +1,5 @@
-"""Messages that come again, late and to others: frames that agents sent, as journals of those that handled them have them, brought to
-an agent that is cut off. Deltas of such a message may be above what the agent holds, which is a gap."""
+"""Messages that come again, late and to others: frames that agents sent, as journals of those that handled them have them,
+brought to an agent that is cut off. Deltas of such a message may be above what the agent holds, which is a gap."""
 
 import contextlib
 import os

@@ -1,6 +1,6 @@
 #!/usr/bin/env python3
-"""The switch between the namespaces of the rig: a process that carries the packets of their TUN devices, and cuts, delays and drops
-them as the rig says. It is started by rig_network, which hands it the devices and a pipe, whose end ends it."""
+"""The switch between the namespaces of the rig: a process that carries the packets of their TUN devices, and cuts, delays and
+drops them as the rig says. It is started by rig_network, which hands it the devices and a pipe, whose end ends it."""
 import heapq
 import json
 import os
