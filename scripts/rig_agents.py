@@ -1,6 +1,7 @@
 """The agents of a rig: each in a network namespace, with its journals on a file system of its own and a clock that can be
 moved."""
 
+import contextlib
 import glob
 import os
 import signal
@@ -14,8 +15,8 @@ import nodes
 import rig_network
 
 GOSSIP, HTTP = 7000, 8000
-# Mebibytes of a file system for journals, and what is written at a time to fill it.
-DISK, PART = 64, b"\0" * (1 << 16)
+# What a file system for journals may hold.
+DISK = "16g"
 # The first agents, which all know.
 SEEDS = 3
 # Seconds until a node whose disk is full has to end.
@@ -72,19 +73,10 @@ class RigAgent(agent_nodes.Agent):
         """Sends its process a signal."""
         self.process.send_signal(number)
 
-    def kill(self):
-        """Kills it, stopped or not."""
-        super().kill()
-
     def fill_disk(self):
         """Leaves no room on the file system of its journals, and returns the seconds until it has ended as it is to."""
         begun = time.monotonic()
-        with open(os.path.join(self.disk, "filler"), "wb", buffering=0) as filler:
-            try:
-                while filler.write(PART):
-                    pass
-            except OSError:
-                pass
+        rig_network.fill(self.disk)
         status = self.end(ENDED)
         self.kill()
         if status != 1 or self.shown[-1:] != ["fault 15 WriteFault\n"]:
@@ -93,7 +85,7 @@ class RigAgent(agent_nodes.Agent):
         return time.monotonic() - begun
 
     def free_disk(self):
-        os.remove(os.path.join(self.disk, "filler"))
+        rig_network.make_room(self.disk, DISK)
 
     def journals(self):
         """Returns the paths of its journals, by generation."""
@@ -120,7 +112,10 @@ class Planted(RigAgent):
 
     def kill(self):
         if self.process and self.process.poll() is None:
-            self.signal(signal.SIGKILL)
+            # (the last is the agent; rt takes its files away once that has ended)
+            os.kill(processes_below(self.process.pid)[0], signal.SIGKILL)
+            with contextlib.suppress(nodes.Failed):
+                self.end(ENDED)
         super().kill()
 
 

@@ -2,6 +2,7 @@
 in it, and so do mounts that the rig makes in its namespace of mounts. Nothing of the machine's own network is touched."""
 
 import concurrent.futures
+import contextlib
 import ctypes
 import fcntl
 import json
@@ -16,7 +17,7 @@ import command
 
 # Flags of clone and unshare, of a device, and requests, as in the headers of Linux.
 NEW_NETWORK, NEW_MOUNTS = 0x4000_0000, 0x0002_0000
-RECURSIVE_PRIVATE = 0x4000 | 0x4_0000
+RECURSIVE_PRIVATE, REMOUNT = 0x4000 | 0x4_0000, 0x20
 SET_TUN, TUN_WITHOUT_HEAD = 0x4004_54CA, 0x0001 | 0x1000
 SET_FLAGS, SET_ADDRESS, SET_MASK, IS_UP = 0x8914, 0x8916, 0x891C, 0x1 | 0x40
 DEVICE = b"tun0"
@@ -40,12 +41,28 @@ def leave_mounts():
     called("unshare", NEW_MOUNTS)
     called("mount", b"none", b"/", None, RECURSIVE_PRIVATE, None)
     # (faketime leaves files there of processes that are killed)
-    mount_memory("/dev/shm", 16)
+    mount_memory("/dev/shm", "16m")
 
 
-def mount_memory(folder, mebibytes):
-    """Puts a file system of its own, in memory, at a folder."""
-    called("mount", b"rig", folder.encode(), b"tmpfs", 0, f"size={mebibytes}m".encode())
+def mount_memory(folder, size, flags=0):
+    """Puts a file system of its own, in memory, at a folder. It takes no memory before something is written."""
+    called("mount", b"rig", folder.encode(), b"tmpfs", flags, f"size={size}".encode())
+
+
+def fill(folder):
+    """Leaves no room on such a file system: what is written is all that it may hold."""
+    for _ in range(1000):
+        held = os.statvfs(folder)
+        # (it is refused if something was written meanwhile)
+        with contextlib.suppress(NotAllowed):
+            mount_memory(folder, (held.f_blocks - held.f_bfree) * held.f_frsize, REMOUNT)
+            return
+    raise OSError(f"{folder} can't be made smaller")
+
+
+def make_room(folder, size):
+    """Gives a full one room again."""
+    mount_memory(folder, size, REMOUNT)
 
 
 def unmount(folder):
