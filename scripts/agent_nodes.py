@@ -19,7 +19,7 @@ listen = "{listen}"
 seeds = [{seeds}]
 generation_file = "{folder}/{place}.generation"
 random = {place}
-stdin = "lines"
+stdin = "{stdin}"
 """
 
 
@@ -128,14 +128,14 @@ def made(count, folder, seeds=3, **keys):
     return [Agent(path, listen, folder, place) for place, (path, listen) in enumerate(zip(paths, listens))]
 
 
-def written(folder, place, listens, seeds, **keys):
+def written(folder, place, listens, seeds, stdin="lines", **keys):
     """Writes the settings of the agent of a place, and returns their path."""
     path = os.path.join(folder, f"{place}.toml")
     known = ", ".join(f'"{listen}"' for listen in listens[:seeds])
     further = "".join(f"{key} = {value}\n" for key, value in keys.items())
     with open(path, "w") as settings:
-        here = SETTINGS.format(cluster=nodes.CLUSTER, listen=listens[place], seeds=known, folder=folder, place=place)
-        settings.write(here + further)
+        words = {"cluster": nodes.CLUSTER, "listen": listens[place], "seeds": known, "stdin": stdin}
+        settings.write(SETTINGS.format(folder=folder, place=place, **words) + further)
     return path
 
 

@@ -146,9 +146,11 @@ def made(network, folder, interval, planted=None, seconds=0):
     for host in network.hosts:
         keys = {"journals": f'"{folder}/disk{host.place}"', "journal_mb": 1_000_000, "interval": interval, "keep": 100}
         keys.update(http=f'"{host.address}:{HTTP}"', http_writes="true")
-        settings = agent_nodes.written(folder, host.place, listens, SEEDS, **keys)
-        is_last = host.place == len(listens) - 1
-        if planted and is_last:
+        is_planted = planted and host.place == len(listens) - 1
+        # (rt try hands over an input that has ended)
+        stdin = "ignore" if is_planted else "lines"
+        settings = agent_nodes.written(folder, host.place, listens, SEEDS, stdin, **keys)
+        if is_planted:
             agents.append(Planted(settings, folder, host, planted_repository(planted, folder), seconds))
         else:
             agents.append(RigAgent(settings, folder, host))

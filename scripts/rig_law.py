@@ -75,18 +75,18 @@ class History:
         """Returns by name the texts after a version, each with its version."""
         return self.texts[bisect.bisect_right(self.versions, version) - 1]
 
-    def greatest_like(self, version):
-        """Returns the greatest version to which only removals lead from a version: none of these is shown beside a text."""
-        while self.changes.get(version + 1, ("", ""))[1] is None:
-            version += 1
-        return version
+    def end_of_beat(self, heartbeat):
+        """Returns the version of the beat after this one, or of what would come next."""
+        row = bisect.bisect_right(self.beats, heartbeat)
+        return self.beats[row] if row < len(self.beats) else self.last + 1
 
     def fitting(self, shown):
         """Returns the greatest version whose entry is what is shown, or None."""
         if shown.newest is None:
             least = max([shown.heartbeat, *(version for _, (version, _) in shown.texts)])
-            versions, texts = range(least, self.greatest_like(least) + 1), dict(shown.texts)
-            fit = [it for it in versions if self.texts_at(it) == texts]
+            # (a text that was set and removed since is not shown)
+            texts = dict(shown.texts)
+            fit = [it for it in range(least, self.end_of_beat(shown.heartbeat)) if self.texts_at(it) == texts]
         else:
             fit = [shown.newest]
             if {name: text for name, (_, text) in self.texts_at(shown.newest).items()} != dict(shown.texts):
@@ -214,6 +214,7 @@ def in_gossipinfo(text):
 
 OWNER, NODE = "10.77.0.1:7000", "10.77.0.2:7000"
 LINES = ["tick 1 2 3 4 5", "set 3 61", "tick 9 2 3 4 5", "set 4 62", "remove 3", "tick 1 2 3 4 5", "set 3 -"]
+LINES += ["set 5 63", "remove 5"]
 LIFE = {(OWNER, 5): LINES, (NODE, 7): ["tick 1 2 3 4 5"] * 9}
 
 
@@ -240,6 +241,10 @@ CASES = {
         [entry(None, 4, ("LOAD", (3, "a")), ("SCHEMA", (5, "b"))), entry(None, 4, ("SCHEMA", (5, "b")))],
         "",
     ),
+    "a text that was set and removed": (
+        [digests((5, 10)), entry(None, 7, ("LOAD", (8, "")), ("SCHEMA", (5, "b")))],
+        "",
+    ),
     "answers in the journal": ([answered(3, "LOAD", "a"), answered(6, "LOAD", None), answered(8, "LOAD", "")], ""),
     "a new life of the node": ([digests((5, 6)), digests((5, 2), life=8)], ""),
     "a mixed entry": ([entry(5, 4, ("LOAD", "b"), ("SCHEMA", "b"))], "never had"),
@@ -248,14 +253,14 @@ CASES = {
     "a text of later": ([entry(2, 2, ("LOAD", "a"))], "never had"),
     "another version of a text": ([entry(None, 4, ("LOAD", (2, "a")), ("SCHEMA", (5, "b")))], "never had"),
     "a heartbeat that was none": ([entry(5, 3, ("LOAD", "a"), ("SCHEMA", "b"))], "never had"),
-    "a version not reached": ([entry(9, 7, ("LOAD", ""), ("SCHEMA", "b"))], "never had"),
+    "a version not reached": ([entry(11, 7, ("LOAD", ""), ("SCHEMA", "b"))], "never had"),
     "a life that was not": ([entry(1, 1, generation=6)], "never had"),
     "an older read": ([digests((5, 6)), digests((5, 5))], "earlier at"),
     "an older generation": ([digests((6, 1)), digests((5, 8))], "earlier at"),
     "an owner that is gone": ([digests((5, 6)), digests(None)], "earlier at"),
     "an older whole read": ([digests((5, 7)), entry(None, 4, ("SCHEMA", (5, "b")))], "earlier at"),
     "an older life of the node": ([digests((5, 6), life=8), digests((5, 6), life=7)], "in generation"),
-    "an answer that was not done": ([answered(9, "LOAD", "c")], "does not have"),
+    "an answer that was not done": ([answered(11, "LOAD", "c")], "does not have"),
     "an answer with another text": ([answered(3, "LOAD", "b")], "does not have"),
     "an answer of another life": ([answered(3, "LOAD", "a", generation=4)], "does not have"),
     "an own change not read": (
