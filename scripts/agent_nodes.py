@@ -31,9 +31,6 @@ def end_as_by_interrupt():
 class Agent(nodes.Node):
     """A process that is an agent, with an operator's lines. A thread reads what it prints."""
 
-    # Seconds until it has to listen.
-    READY = 20
-
     def __init__(self, settings, listen, folder, place):
         super().__init__(settings, listen, folder)
         self.place, self.lives, self.began = place, 0, 0.0
@@ -60,7 +57,11 @@ class Agent(nodes.Node):
             )
         self.reader = threading.Thread(target=self.hear, args=(self.process.stdout,), daemon=True)
         self.reader.start()
-        self.wait_for(lambda: self.told, self.READY, "is not ready")
+        self.wait_ready()
+
+    def wait_ready(self):
+        """Waits until it listens."""
+        self.wait_for(lambda: self.told, 20, "is not ready")
 
     def hear(self, stream):
         """Keeps the lines that come, until they end."""

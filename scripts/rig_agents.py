@@ -11,7 +11,9 @@ import time
 
 import agent_nodes
 import command
+import http_agents
 import nodes
+import rig_law
 import rig_network
 
 GOSSIP, HTTP = 7000, 8000
@@ -19,8 +21,8 @@ GOSSIP, HTTP = 7000, 8000
 DISK = "16g"
 # The first agents, which all know.
 SEEDS = 3
-# Seconds until a node whose disk is full has to end.
-ENDED = 30
+# Seconds until a node whose disk is full has to end, and until rt try has to run one.
+ENDED, READY = 30, 900
 
 
 def clock_library():
@@ -65,9 +67,13 @@ class RigAgent(agent_nodes.Agent):
         """Starts a life in its namespace. Its generation has to be above that of the life before."""
         begin = super().start
         self.host_of.do(lambda: begin(env=self.environment(), **how))
-        before, self.generation = self.generation, int(self.told[0].split()[2])
+        before, self.generation = self.generation, self.generation_now()
         if self.generation <= before:
             raise nodes.Failed(f"{self.listen}: begins in generation {self.generation}, and was in {before}")
+
+    def generation_now(self):
+        """Returns the generation of its life."""
+        return int(self.told[0].split()[2])
 
     def signal(self, number):
         """Sends its process a signal."""
@@ -96,7 +102,6 @@ class Planted(RigAgent):
     """An agent of a repository with a planted fault. Nothing of it is proved: `rt try` runs its sources."""
 
     is_proved = False
-    READY = 600
 
     def __init__(self, settings, folder, host, repository, seconds):
         super().__init__(settings, folder, host)
@@ -106,16 +111,34 @@ class Planted(RigAgent):
         tried = f"cd {self.repository}/crates/cg && exec rt try --seconds {self.seconds} -- agent {self.settings}"
         return ["setsid", "--wait", "setpriv", "--pdeathsig", "KILL", "sh", "-c", tried]
 
+    def newest_shown(self):
+        """Returns what its /digests shows, empty while it does not listen."""
+        try:
+            return rig_law.in_digests(http_agents.fetched(self, "/digests").body.decode())
+        except (OSError, nodes.Failed):
+            return {}
+
+    def wait_ready(self):
+        # (rt try hands over what it prints once it has ended)
+        nodes.wait_until(lambda: time.sleep(0.5) or self.newest_shown(), READY, f"{self.listen}: is not ready")
+
+    def generation_now(self):
+        return self.host_of.do(self.newest_shown)[self.listen][0]
+
     def signal(self, number):
         for process in processes_below(self.process.pid):
             os.kill(process, number)
 
     def kill(self):
         if self.process and self.process.poll() is None:
-            # (the last is the agent; rt takes its files away once that has ended)
-            os.kill(processes_below(self.process.pid)[0], signal.SIGKILL)
+            # (the last is the agent, if it runs; rt takes its files away once that has ended)
+            agent, *above = processes_below(self.process.pid)
+            os.kill(agent, signal.SIGKILL)
             with contextlib.suppress(nodes.Failed):
                 self.end(ENDED)
+            for process in above:
+                with contextlib.suppress(ProcessLookupError):
+                    os.kill(process, signal.SIGKILL)
         super().kill()
 
 
