@@ -120,7 +120,10 @@ class Planted(RigAgent):
 
     def wait_ready(self):
         # (rt try hands over what it prints once it has ended)
-        nodes.wait_until(lambda: time.sleep(0.5) or self.newest_shown(), READY, f"{self.listen}: is not ready")
+        is_there = lambda: time.sleep(0.5) or self.is_over or self.newest_shown()
+        nodes.wait_until(is_there, READY, f"{self.listen}: is not ready")
+        if self.is_over:
+            raise nodes.Failed(f"{self.listen}: ended before it was ready{self.errors()}")
 
     def generation_now(self):
         return self.host_of.do(self.newest_shown)[self.listen][0]
@@ -135,7 +138,7 @@ class Planted(RigAgent):
             agent, *above = processes_below(self.process.pid)
             os.kill(agent, signal.SIGKILL)
             with contextlib.suppress(nodes.Failed):
-                self.end(ENDED)
+                self.end(ENDED / 3)
             for process in above:
                 with contextlib.suppress(ProcessLookupError):
                     os.kill(process, signal.SIGKILL)
