@@ -1,0 +1,7 @@
+use Rattle.cg_fleet.proofs.StartLemmas.{steps_by}
+use Rattle.cg_fleet.proofs.single.step_at.Goals as goal
+
+pub returns-clause-stepped : goal.returns-clause-stepped
+returns-clause-stepped c =
+    steps_by c.args.place c.args.event.now c.args.nodes.now c.index-nodes-place.result c.in_ok-after.after c.in_ok-after.reply
+    c.requires c.index-nodes-place.is c.in_ok-after.ensures
