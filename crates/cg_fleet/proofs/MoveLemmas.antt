@@ -24,7 +24,7 @@ moves_once f g m ticks is tick = record {
 then_all : (o : Option FleetValue) (xs ys : List Move)
     → ((g : FleetValue) → after_moves g (xs ++ ys) ≡ option_and_then (λ h. after_moves h ys) (after_moves g xs))
     → option_and_then (λ g. after_moves g (xs ++ ys)) o
-        ≡ option_and_then (λ h. after_moves h ys) (option_and_then (λ g. after_moves g xs) o)
+    ≡ option_and_then (λ h. after_moves h ys) (option_and_then (λ g. after_moves g xs) o)
 then_all None xs ys so = refl
 then_all (Some g) xs ys so = so g
 
@@ -46,11 +46,10 @@ moves_then ps qs rs f g h a b is = record {
   tick = ticking_append a.moves b.moves ∙ ap (λ t. t ++ all_ticking b.moves) a.tick ∙ ap (λ t. ps ++ t) b.tick ∙ sym is;
 }
 
--- moves without a tick, and then an exchange
-pub moves_on : (f g h : FleetValue) (now : ℕ) (m : Message) (opener answerer arrive : ℕ)
-    → MovesTo [] f g → after_move g (Opens now m opener answerer arrive) ≡ Some h → MovesTo [] f h
-moves_on f g h now m opener answerer arrive led is =
-    moves_then [] [] [] f g h led (moves_once g h (Opens now m opener answerer arrive) [] is refl) refl
+-- an exchange is no tick
+pub moves_by_opening : (f g : FleetValue) (now : ℕ) (m : Message) (opener answerer arrive : ℕ)
+    → after_move f (Opens now m opener answerer arrive) ≡ Some g → MovesTo [] f g
+moves_by_opening f g now m opener answerer arrive is = moves_once f g (Opens now m opener answerer arrive) [] is refl
 
 -- the ticks so far, and the one of the next place
 pub moves_next : (place : ℕ) (f g h : FleetValue)
@@ -72,15 +71,15 @@ pub moves_from : (place now : ℕ) (words : List ℕ) (ns ms : List NodeValue) (
 moves_from place now words ns ms sent h is led =
     moves_then (place ∷ []) [] (place ∷ []) (fleet_of ns sent) (fleet_of ms sent) h
     (moves_once (fleet_of ns sent) (fleet_of ms sent) (Ticks place now words) (place ∷ [])
-        (moves_by_tick ns ms sent place now words is) refl) led refl
+    (moves_by_tick ns ms sent place now words is) refl) led refl
 
 -- the nodes of two places do an exchange
 pub moves_by_exchange : (ns : List NodeValue) (sent : List ℕ) (now : ℕ) (message : Message) (opener answerer arrive : ℕ) (n m : NodeValue) (x : Exchanged)
     → opener < length ns → answerer < length ns → n ≡ get_or ns opener n → m ≡ get_or ns answerer m
     → relayed now arrive (Some message) n m ≡ Ok x
     → after_move (fleet_of ns sent) (Opens now message opener answerer arrive)
-        ≡ Some (fleet_of (set (set ns opener x.from) answerer x.to)
-            (with_bytes answerer x.sent.other (with_bytes opener x.sent.first sent)))
+    ≡ Some (fleet_of (set (set ns opener x.from) answerer x.to)
+    (with_bytes answerer x.sent.other (with_bytes opener x.sent.first sent)))
 moves_by_exchange ns sent now message opener answerer arrive n m x within within_too is is_too led =
     ap (option_and_then (λ (a : NodeValue). option_and_then (λ (b : NodeValue). after_exchange (fleet_of ns sent) opener answerer (relayed now arrive (Some message) a b)) (slice_get ns answerer)))
     (slice_get_read ns (length ns) opener n refl within is)

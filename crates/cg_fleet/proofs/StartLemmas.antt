@@ -18,27 +18,34 @@ keys_on key n m o were is =
     in subst P (sym (add-one key)) (record { mid = m; first = were; second = subst Q (add-one key) is }))
 
 -- one more node joins
-pub joined_on : (settings : SettingsValue) (count : ℕ) (ns ms : List NodeValue)
-    → HaveJoined count settings ns → Joins settings ns ms → HaveJoined (count + 1) settings ms
-joined_on settings count ns ms were is =
+pub joined_on : (settings held : SettingsValue) (count : ℕ) (ns ms : List NodeValue)
+    → HaveJoined count settings ns → held ≡ settings → Joins held ns ms → HaveJoined (count + 1) settings ms
+joined_on settings held count ns ms were same is =
     (let P : ℕ → Type 0 = λ k. HaveJoined k settings ms
-    in subst P (sym (add-one count)) (record { before = ns; were = were; joins = is }))
+    in let Q : SettingsValue → Type 0 = λ s. Joins s ns ms
+    in subst P (sym (add-one count)) (record { before = ns; were = were; joins = subst Q same is }))
 
 pub joins_by : (settings : SettingsValue) (ns ms : List NodeValue) (n : NodeValue) (place generation : ℕ)
     → HasStarted settings place generation n → generation ≡ 1 → place ≡ length ns → ms ≡ ns ++ n ∷ [] → Joins settings ns ms
 joins_by settings ns ms n place generation started first is are = record {
   node = n;
   has_started =
-    (let P : ℕ → Type 0 = λ k. HasStarted settings k 1 n
-    in let Q : ℕ → Type 0 = λ k. HasStarted settings place k n
-    in subst P is (subst Q first started));
+      (let P : ℕ → Type 0 = λ k. HasStarted settings k 1 n
+      in let Q : ℕ → Type 0 = λ k. HasStarted settings place k n
+      in subst P is (subst Q first started));
   are = are;
 }
 
 pub steps_by : (place : ℕ) (e : Event) (ns : List NodeValue) (n m : NodeValue) (r : Reply)
     → place < length ns → n ≡ get_or ns place n → node_step n e ≡ Ok (m, r) → Steps place e ns (set ns place m)
 steps_by place e ns n m r within is step = record {
-  before = n; was = slice_get_read ns (length ns) place n refl within is; after = m; reply = r; step = step; are = refl }
+  before = n;
+  was = slice_get_read ns (length ns) place n refl within is;
+  after = m;
+  reply = r;
+  step = step;
+  are = refl;
+}
 
 pub restarts_by : (settings : SettingsValue) (place at generation : ℕ) (ns : List NodeValue) (n m : NodeValue)
     → place < length ns → at ≡ place → n ≡ get_or ns at n → HasStarted settings place generation m
@@ -47,4 +54,9 @@ restarts_by settings place at generation ns n m within there is started next =
     (let P : ℕ → Type 0 = λ k. n ≡ get_or ns k n → Restarts settings place ns (set ns k m)
     in let Q : ℕ → Type 0 = λ k. HasStarted settings place k m
     in subst P (sym there) (λ (was : n ≡ get_or ns place n). record {
-      before = n; was = slice_get_read ns (length ns) place n refl within was; node = m; has_started = subst Q next started; are = refl }) is)
+      before = n;
+      was = slice_get_read ns (length ns) place n refl within was;
+      node = m;
+      has_started = subst Q next started;
+      are = refl;
+    }) is)

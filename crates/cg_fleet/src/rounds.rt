@@ -99,7 +99,8 @@ fn reach_one<G: Rng + Drop>(
         return Ok(());
     }
     let arrive = chance.arriving();
-    exchange(alloc, now, syn, nodes, sent, place, other, arrive)
+    exchange(alloc, now, syn, nodes, sent, place, other, arrive)?;
+    Ok(())
 }
 
 // The exchanges of a node with the peers of its round.
@@ -136,10 +137,11 @@ fn round_at<G: Rng + Drop>(
 {
     let words = chance.words();
     let reply = step_at(alloc, nodes, place, &Event::Tick { now, words })?;
-    match round_of(reply) {
-        Some(round) => reach(alloc, chance, now, nodes, sent, place, &round),
-        None => Ok(()),
-    }
+    let Some(round) = round_of(reply) else {
+        return Ok(());
+    };
+    reach(alloc, chance, now, nodes, sent, place, &round)?;
+    Ok(())
 }
 
 // The exchanges of the node of a place without a beat.

@@ -6,5 +6,5 @@ use Rattle.cg_fleet.proofs.fleet.Fleet.start.Given as goal
 abbrev pub invariant-loop-before : goal.invariant-loop-before
 invariant-loop-before l = record {
   settings : l.fleet.settings ≡ fleet_settings;
-  nodes : HaveJoined l.before fleet_settings l.fleet.nodes.items;
+  nodes : HaveJoined l._before fleet_settings l.fleet.nodes.items;
 }
