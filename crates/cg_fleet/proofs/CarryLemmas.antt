@@ -1,5 +1,5 @@
 -- Lemmas on messages that pass through their frames.
-use Rattle.std.proofs.Common.{ℕ, ◌≡◌, List, [], ◌++◌, length, Option, Some, Ok, sym, ◌∙◌}
+use Rattle.std.proofs.Common.{ℕ, ◌≡◌, List, [], length, Option, Some, Ok, sym, ◌∙◌}
 use Rattle.std.proofs.lemmas.List.{append-nil}
 use Rattle.cg_types.specs.Answer.{Answers}
 use Rattle.cg_messages.specs.declared.message.Message.{Message}

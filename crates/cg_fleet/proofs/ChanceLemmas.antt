@@ -1,6 +1,6 @@
 -- Lemmas on draws.
-use Rattle.std.proofs.Common.{ℕ, zero, suc, ◌-◌, ◌+◌, ◌%◌, ◌≡◌, ◌<◌, ◌≤◌, Bool, true, false, nat_lt, if◌then◌else◌, refl, sym, ap, ◌∙◌, arith, add-one}
-use Rattle.rand_core.specs.Stream.{Stream, next_u64}
+use Rattle.std.proofs.Common.{ℕ, suc, ◌-◌, ◌≡◌, Bool, true, false, nat_lt, if◌then◌else◌, ap, ◌∙◌}
+use Rattle.rand_core.specs.Stream.{Stream}
 use Rattle.cg_fleet.specs.Chance.{below_of, arriving_of, one_more}
 
 -- the first is lost

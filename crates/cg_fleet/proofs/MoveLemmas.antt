@@ -1,11 +1,10 @@
 -- Lemmas on fleets that moves lead on.
-use Rattle.std.proofs.Common.{ℕ, zero, suc, ◌≡◌, ◌+◌, ◌<◌, ◌≢◌, List, [], ◌∷◌, ◌++◌, Option, Some, None, Result, Ok, refl, sym, ◌∙◌, ap, subst, length, get_or, set, slice_get, option_and_then, add-one, append-nil, append_assoc}
+use Rattle.std.proofs.Common.{ℕ, ◌≡◌, ◌+◌, ◌<◌, List, [], ◌∷◌, ◌++◌, Option, Some, None, Ok, refl, sym, ◌∙◌, ap, length, get_or, set, slice_get, option_and_then, add-one, append-nil, append_assoc}
 use Rattle.std.proofs.lemmas.Option.{slice_get_read}
-use Rattle.cg_types.specs.declared.fault.Fault.{Fault}
 use Rattle.cg_messages.specs.declared.message.Message.{Message}
 use Rattle.cg_core.specs.declared.event.Event.TheVariants as event
 use Rattle.cg_core.specs.Values.{NodeValue}
-use Rattle.cg_core.specs.Step.{Step, node_step}
+use Rattle.cg_core.specs.Step.{node_step}
 use Rattle.cg_fleet.specs.Relay.{Exchanged, relayed}
 use Rattle.cg_fleet.specs.Starting.{Steps}
 use Rattle.cg_fleet.specs.Moves.{FleetValue, Move, Ticks, Opens, MovesTo, after_step, after_exchange, after_move, after_moves, ticking, all_ticking, fleet_of, places, with_bytes}

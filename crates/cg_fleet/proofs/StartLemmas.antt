@@ -1,5 +1,5 @@
 -- Lemmas on nodes that start, and on what one node does.
-use Rattle.std.proofs.Common.{ℕ, suc, ◌+◌, ◌≡◌, ◌<◌, List, [], ◌∷◌, ◌++◌, Ok, Some, refl, sym, subst, length, get_or, set, add-one}
+use Rattle.std.proofs.Common.{ℕ, ◌+◌, ◌≡◌, ◌<◌, List, [], ◌∷◌, ◌++◌, Ok, refl, sym, subst, length, get_or, set, add-one}
 use Rattle.std.proofs.lemmas.Option.{slice_get_read}
 use Rattle.cg_table.specs.Own.{own_entry}
 use Rattle.cg_testing.specs.Nearest.{nearest_number}
@@ -8,7 +8,7 @@ use Rattle.cg_core.specs.declared.reply.Reply.{Reply}
 use Rattle.cg_core.specs.SettingsValues.{SettingsValue}
 use Rattle.cg_core.specs.Values.{NodeValue}
 use Rattle.cg_core.specs.Step.{node_step}
-use Rattle.cg_fleet.specs.Starting.{HasStarted, HaveJoined, Joins, JoinsLast, Restarts, SetsKey, SetsKeys, Steps, Both}
+use Rattle.cg_fleet.specs.Starting.{HasStarted, HaveJoined, Joins, Restarts, SetsKey, SetsKeys, Steps}
 
 -- one more key is set
 pub keys_on : (key : ℕ) (n m o : NodeValue) → SetsKeys key n m → SetsKey (key + 1) m o → SetsKeys (key + 1) n o

@@ -1,5 +1,5 @@
 -- Nodes that start.
-use Rattle.std.specs.Prelude.{ℕ, zero, suc, ◌+◌, ◌≡◌, List, [], ◌∷◌, ◌++◌, Option, Some, Ok, length, set, slice_get, codes}
+use Rattle.std.specs.Prelude.{ℕ, zero, suc, ◌+◌, ◌≡◌, List, [], ◌∷◌, ◌++◌, Some, Ok, length, set, slice_get, codes}
 use Rattle.cg_types.specs.declared.limits.TheConstants.{PARTITIONER, STATE_LIMIT}
 use Rattle.cg_types.specs.Numbers.{endpoint_of}
 use Rattle.cg_silence.specs.Values.{default_silence}

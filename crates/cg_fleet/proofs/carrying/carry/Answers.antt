@@ -1,8 +1,6 @@
-use Rattle.std.proofs.Common.{ℕ, ◌≡◌, ◌∙◌, ap, length}
+use Rattle.std.proofs.Common.{ℕ, ◌∙◌, ap}
 use Rattle.cg_messages.specs.declared.message.Message.{Message}
 use Rattle.cg_messages.specs.Borrowed.{borrowed_message}
-use Rattle.cg_frames.specs.declared.layout.TheConstants.{WRITTEN}
-use Rattle.cg_frames.specs.Spelling.{frame}
 use Rattle.cg_fleet.proofs.CarryLemmas.{read_back}
 use Rattle.cg_fleet.proofs.carrying.carry.Goals as goal
 
