@@ -1,6 +1,7 @@
 //! The nodes of a fleet, and what one of them does by itself.
 
-ghost use Rattle.std.specs.Prelude.{◌≡◌, IfOk, OnOk, OnErr, [], length, replicate};
+ghost use Rattle.std.specs.Prelude.{◌≡◌, ◌≤◌, ◌∷◌, ◌++◌, Err, IfOk, OnOk, OnErr, [], length, replicate};
+ghost use Rattle.cg_types.specs.declared.fault.Fault.TheVariants as faults;
 ghost use Rattle.cg_fleet.specs.Moves.{MovesTo, fleet_of, places};
 ghost use Rattle.cg_fleet.specs.Starting.{HaveJoined, Joins, Restarts, Steps, fleet_settings};
 
@@ -58,6 +59,7 @@ impl Fleet {
         ensures settings { IfOk result (λ f. f.settings ≡ self.now.settings) }
         ensures nodes { IfOk result (λ f. f.nodes.items ≡ self.now.nodes.items) }
         ensures sent { IfOk result (λ f. f.sent.items ≡ replicate (length self.now.nodes.items) 0) }
+        ensures rounds { IfOk result (λ f. f.rounds ≡ self.now.rounds) }
     {
         Ok(Fleet {
             settings: self.settings.copy(alloc)?,
@@ -84,6 +86,7 @@ impl Fleet {
     /// One more node starts, and sets all its keys. After a refusal there are the same nodes.
     pub fn join(&mut self, alloc: Global) -> Result<(), Fault>
         ensures joined { OnOk result (Joins self.old.settings self.old.nodes.items self.new.nodes.items) }
+        ensures sent { OnOk result (self.new.sent.items ≡ self.old.sent.items ++ 0 ∷ []) }
         ensures settings { self.new.settings ≡ self.old.settings }
         ensures err { OnErr result (self.new.nodes.items ≡ self.old.nodes.items) }
     {
@@ -99,6 +102,7 @@ impl Fleet {
     /// The node of a place starts in its next generation, and forgets what it held. `NoSuchNode` if there is no such node.
     /// After a refusal there are the same nodes.
     pub fn restart(&mut self, alloc: Global, place: u16) -> Result<(), Fault>
+        ensures none { length self.old.nodes.items ≤ place → result ≡ Err faults.NoSuchNode }
         ensures restarted { OnOk result (Restarts self.old.settings place self.old.nodes.items self.new.nodes.items) }
         ensures settings { self.new.settings ≡ self.old.settings }
         ensures err { OnErr result (self.new.nodes.items ≡ self.old.nodes.items) }
@@ -112,6 +116,7 @@ impl Fleet {
     /// The node of a place takes the step of an event. `NoSuchNode` if there is no such node. After a refusal there are the
     /// same nodes.
     pub fn step(&mut self, alloc: Global, place: u16, event: &Event) -> Result<(), Fault>
+        ensures none { length self.old.nodes.items ≤ place → result ≡ Err faults.NoSuchNode }
         ensures stepped { OnOk result (Steps place event.now self.old.nodes.items self.new.nodes.items) }
         ensures settings { self.new.settings ≡ self.old.settings }
         ensures err { OnErr result (self.new.nodes.items ≡ self.old.nodes.items) }
@@ -135,8 +140,9 @@ impl Fleet {
         alloc: Global,
         chance: &mut Chance<G>,
     ) -> Result<(), Fault>
-        ensures { OnOk result (MovesTo (places (length self.old.nodes.items))
+        ensures moved { OnOk result (MovesTo (places (length self.old.nodes.items))
             (fleet_of self.old.nodes.items self.old.sent.items) (fleet_of self.new.nodes.items self.new.sent.items)) }
+        ensures settings { self.new.settings ≡ self.old.settings }
     {
         round(alloc, chance, self.rounds, &mut self.nodes, &mut self.sent)?;
         self.rounds = self.rounds.saturating_add(1);
@@ -149,8 +155,9 @@ impl Fleet {
         alloc: Global,
         chance: &mut Chance<G>,
     ) -> Result<(), Fault>
-        ensures { OnOk result (MovesTo []
+        ensures moved { OnOk result (MovesTo []
             (fleet_of self.old.nodes.items self.old.sent.items) (fleet_of self.new.nodes.items self.new.sent.items)) }
+        ensures settings { self.new.settings ≡ self.old.settings }
     {
         quiet_round(alloc, chance, self.rounds, &mut self.nodes, &mut self.sent)?;
         self.rounds = self.rounds.saturating_add(1);
