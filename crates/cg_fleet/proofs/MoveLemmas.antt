@@ -1,87 +1,93 @@
--- Lemmas on fleets that moves lead on.
-use Rattle.std.proofs.Common.{ℕ, ◌≡◌, ◌+◌, ◌<◌, List, [], ◌∷◌, ◌++◌, Option, Some, None, Ok, refl, sym, ◌∙◌, ap, length, get_or, set, slice_get, option_and_then, add-one, append-nil, append_assoc}
+-- Lemmas on the rounds of a fleet.
+use Rattle.std.proofs.Common.{ℕ, ◌≡◌, ◌+◌, ◌<◌, Bool, true, false, List, [], ◌∷◌, Some, Ok, refl, sym, ◌∙◌, ap, subst, length, get_or, set, slice_get, option_and_then, if◌then◌else◌, ◌&&◌, not, nat_lt, ◌==◌, add-one}
 use Rattle.std.proofs.lemmas.Option.{slice_get_read}
 use Rattle.cg_messages.specs.declared.message.Message.{Message}
+use Rattle.cg_messages.specs.declared.message.Message.TheVariants as message
+use Rattle.cg_messages.specs.Values.{SynValue}
 use Rattle.cg_core.specs.declared.event.Event.TheVariants as event
+use Rattle.cg_core.specs.declared.reply.Reply.{Reply}
+use Rattle.cg_core.specs.declared.reply.Reply.TheVariants as reply
 use Rattle.cg_core.specs.Values.{NodeValue}
-use Rattle.cg_core.specs.Step.{node_step}
+use Rattle.cg_core.specs.Step.{node_step, opening}
 use Rattle.cg_fleet.specs.Relay.{Exchanged, relayed}
 use Rattle.cg_fleet.specs.Starting.{Steps}
-use Rattle.cg_fleet.specs.Moves.{FleetValue, Move, Ticks, Opens, MovesTo, after_step, after_exchange, after_move, after_moves, ticking, all_ticking, fleet_of, places, with_bytes}
-
-pub moves_nowhere : (f : FleetValue) → MovesTo [] f f
-moves_nowhere f = record { moves = []; lead = refl; tick = refl }
-
--- one move
-pub moves_once : (f g : FleetValue) (m : Move) (ticks : List ℕ) → after_move f m ≡ Some g → ticking m ≡ ticks → MovesTo ticks f g
-moves_once f g m ticks is tick = record {
-  moves = m ∷ [];
-  lead = ap (option_and_then Some) is;
-  tick = append-nil (ticking m) ∙ tick;
-}
-
-then_all : (o : Option FleetValue) (xs ys : List Move)
-    → ((g : FleetValue) → after_moves g (xs ++ ys) ≡ option_and_then (λ h. after_moves h ys) (after_moves g xs))
-    → option_and_then (λ g. after_moves g (xs ++ ys)) o
-    ≡ option_and_then (λ h. after_moves h ys) (option_and_then (λ g. after_moves g xs) o)
-then_all None xs ys so = refl
-then_all (Some g) xs ys so = so g
-
-pub after_append : (xs ys : List Move) (f : FleetValue)
-    → after_moves f (xs ++ ys) ≡ option_and_then (λ h. after_moves h ys) (after_moves f xs)
-after_append [] ys f = refl
-after_append (x ∷ xs) ys f = then_all (after_move f x) xs ys (after_append xs ys)
-
-pub ticking_append : (xs ys : List Move) → all_ticking (xs ++ ys) ≡ all_ticking xs ++ all_ticking ys
-ticking_append [] ys = refl
-ticking_append (x ∷ xs) ys =
-    ap (λ t. ticking x ++ t) (ticking_append xs ys) ∙ sym (append_assoc (ticking x) (all_ticking xs) (all_ticking ys))
-
--- moves, and then others
-pub moves_then : (ps qs rs : List ℕ) (f g h : FleetValue) → MovesTo ps f g → MovesTo qs g h → rs ≡ ps ++ qs → MovesTo rs f h
-moves_then ps qs rs f g h a b is = record {
-  moves = a.moves ++ b.moves;
-  lead = after_append a.moves b.moves f ∙ ap (option_and_then (λ x. after_moves x b.moves)) a.lead ∙ b.lead;
-  tick = ticking_append a.moves b.moves ∙ ap (λ t. t ++ all_ticking b.moves) a.tick ∙ ap (λ t. ps ++ t) b.tick ∙ sym is;
-}
-
--- an exchange is no tick
-pub moves_by_opening : (f g : FleetValue) (now : ℕ) (m : Message) (opener answerer arrive : ℕ)
-    → after_move f (Opens now m opener answerer arrive) ≡ Some g → MovesTo [] f g
-moves_by_opening f g now m opener answerer arrive is = moves_once f g (Opens now m opener answerer arrive) [] is refl
-
--- the ticks so far, and the one of the next place
-pub moves_next : (place : ℕ) (f g h : FleetValue)
-    → MovesTo (places place) f g → MovesTo (place ∷ []) g h → MovesTo (places (place + 1)) f h
-moves_next place f g h led is =
-    moves_then (places place) (place ∷ []) (places (place + 1)) f g h led is (ap places (add-one place))
-
--- the node of a place takes the step of its tick
-pub moves_by_tick : (ns ms : List NodeValue) (sent : List ℕ) (place now : ℕ) (words : List ℕ)
-    → Steps place (event.Tick now words) ns ms → after_move (fleet_of ns sent) (Ticks place now words) ≡ Some (fleet_of ms sent)
-moves_by_tick ns ms sent place now words s =
-    ap (option_and_then (λ (x : NodeValue). after_step (fleet_of ns sent) place (node_step x (event.Tick now words)))) s.was
-    ∙ ap (after_step (fleet_of ns sent) place) s.step
-    ∙ ap (λ (l : List NodeValue). Some (fleet_of l sent)) (sym s.are)
-
--- a tick, and then exchanges
-pub moves_from : (place now : ℕ) (words : List ℕ) (ns ms : List NodeValue) (sent : List ℕ) (h : FleetValue)
-    → Steps place (event.Tick now words) ns ms → MovesTo [] (fleet_of ms sent) h → MovesTo (place ∷ []) (fleet_of ns sent) h
-moves_from place now words ns ms sent h is led =
-    moves_then (place ∷ []) [] (place ∷ []) (fleet_of ns sent) (fleet_of ms sent) h
-    (moves_once (fleet_of ns sent) (fleet_of ms sent) (Ticks place now words) (place ∷ [])
-    (moves_by_tick ns ms sent place now words is) refl) led refl
+use Rattle.cg_fleet.specs.Moves.{FleetValue, EachDid, HasQuietRound, HasRound, Reaches, ReachesAll, after_exchange, exchanging, fleet_of, place_of, with_bytes}
 
 -- the nodes of two places do an exchange
-pub moves_by_exchange : (ns : List NodeValue) (sent : List ℕ) (now : ℕ) (message : Message) (opener answerer arrive : ℕ) (n m : NodeValue) (x : Exchanged)
-    → opener < length ns → answerer < length ns → n ≡ get_or ns opener n → m ≡ get_or ns answerer m
-    → relayed now arrive (Some message) n m ≡ Ok x
-    → after_move (fleet_of ns sent) (Opens now message opener answerer arrive)
+pub exchanging_is : (ns : List NodeValue) (sent : List ℕ) (now : ℕ) (m : Message) (opener answerer arrive : ℕ) (a b : NodeValue) (x : Exchanged)
+    → opener < length ns → answerer < length ns → a ≡ get_or ns opener a → b ≡ get_or ns answerer b
+    → relayed now arrive (Some m) a b ≡ Ok x
+    → exchanging (fleet_of ns sent) now m opener answerer arrive
     ≡ Some (fleet_of (set (set ns opener x.from) answerer x.to)
     (with_bytes answerer x.sent.other (with_bytes opener x.sent.first sent)))
-moves_by_exchange ns sent now message opener answerer arrive n m x within within_too is is_too led =
-    ap (option_and_then (λ (a : NodeValue). option_and_then (λ (b : NodeValue). after_exchange (fleet_of ns sent) opener answerer (relayed now arrive (Some message) a b)) (slice_get ns answerer)))
-    (slice_get_read ns (length ns) opener n refl within is)
-    ∙ ap (option_and_then (λ (b : NodeValue). after_exchange (fleet_of ns sent) opener answerer (relayed now arrive (Some message) n b)))
-    (slice_get_read ns (length ns) answerer m refl within_too is_too)
+exchanging_is ns sent now m opener answerer arrive a b x within within_too is is_too led =
+    ap (option_and_then (λ (n : NodeValue). option_and_then (λ (o : NodeValue). after_exchange (fleet_of ns sent) opener answerer (relayed now arrive (Some m) n o)) (slice_get ns answerer)))
+    (slice_get_read ns (length ns) opener a refl within is)
+    ∙ ap (option_and_then (λ (o : NodeValue). after_exchange (fleet_of ns sent) opener answerer (relayed now arrive (Some m) a o)))
+    (slice_get_read ns (length ns) answerer b refl within_too is_too)
     ∙ ap (after_exchange (fleet_of ns sent) opener answerer) led
+
+-- a peer that is another node is reached
+pub reaches : (now : ℕ) (m : Message) (place peer arrive : ℕ) (f g : FleetValue)
+    → nat_lt (place_of peer) (length f.nodes) && not (place_of peer == place) ≡ true
+    → exchanging f now m place (place_of peer) arrive ≡ Some g → Reaches now m place peer f g
+reaches now m place peer arrive f g another is = record {
+  arrive = arrive;
+  is = ap (λ (b : Bool). if b then exchanging f now m place (place_of peer) arrive else Some f) another ∙ is;
+}
+
+-- another peer is not
+pub reaches_none : (now : ℕ) (m : Message) (place peer : ℕ) (f : FleetValue)
+    → nat_lt (place_of peer) (length f.nodes) && not (place_of peer == place) ≡ false → Reaches now m place peer f f
+reaches_none now m place peer f none = record {
+  arrive = 0;
+  is = ap (λ (b : Bool). if b then exchanging f now m place (place_of peer) 0 else Some f) none;
+}
+
+-- no peers are left
+pub reaches_all_none : (now : ℕ) (m : Message) (place : ℕ) (peers : List ℕ) (f : FleetValue) → peers ≡ [] → ReachesAll now m place peers f f
+reaches_all_none now m place peers f are = (let P : List ℕ → Type 0 = λ l. ReachesAll now m place l f f in subst P (sym are) refl)
+
+pub reaches_all : (now : ℕ) (m : Message) (place : ℕ) (peers rest : List ℕ) (peer : ℕ) (f g h : FleetValue)
+    → peers ≡ peer ∷ rest → Reaches now m place peer f g → ReachesAll now m place rest g h → ReachesAll now m place peers f h
+reaches_all now m place peers rest peer f g h are one others =
+    (let P : List ℕ → Type 0 = λ l. ReachesAll now m place l f h
+    in subst P (sym are) (record { mid = g; first = one; second = others }))
+
+-- the node of a place ticks, and reaches the peers of its reply
+pub has_round : (place now : ℕ) (words : List ℕ) (ns ms : List NodeValue) (sent : List ℕ) (r : Reply) (peers : List ℕ) (syn : SynValue) (g : FleetValue)
+    → Steps place (event.Tick now words) ns r ms → r ≡ reply.Round peers syn
+    → ReachesAll now (message.Syn syn) place peers (fleet_of ms sent) g → HasRound place (fleet_of ns sent) g
+has_round place now words ns ms sent r peers syn g s is led = record {
+  now = now;
+  words = words;
+  before = s.before;
+  was = s.was;
+  after = s.after;
+  peers = peers;
+  syn = syn;
+  tick = s.step ∙ ap (λ (x : Reply). Ok (s.after, x)) is;
+  reached = (let P : List NodeValue → Type 0 = λ l. ReachesAll now (message.Syn syn) place peers (fleet_of l sent) g in subst P s.are led);
+}
+
+pub has_quiet_round : (place now : ℕ) (words : List ℕ) (ns : List NodeValue) (sent : List ℕ) (n m : NodeValue) (r : Reply) (peers : List ℕ) (syn sends : SynValue) (g : FleetValue)
+    → place < length ns → n ≡ get_or ns place n → node_step n (event.Tick now words) ≡ Ok (m, r) → r ≡ reply.Round peers syn
+    → sends ≡ opening n → ReachesAll now (message.Syn sends) place peers (fleet_of ns sent) g → HasQuietRound place (fleet_of ns sent) g
+has_quiet_round place now words ns sent n m r peers syn sends g within there step is opens led = record {
+  now = now;
+  words = words;
+  before = n;
+  was = slice_get_read ns (length ns) place n refl within there;
+  after = m;
+  peers = peers;
+  syn = syn;
+  tick = step ∙ ap (λ (x : Reply). Ok (m, x)) is;
+  reached = (let P : SynValue → Type 0 = λ x. ReachesAll now (message.Syn x) place peers (fleet_of ns sent) g in subst P opens led);
+}
+
+-- the next node does it, too
+pub each_did : (Does : ℕ → FleetValue → FleetValue → Type 0) (place : ℕ) (f g h : FleetValue)
+    → EachDid Does place f g → Does place g h → EachDid Does (place + 1) f h
+each_did Does place f g h were is =
+    (let P : ℕ → Type 0 = λ k. EachDid Does k f h
+    in subst P (sym (add-one place)) (record { mid = g; first = were; second = is }))

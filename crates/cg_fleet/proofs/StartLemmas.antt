@@ -37,12 +37,11 @@ joins_by settings ns ms n place generation started first is are = record {
 }
 
 pub steps_by : (place : ℕ) (e : Event) (ns : List NodeValue) (n m : NodeValue) (r : Reply)
-    → place < length ns → n ≡ get_or ns place n → node_step n e ≡ Ok (m, r) → Steps place e ns (set ns place m)
+    → place < length ns → n ≡ get_or ns place n → node_step n e ≡ Ok (m, r) → Steps place e ns r (set ns place m)
 steps_by place e ns n m r within is step = record {
   before = n;
   was = slice_get_read ns (length ns) place n refl within is;
   after = m;
-  reply = r;
   step = step;
   are = refl;
 }

@@ -1,11 +1,17 @@
--- What the nodes of a fleet do in rounds: ticks, and exchanges of which some messages are lost.
-use Rattle.std.specs.Prelude.{ℕ, zero, suc, ◌≡◌, List, [], ◌∷◌, ◌++◌, Option, Some, None, Result, Ok, Err, set, get_or, slice_get, option_and_then}
+-- The rounds of a fleet: each node ticks, and does an exchange with each peer that its tick chooses.
+use Rattle.std.specs.Prelude.{ℕ, zero, suc, ◌≡◌, ◌==◌, ◌&&◌, not, nat_lt, List, [], ◌∷◌, Option, Some, None, Result, Ok, Err, length, set, get_or, drop, slice_get, option_and_then, if◌then◌else◌}
+use Rattle.std.specs.Int.{w16, w32, from_be_bytes, to_be_bytes}
 use Rattle.cg_types.specs.declared.fault.Fault.{Fault}
+use Rattle.cg_types.specs.Numbers.{address_of}
 use Rattle.cg_messages.specs.declared.message.Message.{Message}
+use Rattle.cg_messages.specs.declared.message.Message.TheVariants as message
+use Rattle.cg_messages.specs.Values.{SynValue}
 use Rattle.cg_core.specs.declared.event.Event.TheVariants as event
+use Rattle.cg_core.specs.declared.reply.Reply.TheVariants as reply
 use Rattle.cg_core.specs.Values.{NodeValue}
-use Rattle.cg_core.specs.Step.{Step, node_step}
+use Rattle.cg_core.specs.Step.{node_step, opening}
 use Rattle.cg_fleet.specs.Relay.{Exchanged, added, relayed}
+use Rattle.cg_fleet.specs.Starting.{Both}
 
 -- all nodes by their places, and the bytes that each has sent
 pub record FleetValue : Type 0 where
@@ -15,20 +21,13 @@ pub record FleetValue : Type 0 where
 abbrev pub fleet_of : List NodeValue → List ℕ → FleetValue
 fleet_of nodes sent = record { nodes = nodes; sent = sent }
 
-pub data Move : Type 0 where
-  -- the node of a place ticks
-  Ticks : (place now : ℕ) (words : List ℕ) → Move
-  -- The node of a place sends a message to that of another, which answers, and so on; so many of the messages arrive.
-  Opens : (now : ℕ) (message : Message) (opener answerer arrive : ℕ) → Move
+-- the place of an endpoint: the last two bytes of its address
+abbrev pub place_of : ℕ → ℕ
+place_of endpoint = from_be_bytes w16 (drop 2 (to_be_bytes w32 (address_of endpoint)))
 
 -- so many bytes more, at a place
 abbrev pub with_bytes : ℕ → ℕ → List ℕ → List ℕ
 with_bytes place bytes sent = set sent place (added (get_or sent place 0) bytes)
-
--- the fleet after a step of the node of a place
-abbrev pub after_step : FleetValue → ℕ → Step → Option FleetValue
-after_step f place (Ok x) = Some (fleet_of (set f.nodes place x.0) f.sent)
-after_step f place (Err fault) = None
 
 -- the fleet after an exchange of the nodes of two places
 abbrev pub after_exchange : FleetValue → ℕ → ℕ → Result Exchanged Fault → Option FleetValue
@@ -37,34 +36,49 @@ after_exchange f opener answerer (Ok x) =
     (with_bytes answerer x.sent.other (with_bytes opener x.sent.first f.sent)))
 after_exchange f opener answerer (Err fault) = None
 
--- the fleet after a move, if there are such nodes and none refuses it
-abbrev pub after_move : FleetValue → Move → Option FleetValue
-after_move f (Ticks place now words) =
-    option_and_then (λ n. after_step f place (node_step n (event.Tick now words))) (slice_get f.nodes place)
-after_move f (Opens now message opener answerer arrive) =
-    option_and_then (λ n. option_and_then (λ m. after_exchange f opener answerer (relayed now arrive (Some message) n m))
+-- the fleet after a node sent a message to another, which answered, and so on; so many of the messages arrive
+abbrev pub exchanging : FleetValue → ℕ → Message → ℕ → ℕ → ℕ → Option FleetValue
+exchanging f now m opener answerer arrive =
+    option_and_then (λ a. option_and_then (λ b. after_exchange f opener answerer (relayed now arrive (Some m) a b))
     (slice_get f.nodes answerer)) (slice_get f.nodes opener)
 
-abbrev pub after_moves : FleetValue → List Move → Option FleetValue
-after_moves f [] = Some f
-after_moves f (move ∷ moves) = option_and_then (λ g. after_moves g moves) (after_move f move)
+-- A node did an exchange with one of its peers, if that is another node of the fleet.
+pub record Reaches (now : ℕ) (m : Message) (place : ℕ) (peer : ℕ) (f g : FleetValue) : Type 0 where
+  pub arrive : ℕ
+  pub is :
+      (if nat_lt (place_of peer) (length f.nodes) && not (place_of peer == place)
+      then exchanging f now m place (place_of peer) arrive else Some f) ≡ Some g
 
--- the place that ticks, if a move is a tick
-abbrev pub ticking : Move → List ℕ
-ticking (Ticks place now words) = place ∷ []
-ticking (Opens now message opener answerer arrive) = []
+-- A node did an exchange with each of its peers, one after the other.
+abbrev pub ReachesAll : ℕ → Message → ℕ → List ℕ → FleetValue → FleetValue → Type 0
+ReachesAll now m place [] f g = f ≡ g
+ReachesAll now m place (peer ∷ peers) f g = Both (Reaches now m place peer) (ReachesAll now m place peers) f g
 
-abbrev pub all_ticking : List Move → List ℕ
-all_ticking [] = []
-all_ticking (move ∷ moves) = ticking move ++ all_ticking moves
+-- The node of a place ticked, and did an exchange with each peer that its tick chose. The exchange began with its SYN.
+pub record HasRound (place : ℕ) (f g : FleetValue) : Type 0 where
+  pub now : ℕ
+  pub words : List ℕ
+  pub before : NodeValue
+  pub was : slice_get f.nodes place ≡ Some before
+  pub after : NodeValue
+  pub peers : List ℕ
+  pub syn : SynValue
+  pub tick : node_step before (event.Tick now words) ≡ Ok (after, reply.Round peers syn)
+  pub reached : ReachesAll now (message.Syn syn) place peers (fleet_of (set f.nodes place after) f.sent) g
 
--- Ticks and exchanges lead from one fleet to another, and the places that tick are these, in this order.
-pub record MovesTo (ticks : List ℕ) (f g : FleetValue) : Type 0 where
-  pub moves : List Move
-  pub lead : after_moves f moves ≡ Some g
-  pub tick : all_ticking moves ≡ ticks
+-- The same without the tick: peers are those that it would have chosen, and the SYN is that of the node as it is.
+pub record HasQuietRound (place : ℕ) (f g : FleetValue) : Type 0 where
+  pub now : ℕ
+  pub words : List ℕ
+  pub before : NodeValue
+  pub was : slice_get f.nodes place ≡ Some before
+  pub after : NodeValue
+  pub peers : List ℕ
+  pub syn : SynValue
+  pub tick : node_step before (event.Tick now words) ≡ Ok (after, reply.Round peers syn)
+  pub reached : ReachesAll now (message.Syn (opening before)) place peers f g
 
--- the first so many places
-abbrev pub places : ℕ → List ℕ
-places zero = []
-places (suc count) = places count ++ count ∷ []
+-- The nodes of so many places did this, one after the other.
+abbrev pub EachDid : (ℕ → FleetValue → FleetValue → Type 0) → ℕ → FleetValue → FleetValue → Type 0
+EachDid Does zero f g = f ≡ g
+EachDid Does (suc place) f g = Both (EachDid Does place) (Does place) f g

@@ -28,11 +28,11 @@ pub record SetsKey (key : ℕ) (n m : NodeValue) : Type 0 where
   pub reply : Reply
   pub step : node_step n (event.Set key text) ≡ Ok (m, reply)
 
--- One thing was done to a node, and then another.
-pub record Both (First Second : NodeValue → NodeValue → Type 0) (n m : NodeValue) : Type 0 where
-  pub mid : NodeValue
-  pub first : First n mid
-  pub second : Second mid m
+-- One thing was done, and then another.
+pub record Both {X : Type 0} (First Second : X → X → Type 0) (x y : X) : Type 0 where
+  pub mid : X
+  pub first : First x mid
+  pub second : Second mid y
 
 -- A node sets the keys from 1 to this one, one after the other.
 abbrev pub SetsKeys : ℕ → NodeValue → NodeValue → Type 0
@@ -68,11 +68,10 @@ pub record Restarts (settings : SettingsValue) (place : ℕ) (ns ms : List NodeV
   pub has_started : HasStarted settings place (nearest_number ((own_entry before.table).generation + 1)) node
   pub are : ms ≡ set ns place node
 
--- The node of a place takes the step of an event.
-pub record Steps (place : ℕ) (e : Event) (ns ms : List NodeValue) : Type 0 where
+-- The node of a place takes the step of an event, and replies.
+pub record Steps (place : ℕ) (e : Event) (ns : List NodeValue) (r : Reply) (ms : List NodeValue) : Type 0 where
   pub before : NodeValue
   pub was : slice_get ns place ≡ Some before
   pub after : NodeValue
-  pub reply : Reply
-  pub step : node_step before e ≡ Ok (after, reply)
+  pub step : node_step before e ≡ Ok (after, r)
   pub are : ms ≡ set ns place after

@@ -2,14 +2,14 @@
 
 ghost use Rattle.std.specs.Prelude.{◌≡◌, ◌≤◌, ◌∷◌, ◌++◌, Err, IfOk, OnOk, OnErr, [], length, replicate};
 ghost use Rattle.cg_types.specs.declared.fault.Fault.TheVariants as faults;
-ghost use Rattle.cg_fleet.specs.Moves.{MovesTo, fleet_of, places};
+ghost use Rattle.cg_fleet.specs.Moves.{EachDid, HasQuietRound, HasRound, fleet_of};
 ghost use Rattle.cg_fleet.specs.Starting.{HaveJoined, Joins, Restarts, Steps, fleet_settings};
 
 use crate::chance::Chance;
 use crate::rounds::{quiet_round, round};
 use crate::samples::{settings, started};
 use crate::single::{restart_at, step_at};
-use cg_core::{Event, Node, Settings};
+use cg_core::{Event, Node, Reply, Settings};
 use cg_testing::generation;
 use cg_types::Fault;
 use rand_core::Rng;
@@ -113,11 +113,11 @@ impl Fleet {
         restart_at(alloc, &mut self.nodes, place, &self.settings)
     }
 
-    /// The node of a place takes the step of an event. `NoSuchNode` if there is no such node. After a refusal there are the
-    /// same nodes.
-    pub fn step(&mut self, alloc: Global, place: u16, event: &Event) -> Result<(), Fault>
+    /// The node of a place takes the step of an event, and replies. `NoSuchNode` if there is no such node. After a refusal
+    /// there are the same nodes.
+    pub fn step(&mut self, alloc: Global, place: u16, event: &Event) -> Result<Reply, Fault>
         ensures none { length self.old.nodes.items ≤ place → result ≡ Err faults.NoSuchNode }
-        ensures stepped { OnOk result (Steps place event.now self.old.nodes.items self.new.nodes.items) }
+        ensures stepped { IfOk result (λ reply. Steps place event.now self.old.nodes.items reply self.new.nodes.items) }
         ensures settings { self.new.settings ≡ self.old.settings }
         ensures err { OnErr result (self.new.nodes.items ≡ self.old.nodes.items) }
     {
@@ -125,22 +125,18 @@ impl Fleet {
         if at >= self.nodes.len() {
             return Err(Fault::NoSuchNode);
         }
-        match step_at(alloc, &mut self.nodes, at, event) {
-            Ok(_) => Ok(()),
-            Err(fault) => Err(fault),
-        }
+        step_at(alloc, &mut self.nodes, at, event)
     }
 
     /// Has each node do a round, one after the other: a tick, and an exchange with each peer that its words choose.
     ///
-    /// Each node ticks once; what else there is are exchanges. What each node sent is counted. After a refusal the round
-    /// stays where it was.
+    /// What each node sent is counted. After a refusal the round stays where it was.
     pub fn round<G: Rng + Drop>(
         &mut self,
         alloc: Global,
         chance: &mut Chance<G>,
     ) -> Result<(), Fault>
-        ensures moved { OnOk result (MovesTo (places (length self.old.nodes.items))
+        ensures rounds { OnOk result (EachDid HasRound (length self.old.nodes.items)
             (fleet_of self.old.nodes.items self.old.sent.items) (fleet_of self.new.nodes.items self.new.sent.items)) }
         ensures settings { self.new.settings ≡ self.old.settings }
     {
@@ -149,13 +145,13 @@ impl Fleet {
         Ok(())
     }
 
-    /// Has each node do the exchanges of a round without its tick.
+    /// Has each node do the exchanges of a round, one after the other, without its tick.
     pub fn quiet_round<G: Rng + Drop>(
         &mut self,
         alloc: Global,
         chance: &mut Chance<G>,
     ) -> Result<(), Fault>
-        ensures moved { OnOk result (MovesTo []
+        ensures rounds { OnOk result (EachDid HasQuietRound (length self.old.nodes.items)
             (fleet_of self.old.nodes.items self.old.sent.items) (fleet_of self.new.nodes.items self.new.sent.items)) }
         ensures settings { self.new.settings ≡ self.old.settings }
     {

@@ -1,8 +1,10 @@
 //! Rounds of a list of nodes, each at the place of its endpoint's number.
 
-ghost use Rattle.std.specs.Prelude.{◌≡◌, ◌≢◌, ◌<◌, ◌∷◌, [], Some, length, OnOk};
+ghost use Rattle.std.specs.Prelude.{◌≡◌, ◌≢◌, ◌<◌, Some, length, IfOk, IfSome, OnOk};
 ghost use Rattle.cg_messages.specs.declared.message.Message.TheVariants as messages;
-ghost use Rattle.cg_fleet.specs.Moves.{MovesTo, Opens, after_move, fleet_of, places, with_bytes};
+ghost use Rattle.cg_core.specs.declared.reply.Reply.TheVariants as replies;
+ghost use Rattle.cg_core.specs.Step.{opening};
+ghost use Rattle.cg_fleet.specs.Moves.{EachDid, HasQuietRound, HasRound, Reaches, ReachesAll, exchanging, fleet_of, with_bytes};
 
 use crate::chance::Chance;
 use crate::relaying::relay;
@@ -34,25 +36,28 @@ fn count(sent: &mut [u64], place: usize, bytes: u64)
 }
 
 // The peers and the SYN of a round.
-fn round_of(reply: Reply) -> Option<(Peers, Syn)> {
+fn round_of(reply: Reply) -> Option<(Peers, Syn)>
+    ensures { IfSome result (λ x. reply ≡ replies.Round x.0 x.1) }
+{
     match reply {
         Reply::Round { peers, syn } => Some((peers, syn)),
         _ => None,
     }
 }
 
-// The peers that a node's tick would choose, and the SYN that it sends without a beat.
-fn quiet_round_of(alloc: Global, node: &Node, tick: &Event) -> Result<Option<(Peers, Syn)>, Fault> {
-    let (_, ticked) = node.stepped(alloc, tick)?;
+// The SYN of a node.
+fn syn_of(alloc: Global, node: &Node) -> Result<Syn, Fault>
+    ensures { IfOk result (λ syn. syn ≡ opening node.now) }
+{
     let (_, opened) = node.stepped(alloc, &Event::Opening)?;
-    Ok(match (ticked, opened) {
-        (Reply::Round { peers, .. }, Reply::Sent(Message::Syn(syn))) => Some((peers, syn)),
-        _ => None,
-    })
+    match opened {
+        Reply::Sent(Message::Syn(syn)) => Ok(syn),
+        _ => Err(Fault::OutOfMemory),
+    }
 }
 
 // An exchange between the nodes of two places, which begins with a SYN of the first. The first `arrive` messages arrive.
-#[tactic(auto, using(crate::proofs::MoveLemmas::moves_by_exchange))]
+#[tactic(auto, using(crate::proofs::MoveLemmas::exchanging_is))]
 fn exchange(
     alloc: Global,
     now: u64,
@@ -66,7 +71,7 @@ fn exchange(
     requires opener { opener < length nodes.old }
     requires answerer { answerer < length nodes.old }
     requires differ { opener ≢ answerer }
-    ensures { OnOk result (after_move (fleet_of nodes.old sent.old) (Opens now (messages.Syn syn.now) opener answerer arrive)
+    ensures { OnOk result (exchanging (fleet_of nodes.old sent.old) now (messages.Syn syn.now) opener answerer arrive
         ≡ Some (fleet_of nodes.new sent.new)) }
 {
     let mut from = nodes[opener].copy()?;
@@ -81,7 +86,7 @@ fn exchange(
 }
 
 // The exchange of a node with one of its peers, if that is another node.
-fn reach_one<G: Rng + Drop>(
+fn reach<G: Rng + Drop>(
     alloc: Global,
     chance: &mut Chance<G>,
     now: u64,
@@ -92,7 +97,8 @@ fn reach_one<G: Rng + Drop>(
     syn: &Syn,
 ) -> Result<(), Fault>
     requires { place < length nodes.old }
-    ensures { OnOk result (MovesTo [] (fleet_of nodes.old sent.old) (fleet_of nodes.new sent.new)) }
+    ensures { OnOk result (Reaches now (messages.Syn syn.now) place peer
+        (fleet_of nodes.old sent.old) (fleet_of nodes.new sent.new)) }
 {
     let other = place_of(peer);
     if other >= nodes.len() || other == place {
@@ -103,23 +109,26 @@ fn reach_one<G: Rng + Drop>(
     Ok(())
 }
 
-// The exchanges of a node with the peers of its round.
-fn reach<G: Rng + Drop>(
+// The exchanges of a node with its peers.
+fn reach_all<G: Rng + Drop>(
     alloc: Global,
     chance: &mut Chance<G>,
     now: u64,
     nodes: &mut [Node],
     sent: &mut [u64],
     place: usize,
-    round: &(Peers, Syn),
+    peers: &[Endpoint],
+    syn: &Syn,
 ) -> Result<(), Fault>
     requires { place < length nodes.old }
-    ensures { OnOk result (MovesTo [] (fleet_of nodes.old sent.old) (fleet_of nodes.new sent.new)) }
+    ensures { OnOk result (ReachesAll now (messages.Syn syn.now) place peers.now
+        (fleet_of nodes.old sent.old) (fleet_of nodes.new sent.new)) }
 {
-    let (peers, syn) = round;
-    for peer in peers.endpoints() {
-        reach_one(alloc, chance, now, nodes, sent, place, *peer, syn)?;
-    }
+    let Some((first, others)) = peers.split_first() else {
+        return Ok(());
+    };
+    reach(alloc, chance, now, nodes, sent, place, *first, syn)?;
+    reach_all(alloc, chance, now, nodes, sent, place, others, syn)?;
     Ok(())
 }
 
@@ -133,18 +142,27 @@ fn round_at<G: Rng + Drop>(
     place: usize,
 ) -> Result<(), Fault>
     requires { place < length nodes.old }
-    ensures { OnOk result (MovesTo (place ∷ []) (fleet_of nodes.old sent.old) (fleet_of nodes.new sent.new)) }
+    ensures { OnOk result (HasRound place (fleet_of nodes.old sent.old) (fleet_of nodes.new sent.new)) }
 {
     let words = chance.words();
     let reply = step_at(alloc, nodes, place, &Event::Tick { now, words })?;
-    let Some(round) = round_of(reply) else {
-        return Ok(());
+    let Some((peers, syn)) = round_of(reply) else {
+        return Err(Fault::OutOfMemory);
     };
-    reach(alloc, chance, now, nodes, sent, place, &round)?;
+    reach_all(
+        alloc,
+        chance,
+        now,
+        nodes,
+        sent,
+        place,
+        peers.endpoints(),
+        &syn,
+    )?;
     Ok(())
 }
 
-// The exchanges of the node of a place without a beat.
+// The exchanges of the node of a place without a tick.
 fn quiet_round_at<G: Rng + Drop>(
     alloc: Global,
     chance: &mut Chance<G>,
@@ -154,14 +172,26 @@ fn quiet_round_at<G: Rng + Drop>(
     place: usize,
 ) -> Result<(), Fault>
     requires { place < length nodes.old }
-    ensures { OnOk result (MovesTo [] (fleet_of nodes.old sent.old) (fleet_of nodes.new sent.new)) }
+    ensures { OnOk result (HasQuietRound place (fleet_of nodes.old sent.old) (fleet_of nodes.new sent.new)) }
 {
     let words = chance.words();
-    let tick = Event::Tick { now, words };
-    match quiet_round_of(alloc, &nodes[place], &tick)? {
-        Some(round) => reach(alloc, chance, now, nodes, sent, place, &round),
-        None => Ok(()),
-    }
+    let node = &nodes[place];
+    let syn = syn_of(alloc, node)?;
+    let (_, reply) = node.stepped(alloc, &Event::Tick { now, words })?;
+    let Some((peers, _)) = round_of(reply) else {
+        return Err(Fault::OutOfMemory);
+    };
+    reach_all(
+        alloc,
+        chance,
+        now,
+        nodes,
+        sent,
+        place,
+        peers.endpoints(),
+        &syn,
+    )?;
+    Ok(())
 }
 
 /// Has each node tick, and do the exchanges with its peers before the next one ticks. `sent` counts the bytes by places.
@@ -172,7 +202,7 @@ pub(crate) fn round<G: Rng + Drop>(
     nodes: &mut [Node],
     sent: &mut [u64],
 ) -> Result<(), Fault>
-    ensures { OnOk result (MovesTo (places (length nodes.old)) (fleet_of nodes.old sent.old) (fleet_of nodes.new sent.new)) }
+    ensures { OnOk result (EachDid HasRound (length nodes.old) (fleet_of nodes.old sent.old) (fleet_of nodes.new sent.new)) }
 {
     let count = nodes.len();
     for place in 0..count {
@@ -182,7 +212,7 @@ pub(crate) fn round<G: Rng + Drop>(
     Ok(())
 }
 
-/// Has each node open an exchange with the peers that its tick would choose, without the beat.
+/// Has each node do the exchanges with the peers that its tick would choose, without the tick.
 pub(crate) fn quiet_round<G: Rng + Drop>(
     alloc: Global,
     chance: &mut Chance<G>,
@@ -190,7 +220,7 @@ pub(crate) fn quiet_round<G: Rng + Drop>(
     nodes: &mut [Node],
     sent: &mut [u64],
 ) -> Result<(), Fault>
-    ensures { OnOk result (MovesTo [] (fleet_of nodes.old sent.old) (fleet_of nodes.new sent.new)) }
+    ensures { OnOk result (EachDid HasQuietRound (length nodes.old) (fleet_of nodes.old sent.old) (fleet_of nodes.new sent.new)) }
 {
     let count = nodes.len();
     for place in 0..count {

@@ -2,6 +2,7 @@
 
 ghost use Rattle.std.specs.Prelude.{◌≡◌, ◌≤◌, ◌<◌, ◌+◌, ◌%◌, ◌/◌, ◌^◌, IfOk};
 ghost use Rattle.cg_types.specs.declared.limits.TheConstants.{STATE_LIMIT};
+ghost use Rattle.cg_fleet.specs.Moves as spec;
 ghost use Rattle.cg_fleet.specs.Starting.{HasStarted, SetsKey, fleet_settings};
 
 use cg_core::{Event, Node, Settings};
@@ -15,7 +16,9 @@ use std::alloc::{AllocError, Global};
 const TEXT: usize = 64;
 
 /// The place of the node of an endpoint.
-pub(crate) fn place_of(endpoint: Endpoint) -> usize {
+pub(crate) fn place_of(endpoint: Endpoint) -> usize
+    ensures { result ≡ spec.place_of endpoint }
+{
     let [_, _, high, low] = endpoint.address();
     usize::from(u16::from_be_bytes([high, low]))
 }

@@ -1,6 +1,6 @@
 //! A step and a restart of one node among all.
 
-ghost use Rattle.std.specs.Prelude.{◌≡◌, ◌<◌, length, OnOk, OnErr};
+ghost use Rattle.std.specs.Prelude.{◌≡◌, ◌<◌, length, IfOk, OnOk, OnErr};
 ghost use Rattle.cg_fleet.specs.Starting.{Restarts, Steps};
 
 use crate::samples::started;
@@ -17,7 +17,7 @@ pub(crate) fn step_at(
     event: &Event,
 ) -> Result<Reply, Fault>
     requires { place < length nodes.old }
-    ensures stepped { OnOk result (Steps place event.now nodes.old nodes.new) }
+    ensures stepped { IfOk result (λ reply. Steps place event.now nodes.old reply nodes.new) }
     ensures err { OnErr result (nodes.new ≡ nodes.old) }
 {
     let (after, reply) = nodes[place].stepped(alloc, event)?;

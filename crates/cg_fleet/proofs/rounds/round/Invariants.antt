@@ -1,6 +1,6 @@
-use Rattle.cg_fleet.specs.Moves.{MovesTo, fleet_of, places}
+use Rattle.cg_fleet.specs.Moves.{EachDid, HasRound, fleet_of}
 use Rattle.cg_fleet.proofs.rounds.round.Given as goal
 
--- the nodes of the places so far have ticked
+-- the nodes of the places so far did their rounds
 abbrev pub invariant-loop-place : goal.invariant-loop-place
-invariant-loop-place g l = MovesTo (places l.place) (fleet_of l.initial.nodes l.initial.sent) (fleet_of l.nodes l.sent)
+invariant-loop-place g l = EachDid HasRound l.place (fleet_of l.initial.nodes l.initial.sent) (fleet_of l.nodes l.sent)
