@@ -9,6 +9,8 @@ pub(crate) enum Task {
     Heartbeat,
     /// A node beats.
     Beat,
+    /// A node beats a number of times, one after the other.
+    OwnBeats(u32),
     /// A node sets one key.
     Set,
     /// A node removes the text that it set.
@@ -88,7 +90,7 @@ const CALLER_BY_CALLER: Task = Task::Confirms {
 
 /// All cases: steps of nodes at tables of each shape, at claims of tokens and at full windows, exchanges over links,
 /// histories, and scripts of 8 nodes with a hundred thousand lines and of 256 nodes.
-pub(crate) const ALL: [Case; 30] = [
+pub(crate) const ALL: [Case; 31] = [
     ("node", "heartbeat", "1x200", Task::Heartbeat, SMALLEST),
     ("node", "beat", "1x200", Task::Beat, SMALLEST),
     ("node", "set", "1x200", Task::Set, SMALLEST),
@@ -111,6 +113,7 @@ pub(crate) const ALL: [Case; 30] = [
         SMALLEST,
     ),
     ("node", "handles_equal_syn", "256x16", Task::Handles, MIDDLE),
+    ("1000", "node_beats", "16x64", Task::OwnBeats(1000), MIDDLE),
     ("64", "node_beats_256", "w1000", Task::Beats(64), MIDDLE),
     ("64", "node_beats_512", "w1000", Task::Beats(64), WIDE),
     ("links", "equal", "16x64", Task::Links, MIDDLE),

@@ -160,6 +160,14 @@ fn removal(alloc: Global, shape: Shape) -> Result<Work, Failure> {
     Ok(Work::Step(node, unload()))
 }
 
+fn own_beats(alloc: Global, count: u32, shape: Shape) -> Result<Work, Failure> {
+    let mut beats = Vec::new(alloc);
+    for _ in 0..count {
+        beats.push(Event::Beat)?;
+    }
+    Ok(Work::Further(joined(alloc, shape)?, beats))
+}
+
 fn beats_of_all(alloc: Global, count: u32, shape: Shape) -> Result<Work, Failure> {
     let beats = rounds_of_beats(alloc, shape.owners, 1001, count)?;
     Ok(Work::Further(heard(alloc, shape)?, beats))
@@ -190,6 +198,7 @@ fn work_of(alloc: Global, task: Task, shape: Shape) -> Result<Work, Failure> {
     match task {
         Task::Heartbeat => step(alloc, heartbeat(alloc, 7, 18, 21)?, shape),
         Task::Beat => step(alloc, Event::Beat, shape),
+        Task::OwnBeats(count) => own_beats(alloc, count, shape),
         Task::Set => step(alloc, load(alloc)?, shape),
         Task::Remove => removal(alloc, shape),
         Task::Joins => Ok(Work::Claim(started(alloc, 0, 5)?, joins(alloc)?)),
