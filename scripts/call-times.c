@@ -39,11 +39,11 @@ static void start(cg_node *it, int number) {
     for (int key = 1; number && key <= 16; key++) pass(cg_set(it, key, TEXT(state), &version));
 }
 
-/* Has the node and another hold the same. */
-static void exchange(cg_node *other) {
-    pass(cg_opening(&node, &frame));
+/* Has two nodes hold the same: the first one takes what the other holds by one message. */
+static void exchange(cg_node *one, cg_node *other) {
+    pass(cg_opening(one, &frame));
     pass(cg_handle(other, 1000, frame.start, frame.length, &taken, &text, &answer));
-    pass(cg_handle(&node, 1000, answer.start, answer.length, &taken, &text, &frame));
+    pass(cg_handle(one, 1000, answer.start, answer.length, &taken, &text, &frame));
     pass(cg_handle(other, 1000, frame.start, frame.length, &taken, &text, &answer));
 }
 
@@ -67,14 +67,18 @@ static void measure(const char *name, void (*call)(void)) {
 }
 
 int main(void) {
-    start(&node, 0);
-    for (int number = 1; number < OWNERS; number++) {
+    cg_node all = {0};
+    start(&all, 1);
+    for (int number = 2; number < OWNERS; number++) {
         cg_node other = {0};
         start(&other, number);
-        exchange(&other);
-        if (number == OWNERS - 1) pass(cg_opening(&other, &syn));
+        exchange(&all, &other);
         cg_free(&other);
     }
+    start(&node, 0);
+    exchange(&node, &all);
+    pass(cg_opening(&all, &syn));
+    cg_free(&all);
     measure("handle_equal_syn", handle_equal_syn);
     measure("beat", beat);
     measure("around_empty_handle", empty_handle);
