@@ -1,6 +1,7 @@
 //! Plain texts: of states, and of clusters' names.
 
-ghost use Rattle.std.specs.Prelude.{◌≡◌, ◌↔◌, IsTrue, IfOk};
+ghost use Rattle.std.specs.Prelude.{◌≡◌, ◌↔◌, ◌+◌, ◌≤◌, IsTrue, IfOk, length, slice_range};
+ghost use Rattle.std.specs.Arc.{arc_value};
 ghost use Rattle.cg_types.specs.Answer.{Answers};
 ghost use Rattle.cg_types.specs.Text.{printable, plain, IsStateText, IsCluster, state_text_of, cluster_of};
 ghost use Rattle.cg_types.specs.declared.limits.TheConstants.{PARTITIONER};
@@ -9,8 +10,11 @@ use crate::fault::Fault;
 use crate::limits::{NAME_LIMIT, PARTITIONER, TEXT_LIMIT};
 use crate::shows::Shows;
 use std::alloc::{AllocError, Global};
+use std::fmt;
 use std::marker::Model;
-use std::sync::ArcStr;
+use std::ops::Deref;
+use std::str::from_utf8_unchecked;
+use std::sync::{Arc, ArcStr};
 
 // Tests whether the bytes have no control character: none below 32, and no 127. It looks at each byte, also after a bad
 // one, so that many are compared at once.
@@ -31,22 +35,34 @@ pub fn is_plain(text: &str) -> bool
     is_printable(text.as_bytes())
 }
 
-/// The text of a state, plain and of 0 to 4,096 bytes. Copies share its bytes.
-#[derive(Debug, Drop)]
+/// The text of a state, plain and of 0 to 4,096 bytes: a part of a buffer, which copies and other texts share. The buffer
+/// is given back once none of them is left.
+#[derive(Drop)]
 pub struct StateText {
-    text: ArcStr<Global>,
+    buffer: Arc<Vec<u8>, Global>,
+    at: u32,
+    size: u16,
 }
 
 impl Model for StateText {
-    ghost use Rattle.std.specs.Prelude.{ℕ, List};
-    ghost use Rattle.std.specs.Arc.{arc_str_bytes};
+    ghost use Rattle.std.specs.Prelude.{ℕ, List, ◌+◌, ◌≤◌, length, slice_range};
+    ghost use Rattle.std.specs.Arc.{arc_value};
     ghost use Rattle.cg_types.specs.Text.{IsStateText};
 
     ghost Value = { List ℕ };
 
-    ghost view = { λ t. arc_str_bytes t.text };
+    ghost view = { λ t. slice_range (arc_value t.buffer).items t.at (t.at + t.size) };
 
-    ghost invariant = { λ t. IsStateText (arc_str_bytes t.text) };
+    ghost invariant = { λ t. (t.at + t.size ≤ length (arc_value t.buffer).items)
+        × IsStateText (slice_range (arc_value t.buffer).items t.at (t.at + t.size)) };
+}
+
+/// Shows the text alone, not the rest of its buffer.
+impl fmt::Debug for StateText {
+    fn fmt<W: fmt::Write>(&self, f: &mut fmt::Formatter<W>) -> fmt::Result {
+        let text = self.as_str();
+        write!(f, "StateText {{ text: {text:?} }}")
+    }
 }
 
 impl PartialEq for StateText {
@@ -104,17 +120,50 @@ impl StateText {
         requires { IsStateText text.now }
         ensures { IfOk result (λ t. t ≡ text.now) }
     {
+        let size = text.len() as u16;
+        let buffer = Arc::new(alloc, Vec::from_slice(alloc, text.as_bytes())?)?;
         Ok(StateText {
-            text: ArcStr::from_str(alloc, text)?,
+            buffer,
+            at: 0,
+            size,
         })
     }
 
+    /// The text of a state in a buffer that others share: `size` bytes from the place `at` on, which are known to be a
+    /// text. Nothing is copied, so the buffer lives as long as this text. It is refused as `copy` is.
+    pub fn of_part(
+        buffer: &Arc<Vec<u8>, Global>,
+        at: u32,
+        size: u16,
+    ) -> Result<StateText, AllocError>
+        requires within { at + size ≤ length (arc_value buffer.now).items }
+        requires valid { IsStateText (slice_range (arc_value buffer.now).items at (at + size)) }
+        ensures { IfOk result (λ t. t ≡ slice_range (arc_value buffer.now).items at (at + size)) }
+    {
+        Ok(StateText {
+            buffer: Arc::try_clone(buffer)?,
+            at,
+            size,
+        })
+    }
+
+    fn as_bytes(&self) -> &[u8]
+        ensures value { result.now ≡ self.now }
+        ensures valid { IsStateText result.now }
+    {
+        let bytes: &Vec<u8> = self.buffer.deref();
+        let at = self.at as usize;
+        let end = at + usize::from(self.size);
+        &bytes[at..end]
+    }
+
     /// The text's bytes, as a string.
+    #[tactic(auto, using(crate::proofs::PlainLemmas::utf8_of_text))]
     pub fn as_str(&self) -> &str
         ensures value { result.now ≡ self.now }
         ensures valid { IsStateText self.now }
     {
-        self.text.as_str()
+        unsafe { from_utf8_unchecked(self.as_bytes()) }
     }
 
     /// The same text, which shares its bytes. `AllocError` could come only if the count of its owners is at its
@@ -123,7 +172,9 @@ impl StateText {
         ensures { IfOk result (λ t. t ≡ self.now) }
     {
         Ok(StateText {
-            text: self.text.clone()?,
+            buffer: Arc::try_clone(&self.buffer)?,
+            at: self.at,
+            size: self.size,
         })
     }
 }
