@@ -1,3 +1,4 @@
+pub mod AnswerFrames
 pub mod Expected
 pub mod Received
 pub mod Sent
@@ -7,6 +8,7 @@ pub mod Turns
 pub mod Exchanged
 pub mod NodeGate
 pub use Rattle.cg_types.specs.Answer
+pub use Rattle.cg_exchange.specs.Answering
 pub use Rattle.cg_core.specs.Replies
 pub use Rattle.cg_core.specs.Step
 pub use Rattle.cg_frames.specs.Spelling

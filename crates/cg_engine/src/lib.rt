@@ -5,6 +5,7 @@
 //! calls are counted; others fail, are slow or take nothing, for trials.
 #![tactic(auto)]
 
+mod answering;
 mod exchange;
 mod expected;
 mod gate;
@@ -14,6 +15,7 @@ mod receiving;
 mod sending;
 mod turn;
 
+pub use answering::answer_frame;
 pub use cg_links::{Counted, CountingLink, FailingLink, FullLink, SlowLink};
 pub use exchange::{Broken, Ended, initiate, respond};
 pub use expected::{UNEXPECTED, expected_ack, expected_ack2, expected_syn};

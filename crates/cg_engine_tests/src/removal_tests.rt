@@ -2,11 +2,12 @@
 
 use crate::samples::{joined, started};
 use cg_core::{Event, Node};
-use cg_engine::{Broken, Ended, Gate, NodeGate, initiate, respond};
+use cg_engine::{Broken, Ended, Gate, NodeGate, answer_frame, expected_syn, initiate, respond};
 use cg_exchange::syn;
+use cg_frames::decode;
 use cg_links::Counted;
 use cg_messages::{Ack2, OwnerDelta};
-use cg_testing::{A, B, delta, endpoint, expect_eq, key, state};
+use cg_testing::{A, B, delta, endpoint, expect, expect_eq, key, state};
 use cg_types::{Cause, Fault, StateText};
 use std::alloc::Global;
 use std::test::Fail;
@@ -34,6 +35,28 @@ const ACK2_IN_LAYOUT_1: &[u8] =
 const ACK2_IN_LAYOUT_2: &[u8] =
     b"\0\0\0\x1e\x02\x03\0\x01\x0a\0\0\x01\x1b\x58\0\0\0\x09\0\0\0\x03\0\0\0\x01\x01\x01\0\0\0\x04\xff\xff";
 
+// SYNs with a digest of A at version 2 and at 3, and one of nothing.
+const SYN_AT_2: &[u8] =
+    b"\0\0\0\x16\x03\x01\x02c1\x01\0\x01\x0a\0\0\x01\x1b\x58\0\0\0\x09\0\0\0\x02";
+
+const SYN_AT_3: &[u8] =
+    b"\0\0\0\x16\x03\x01\x02c1\x01\0\x01\x0a\0\0\x01\x1b\x58\0\0\0\x09\0\0\0\x03";
+
+const SYN_OF_NOBODY: &[u8] = b"\0\0\0\x08\x03\x01\x02c1\x01\0\0";
+
+// A's answers: the last state that was set, the tombstone, and all that is held, before and after the removal.
+const LAST_OF_A: &[u8] =
+    b"\0\0\0\x26\x03\x02\0\0\0\x01\x0a\0\0\x01\x1b\x58\0\0\0\x09\0\0\0\x02\0\0\0\x01\x01\x01\0\0\0\x03\0\x06NORMAL";
+
+const TOMBSTONE_OF_A: &[u8] =
+    b"\0\0\0\x20\x03\x02\0\0\0\x01\x0a\0\0\x01\x1b\x58\0\0\0\x09\0\0\0\x03\0\0\0\x01\x01\x01\0\0\0\x04\xff\xff";
+
+const WHOLE_A: &[u8] =
+    b"\0\0\0\x4d\x03\x02\0\0\0\x01\x0a\0\0\x01\x1b\x58\0\0\0\x09\0\0\0\0\0\0\0\x01\x02\x01\0\0\0\x03\0\x06NORMAL\x02\0\0\0\x02\0\x200cc175b9c0f1b6a831c399e269772661";
+
+const WHOLE_A_REMOVED: &[u8] =
+    b"\0\0\0\x47\x03\x02\0\0\0\x01\x0a\0\0\x01\x1b\x58\0\0\0\x09\0\0\0\0\0\0\0\x01\x02\x01\0\0\0\x04\xff\xff\x02\0\0\0\x02\0\x200cc175b9c0f1b6a831c399e269772661";
+
 fn set(alloc: Global, number: u8, text: &str) -> Result<Event, Fault> {
     Ok(Event::Set {
         key: key(number),
@@ -41,13 +64,43 @@ fn set(alloc: Global, number: u8, text: &str) -> Result<Event, Fault> {
     })
 }
 
-// A in generation 9, which sets key 2 (version 2) and key 1 (3), and removes key 1 (4).
-fn with_key_1_removed(alloc: Global) -> Result<Node, Fail> {
+// A in generation 9, which sets key 2 (version 2) and key 1 (3).
+fn with_two_keys(alloc: Global) -> Result<Node, Fail> {
     let mut node = started(alloc, A, 9)?;
     node.step(alloc, &set(alloc, 2, TOKEN)?)?;
     node.step(alloc, &set(alloc, 1, "NORMAL")?)?;
+    Ok(node)
+}
+
+// The same, which then removes key 1 (4).
+fn with_key_1_removed(alloc: Global) -> Result<Node, Fail> {
+    let mut node = with_two_keys(alloc)?;
     node.step(alloc, &Event::Remove { key: key(1) })?;
     Ok(node)
+}
+
+// Returns `true` if a node's answer to the frame of a SYN is this frame, in a buffer that had other bytes.
+fn is_answered(alloc: Global, node: &Node, frame: &[u8], answer: &[u8]) -> Result<bool, Fail> {
+    let (message, _size) = decode(alloc, frame)?.ok_or("a whole frame")?;
+    let syn = expected_syn(message)?;
+    let buffer = Vec::from_slice(alloc, TOKEN.as_bytes())?;
+    let written = answer_frame(alloc, node.table(), syn.cluster(), &syn, buffer)?;
+    Ok(written.as_slice() == answer)
+}
+
+#[test]
+fn answers_are_written_from_tables(rt: HostRuntime) -> Result<(), Fail> {
+    let alloc = rt.alloc();
+    let (whole, removed) = (with_two_keys(alloc)?, with_key_1_removed(alloc)?);
+    for (node, frame, answer) in [
+        (&whole, SYN_AT_2, LAST_OF_A),
+        (&whole, SYN_OF_NOBODY, WHOLE_A),
+        (&removed, SYN_AT_3, TOMBSTONE_OF_A),
+        (&removed, SYN_OF_NOBODY, WHOLE_A_REMOVED),
+    ] {
+        expect!(is_answered(alloc, node, frame, answer)?)?;
+    }
+    Ok(())
 }
 
 // The end of an exchange that A opens, and the bytes that it writes.

@@ -3,17 +3,17 @@ use Rattle.std.proofs.Common.{◌≡◌, ℕ, ◌+◌, ◌*◌, ◌^◌, ◌<◌
 use Rattle.std.specs.Prelude.{sum_by, IfSome}
 use Rattle.std.specs.List.{AllByRecursion}
 use Rattle.std.specs.Ordering.{nat_cmp}
-use Rattle.std.specs.FinMap.{entries, from_sorted}
+use Rattle.std.specs.FinMap.{entries, entries_sorted, from_sorted}
 use Rattle.std.proofs.lemmas.Bool.{ltb-true}
 use Rattle.std.proofs.lemmas.List.Sums.{sum_by-cons}
 use Rattle.cg_types.specs.declared.limits.TheConstants.{STATE_LIMIT, TEXT_LIMIT}
 use Rattle.cg_types.specs.Numbers.{IsKey}
 use Rattle.cg_types.specs.Text.{IsStateText}
 use Rattle.cg_types.specs.Rising.{rise_past, Rises}
-use Rattle.cg_types.proofs.RisingLemmas.{first_of, second_of}
+use Rattle.cg_types.proofs.RisingLemmas.{first_of, second_of, rise_sorted}
 use Rattle.cg_entry.specs.declared.state.State.{State}
 use Rattle.cg_entry.specs.Versioned.{Versioned, States}
-use Rattle.cg_entry.specs.Contents.{IsState}
+use Rattle.cg_entry.specs.Contents.{IsState, AreStates}
 use Rattle.cg_entry.specs.State.{pair, pairs, listed_bytes, KeysRise}
 use Rattle.cg_entry.specs.Entry.{text_bytes, text_size}
 use Rattle.cg_entry.proofs.StateLemmas.{pairs_rise, entries-pairs}
@@ -41,6 +41,9 @@ module _ (P : ℕ × Versioned → Type 0) (key : (e : ℕ × Versioned) → P e
       let others = keys_few e.0 es all.1 (second_of true (rise_past (Some e.0) (keys es)) rise) here.1 in
       omega (arith, others, here.0)
 
+pub entries_few : (states : States) → AreStates states → length (entries states) ≤ STATE_LIMIT
+entries_few states all = states_few IsState (λ e is. is.key) (entries states) all (rise_sorted (entries states) (entries_sorted states))
+
 -- ---- the number of bytes of the texts
 
 abbrev state_size : State → ℕ
@@ -49,7 +52,7 @@ state_size s = text_size s.text
 abbrev pair_size : ℕ × Versioned → ℕ
 pair_size e = text_size e.1.text
 
-bytes-pairs : (items : List State) → listed_bytes items ≡ sum_by pair_size (pairs items)
+pub bytes-pairs : (items : List State) → listed_bytes items ≡ sum_by pair_size (pairs items)
 bytes-pairs [] = refl
 bytes-pairs (s ∷ ss) = sum_by-cons state_size s ss ∙ ap (λ (n : ℕ). text_size s.text + n) (bytes-pairs ss) ∙ sym (sum_by-cons pair_size (pair s) (pairs ss))
 
@@ -60,7 +63,7 @@ value_within : (o : Option (List ℕ)) → IfSome o IsStateText → text_size o 
 value_within None is = omega arith
 value_within (Some text) is = is.fits
 
-bytes_within : (items : List State) → AllByRecursion IsState (pairs items) → listed_bytes items ≤ length items * TEXT_LIMIT
+pub bytes_within : (items : List State) → AllByRecursion IsState (pairs items) → listed_bytes items ≤ length items * TEXT_LIMIT
 bytes_within [] all = omega arith
 bytes_within (s ∷ ss) all =
     let one : text_size s.text ≤ TEXT_LIMIT = value_within s.text all.0.text in

@@ -15,6 +15,7 @@ pub mod SpellingLemmas
 pub mod SpellingLaws
 pub mod StandingLemmas
 pub mod BlockLemmas
+pub mod SectionLemmas
 pub mod PushLemmas
 pub mod CutLemmas
 pub mod ReadLemmas

@@ -42,6 +42,19 @@ filter-push p (x ∷ xs) e =
       | false ↦ filter-push p xs e
     ]
 
+-- one entry more
+pub filter_next : (p : ℕ × Versioned → Bool) (es : List (ℕ × Versioned)) (i : ℕ) (e : ℕ × Versioned) → slice_get es i ≡ Some e → (b : Bool) → p e ≡ b → filter p (take (i + 1) es) ≡ filter p (take i es) ++ cond b (e ∷ []) []
+filter_next p es i e is b same = ap (filter p) (take_next es i e is) ∙ filter-push p (take i es) e ∙ ap (λ b. filter p (take i es) ++ cond b (e ∷ []) []) same
+
+-- there are no more newer ones than entries
+pub filter_few : (p : ℕ × Versioned → Bool) (es : List (ℕ × Versioned)) → length (filter p es) ≤ length es
+filter_few p [] = omega arith
+filter_few p (e ∷ es) =
+    elim (p e) as (λ b. length (cond b (e ∷ filter p es) (filter p es)) ≤ suc (length es)) [
+      | true ↦ omega (arith, filter_few p es)
+      | false ↦ omega (arith, filter_few p es)
+    ]
+
 past_next : (k : ℕ) (es : List (ℕ × Versioned)) (i : ℕ) (e : ℕ × Versioned) → rise_past (Some k) (keys_of es) ≡ true → slice_get es i ≡ Some e → k < e.0
 past_next k [] i e rise is = absurd cc
 past_next k (x ∷ es) zero e rise is = let same : x ≡ e = cc in omega (arith, ltb-true k x.0 (first_of (nat_lt k x.0) (rise_past (Some x.0) (keys_of es)) rise), ap (λ (p : ℕ × Versioned). p.0) same)
@@ -63,9 +76,7 @@ module _ (v : ℕ) (states newer : States) (i : ℕ) (e : ℕ × Versioned) (has
       (all_filter (λ (x : ℕ × Versioned). x.0 < e.0) (is_newer v) (take i (entries states)) (before_next None (entries states) i e (rise_sorted (entries states) (entries_sorted states)) is))
 
   more : (b : Bool) → is_newer v e ≡ b → filter (is_newer v) (take (i + 1) (entries states)) ≡ filter (is_newer v) (take i (entries states)) ++ cond b (e ∷ []) []
-  more b same =
-      ap (filter (is_newer v)) (take_next (entries states) i e is) ∙ filter-push (is_newer v) (take i (entries states)) e
-      ∙ ap (λ b. filter (is_newer v) (take i (entries states)) ++ cond b (e ∷ []) []) same
+  more b same = filter_next (is_newer v) (entries states) i e is b same
 
   pub newer_put : v < e.1.version → HasNewer (insert newer e.0 e.1) v (i + 1) (entries states)
   newer_put lt =

@@ -76,11 +76,13 @@ removal_of key e = if has_text key e then next_version (newest e) else Err NoSuc
 abbrev pub is_later : EntryValue → EntryValue → Bool
 is_later x y = nat_lt y.generation x.generation || (x.generation == y.generation && nat_lt (newest y) (newest x))
 
+-- the part of an entry above v
+abbrev pub part_above : ℕ → EntryValue → DeltaValue
+part_above v e = record { generation = e.generation; above = v; heartbeat = e.heartbeat; states = newer_than v e.states }
+
 -- the part of an entry that a holder at v lacks
 abbrev pub delta_above : ℕ → EntryValue → Option DeltaValue
-delta_above v e =
-    if nat_le (newest e) v then None
-    else Some (record { generation = e.generation; above = v; heartbeat = e.heartbeat; states = newer_than v e.states })
+delta_above v e = if nat_le (newest e) v then None else Some (part_above v e)
 
 -- Each state is newer, and something is.
 pub record IsDelta (above heartbeat : ℕ) (states : States) : Type 0 where

@@ -7,7 +7,9 @@ pub mod Contents
 pub mod Held
 pub mod Standing
 pub mod Block
+pub mod Section
 pub mod Newer
+pub mod Part
 pub mod Removals
 pub mod Taking
 pub mod History

@@ -1,12 +1,12 @@
 //! Blocks of states: a vector that rises by version, then key, and the places by key.
 
-ghost use Rattle.std.specs.Prelude.{IsTrue, ◌≡◌, ◌<◌, ◌≤◌, ◌^◌, IfOk, IfErr, IfSome, IsOk, OnOk, OnErr, length, nat_lt, option_copied, remove, true, false, slice_get, Some, Ok, ◌++◌, ◌∷◌, []};
+ghost use Rattle.std.specs.Prelude.{IsTrue, ◌≡◌, ◌<◌, ◌≤◌, ◌^◌, ◌+◌, IfOk, IfErr, IfSome, IsOk, OnOk, OnErr, length, nat_lt, option_copied, remove, true, false, slice_get, Some, Ok, ◌++◌, ◌∷◌, []};
 ghost use Rattle.std.specs.FinMap as map;
 ghost use Rattle.std.specs.FinMap.Entries as entries_spec;
 ghost use Rattle.std.specs.Option.{option_map};
 ghost use Rattle.std.specs.Arc.{arc_value};
 ghost use Rattle.std.specs.Ordering.{nat_cmp};
-ghost use Rattle.std.specs.List.{AllByRecursion, AllWithin};
+ghost use Rattle.std.specs.List.{AllByRecursion, AllWithin, flat_map};
 ghost use Rattle.std.specs.List.Sorted.{IsNonDecreasingBy};
 ghost use Rattle.cg_entry.specs.Contents.{AreStates, IsState};
 ghost use Rattle.cg_entry.specs.Entry as entry_spec;
@@ -15,14 +15,18 @@ ghost use Rattle.cg_entry.specs.State.{IsStateList, KeysRise, pair, pairs, value
 ghost use Rattle.cg_entry.specs.Versioned.{States};
 ghost use Rattle.cg_entry.specs.Block.{bytes_at, picked, put_all, state_at};
 ghost use Rattle.cg_entry.specs.Newer.{newer_states};
+ghost use Rattle.cg_entry.specs.Part.{IsPart};
+ghost use Rattle.cg_entry.specs.Section.{StandsIn};
+ghost use Rattle.cg_entry.specs.Section.{state as spelled_state};
 ghost use Rattle.cg_entry.specs.declared.block.Newer.TheVariants.{Nothing};
 ghost use Rattle.cg_types.specs.Rows.{IsGapAt, IsRowAt};
 
 use crate::by_key::ByKey;
+use crate::part::Part;
 use crate::places::Places;
 use crate::state::State;
 use crate::states::versions_rise;
-use cg_types::{STATE_LIMIT, Shows, StateKey, Version};
+use cg_types::{STATE_LIMIT, Shows, StateKey, StateText, Version};
 use std::alloc::{AllocError, Global};
 use std::marker::Model;
 use std::sync::Arc;
@@ -220,6 +224,41 @@ fn other_copies(
     Ok(copies)
 }
 
+// Puts a part of a section in the place of a state's text, which stands there behind the head at `at`, and returns the
+// length of the state in it.
+fn share(state: &mut State, section: &Arc<Vec<u8>, Global>, at: usize) -> Result<usize, AllocError>
+    requires stands { IfSome state.old.text (λ t. StandsIn (arc_value section.now).items (at + 7) t) }
+    requires short { at < 2 ^ 31 }
+    ensures same { state.new ≡ state.old }
+    ensures size { IfOk result (λ n. n ≡ 7 + entry_spec.text_size state.old.text) }
+{
+    let Some(text) = &state.text else {
+        return Ok(7);
+    };
+    let size = text.as_str().len();
+    let part = StateText::of_part(section, (at + 7) as u32, size as u16)?;
+    state.text = Some(part);
+    Ok(7 + size)
+}
+
+// Makes the texts of states, at places, parts of what spells them in the order of the places.
+fn gather(
+    items: &mut Vec<State>,
+    places: &[u8],
+    section: &Arc<Vec<u8>, Global>,
+) -> Result<(), AllocError>
+    requires within { AllByRecursion (λ p. p < length items.old.items) places.now }
+    requires spelled { (arc_value section.now).items ≡ flat_map spelled_state (pairs (picked items.old.items places.now)) }
+    requires short { length (arc_value section.now).items < 2 ^ 31 }
+    ensures { items.new.items ≡ items.old.items }
+{
+    let mut at = 0;
+    for place in places {
+        at += share(&mut items[*place as usize], section, at)?;
+    }
+    Ok(())
+}
+
 impl Block {
     pub(crate) fn empty(alloc: Global) -> Block
         ensures { result ≡ map.empty }
@@ -378,13 +417,13 @@ impl Block {
         !newer.is_empty() && self.is_older(newer[0].version) && versions_rise(newer)
     }
 
-    // A copy with each of `newer` put, where it is shared. `None` if one is not newer than all before it.
+    // A copy with each of `newer` put. `None` if one is not newer than all before it.
     pub(crate) fn with_all(
         &self,
         alloc: Global,
         newer: &[State],
-    ) -> Result<Option<Arc<Block, Global>>, AllocError>
-        ensures { IfOk result (λ o. IfSome o (λ b. arc_value b ≡ put_all newer.now self.now)) }
+    ) -> Result<Option<Block>, AllocError>
+        ensures { IfOk result (λ o. IfSome o (λ b. b ≡ put_all newer.now self.now)) }
     {
         if !self.is_before(newer) {
             return Ok(None);
@@ -396,7 +435,21 @@ impl Block {
             }
             block = block.put_newest(state.copy()?)?;
         }
-        Ok(Some(Arc::new(alloc, block)?))
+        Ok(Some(block))
+    }
+
+    // The same block, whose texts are parts of what spells it.
+    pub(crate) fn gathered(self, section: &Arc<Vec<u8>, Global>) -> Result<Block, AllocError>
+        requires { (arc_value section.now).items ≡ flat_map spelled_state (map.entries self) }
+        ensures { IfOk result (λ b. b ≡ self) }
+    {
+        let mut items = self.items;
+        gather(&mut items, self.places.as_slice(), section)?;
+        Ok(Block {
+            items,
+            places: self.places,
+            text_bytes: self.text_bytes,
+        })
     }
 
     // The number of states.
@@ -435,6 +488,28 @@ impl Block {
             places,
             text_bytes,
         })
+    }
+
+    // Which part of the states is newer than a version, by the vector's end. The section, if it is kept, spells all.
+    pub(crate) fn newer_part<'a>(&'a self, above: u32, section: Option<&'a [u8]>) -> Part<'a>
+        requires { IfSome section (λ s. s.now ≡ flat_map spelled_state (map.entries self.now)) }
+        ensures { IsPart above self.now result }
+    {
+        let items = self.items.as_slice();
+        let from = first_above(items, above);
+        if from == items.len() {
+            return Part::Nothing;
+        }
+        if from == 0 {
+            return match section {
+                Some(section) => Part::Each(section),
+                None => Part::Some,
+            };
+        }
+        if from + 1 == items.len() {
+            return Part::Last(&items[from]);
+        }
+        Part::Some
     }
 
     // A block of one state.

@@ -1,14 +1,21 @@
-//! The states of an entry, borrowed.
+//! The states of an entry, and a delta of them, borrowed.
 
-ghost use Rattle.std.specs.Prelude.{◌≡◌, ◌↔◌, ◌<◌, IsTrue, IfOk, Some, length, map, slice_get, option_copied};
+ghost use Rattle.std.specs.Prelude.{◌≡◌, ◌↔◌, ◌<◌, ◌^◌, ◌++◌, ◌∷◌, IsTrue, IfOk, OnOk, Some, length, map, nat_lt, slice_get, option_copied};
+ghost use Rattle.std.specs.List.{filter, flat_map};
+ghost use Rattle.cg_entry.specs.Entry.{newest, part_above};
 ghost use Rattle.cg_entry.specs.State.{pair};
 ghost use Rattle.cg_entry.specs.Removals.{removed_under};
+ghost use Rattle.cg_entry.specs.Section as section_spec;
+ghost use Rattle.cg_types.specs.Numbers.{IsVersionHeld};
 
 use crate::by_key::ByKey;
+use crate::delta::Delta;
+use crate::entry::Entry;
 use crate::removals::Removals;
+use crate::spelled::put_state;
 use crate::state::{State, copy_of};
-use cg_types::{StateKey, StateText, Version};
-use std::alloc::AllocError;
+use cg_types::{Endpoint, Shows, StateKey, StateText, Version};
+use std::alloc::{AllocError, Global};
 use std::marker::Model;
 
 /// The states of an entry, borrowed in the order of their keys.
@@ -104,5 +111,93 @@ impl<'a> BorrowedStates<'a> {
             }
         }
         true
+    }
+
+    // The number of those that are newer than a version.
+    pub(crate) fn newer_count(&self, above: u32) -> usize
+        ensures { result ≡ length (filter (λ s. nat_lt above s.1.version) self.now) }
+    {
+        let mut count = 0;
+        for number in 0..self.len() {
+            let (_key, _text, version) = self.at(number);
+            if above < version.get() {
+                count += 1;
+            }
+        }
+        count
+    }
+
+    // Spells those that are newer than a version.
+    pub(crate) fn put_newer(&self, out: &mut Vec<u8>, above: u32) -> Result<(), AllocError>
+        ensures { OnOk result (out.new.items
+            ≡ out.old.items ++ flat_map section_spec.state (filter (λ s. nat_lt above s.1.version) self.now)) }
+    {
+        for number in 0..self.len() {
+            let (key, text, version) = self.at(number);
+            if above < version.get() {
+                put_state(out, key, text, version)?;
+            }
+        }
+        Ok(())
+    }
+}
+
+/// The part of an entry above a version, where the entry keeps it: a delta that takes no memory.
+#[derive(Drop)]
+pub struct BorrowedDelta<'a> {
+    entry: &'a Entry,
+    above: u32,
+}
+
+/// A contract sees the delta.
+impl<'a> Model for BorrowedDelta<'a> {
+    ghost use Rattle.std.specs.Prelude.{◌<◌};
+    ghost use Rattle.cg_types.specs.Numbers.{IsVersionHeld};
+    ghost use Rattle.cg_entry.specs.Values.{DeltaValue, delta_code};
+    ghost use Rattle.cg_entry.specs.Entry.{newest, part_above};
+
+    ghost Value = { DeltaValue };
+
+    ghost coded = { delta_code };
+
+    ghost view = { λ d. part_above d.above d.entry.now };
+
+    ghost invariant = { λ d. IsVersionHeld d.above × (d.above < newest d.entry.now) };
+}
+
+impl Shows for BorrowedDelta<'_> {
+    ghost use Rattle.cg_entry.specs.Contents.{IsDeltaOfEntry};
+
+    ghost Shown = { IsDeltaOfEntry };
+
+    #[inline(always)]
+    fn show(&self) {
+        self.entry.show();
+    }
+}
+
+impl<'a> BorrowedDelta<'a> {
+    // The part of an entry above a version that is less than its newest.
+    pub(crate) fn of(entry: &'a Entry, above: u32) -> BorrowedDelta<'a>
+        requires range { IsVersionHeld above }
+        requires newer { above < newest entry.now }
+        ensures { result ≡ part_above above entry.now }
+    {
+        BorrowedDelta { entry, above }
+    }
+
+    /// The same delta, which shares what `Entry::above` says. It is refused as that is.
+    pub fn to_owned(&self, alloc: Global) -> Result<Delta, AllocError>
+        ensures { IfOk result (λ d. d ≡ self.now) }
+    {
+        self.entry.part_above(alloc, self.above)
+    }
+
+    /// Appends what spells the delta about an owner in a frame: the owner, the generation, both versions, the number of
+    /// states, and the states in the order of their keys. After `AllocError` a part of it may be there.
+    pub fn put(&self, owner: Endpoint, out: &mut Vec<u8>) -> Result<(), AllocError>
+        ensures { OnOk result (out.new.items ≡ out.old.items ++ section_spec.delta_about owner self.now) }
+    {
+        self.entry.put_above(owner, self.above, out)
     }
 }

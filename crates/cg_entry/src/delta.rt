@@ -1,20 +1,25 @@
 //! Deltas: the part of an entry that a message carries.
 
-ghost use Rattle.std.specs.Prelude.{◌≡◌, ◌↔◌, IsTrue, IfSome, IfOk, IsOk, is_some, nat_lt, [], Some, slice_get, length, ◌<◌};
+ghost use Rattle.std.specs.Prelude.{◌≡◌, ◌↔◌, ◌++◌, IsTrue, IfSome, IfOk, IsOk, OnOk, is_some, nat_lt, [], Some, slice_get, length, ◌<◌};
+ghost use Rattle.std.specs.Arc.{arc_value};
+ghost use Rattle.std.specs.List.{flat_map};
 ghost use Rattle.std.specs.FinMap as map;
 ghost use Rattle.cg_types.specs.Numbers.{IsVersionHeld};
 ghost use Rattle.cg_entry.specs.State as spec;
 ghost use Rattle.cg_entry.specs.State.{pair, delta_of_parts, makes_delta, delta_from};
 ghost use Rattle.cg_entry.specs.Contents.{IsDeltaOfEntry};
 ghost use Rattle.cg_entry.specs.Entry.{greatest, text_bytes, IsDelta};
+ghost use Rattle.cg_entry.specs.Section as section_spec;
 
 use crate::by_key::ByKey;
 use crate::held::Held;
+use crate::spelled::{Head, put_head};
 use crate::state::State;
 use crate::states::{States, keys_rise};
-use cg_types::{Cause, Generation, Shows, Version};
+use cg_types::{Cause, Endpoint, Generation, Shows, Version};
 use std::alloc::{AllocError, Global};
 use std::marker::Model;
+use std::sync::Arc;
 
 /// The part of an entry above a version: its generation, its heartbeat version, and the states with a greater version.
 /// It is whole if that version is 0.
@@ -172,6 +177,35 @@ impl Delta {
     {
         let states = self.states.shared(alloc)?;
         Ok(Delta::of_parts(self.generation, self.above, self.heartbeat, states))
+    }
+
+    /// The same delta, as `shared` makes it, of whose states it is known what spells them: its block keeps that. If the
+    /// texts are parts of it, no more is kept.
+    pub fn shared_in(
+        self,
+        alloc: Global,
+        section: Arc<Vec<u8>, Global>,
+    ) -> Result<Delta, AllocError>
+        requires { (arc_value section).items ≡ flat_map section_spec.state (map.entries self.states) }
+        ensures { IfOk result (λ d. d ≡ self) }
+    {
+        let states = self.states.shared_in(alloc, section)?;
+        Ok(Delta::of_parts(self.generation, self.above, self.heartbeat, states))
+    }
+
+    /// Appends what spells the delta about an owner in a frame: the owner, the generation, both versions, the number of
+    /// states, and the states in the order of their keys. After `AllocError` a part of it may be there.
+    pub fn put(&self, owner: Endpoint, out: &mut Vec<u8>) -> Result<(), AllocError>
+        ensures { OnOk result (out.new.items ≡ out.old.items ++ section_spec.delta_about owner self.now) }
+    {
+        let head = Head {
+            endpoint: owner,
+            generation: self.generation,
+            above: self.above,
+            heartbeat: self.heartbeat,
+        };
+        put_head(out, head, self.count())?;
+        self.states.put_states(out)
     }
 
     /// The number of bytes of its states' texts, which their list keeps.

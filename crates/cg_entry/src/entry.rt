@@ -1,24 +1,29 @@
 //! Entries: all that is held of one endpoint.
 
-ghost use Rattle.std.specs.Prelude.{◌≡◌, ◌<◌, ◌↔◌, true, IsTrue, IfOk, IfErr, OnOk, OnErr, IsOk, Some, None, Ok, option_copied, is_some, length};
+ghost use Rattle.std.specs.Prelude.{◌≡◌, ◌<◌, ◌↔◌, ◌++◌, true, IsTrue, IfOk, IfErr, OnOk, OnErr, IsOk, Some, None, Ok, option_copied, is_some, length};
 ghost use Rattle.std.specs.FinMap as map;
 ghost use Rattle.std.specs.Option.{option_map};
 ghost use Rattle.cg_types.specs.Answer.{Answers, AnswersExactly};
+ghost use Rattle.cg_types.specs.Numbers.{IsVersionHeld};
 ghost use Rattle.cg_version.specs.Version.{next_version};
 ghost use Rattle.cg_entry.specs.Contents.{IsEntry};
 ghost use Rattle.cg_entry.specs.Entry as spec;
-ghost use Rattle.cg_entry.specs.Entry.{greatest, newest, newer_than, overlay, delta_above, starting_entry, entry_after_beat, with_state, text_standing, removal_of};
+ghost use Rattle.cg_entry.specs.Entry.{greatest, newest, newer_than, overlay, delta_above, part_above, starting_entry, entry_after_beat, with_state, text_standing, removal_of};
+ghost use Rattle.cg_entry.specs.Part.{IsPart};
+ghost use Rattle.cg_entry.specs.Section as section_spec;
 ghost use Rattle.cg_entry.specs.State.{value_at_key};
 ghost use Rattle.cg_entry.specs.Taking.{whole_entry, taken_or_gap, advanced_entry, absorption, is_taken, meeting, IsTakenEntry, IfTaken};
 
 use crate::block::Block;
-use crate::borrowed::BorrowedStates;
+use crate::borrowed::{BorrowedDelta, BorrowedStates};
 use crate::delta::Delta;
 use crate::held::Held;
+use crate::part::Part;
 use crate::removals::Removals;
+use crate::spelled::{Head, put_head, put_state};
 use crate::standing::Standing;
 use crate::state::State;
-use cg_types::{Fault, Generation, Shows, StateKey, StateText, Version};
+use cg_types::{Endpoint, Fault, Generation, Shows, StateKey, StateText, Version};
 use cg_version::Versions;
 use std::alloc::{AllocError, Global};
 use std::marker::Model;
@@ -409,8 +414,80 @@ impl Entry {
         if self.newest().get() <= above {
             return Ok(None);
         }
+        Ok(Some(self.part_above(alloc, above)?))
+    }
+
+    // The part of the entry above a version that is less than its newest.
+    pub(crate) fn part_above(&self, alloc: Global, above: u32) -> Result<Delta, AllocError>
+        requires range { IsVersionHeld above }
+        requires newer { above < newest self.now }
+        ensures value { IfOk result (λ d. d ≡ part_above above self.now) }
+        ensures bare { newer_than above self.now.states ≡ map.empty → IsOk result }
+    {
         let states = self.newer(alloc, above)?;
-        Ok(Some(Delta::of_parts(self.generation, above, self.heartbeat, states)))
+        Ok(Delta::of_parts(self.generation, above, self.heartbeat, states))
+    }
+
+    /// The same delta as `above` returns, where the entry keeps it: it takes no memory.
+    pub fn borrowed_above(&self, above: u32) -> Option<BorrowedDelta<'_>>
+        ensures { result ≡ delta_above above self.now }
+    {
+        if self.newest().get() <= above {
+            return None;
+        }
+        Some(BorrowedDelta::of(self, above))
+    }
+
+    // Which part of the states is newer than a version.
+    fn newer_part(&self, above: u32) -> Part<'_>
+        ensures { IsPart above self.now.states result }
+    {
+        if self.removals.is_none() {
+            return self.states.newer_part(above);
+        }
+        Part::Some
+    }
+
+    // Spells the states that are newer than a version, one by one, behind the head of their delta.
+    fn put_some(&self, out: &mut Vec<u8>, head: Head) -> Result<(), AllocError>
+        ensures { OnOk result (out.new.items ≡ out.old.items ++ section_spec.delta_headed head (newer_than head.above self.now.states)) }
+    {
+        self.show();
+        let above = head.above;
+        let states = self.by_key();
+        put_head(out, head, states.newer_count(above))?;
+        states.put_newer(out, above)?;
+        Ok(())
+    }
+
+    // Spells the part of the entry above a version, as a delta about an owner.
+    pub(crate) fn put_above(
+        &self,
+        owner: Endpoint,
+        above: u32,
+        out: &mut Vec<u8>,
+    ) -> Result<(), AllocError>
+        ensures { OnOk result (out.new.items ≡ out.old.items ++ section_spec.delta_about owner (part_above above self.now)) }
+    {
+        let head = Head {
+            endpoint: owner,
+            generation: self.generation,
+            above,
+            heartbeat: self.heartbeat,
+        };
+        match self.newer_part(above) {
+            Part::Nothing => put_head(out, head, 0)?,
+            Part::Each(section) => {
+                put_head(out, head, self.count())?;
+                out.extend_from_slice(section)?;
+            }
+            Part::Last(state) => {
+                put_head(out, head, 1)?;
+                put_state(out, state.key, state.text.as_ref(), state.version)?;
+            }
+            Part::Some => self.put_some(out, head)?,
+        }
+        Ok(())
     }
 
     /// The same entry, which shares its block of states. It is refused as `StateText::copy` is.

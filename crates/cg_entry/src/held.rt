@@ -1,11 +1,13 @@
 //! The states of a delta: in a block that copies share, or in the list that a delta was made of.
 
-ghost use Rattle.std.specs.Prelude.{◌≡◌, ◌↔◌, IsTrue, IfOk, IfSome, IsOk, option_copied};
+ghost use Rattle.std.specs.Prelude.{◌≡◌, ◌↔◌, ◌++◌, IsTrue, IfOk, IfSome, IsOk, OnOk, option_copied};
+ghost use Rattle.std.specs.List.{flat_map};
 ghost use Rattle.std.specs.FinMap as map;
 ghost use Rattle.cg_entry.specs.Entry as entry_spec;
 ghost use Rattle.cg_entry.specs.Entry.{greatest, overlay};
 ghost use Rattle.cg_entry.specs.State.{value_at_key};
 ghost use Rattle.cg_entry.specs.Block.{put_all};
+ghost use Rattle.cg_entry.specs.Section as section_spec;
 ghost use Rattle.cg_entry.specs.Versioned as versioned_spec;
 ghost use Rattle.cg_entry.specs.Contents.{AreStates};
 ghost use Rattle.std.specs.Option.{option_map};
@@ -13,6 +15,7 @@ ghost use Rattle.std.specs.Arc.{arc_value};
 
 use crate::block::Block;
 use crate::by_key::ByKey;
+use crate::spelled::{Spelled, put_states};
 use crate::standing::Standing;
 use crate::state::State;
 use crate::states::States;
@@ -26,7 +29,7 @@ use std::sync::Arc;
 #[derive(Debug, Drop)]
 enum Kept {
     Own(States),
-    Shared(Arc<Block, Global>),
+    Shared(Arc<Spelled, Global>),
 }
 
 #[derive(Debug, Drop)]
@@ -56,7 +59,7 @@ impl Shows for Held {
     fn show(&self) {
         match &self.kept {
             Kept::Own(states) => states.show(),
-            Kept::Shared(block) => block.deref().show(),
+            Kept::Shared(block) => block.deref().block().show(),
         }
     }
 }
@@ -83,7 +86,7 @@ impl Held {
     }
 
     // The states of a block, which is shared.
-    pub(crate) fn sharing(block: Arc<Block, Global>) -> Held
+    pub(crate) fn sharing(block: Arc<Spelled, Global>) -> Held
         ensures { result ≡ arc_value block }
     {
         Held {
@@ -94,7 +97,7 @@ impl Held {
     pub(crate) fn of(alloc: Global, block: Block) -> Result<Held, AllocError>
         ensures { IfOk result (λ h. h ≡ block) }
     {
-        Ok(Held::sharing(Arc::new(alloc, block)?))
+        Ok(Held::sharing(Arc::new(alloc, Spelled::plain(block))?))
     }
 
     // The same, but a block without states takes no memory.
@@ -114,7 +117,7 @@ impl Held {
     {
         match &self.kept {
             Kept::Own(states) => states.len(),
-            Kept::Shared(block) => block.deref().len(),
+            Kept::Shared(block) => block.deref().block().len(),
         }
     }
 
@@ -124,7 +127,7 @@ impl Held {
     {
         match &self.kept {
             Kept::Own(states) => states.by_key(),
-            Kept::Shared(block) => block.deref().by_key(),
+            Kept::Shared(block) => block.deref().block().by_key(),
         }
     }
 
@@ -135,7 +138,7 @@ impl Held {
     {
         match &self.kept {
             Kept::Own(states) => states.get(key),
-            Kept::Shared(block) => block.deref().get(key),
+            Kept::Shared(block) => block.deref().block().get(key),
         }
     }
 
@@ -145,7 +148,7 @@ impl Held {
     {
         match &self.kept {
             Kept::Own(states) => states.greatest(heartbeat),
-            Kept::Shared(block) => block.deref().greatest(heartbeat),
+            Kept::Shared(block) => block.deref().block().greatest(heartbeat),
         }
     }
 
@@ -155,7 +158,7 @@ impl Held {
     {
         match &self.kept {
             Kept::Own(states) => states.text_bytes(),
-            Kept::Shared(block) => block.deref().text_bytes(),
+            Kept::Shared(block) => block.deref().block().text_bytes(),
         }
     }
 
@@ -191,7 +194,7 @@ impl Held {
             return Ok(Standing::none(alloc));
         }
         match &self.kept {
-            Kept::Own(states) => Standing::of(alloc, states.block(alloc)?),
+            Kept::Own(states) => Standing::spelled(alloc, states.block(alloc)?),
             Kept::Shared(block) => Ok(Standing::sharing(alloc, Arc::try_clone(block)?)),
         }
     }
@@ -212,7 +215,10 @@ impl Held {
             return Ok(self);
         }
         match self.kept {
-            Kept::Own(states) => Held::of(alloc, states.into_block(alloc)?),
+            Kept::Own(states) => {
+                let block = Spelled::of(alloc, states.into_block(alloc)?)?;
+                Ok(Held::sharing(Arc::new(alloc, block)?))
+            }
             Kept::Shared(block) => Ok(Held::sharing(block)),
         }
     }
@@ -223,7 +229,39 @@ impl Held {
     {
         match &self.kept {
             Kept::Own(states) => states.as_slice(),
-            Kept::Shared(block) => block.deref().as_slice(),
+            Kept::Shared(block) => block.deref().block().as_slice(),
+        }
+    }
+
+    // The same states in a block that copies share, beside what is known to spell them. One that is empty takes no
+    // memory.
+    pub(crate) fn shared_in(
+        self,
+        alloc: Global,
+        section: Arc<Vec<u8>, Global>,
+    ) -> Result<Held, AllocError>
+        requires { (arc_value section).items ≡ flat_map section_spec.state (map.entries self) }
+        ensures { IfOk result (λ h. h ≡ self) }
+    {
+        if self.is_empty() {
+            return Ok(self);
+        }
+        match self.kept {
+            Kept::Own(states) => {
+                let block = Spelled::beside(states.into_block(alloc)?, section);
+                Ok(Held::sharing(Arc::new(alloc, block)?))
+            }
+            Kept::Shared(block) => Ok(Held::sharing(block)),
+        }
+    }
+
+    // Spells the states, in the order of the keys: those of a block at once.
+    pub(crate) fn put_states(&self, out: &mut Vec<u8>) -> Result<(), AllocError>
+        ensures { OnOk result (out.new.items ≡ out.old.items ++ flat_map section_spec.state (map.entries self.now)) }
+    {
+        match &self.kept {
+            Kept::Own(states) => put_states(out, &states.by_key()),
+            Kept::Shared(block) => block.deref().put(out),
         }
     }
 }

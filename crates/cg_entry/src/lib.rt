@@ -7,25 +7,28 @@
 #![tactic(auto)]
 
 mod block;
+mod borrowed;
 mod by_key;
 mod delta;
 mod digest;
 mod entry;
 mod held;
 /// Laws of histories and deltas.
-mod borrowed;
 pub mod laws;
+mod part;
 mod places;
 mod removals;
+mod spelled;
 mod standing;
 mod state;
 mod states;
 mod took;
 
-pub use borrowed::BorrowedStates;
+pub use borrowed::{BorrowedDelta, BorrowedStates};
 pub use by_key::ByKey;
 pub use delta::Delta;
 pub use digest::Digest;
 pub use entry::{Absorbed, Entry, meet};
+pub use spelled::{SECTION_LIMIT, TOMBSTONE};
 pub use state::State;
 pub use took::Took;

@@ -6,11 +6,14 @@ ghost use Rattle.std.specs.Option.{option_map};
 ghost use Rattle.std.specs.Arc.{arc_value};
 ghost use Rattle.cg_entry.specs.Contents.{AreStates};
 ghost use Rattle.cg_entry.specs.Entry.{greatest, newer_than, overlay};
+ghost use Rattle.cg_entry.specs.Part.{IsPart};
 ghost use Rattle.cg_entry.specs.State.{value_at_key};
 
 use crate::block::{Block, Newer};
 use crate::by_key::ByKey;
 use crate::held::Held;
+use crate::part::Part;
+use crate::spelled::Spelled;
 use crate::state::State;
 use crate::states::States;
 use cg_types::{STATE_LIMIT, Shows, StateKey, Version};
@@ -23,7 +26,7 @@ use std::sync::Arc;
 #[derive(Debug, Drop)]
 enum Kept {
     Bare,
-    Shared(Arc<Block, Global>),
+    Shared(Arc<Spelled, Global>),
 }
 
 #[derive(Debug, Drop)]
@@ -54,16 +57,20 @@ impl Shows for Standing {
     fn show(&self) {
         match &self.kept {
             Kept::Bare => {}
-            Kept::Shared(block) => block.deref().show(),
+            Kept::Shared(block) => block.deref().block().show(),
         }
     }
 }
 
-fn newer_of_block(alloc: Global, block: &Arc<Block, Global>, above: u32) -> Result<Held, AllocError>
+fn newer_of_block(
+    alloc: Global,
+    block: &Arc<Spelled, Global>,
+    above: u32,
+) -> Result<Held, AllocError>
     ensures value { IfOk result (λ h. h ≡ newer_than above (arc_value block.now)) }
     ensures bare { newer_than above (arc_value block.now) ≡ map.empty → IsOk result }
 {
-    match block.deref().newer(alloc, above)? {
+    match block.deref().block().newer(alloc, above)? {
         Newer::Nothing => Ok(Held::none(alloc)),
         Newer::Each => Ok(Held::sharing(Arc::try_clone(block)?)),
         Newer::Part(newer) => Held::of(alloc, newer),
@@ -82,7 +89,7 @@ impl Standing {
     }
 
     // The states of a block, which is shared.
-    pub(crate) fn sharing(alloc: Global, block: Arc<Block, Global>) -> Standing
+    pub(crate) fn sharing(alloc: Global, block: Arc<Spelled, Global>) -> Standing
         ensures { result ≡ arc_value block }
     {
         Standing {
@@ -94,7 +101,14 @@ impl Standing {
     pub(crate) fn of(alloc: Global, block: Block) -> Result<Standing, AllocError>
         ensures { IfOk result (λ s. s ≡ block) }
     {
-        Ok(Standing::sharing(alloc, Arc::new(alloc, block)?))
+        Ok(Standing::sharing(alloc, Arc::new(alloc, Spelled::plain(block))?))
+    }
+
+    // The same, whose texts become parts of a section.
+    pub(crate) fn spelled(alloc: Global, block: Block) -> Result<Standing, AllocError>
+        ensures { IfOk result (λ s. s ≡ block) }
+    {
+        Ok(Standing::sharing(alloc, Arc::new(alloc, Spelled::of(alloc, block)?)?))
     }
 
     pub(crate) fn allocator(&self) -> Global {
@@ -107,7 +121,7 @@ impl Standing {
     {
         match &self.kept {
             Kept::Bare => 0,
-            Kept::Shared(block) => block.deref().len(),
+            Kept::Shared(block) => block.deref().block().len(),
         }
     }
 
@@ -117,7 +131,7 @@ impl Standing {
     {
         match &self.kept {
             Kept::Bare => ByKey::listed(&[]),
-            Kept::Shared(block) => block.deref().by_key(),
+            Kept::Shared(block) => block.deref().block().by_key(),
         }
     }
 
@@ -128,7 +142,7 @@ impl Standing {
     {
         match &self.kept {
             Kept::Bare => None,
-            Kept::Shared(block) => block.deref().get(key),
+            Kept::Shared(block) => block.deref().block().get(key),
         }
     }
 
@@ -138,7 +152,7 @@ impl Standing {
     {
         match &self.kept {
             Kept::Bare => heartbeat,
-            Kept::Shared(block) => block.deref().greatest(heartbeat),
+            Kept::Shared(block) => block.deref().block().greatest(heartbeat),
         }
     }
 
@@ -204,8 +218,8 @@ impl Standing {
         match &self.kept {
             Kept::Bare => return Block::with_room(alloc, 1)?.put_newest(state),
             Kept::Shared(block) => {
-                if block.deref().is_older(state.version) {
-                    return block.deref().with_newest(alloc, state, 1);
+                if block.deref().block().is_older(state.version) {
+                    return block.deref().block().with_newest(alloc, state, 1);
                 }
             }
         }
@@ -215,16 +229,12 @@ impl Standing {
 
     // A copied block of these with each of `newer` put. `None` if one is not newer than all before it, or if there is
     // no block.
-    fn with_all(
-        &self,
-        alloc: Global,
-        newer: &Held,
-    ) -> Result<Option<Arc<Block, Global>>, AllocError>
-        ensures { IfOk result (λ o. IfSome o (λ b. arc_value b ≡ overlay self.now newer.now)) }
+    fn with_all(&self, alloc: Global, newer: &Held) -> Result<Option<Block>, AllocError>
+        ensures { IfOk result (λ o. IfSome o (λ b. b ≡ overlay self.now newer.now)) }
     {
         match &self.kept {
             Kept::Bare => Ok(None),
-            Kept::Shared(block) => block.deref().with_all(alloc, newer.as_slice()),
+            Kept::Shared(block) => block.deref().block().with_all(alloc, newer.as_slice()),
         }
     }
 
@@ -232,10 +242,11 @@ impl Standing {
     fn laid(&self, alloc: Global, newer: &Held) -> Result<Standing, AllocError>
         ensures { IfOk result (λ s. s ≡ overlay self.now newer.now) }
     {
-        match self.with_all(alloc, newer)? {
-            Some(block) => Ok(Standing::sharing(alloc, block)),
-            None => Standing::of(alloc, self.laid_under(alloc, newer)?),
-        }
+        let block = match self.with_all(alloc, newer)? {
+            Some(block) => block,
+            None => self.laid_under(alloc, newer)?,
+        };
+        Standing::of(alloc, block)
     }
 
     // The states with a version greater than `above`. If none is, it takes no memory; if each is, the block is shared.
@@ -246,6 +257,16 @@ impl Standing {
         match &self.kept {
             Kept::Bare => Ok(Held::none(alloc)),
             Kept::Shared(block) => newer_of_block(alloc, block, above),
+        }
+    }
+
+    // Which part of the states is newer than a version.
+    pub(crate) fn newer_part(&self, above: u32) -> Part<'_>
+        ensures { IsPart above self.now result }
+    {
+        match &self.kept {
+            Kept::Bare => Part::Nothing,
+            Kept::Shared(block) => block.deref().newer_part(above),
         }
     }
 

@@ -7,6 +7,8 @@ mod entries;
 #[cfg(test)]
 mod removals;
 #[cfg(test)]
+mod spelled;
+#[cfg(test)]
 mod types;
 #[cfg(test)]
 mod versions;

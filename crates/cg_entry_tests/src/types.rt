@@ -8,6 +8,9 @@ use cg_types::{
     endpoints_rise, is_plain, number, number_between, owners_rise,
 };
 use std::alloc::{AllocError, Global};
+use std::ops::Deref;
+use std::str::from_utf8;
+use std::sync::Arc;
 use std::test::Fail;
 
 fn is_endpoint(text: &str) -> bool {
@@ -215,6 +218,63 @@ fn texts_are_copied(rt: HostRuntime) -> Result<(), Fail> {
     let same = text_equals_its_copy(&text)?;
     let differs = differs_from(rt.alloc(), &text, "MOVING")?;
     expect_eq!((text.as_str(), same, differs), ("NORMAL", true, true))
+}
+
+// The text of a part of a buffer; `None` if it is no text of a state.
+fn text_in(
+    buffer: &Arc<Vec<u8>, Global>,
+    at: usize,
+    size: usize,
+) -> Result<Option<StateText>, AllocError> {
+    let bytes: &Vec<u8> = buffer.deref();
+    if at > 100 || size > 100 || bytes.len() < at + size {
+        return Ok(None);
+    }
+    let Ok(text) = from_utf8(&bytes[at..at + size]) else {
+        return Ok(None);
+    };
+    if !is_plain(text) {
+        return Ok(None);
+    }
+    Ok(Some(StateText::of_part(buffer, at as u32, size as u16)?))
+}
+
+// The text of a part of some bytes, which nobody else has any more.
+fn part_of(
+    alloc: Global,
+    bytes: &str,
+    at: usize,
+    size: usize,
+) -> Result<Option<StateText>, AllocError> {
+    let buffer = Arc::new(alloc, Vec::from_slice(alloc, bytes.as_bytes())?)?;
+    text_in(&buffer, at, size)
+}
+
+fn is_part(
+    alloc: Global,
+    (at, size): (usize, usize),
+    wanted: Option<&str>,
+) -> Result<bool, AllocError> {
+    match part_of(alloc, "NORMAL\nx,y", at, size)? {
+        Some(text) => Ok(wanted == Some(text.as_str())),
+        None => Ok(wanted.is_none()),
+    }
+}
+
+#[test]
+fn texts_are_parts_of_a_buffer(rt: HostRuntime) -> Result<(), Fail> {
+    let alloc = rt.alloc();
+    for (part, wanted) in [
+        ((0, 6), Some("NORMAL")),
+        ((7, 3), Some("x,y")),
+        ((8, 1), Some(",")),
+        ((10, 0), Some("")),
+        ((0, 7), None),
+        ((8, 3), None),
+    ] {
+        expect!(is_part(alloc, part, wanted)?)?;
+    }
+    Ok(())
 }
 
 fn refusal_of_name(alloc: Global, count: usize) -> Result<Option<Fault>, AllocError> {

@@ -1,6 +1,6 @@
 -- The list that a walk over two lists whose owners rise makes, and one step of it.
-use Rattle.std.proofs.Common.{◌≡◌, ◌+◌, ◌<◌, ◌≤◌, ◌==◌, ℕ, zero, suc, ◌-◌, Bool, true, false, cond, List, [], ◌∷◌, ◌++◌, map, length, length-drop, take, drop, get_or, drop-cons, add-one, append_assoc, Option, Some, None, refl, sym, ap, ◌∙◌, arith, nat_lt}
-use Rattle.std.specs.Prelude.{find}
+use Rattle.std.proofs.Common.{◌≡◌, ◌+◌, ◌<◌, ◌≤◌, ◌==◌, ℕ, zero, suc, ◌-◌, Bool, true, false, cond, List, [], ◌∷◌, ◌++◌, map, length, length-drop, take, drop, get_or, drop-cons, add-one, append_assoc, Option, Some, None, refl, sym, ap, subst, ◌∙◌, arith, nat_lt}
+use Rattle.std.specs.Prelude.{find, nat_le}
 use Rattle.std.specs.List.{filter_map, cons_option}
 use Rattle.std.specs.List.Sorted.{IsNonDecreasingBy, IsPartitionedBy, IsPartitionPoint}
 use Rattle.std.proofs.lemmas.List.Sorted.{IsPartitionedBy-ltb}
@@ -18,11 +18,12 @@ use Rattle.cg_entry.specs.declared.digest.Digest.{Digest}
 use Rattle.cg_table.specs.Values.{TableValue, Entries}
 use Rattle.cg_table.specs.Taking.{change_at, change_of}
 use Rattle.cg_messages.specs.declared.owner_delta.OwnerDelta.{OwnerDelta}
+use Rattle.cg_messages.specs.Values.{RequestValue}
 use Rattle.cg_messages.specs.Members.{endpoints_of_digests, endpoints_of_deltas}
 use Rattle.cg_exchange.specs.Taking.{outcome_of}
 use Rattle.cg_exchange.specs.Changes.{changed_by, row_by, outcome_by, row_changed}
 use Rattle.cg_exchange.specs.Answering.{request_by, requests_for, deltas_for}
-use Rattle.cg_exchange.specs.Walking.{from_owner, first_about, begin_before, next_of, behind_next, of_member, row_request, row_delta}
+use Rattle.cg_exchange.specs.Walking.{from_owner, first_about, begin_before, next_of, behind_next, of_member, row_request, row_delta, IsSame, AreSame, AreBehindSame}
 
 -- the members from an owner on come after those before it
 pub from_point : {X : Type 0} (owner : X → ℕ) (k : ℕ) (xs : List X) (at : ℕ) → at ≤ length xs → IsPartitionPoint (λ x. nat_lt (owner x) k ≡ true) (λ x. nat_lt (owner x) k ≡ false) xs at → drop at xs ≡ from_owner owner k xs
@@ -189,7 +190,7 @@ module _ {X Y Z : Type 0} (key : X → ℕ) (owner : Y → ℕ) (f : X → Optio
       let past = ltb-true n (key x) (first_of (nat_lt n (key x)) (rise_past (Some (key x)) (map key xs)) h) in
       rw (is_less (owner y) (key x) (omega (arith, le, past))) refl
 
-  joined_by : (x : X) (xs : List X) (y : Y) (ys : List Y) → rise_past (Some (key x)) (map key xs) ≡ true → (b : Bool) → nat_lt (owner y) (key x) ≡ b → (c : Bool) → nat_lt (key x) (owner y) ≡ c
+  pub joined_by : (x : X) (xs : List X) (y : Y) (ys : List Y) → rise_past (Some (key x)) (map key xs) ≡ true → (b : Bool) → nat_lt (owner y) (key x) ≡ b → (c : Bool) → nat_lt (key x) (owner y) ≡ c
       → side_by_side key owner f (x ∷ xs) (y ∷ ys) ≡ cons_option (of_member f (cond b None (Some x)) (cond c None (Some y))) (side_by_side key owner f (cond b (x ∷ xs) xs) (cond c (y ∷ ys) ys))
   joined_by x xs y ys h true e true d = absurd (omega (arith, ltb-true (owner y) (key x) e, ltb-true (key x) (owner y) d))
   joined_by x xs y ys h true e false d = rw e refl
@@ -256,3 +257,66 @@ outcomes_walked t ds rise =
 
 pub deltas_walked : (m : Entries) (digests : List Digest) → Rises (endpoints_of_digests digests) → side_by_side (λ r. r.0) (λ d. d.endpoint) row_delta (table.entries m) digests ≡ deltas_for m digests
 deltas_walked m digests rise = walked_is (λ r. r.0) (λ d. d.endpoint) row_delta (table.entries m) digests (rise_sorted (table.entries m) (table.entries_sorted m)) rise
+
+-- ---- a front of which nothing is due
+
+no_less : (n : ℕ) → nat_lt n n ≡ false
+no_less n = grind (arith, nat_tests)
+
+no_more : (n : ℕ) → nat_le n n ≡ true
+no_more n = grind (arith, nat_tests)
+
+itself : (n : ℕ) → (n == n) ≡ true
+itself n = grind (arith, nat_tests)
+
+module _ (r : ℕ × EntryValue) (d : Digest) (same : IsSame r d) where
+  pub nothing_asked : row_request d (Some r) ≡ None
+  nothing_asked = rw (same.generation, same.newest, no_less d.generation, itself d.generation, no_less d.newest) refl
+
+  pub nothing_sent : row_delta r (Some d) ≡ None
+  nothing_sent = rw (same.generation, no_less d.generation, itself d.generation, same.newest, no_more d.newest) refl
+
+  same_less : nat_lt r.0 d.endpoint ≡ false
+  same_less = rw same.endpoint (no_less d.endpoint)
+
+  same_more : nat_lt d.endpoint r.0 ≡ false
+  same_more = rw same.endpoint (no_less d.endpoint)
+
+-- what is left of a walk behind a front of which nothing is due
+pub record IsLeft (rows : List (ℕ × EntryValue)) (digests : List Digest) (behind : List (ℕ × EntryValue)) (others : List Digest) : Type 0 where
+  pub rows_rise : Rises (map (λ (r : ℕ × EntryValue). r.0) behind)
+  pub digests_rise : Rises (map (λ (d : Digest). d.endpoint) others)
+  pub asked : side_by_side (λ (d : Digest). d.endpoint) (λ (r : ℕ × EntryValue). r.0) row_request others behind ≡ side_by_side (λ (d : Digest). d.endpoint) (λ (r : ℕ × EntryValue). r.0) row_request digests rows
+  pub sent : side_by_side (λ (r : ℕ × EntryValue). r.0) (λ (d : Digest). d.endpoint) row_delta behind others ≡ side_by_side (λ (r : ℕ × EntryValue). r.0) (λ (d : Digest). d.endpoint) row_delta rows digests
+  pub no_longer : length behind + length others ≤ length rows + length digests
+
+left_of : (n : ℕ) (rows : List (ℕ × EntryValue)) (digests : List Digest) → Rises (map (λ (r : ℕ × EntryValue). r.0) rows) → Rises (map (λ (d : Digest). d.endpoint) digests) → AreSame n rows digests
+    → IsLeft rows digests (drop n rows) (drop n digests)
+left_of zero rows digests up also same = record { rows_rise = up; digests_rise = also; asked = refl; sent = refl; no_longer = omega arith }
+left_of (suc n) [] digests up also same = absurd same
+left_of (suc n) (r ∷ rows) [] up also same = absurd same
+left_of (suc n) (r ∷ rows) (d ∷ digests) up also same =
+    let left = left_of n rows digests (rise_earlier None r.0 (map (λ (r : ℕ × EntryValue). r.0) rows) refl up) (rise_earlier None d.endpoint (map (λ (d : Digest). d.endpoint) digests) refl also) same.1 in
+    let less = same_less r d same.0 in
+    let more = same_more r d same.0 in
+    let asked = joined_by (λ (d : Digest). d.endpoint) (λ (r : ℕ × EntryValue). r.0) row_request d digests r rows also false less false more in
+    let sent = joined_by (λ (r : ℕ × EntryValue). r.0) (λ (d : Digest). d.endpoint) row_delta r rows d digests up false more false less in
+    record {
+      rows_rise = left.rows_rise;
+      digests_rise = left.digests_rise;
+      asked = left.asked ∙ sym (asked ∙ ap (λ (o : Option RequestValue). cons_option o (side_by_side (λ (d : Digest). d.endpoint) (λ (r : ℕ × EntryValue). r.0) row_request digests rows)) (nothing_asked r d same.0));
+      sent = left.sent ∙ sym (sent ∙ ap (λ (o : Option OwnerDelta). cons_option o (side_by_side (λ (r : ℕ × EntryValue). r.0) (λ (d : Digest). d.endpoint) row_delta rows digests)) (nothing_sent r d same.0));
+      no_longer = omega (arith, left.no_longer);
+    }
+
+pub left_behind : (rows : List (ℕ × EntryValue)) (digests : List Digest) (behind : List (ℕ × EntryValue)) (others : List Digest) → Rises (map (λ (r : ℕ × EntryValue). r.0) rows) → Rises (map (λ (d : Digest). d.endpoint) digests) → AreBehindSame rows digests behind others
+    → IsLeft rows digests behind others
+left_behind rows digests behind others up also b = rw (b.rows_behind, b.digests_behind) (left_of b.count rows digests up also b.same)
+
+-- one more of a front
+pub same_next : (n : ℕ) (rows : List (ℕ × EntryValue)) (digests : List Digest) (r : ℕ × EntryValue) (d : Digest) → AreSame n rows digests → n < length rows → n < length digests → r ≡ get_or rows n r → d ≡ get_or digests n d → IsSame r d
+    → AreSame (suc n) rows digests
+same_next n [] digests r d same lt also is_r is_d here = absurd (omega arith)
+same_next n (x ∷ rows) [] r d same lt also is_r is_d here = absurd (omega arith)
+same_next zero (x ∷ rows) (y ∷ digests) r d same lt also is_r is_d here = (subst (λ (e : Digest). IsSame x e) is_d (subst (λ (q : ℕ × EntryValue). IsSame q d) is_r here), tt)
+same_next (suc n) (x ∷ rows) (y ∷ digests) r d same lt also is_r is_d here = (same.0, same_next n rows digests r d same.1 (omega arith) (omega arith) is_r is_d here)

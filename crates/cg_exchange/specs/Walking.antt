@@ -1,7 +1,8 @@
 -- Two lists whose owners rise, walked side by side.
-use Rattle.std.specs.Prelude.{ℕ, Bool, false, ◌==◌, nat_lt, List, [], ◌∷◌, Option, Some, None, if◌then◌else◌}
+use Rattle.std.specs.Prelude.{ℕ, zero, suc, ◌≡◌, drop, Bool, false, ◌==◌, nat_lt, List, [], ◌∷◌, Option, Some, None, if◌then◌else◌}
 use Rattle.std.specs.Option.{option_map}
 use Rattle.cg_entry.specs.Values.{EntryValue}
+use Rattle.cg_entry.specs.Entry.{newest}
 use Rattle.cg_entry.specs.declared.digest.Digest.{Digest}
 use Rattle.cg_messages.specs.declared.owner_delta.OwnerDelta.{OwnerDelta}
 use Rattle.cg_messages.specs.Values.{RequestValue}
@@ -47,3 +48,22 @@ row_request d row = request_by d (option_map (λ r. r.1) row)
 -- the delta that is sent of a row, by the digest that names its endpoint
 abbrev pub row_delta : ℕ × EntryValue → Option Digest → Option OwnerDelta
 row_delta row named = option_map (about row.0) (delta_by row.1 named)
+
+-- the digest says of the row's entry what stands there, so that nothing is due
+pub record IsSame (r : ℕ × EntryValue) (d : Digest) : Type 0 where
+  pub endpoint : r.0 ≡ d.endpoint
+  pub generation : r.1.generation ≡ d.generation
+  pub newest : newest r.1 ≡ d.newest
+
+-- the digests say that of so many rows at the front
+abbrev pub AreSame : ℕ → List (ℕ × EntryValue) → List Digest → Type 0
+AreSame zero rows digests = Unit {0}
+AreSame (suc n) (r ∷ rows) (d ∷ digests) = IsSame r d × AreSame n rows digests
+AreSame (suc n) rows digests = ⊥
+
+-- the rows and the digests behind a front of which nothing is due
+pub record AreBehindSame (rows : List (ℕ × EntryValue)) (digests : List Digest) (behind : List (ℕ × EntryValue)) (others : List Digest) : Type 0 where
+  pub count : ℕ
+  pub same : AreSame count rows digests
+  pub rows_behind : behind ≡ drop count rows
+  pub digests_behind : others ≡ drop count digests

@@ -8,6 +8,6 @@ mod answers;
 mod taking;
 mod walking;
 
-pub use answers::{answer_syn, syn};
-pub use cg_messages::{Ack, Ack2, Message, Outcome, Request, Syn};
+pub use answers::{answer_syn, borrowed_answer, syn};
+pub use cg_messages::{Ack, Ack2, BorrowedAck, Message, Outcome, Request, Syn};
 pub use taking::{take_ack, take_ack2};

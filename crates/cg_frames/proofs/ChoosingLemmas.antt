@@ -9,7 +9,8 @@ use Rattle.std.proofs.lemmas.List.{get_or_append_left}
 use Rattle.std.proofs.lemmas.Option.{slice_get_past, slice_get-get_or}
 use Rattle.cg_messages.specs.declared.message.Message.{Message}
 use Rattle.cg_frames.specs.declared.layout.Layout.{Layout}
-use Rattle.cg_frames.specs.Spelling.{four_bytes, frame}
+use Rattle.cg_entry.specs.Section.{four_bytes}
+use Rattle.cg_frames.specs.Spelling.{frame}
 use Rattle.cg_frames.specs.Choosing.{layout_with_byte, wider, widest, expected_by, expected_layout, IsOneOf}
 
 -- ---- properties of each layout of a list

@@ -12,7 +12,7 @@ use Rattle.cg_messages.specs.declared.message.Message.{Message}
 use Rattle.cg_frames.specs.declared.layout.Layout.{Layout}
 use Rattle.cg_frames.specs.declared.misread.Misread.{Misread}
 use Rattle.cg_frames.specs.Reading.{inside_at, with_place, with_size, sized_at, frame_at}
-use Rattle.cg_frames.specs.Spelling.{four_bytes}
+use Rattle.cg_entry.specs.Section.{four_bytes}
 
 sized_again : (layout : Layout) (inside rest : List ℕ) (m : Message) → length inside ≤ layout.length → inside_at layout inside ≡ Ok m → sized_at layout (length inside) (inside ++ rest) ≡ Ok (Some (m, 4 + length inside))
 sized_again layout inside rest m short read =

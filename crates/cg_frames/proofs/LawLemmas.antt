@@ -24,12 +24,14 @@ use Rattle.cg_messages.specs.Kind.{kind_of}
 use Rattle.cg_messages.specs.Members.{endpoints_of_requests, endpoints_of_deltas}
 use Rattle.cg_messages.specs.Values.{RequestValue, SynValue}
 use Rattle.cg_frames.specs.declared.layout.Layout.{Layout}
-use Rattle.cg_frames.specs.declared.layout.TheConstants.{LAYOUT_1, LAYOUT_2, LAYOUT_3, LAYOUTS, TOMBSTONE}
+use Rattle.cg_frames.specs.declared.layout.TheConstants.{LAYOUT_1, LAYOUT_2, LAYOUT_3, LAYOUTS}
+use Rattle.cg_entry.specs.declared.spelled.TheConstants.{TOMBSTONE}
 use Rattle.cg_frames.specs.declared.misread.Misread.{Misread}
 use Rattle.cg_types.specs.ResultSteps.{◌>>=◌}
 use Rattle.cg_frames.specs.Fields.{Field}
 use Rattle.cg_frames.specs.Reading.{whole_field, as_message, layout_at, kind_from, kind_at, of_kind, syn_at, inside_at, frame_at, ack_at, ack2_at}
-use Rattle.cg_frames.specs.Spelling.{two_bytes, four_bytes, digest, request, state, delta, members, cluster, kind, body, message, inside, frame}
+use Rattle.cg_entry.specs.Section.{two_bytes, four_bytes, state}
+use Rattle.cg_frames.specs.Spelling.{digest, request, delta, members, cluster, kind, body, message, inside, frame}
 use Rattle.cg_frames.specs.Fits.{Fits}
 use Rattle.cg_frames.proofs.FitsFields.{FitsValue, FitsState, FitsDelta, FitsMembers, FitsSyn, FitsFields}
 use Rattle.cg_frames.proofs.FitsLemmas.{fields_of}
@@ -42,7 +44,8 @@ use Rattle.cg_frames.proofs.SpelledIsReadLemmas.{byte_again, length_keys, syn_ag
 use Rattle.cg_entry.specs.Entry.{text_size}
 use Rattle.cg_entry.proofs.FewLemmas.{states_few}
 use Rattle.cg_frames.proofs.SpelledIsReadLists.{ack_again, ack2_again}
-use Rattle.cg_frames.proofs.LengthLemmas.{length-two_bytes, length-four_bytes, length-state, length-delta, length-digests, length-requests}
+use Rattle.cg_entry.proofs.SectionLemmas.{length-two_bytes, length-four_bytes, length-state}
+use Rattle.cg_frames.proofs.LengthLemmas.{length-delta, length-digests, length-requests}
 use Rattle.cg_frames.proofs.FrameLemmas.{frame_again}
 use Rattle.cg_frames.proofs.ReadIsSpelledParts.{ok_is}
 
@@ -62,7 +65,7 @@ each_short spell Fits most short (x ∷ xs) all =
     rw (flat_map-cons spell x xs) (omega (arith, length-append (spell x) (flat_map spell xs), short x all.0, each_short spell Fits most short xs all.1))
 
 -- few members of which each is short
-short_members : {X : Type 0} (spell : X → List ℕ) (Fits : X → Type 0) (most : ℕ) → ((x : X) → Fits x → length (spell x) ≤ most) → (count : ℕ) (xs : List X) → AllByRecursion Fits xs → length xs ≤ count → length (flat_map spell xs) ≤ count * most
+pub short_members : {X : Type 0} (spell : X → List ℕ) (Fits : X → Type 0) (most : ℕ) → ((x : X) → Fits x → length (spell x) ≤ most) → (count : ℕ) (xs : List X) → AllByRecursion Fits xs → length xs ≤ count → length (flat_map spell xs) ≤ count * most
 short_members spell Fits most short count xs all few = le_trans (each_short spell Fits most short xs all) (mul-le (length xs) most count most few (omega arith))
 
 delta_short : (layout : Layout) (d : OwnerDelta) → FitsDelta layout d → length (delta d) ≤ delta_most layout

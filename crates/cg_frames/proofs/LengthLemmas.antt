@@ -1,28 +1,18 @@
 -- Lengths of spellings.
-use Rattle.std.proofs.Common.{◌≡◌, ℕ, ◌+◌, ◌*◌, ◌<◌, ◌≤◌, List, [], ◌∷◌, ◌++◌, length, get_or, zero, suc, Option, Some, None, refl, sym, ap, ◌∙◌, take, arith, length-append}
-use Rattle.std.specs.Prelude.{sum_by}
+use Rattle.std.proofs.Common.{◌≡◌, ℕ, ◌+◌, ◌*◌, ◌<◌, ◌≤◌, List, [], ◌∷◌, ◌++◌, length, get_or, zero, suc, refl, sym, ap, ◌∙◌, take, drop, arith, length-append}
 use Rattle.std.specs.FinMap.{entries}
 use Rattle.std.proofs.lemmas.List.{take_all}
-use Rattle.std.proofs.lemmas.List.Sums.{sum_by-cons}
+use Rattle.std.proofs.Math.ListN.{set}
 use Rattle.cg_entry.specs.declared.state.State.{State}
 use Rattle.cg_entry.specs.State.{pair, pairs}
 use Rattle.std.specs.List.{flat_map}
 use Rattle.std.proofs.lemmas.List.Concat.{flat_map-cons}
-use Rattle.cg_entry.specs.Entry.{text_size}
-use Rattle.cg_entry.specs.Versioned.{Versioned}
 use Rattle.cg_entry.specs.declared.digest.Digest.{Digest}
 use Rattle.cg_messages.specs.declared.owner_delta.OwnerDelta.{OwnerDelta}
 use Rattle.cg_messages.specs.Values.{RequestValue}
-use Rattle.cg_frames.specs.declared.layout.TheConstants.{TOMBSTONE}
-use Rattle.cg_frames.specs.Spelling.{two_bytes, four_bytes, endpoint, digest, request, value, state, delta, members}
-
-pub length-two_bytes : (n : ℕ) → length (two_bytes n) ≡ 2
-unfolding two_bytes
-length-two_bytes n = refl
-
-pub length-four_bytes : (n : ℕ) → length (four_bytes n) ≡ 4
-unfolding four_bytes
-length-four_bytes n = refl
+use Rattle.cg_entry.specs.Section.{two_bytes, four_bytes, state}
+use Rattle.cg_entry.proofs.SectionLemmas.{length-two_bytes, length-four_bytes}
+use Rattle.cg_frames.specs.Spelling.{endpoint, digest, request, delta, members}
 
 pub length-endpoint : (e : ℕ) → length (endpoint e) ≡ 6
 unfolding two_bytes four_bytes
@@ -44,13 +34,6 @@ pub length-requests : (rs : List RequestValue) → length (flat_map request rs) 
 length-requests [] = refl
 length-requests (r ∷ rs) = rw (flat_map-cons request r rs) (omega (arith, length-append (request r) (flat_map request rs), length-request r, length-requests rs))
 
-length-value : (o : Option (List ℕ)) → length (value o) ≡ 2 + text_size o
-length-value (Some t) = omega (arith, length-append (two_bytes (length t)) t, length-two_bytes (length t))
-length-value None = length-two_bytes TOMBSTONE
-
-pub length-state : (s : ℕ × Versioned) → length (state s) ≡ 7 + text_size s.1.text
-length-state s = omega (arith, length-append (four_bytes s.1.version) (value s.1.text), length-four_bytes s.1.version, length-value s.1.text)
-
 pub length-delta : (d : OwnerDelta) → length (delta d) ≡ 19 + length (flat_map state (entries d.delta.states))
 length-delta d =
     let es = entries d.delta.states in
@@ -69,14 +52,6 @@ length-delta d =
       length-four_bytes d.delta.above,
       length-four_bytes d.delta.heartbeat,
     )
-
--- of each state seven bytes, and its text's
-pub length-states : (es : List (ℕ × Versioned)) → length (flat_map state es) ≡ 7 * length es + sum_by (λ (e : ℕ × Versioned). text_size e.1.text) es
-length-states [] = refl
-length-states (e ∷ es) =
-    let size : ℕ × Versioned → ℕ = λ e. text_size e.1.text in
-    let step : length (state e) + length (flat_map state es) ≡ 7 * suc (length es) + (text_size e.1.text + sum_by size es) = omega (arith, length-state e, length-states es) in
-    ap length (flat_map-cons state e es) ∙ length-append (state e) (flat_map state es) ∙ step ∙ ap (λ (n : ℕ). 7 * suc (length es) + n) (sym (sum_by-cons size e es))
 
 -- ---- counted members
 
@@ -101,3 +76,14 @@ spelled_pairs (s ∷ ss) = flat_map-cons (λ (t : State). state (pair t)) s ss �
 
 pub all_spelled : (i : ℕ) (ss : List State) → length ss ≤ i → flat_map (λ (s : State). state (pair s)) (take i ss) ≡ flat_map state (pairs ss)
 all_spelled i ss le = ap (flat_map (λ (s : State). state (pair s))) (take_all i ss le) ∙ spelled_pairs ss
+
+-- ---- a length in the place of the first four bytes
+
+pub put_at_front : (n : ℕ) (xs : List ℕ) → 4 ≤ length xs
+    → set (set (set (set xs 0 (get_or (four_bytes n) 0 0)) 1 (get_or (four_bytes n) 1 0)) 2 (get_or (four_bytes n) 2 0)) 3 (get_or (four_bytes n) 3 0) ≡ four_bytes n ++ drop 4 xs
+unfolding four_bytes
+put_at_front n [] le = absurd (omega arith)
+put_at_front n (a ∷ []) le = absurd (omega arith)
+put_at_front n (a ∷ b ∷ []) le = absurd (omega arith)
+put_at_front n (a ∷ b ∷ c ∷ []) le = absurd (omega arith)
+put_at_front n (a ∷ b ∷ c ∷ d ∷ xs) le = refl

@@ -1,4 +1,5 @@
 pub mod ListLemmas
+pub mod KnownLemmas
 pub mod LengthLemmas
 pub mod FitsFields
 pub mod ReadIsSpelledParts
@@ -9,6 +10,7 @@ pub mod SpelledIsReadLists
 pub mod FrameLemmas
 pub mod ReadIsSpelledLemmas
 pub mod ReadIsSpelledMembers
+pub mod SectionLemmas
 pub mod ReadIsSpelledFrames
 pub mod LawLemmas
 pub mod FitsLemmas

@@ -22,7 +22,8 @@ use Rattle.cg_frames.specs.Fields.{Field, number_at}
 use Rattle.cg_frames.specs.Lists.{digest_at, request_at, delta_at, listed_requests_at, listed_deltas_at}
 use Rattle.cg_frames.specs.Reading.{syn_at, ack_at, ack2_at, whole_field, as_message, layout_at, kind_from, kind_at, of_kind, inside_at, frame_at}
 use Rattle.cg_frames.specs.Choosing.{expected_layout, frame_among, IsOneOf, AreRead}
-use Rattle.cg_frames.specs.Spelling.{four_bytes, digest, request, delta, cluster, members, number_of_kind, kind, body, inside, frame}
+use Rattle.cg_entry.specs.Section.{four_bytes}
+use Rattle.cg_frames.specs.Spelling.{digest, request, delta, cluster, members, number_of_kind, kind, body, inside, frame}
 use Rattle.cg_entry.specs.Contents.{IsDigest}
 use Rattle.cg_messages.specs.Contents.{IsRequest}
 use Rattle.cg_frames.specs.Layouts.{IsRead}

@@ -20,7 +20,8 @@ use Rattle.cg_frames.specs.declared.misread.Misread.{Misread}
 use Rattle.cg_types.specs.ResultSteps.{◌>>=◌}
 use Rattle.cg_frames.specs.Fields.{Field, bytes_at, number_at, endpoint_at, ranged_at, plain_at, name_at, count_at}
 use Rattle.cg_frames.specs.Lists.{digest_at, rising_at}
-use Rattle.cg_frames.specs.Spelling.{two_bytes, four_bytes, endpoint, digest, members}
+use Rattle.cg_entry.specs.Section.{two_bytes, four_bytes}
+use Rattle.cg_frames.specs.Spelling.{endpoint, digest, members}
 use Rattle.cg_entry.specs.Contents.{IsDigest}
 use Rattle.cg_frames.proofs.FitsFields.{FitsMembers}
 use Rattle.cg_frames.specs.Laws.{AreBytes}

@@ -19,11 +19,12 @@ use Rattle.cg_entry.proofs.DeltaLemmas.{greatest_over}
 use Rattle.cg_messages.specs.declared.owner_delta.OwnerDelta.{OwnerDelta}
 use Rattle.cg_messages.specs.Values.{RequestValue}
 use Rattle.cg_frames.specs.declared.layout.Layout.{Layout}
-use Rattle.cg_frames.specs.declared.layout.TheConstants.{TOMBSTONE}
+use Rattle.cg_entry.specs.declared.spelled.TheConstants.{TOMBSTONE}
 use Rattle.cg_frames.specs.declared.misread.Misread.{Misread}
 use Rattle.cg_frames.specs.Fields.{Field, number_at, plain_at, some_text, tombstone_or_fault, value_from, key_at, state_count_at, value_at}
 use Rattle.cg_frames.specs.Lists.{request_at, state_at, carries, delta_at}
-use Rattle.cg_frames.specs.Spelling.{two_bytes, four_bytes, endpoint, request, value, state, delta}
+use Rattle.cg_entry.specs.Section.{two_bytes, four_bytes, value, state}
+use Rattle.cg_frames.specs.Spelling.{endpoint, request, delta}
 use Rattle.cg_messages.specs.Contents.{IsRequest}
 use Rattle.cg_frames.proofs.FitsFields.{FitsValue, FitsState, FitsDelta}
 use Rattle.cg_frames.specs.Laws.{AreBytes}

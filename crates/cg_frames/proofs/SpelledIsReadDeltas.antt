@@ -15,12 +15,13 @@ use Rattle.cg_entry.specs.Entry.{greatest_of}
 use Rattle.cg_entry.proofs.FewLemmas.{states_few}
 use Rattle.cg_messages.specs.declared.owner_delta.OwnerDelta.{OwnerDelta}
 use Rattle.cg_frames.specs.declared.layout.Layout.{Layout}
-use Rattle.cg_frames.specs.declared.layout.TheConstants.{TOMBSTONE}
+use Rattle.cg_entry.specs.declared.spelled.TheConstants.{TOMBSTONE}
 use Rattle.cg_types.specs.declared.limits.TheConstants.{STATE_LIMIT}
 use Rattle.cg_types.specs.ResultSteps.{◌>>=◌}
 use Rattle.cg_frames.specs.Fields.{Field, state_count_at}
 use Rattle.cg_frames.specs.Lists.{state_at, states_at, carries, delta_from, delta_at}
-use Rattle.cg_frames.specs.Spelling.{four_bytes, endpoint, state, delta}
+use Rattle.cg_entry.specs.Section.{four_bytes, state}
+use Rattle.cg_frames.specs.Spelling.{endpoint, delta}
 use Rattle.cg_frames.proofs.FitsFields.{FitsState, FitsDelta}
 use Rattle.cg_frames.proofs.SpelledIsReadLemmas.{byte_again, ranged_again, endpoint_again, rising_again}
 use Rattle.cg_frames.proofs.LengthLemmas.{spelled_pairs}

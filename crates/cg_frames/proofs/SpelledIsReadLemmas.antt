@@ -25,7 +25,8 @@ use Rattle.cg_frames.specs.Reading.{syn_at}
 use Rattle.cg_entry.specs.Contents.{IsDigest}
 use Rattle.cg_frames.proofs.FitsFields.{FitsSyn}
 use Rattle.cg_frames.proofs.ReadIsSpelledParts.{syn_made, after_count, after_partitioner, after_name}
-use Rattle.cg_frames.specs.Spelling.{two_bytes, four_bytes, endpoint, digest, members, body}
+use Rattle.cg_entry.specs.Section.{two_bytes, four_bytes}
+use Rattle.cg_frames.specs.Spelling.{endpoint, digest, members, body}
 
 pub bytes_again : (n : ℕ) (front rest : List ℕ) → length front ≡ n → bytes_at n (front ++ rest) ≡ Ok (front, rest)
 bytes_again n front rest len =

@@ -9,11 +9,12 @@ use Rattle.cg_entry.specs.declared.state.State.{State}
 use Rattle.cg_entry.specs.State.{pair}
 use Rattle.cg_messages.specs.Values.{RequestValue}
 use Rattle.cg_frames.specs.declared.layout.Layout.{Layout}
-use Rattle.cg_frames.specs.declared.layout.TheConstants.{TOMBSTONE}
+use Rattle.cg_entry.specs.declared.spelled.TheConstants.{TOMBSTONE}
 use Rattle.cg_types.specs.ResultSteps.{◌>>=◌}
 use Rattle.cg_frames.specs.Fields.{Field, held_at, key_from, key_at, version_above_at, value_at}
 use Rattle.cg_frames.specs.Lists.{request_at, state_at}
-use Rattle.cg_frames.specs.Spelling.{two_bytes, four_bytes, endpoint, request, text, value, state}
+use Rattle.cg_entry.specs.Section.{two_bytes, four_bytes, text, value, state}
+use Rattle.cg_frames.specs.Spelling.{endpoint, request}
 use Rattle.cg_messages.specs.Contents.{IsRequest}
 use Rattle.cg_frames.proofs.FitsFields.{FitsValue, FitsState}
 use Rattle.cg_types.specs.declared.fault.Cause.TheVariants as causes

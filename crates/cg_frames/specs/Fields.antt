@@ -9,7 +9,7 @@ use Rattle.cg_types.specs.ResultSteps.{◌>>=◌}
 use Rattle.cg_types.specs.Rising.{is_past}
 use Rattle.cg_types.specs.Text.{plain}
 use Rattle.cg_frames.specs.declared.layout.Layout.{Layout}
-use Rattle.cg_frames.specs.declared.layout.TheConstants.{TOMBSTONE}
+use Rattle.cg_entry.specs.declared.spelled.TheConstants.{TOMBSTONE}
 use Rattle.cg_frames.specs.declared.misread.Misread.{Misread}
 
 -- A field is a value and the bytes after it.

@@ -2,7 +2,7 @@
 use Rattle.std.specs.Prelude.{◌≡◌, ◌<◌, ◌≤◌, ◌^◌, true}
 use Rattle.cg_types.specs.declared.limits.TheConstants.{MEMBER_LIMIT, TEXT_LIMIT}
 use Rattle.cg_frames.specs.declared.layout.Layout.{Layout}
-use Rattle.cg_frames.specs.declared.layout.TheConstants.{TOMBSTONE}
+use Rattle.cg_entry.specs.declared.spelled.TheConstants.{TOMBSTONE}
 use Rattle.cg_frames.specs.Lengths.{greatest_length}
 
 -- Counts and lengths fit into their bytes, with no text as long as a tombstone's length says, and each message that the

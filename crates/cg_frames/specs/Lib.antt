@@ -14,6 +14,7 @@ pub use Rattle.cg_types.specs.Answer
 pub use Rattle.cg_types.specs.Numbers
 pub use Rattle.cg_types.specs.Text
 pub use Rattle.cg_entry.specs.State
+pub use Rattle.cg_entry.specs.Section
 pub use Rattle.cg_messages.specs.Contents
 pub use Rattle.cg_messages.specs.Borrowed
 pub use Rattle.cg_messages.specs.Messages

@@ -1,5 +1,5 @@
 -- Answers of a reader, beside the values that reading gives.
-use Rattle.std.specs.Prelude.{◌≡◌, ℕ, true, false, List, length, Result, Ok, Err, IsOk, ◌==◌}
+use Rattle.std.specs.Prelude.{◌≡◌, ℕ, ◌-◌, true, false, List, [], length, drop, Result, Ok, Err, IsOk, ◌==◌}
 use Rattle.cg_types.specs.declared.fault.Cause.TheVariants as causes
 use Rattle.cg_frames.specs.declared.misread.Misread.{Misread}
 use Rattle.cg_frames.specs.declared.misread.ReadError.{ReadError}
@@ -48,3 +48,16 @@ Checks (Err m) read = read ≡ Err m
 abbrev pub GivesWhole : {X Y : Type 0} → (X → Y) → Result X ReadError → Result Y Misread → Type 0
 GivesWhole view (Ok x) read = read ≡ Ok (view x)
 GivesWhole view (Err e) read = Fails e read
+
+-- Of some bytes alone reading gives the same as of all, and leaves nothing of them; of all it leaves these.
+abbrev pub GivesAlone : {A : Type 0} → Field A → List ℕ → Field A → Type 0
+GivesAlone (Ok x) rest alone = (x.1 ≡ rest) × (alone ≡ Ok (x.0, []))
+GivesAlone (Err m) rest alone = ⊥
+
+-- the part of the bytes that is read, up to the rest
+abbrev pub IsCutOut : {A : Type 0} → (List ℕ → Field A) → List ℕ → List ℕ → List ℕ → Type 0
+IsCutOut read bytes rest part = GivesAlone (read bytes) rest (read part)
+
+-- The bytes end with these.
+abbrev pub IsEndOf : List ℕ → List ℕ → Type 0
+IsEndOf bytes rest = drop (length bytes - length rest) bytes ≡ rest

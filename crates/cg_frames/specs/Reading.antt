@@ -15,7 +15,8 @@ use Rattle.cg_frames.specs.declared.misread.Misread.{Misread}
 use Rattle.cg_frames.specs.Spelling.{number_of_kind}
 pub use Rattle.cg_frames.specs.Fields.{Field, wrong, bytes_at, number_at, count_at, endpoint_from, endpoint_at, ranged_at, generation_at, version_at, heartbeat_at, held_at, version_above_at, plain_at, name_at, key_from, key_at, state_count_at, tombstone_or_fault, value_at}
 pub use Rattle.cg_frames.specs.Lists.{digest_at, request_at, state_at, rising_at, digests_at, requests_at, states_at, carries, delta_from, delta_at, deltas_at, listed_requests_at, listed_deltas_at}
-pub use Rattle.cg_frames.specs.Readers.{Reads, part_of_field, behind, Passes, Fails, GivesField, FindsEnd, Checks, GivesWhole}
+pub use Rattle.cg_frames.specs.Readers.{Reads, part_of_field, behind, Passes, Fails, GivesField, FindsEnd, Checks, GivesWhole, GivesAlone, IsCutOut, IsEndOf}
+pub use Rattle.cg_entry.specs.Section.{StandsIn}
 
 unfoldable pub syn_at : Layout → List ℕ → Field SynValue
 syn_at layout bytes = do

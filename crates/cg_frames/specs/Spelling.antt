@@ -1,11 +1,7 @@
 -- The one spelling of each message in a layout.
-use Rattle.std.specs.Prelude.{ℕ, List, [], ◌∷◌, ◌++◌, length, Option, Some, None}
+use Rattle.std.specs.Prelude.{ℕ, List, [], ◌∷◌, ◌++◌, length}
 use Rattle.std.specs.List.{flat_map}
-use Rattle.std.specs.Int.{w16, w32, to_be_bytes}
-use Rattle.std.specs.FinMap as map
-use Rattle.cg_types.specs.Numbers.{address_of, port_of}
 use Rattle.cg_types.specs.Text.{ClusterValue}
-use Rattle.cg_entry.specs.Versioned.{Versioned}
 use Rattle.cg_entry.specs.declared.digest.Digest.{Digest}
 use Rattle.cg_messages.specs.declared.owner_delta.OwnerDelta.{OwnerDelta}
 use Rattle.cg_messages.specs.declared.message.Message.{Message}
@@ -15,18 +11,7 @@ use Rattle.cg_messages.specs.declared.kind.Kind.TheVariants as kinds
 use Rattle.cg_messages.specs.Kind.{kind_of}
 use Rattle.cg_messages.specs.Values.{RequestValue}
 use Rattle.cg_frames.specs.declared.layout.Layout.{Layout}
-use Rattle.cg_frames.specs.declared.layout.TheConstants.{TOMBSTONE}
-
--- Numbers, the greatest byte first. They stay closed, so that goals name the number and not its bytes.
-unfoldable pub two_bytes : ℕ → List ℕ
-two_bytes n = to_be_bytes w16 n
-
-unfoldable pub four_bytes : ℕ → List ℕ
-four_bytes n = to_be_bytes w32 n
-
--- six bytes
-abbrev pub endpoint : ℕ → List ℕ
-endpoint e = four_bytes (address_of e) ++ two_bytes (port_of e)
+pub use Rattle.cg_entry.specs.Section.{two_bytes, four_bytes, text, value, state, endpoint, delta_about}
 
 abbrev pub digest : Digest → List ℕ
 digest d = endpoint d.endpoint ++ four_bytes d.generation ++ four_bytes d.newest
@@ -34,22 +19,8 @@ digest d = endpoint d.endpoint ++ four_bytes d.generation ++ four_bytes d.newest
 abbrev pub request : RequestValue → List ℕ
 request r = endpoint r.endpoint ++ four_bytes r.generation ++ four_bytes r.version
 
--- two bytes of length, and that many bytes
-abbrev pub text : List ℕ → List ℕ
-text bytes = two_bytes (length bytes) ++ bytes
-
--- a state's value: a text, or the length of a tombstone, which no bytes follow
-abbrev pub value : Option (List ℕ) → List ℕ
-value (Some bytes) = text bytes
-value None = two_bytes TOMBSTONE
-
-abbrev pub state : ℕ × Versioned → List ℕ
-state s = s.0 ∷ (four_bytes s.1.version ++ value s.1.text)
-
 abbrev pub delta : OwnerDelta → List ℕ
-delta d =
-    endpoint d.endpoint ++ (four_bytes d.delta.generation ++ (four_bytes d.delta.above ++ (four_bytes d.delta.heartbeat
-    ++ (length (map.entries d.delta.states) ∷ flat_map state (map.entries d.delta.states)))))
+delta d = delta_about d.endpoint d.delta
 
 -- two bytes of count, and the members
 abbrev pub members : {X : Type 0} → (X → List ℕ) → List X → List ℕ

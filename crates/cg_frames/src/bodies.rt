@@ -1,6 +1,6 @@
 //! The bytes after the length of a frame: checked with no memory, and read.
 
-ghost use Rattle.std.specs.Prelude.{◌≡◌, Ok};
+ghost use Rattle.std.specs.Prelude.{◌≡◌, Ok, IsOk, true};
 ghost use Rattle.cg_types.specs.Text.{cluster_of};
 ghost use Rattle.cg_messages.specs.declared.message.Message.TheVariants as messages;
 ghost use Rattle.cg_frames.specs.Layouts.{IsRead};
@@ -135,21 +135,29 @@ fn listed_deltas_of(
     alloc: Global,
     layout: &Layout,
     reader: &mut Reader<'_>,
+    known: bool,
 ) -> Result<Vec<OwnerDelta>, ReadError>
-    requires { IsRead layout.now }
+    requires layout { IsRead layout.now }
+    requires known { known ≡ true → IsOk (spec.listed_deltas_at layout.now reader.old) }
     ensures { spec.GivesField (λ v. v.items) result reader.new (spec.listed_deltas_at layout.now reader.old) }
 {
     let count = reader.count(layout)?;
-    deltas_of(alloc, layout, reader, count)
+    deltas_of(alloc, layout, reader, count, known)
 }
 
 #[tactic(auto, unfolding(crate::specs::Reading::ack_at))]
-fn ack_of(alloc: Global, layout: &Layout, reader: &mut Reader<'_>) -> Result<Ack, ReadError>
-    requires { IsRead layout.now }
+fn ack_of(
+    alloc: Global,
+    layout: &Layout,
+    reader: &mut Reader<'_>,
+    known: bool,
+) -> Result<Ack, ReadError>
+    requires layout { IsRead layout.now }
+    requires known { known ≡ true → IsOk (spec.ack_at layout.now reader.old) }
     ensures { spec.GivesField (λ a. a) result reader.new (spec.ack_at layout.now reader.old) }
 {
     let requests = listed_requests_of(alloc, layout, reader)?;
-    let deltas = listed_deltas_of(alloc, layout, reader)?;
+    let deltas = listed_deltas_of(alloc, layout, reader, known)?;
     match Ack::new(requests, deltas) {
         Some(ack) => Ok(ack),
         None => unreachable!(),
@@ -157,11 +165,17 @@ fn ack_of(alloc: Global, layout: &Layout, reader: &mut Reader<'_>) -> Result<Ack
 }
 
 #[tactic(auto, unfolding(crate::specs::Reading::ack2_at))]
-fn ack2_of(alloc: Global, layout: &Layout, reader: &mut Reader<'_>) -> Result<Ack2, ReadError>
-    requires { IsRead layout.now }
+fn ack2_of(
+    alloc: Global,
+    layout: &Layout,
+    reader: &mut Reader<'_>,
+    known: bool,
+) -> Result<Ack2, ReadError>
+    requires layout { IsRead layout.now }
+    requires known { known ≡ true → IsOk (spec.ack2_at layout.now reader.old) }
     ensures { spec.GivesField (λ a. a) result reader.new (spec.ack2_at layout.now reader.old) }
 {
-    let deltas = listed_deltas_of(alloc, layout, reader)?;
+    let deltas = listed_deltas_of(alloc, layout, reader, known)?;
     match Ack2::new(deltas) {
         Some(ack) => Ok(ack),
         None => unreachable!(),
@@ -177,35 +191,53 @@ fn whole_syn_of(alloc: Global, layout: &Layout, reader: &mut Reader<'_>) -> Resu
     Ok(syn)
 }
 
-fn whole_ack_of(alloc: Global, layout: &Layout, reader: &mut Reader<'_>) -> Result<Ack, ReadError>
-    requires { IsRead layout.now }
+fn whole_ack_of(
+    alloc: Global,
+    layout: &Layout,
+    reader: &mut Reader<'_>,
+    known: bool,
+) -> Result<Ack, ReadError>
+    requires layout { IsRead layout.now }
+    requires known { known ≡ true → IsOk (spec.ack_at layout.now reader.old) }
     ensures { spec.GivesWhole (λ a. a) result (spec.whole_field (spec.ack_at layout.now reader.old)) }
 {
-    let ack = ack_of(alloc, layout, reader)?;
+    let ack = ack_of(alloc, layout, reader, known)?;
     reader.end()?;
     Ok(ack)
 }
 
-fn whole_ack2_of(alloc: Global, layout: &Layout, reader: &mut Reader<'_>) -> Result<Ack2, ReadError>
-    requires { IsRead layout.now }
+fn whole_ack2_of(
+    alloc: Global,
+    layout: &Layout,
+    reader: &mut Reader<'_>,
+    known: bool,
+) -> Result<Ack2, ReadError>
+    requires layout { IsRead layout.now }
+    requires known { known ≡ true → IsOk (spec.ack2_at layout.now reader.old) }
     ensures { spec.GivesWhole (λ a. a) result (spec.whole_field (spec.ack2_at layout.now reader.old)) }
 {
-    let ack2 = ack2_of(alloc, layout, reader)?;
+    let ack2 = ack2_of(alloc, layout, reader, known)?;
     reader.end()?;
     Ok(ack2)
 }
 
-/// Reads the message in the bytes after the length.
+/// Reads the message in the bytes after the length. If it is known that they are one, no text of a state is looked at.
 #[tactic(auto, unfolding(crate::specs::Reading::inside_at))]
-pub(crate) fn read(alloc: Global, layout: &Layout, inside: &[u8]) -> Result<Message, ReadError>
-    requires { IsRead layout.now }
+pub(crate) fn read(
+    alloc: Global,
+    layout: &Layout,
+    inside: &[u8],
+    known: bool,
+) -> Result<Message, ReadError>
+    requires layout { IsRead layout.now }
+    requires known { known ≡ true → IsOk (spec.inside_at layout.now inside.now) }
     ensures { spec.GivesWhole (λ m. m) result (spec.inside_at layout.now inside.now) }
 {
     let mut reader = Reader::new(inside);
     reader.layout(layout)?;
     match reader.kind()? {
         Kind::Syn => Ok(Message::Syn(whole_syn_of(alloc, layout, &mut reader)?)),
-        Kind::Ack => Ok(Message::Ack(whole_ack_of(alloc, layout, &mut reader)?)),
-        Kind::Ack2 => Ok(Message::Ack2(whole_ack2_of(alloc, layout, &mut reader)?)),
+        Kind::Ack => Ok(Message::Ack(whole_ack_of(alloc, layout, &mut reader, known)?)),
+        Kind::Ack2 => Ok(Message::Ack2(whole_ack2_of(alloc, layout, &mut reader, known)?)),
     }
 }

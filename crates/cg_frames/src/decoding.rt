@@ -44,7 +44,7 @@ fn read_checked(alloc: Global, layout: &Layout, inside: &[u8]) -> Result<Message
     if let Err(misread) = check(layout, inside) {
         return Err(fault_at(inside.len(), misread));
     }
-    match read(alloc, layout, inside) {
+    match read(alloc, layout, inside, true) {
         Ok(message) => Ok(message),
         Err(ReadError::Memory) => Err(Fault::OutOfMemory),
         Err(ReadError::Misread(misread)) => Err(fault_at(inside.len(), misread)),
@@ -58,7 +58,7 @@ fn read_at_once(alloc: Global, layout: &Layout, inside: &[u8]) -> Result<Message
     ensures { Answers (λ m. m)
         (spec.with_place (length inside.now) (spec.inside_at layout.now inside.now)) result }
 {
-    match read(alloc, layout, inside) {
+    match read(alloc, layout, inside, false) {
         Ok(message) => Ok(message),
         Err(ReadError::Misread(misread)) => Err(fault_at(inside.len(), misread)),
         Err(ReadError::Memory) => match check(layout, inside) {

@@ -1,34 +1,33 @@
 //! Messages written as frames.
 
-ghost use Rattle.std.specs.Prelude.{◌≡◌, ◌++◌, ◌∷◌, [], ◌<◌, ◌^◌, length, IfOk, OnOk};
-ghost use Rattle.std.specs.FinMap as map;
-ghost use Rattle.cg_entry.specs.State.{pair};
-ghost use Rattle.std.specs.List.{AllByRecursion, flat_map};
+ghost use Rattle.std.specs.Prelude.{◌≡◌, ◌++◌, ◌+◌, ◌-◌, ◌<◌, ◌≤◌, ◌^◌, drop, length, IfOk, OnOk};
 ghost use Rattle.cg_messages.specs.declared.message.Message.TheVariants as messages;
-ghost use Rattle.cg_messages.specs.Contents.{IsOwnerDelta};
+ghost use Rattle.cg_messages.specs.declared.owner_delta.OwnerDelta.{OwnerDelta as OwnerDeltaValue};
 ghost use Rattle.cg_messages.specs.Borrowed.{borrowed_message};
 ghost use Rattle.cg_frames.specs.declared.layout.TheConstants.{WRITTEN};
 ghost use Rattle.cg_frames.specs.Fits.{Fits};
 ghost use Rattle.cg_frames.specs.Layouts.{IsLayout, IsWritten};
 ghost use Rattle.cg_frames.specs.Spelling as spec;
 
-use crate::fits::message_fits;
-use crate::layout::{Layout, TOMBSTONE, WRITTEN};
+use crate::fits::{borrowed_ack_fits, message_fits};
+use crate::layout::{Layout, WRITTEN};
 use crate::lengths::message_length;
 use bytes::{BufMut, Bytes};
-use cg_entry::{Delta, Digest, State};
-use cg_messages::{Ack, Ack2, BorrowedMessage, Message, OwnerDelta, Request, Syn};
+use cg_entry::Digest;
+use cg_messages::{
+    Ack, Ack2, BorrowedAck, BorrowedMessage, BorrowedOwnerDelta, Message, OwnerDelta, Request, Syn,
+};
 use cg_types::{Cluster, Endpoint};
 use std::alloc::{AllocError, Global};
 
-#[tactic(auto, unfolding(crate::specs::Spelling::two_bytes))]
+#[tactic(auto, unfolding(cg_entry::specs::Section::two_bytes))]
 fn put_two(out: &mut Vec<u8>, n: u16) -> Result<(), AllocError>
     ensures { OnOk result (out.new.items ≡ out.old.items ++ spec.two_bytes n) }
 {
     out.put_u16(n)
 }
 
-#[tactic(auto, unfolding(crate::specs::Spelling::four_bytes))]
+#[tactic(auto, unfolding(cg_entry::specs::Section::four_bytes))]
 fn put_four(out: &mut Vec<u8>, n: u32) -> Result<(), AllocError>
     ensures { OnOk result (out.new.items ≡ out.old.items ++ spec.four_bytes n) }
 {
@@ -36,7 +35,7 @@ fn put_four(out: &mut Vec<u8>, n: u32) -> Result<(), AllocError>
 }
 
 // The bytes of an endpoint and two numbers: put at once, they take a fraction of the time.
-#[tactic(auto, unfolding(crate::specs::Spelling::two_bytes, crate::specs::Spelling::four_bytes))]
+#[tactic(auto, unfolding(cg_entry::specs::Section::two_bytes, cg_entry::specs::Section::four_bytes))]
 fn member_bytes(endpoint: Endpoint, first: u32, second: u32) -> [u8; 14]
     ensures { result ≡ spec.endpoint endpoint ++ spec.four_bytes first ++ spec.four_bytes second }
 {
@@ -99,90 +98,38 @@ fn put_requests(out: &mut Vec<u8>, requests: &[Request]) -> Result<(), AllocErro
     Ok(())
 }
 
-// The bytes before a state's text: the key, the version and the length.
-#[tactic(auto, unfolding(crate::specs::Spelling::two_bytes, crate::specs::Spelling::four_bytes))]
-fn state_head(key: u8, version: u32, size: u16) -> [u8; 7]
-    ensures { result ≡ key ∷ (spec.four_bytes version ++ spec.two_bytes size) }
-{
-    let mut bytes = [key; 7];
-    bytes[1..5].copy_from_slice(&version.to_be_bytes());
-    bytes[5..].copy_from_slice(&size.to_be_bytes());
-    bytes
+// A member of a list of deltas: owned, or borrowed.
+trait ListedDelta {
+    // the delta about its owner
+    ghost value: { Self → OwnerDeltaValue };
+
+    fn put(&self, out: &mut Vec<u8>) -> Result<(), AllocError>
+        ensures { OnOk result (out.new.items ≡ out.old.items ++ spec.delta (value self.now)) };
 }
 
-fn put_state(out: &mut Vec<u8>, state: &State) -> Result<(), AllocError>
-    ensures { OnOk result (out.new.items ≡ out.old.items ++ spec.state (pair state.now)) }
-{
-    let key = state.key.get();
-    let version = state.version.get();
-    match &state.text {
-        Some(text) => {
-            let text = text.as_str().as_bytes();
-            out.put_slice(&state_head(key, version, text.len() as u16))?;
-            out.put_slice(text)?;
-        }
-        None => out.put_slice(&state_head(key, version, TOMBSTONE))?,
+impl ListedDelta for OwnerDelta {
+    ghost value = { λ d. d };
+
+    fn put(&self, out: &mut Vec<u8>) -> Result<(), AllocError> {
+        self.delta.put(self.endpoint, out)
     }
-    Ok(())
 }
 
-// Writes the states of a delta, in the order of their keys.
-fn put_states(out: &mut Vec<u8>, delta: &Delta) -> Result<(), AllocError>
-    ensures { OnOk result
-        (out.new.items ≡ out.old.items ++ flat_map spec.state (map.entries delta.now.states)) }
-{
-    let states = delta.by_key();
-    for place in 0..states.len() {
-        put_state(out, states.at(place))?;
+impl ListedDelta for BorrowedOwnerDelta<'_> {
+    ghost value = { λ d. d };
+
+    fn put(&self, out: &mut Vec<u8>) -> Result<(), AllocError> {
+        self.delta().put(self.endpoint(), out)
     }
-    Ok(())
 }
 
-// The bytes before a delta's states: the endpoint, the generation, two versions and the count.
-#[tactic(auto, unfolding(crate::specs::Spelling::two_bytes, crate::specs::Spelling::four_bytes))]
-fn delta_head(
-    endpoint: Endpoint,
-    generation: u32,
-    above: u32,
-    heartbeat: u32,
-    count: u8,
-) -> [u8; 19]
-    ensures { result ≡ spec.endpoint endpoint ++ (spec.four_bytes generation ++ (spec.four_bytes above
-        ++ (spec.four_bytes heartbeat ++ (count ∷ [])))) }
-{
-    let mut bytes = [count; 19];
-    bytes[..4].copy_from_slice(&endpoint.address());
-    bytes[4..6].copy_from_slice(&endpoint.port().to_be_bytes());
-    bytes[6..10].copy_from_slice(&generation.to_be_bytes());
-    bytes[10..14].copy_from_slice(&above.to_be_bytes());
-    bytes[14..18].copy_from_slice(&heartbeat.to_be_bytes());
-    bytes
-}
-
-fn put_delta(out: &mut Vec<u8>, delta: &OwnerDelta) -> Result<(), AllocError>
-    requires { IsOwnerDelta delta.now }
-    ensures { OnOk result (out.new.items ≡ out.old.items ++ spec.delta delta.now) }
-{
-    let count = delta.delta.count();
-    out.put_slice(&delta_head(
-        delta.endpoint,
-        delta.delta.generation().get(),
-        delta.delta.above(),
-        delta.delta.heartbeat().get(),
-        count as u8,
-    ))?;
-    put_states(out, &delta.delta)?;
-    Ok(())
-}
-
-fn put_deltas(out: &mut Vec<u8>, deltas: &[OwnerDelta]) -> Result<(), AllocError>
-    requires few { length deltas.now < 2 ^ 16 }
-    requires valid { AllByRecursion IsOwnerDelta deltas.now }
-    ensures { OnOk result (out.new.items ≡ out.old.items ++ spec.members spec.delta deltas.now) }
+fn put_deltas<D: ListedDelta>(out: &mut Vec<u8>, deltas: &[D]) -> Result<(), AllocError>
+    requires { length deltas.now < 2 ^ 16 }
+    ensures { OnOk result (out.new.items ≡ out.old.items ++ spec.members (λ d. spec.delta (D.value d)) deltas.now) }
 {
     put_two(out, deltas.len() as u16)?;
     for delta in deltas {
-        put_delta(out, delta)?;
+        delta.put(out)?;
     }
     Ok(())
 }
@@ -264,4 +211,36 @@ pub fn encode_borrowed(alloc: Global, message: BorrowedMessage<'_>) -> Result<By
     ensures fits { Fits WRITTEN (borrowed_message message.entry) }
 {
     encode_in(alloc, &WRITTEN, message)
+}
+
+// Writes the length of what follows into the first four bytes.
+#[tactic(auto, unfolding(cg_entry::specs::Section::four_bytes))]
+fn put_length(out: &mut Vec<u8>)
+    requires whole { 4 ≤ length out.old.items }
+    requires short { length out.old.items < 4 + 2 ^ 32 }
+    ensures { out.new.items ≡ spec.four_bytes (length out.old.items - 4) ++ drop 4 out.old.items }
+{
+    let size = out.as_slice().len() - 4;
+    let bytes = (size as u32).to_be_bytes();
+    out[0] = bytes[0];
+    out[1] = bytes[1];
+    out[2] = bytes[2];
+    out[3] = bytes[3];
+}
+
+/// Writes the frame of an ACK whose deltas are borrowed into `out`, in place of what that has: the bytes that `encode`
+/// makes of the same ACK. `out` may be kept for the next one, which then takes no memory if it fits.
+///
+/// After `AllocError` `out` may have a part of the frame.
+pub fn encode_ack_into(out: &mut Vec<u8>, ack: &BorrowedAck<'_>) -> Result<(), AllocError>
+    ensures written { OnOk result (out.new.items ≡ spec.frame WRITTEN (messages.Ack ack.now)) }
+    ensures fits { Fits WRITTEN (messages.Ack ack.now) }
+{
+    borrowed_ack_fits(&WRITTEN, ack);
+    out.clear();
+    out.extend_from_slice(&[0, 0, 0, 0, WRITTEN.byte, 2])?;
+    put_requests(out, ack.requests())?;
+    put_deltas(out, ack.deltas())?;
+    put_length(out);
+    Ok(())
 }

@@ -2,7 +2,8 @@
 
 ghost use Rattle.std.specs.Prelude.{◌≡◌, ◌<◌, List, length, true, false};
 ghost use Rattle.cg_frames.specs.declared.layout.Layout.{Layout};
-ghost use Rattle.cg_frames.specs.declared.layout.TheConstants.{LAYOUT_1, LAYOUT_2, LAYOUT_3, LAYOUTS, TOMBSTONE, WRITTEN};
+ghost use Rattle.cg_frames.specs.declared.layout.TheConstants.{LAYOUT_1, LAYOUT_2, LAYOUT_3, LAYOUTS, WRITTEN};
+ghost use Rattle.cg_entry.specs.declared.spelled.TheConstants.{TOMBSTONE};
 ghost use Rattle.cg_frames.specs.Layouts.{IsLayout, IsRead, IsWritten};
 ghost use Rattle.cg_frames.specs.Choosing.{AreLayouts, AreRead, IsOneOf};
 ghost use Rattle.cg_frames.specs.Lengths.{greatest_length};

@@ -16,9 +16,6 @@ pub struct Layout {
     pub tombstones: bool,
 }
 
-/// The length that stands for a tombstone; no text is so long.
-pub const TOMBSTONE: u16 = 65_535;
-
 /// The first layout. Its numbers are its own: members of other versions read and write by them, so a change of what
 /// messages may hold leaves them unchanged.
 pub const LAYOUT_1: Layout = Layout {

@@ -1,19 +1,22 @@
 //! Fields at the start of the rest of a frame, read with no memory.
 
-ghost use Rattle.std.specs.Prelude.{◌≡◌, ◌<◌, ◌≤◌, ◌*◌, ◌^◌, nat_le, true, length, IfOk, IfSome, option_map};
+ghost use Rattle.std.specs.Prelude.{◌≡◌, ◌<◌, ◌≤◌, ◌*◌, ◌^◌, ◌-◌, nat_le, true, length, take, IfOk, IsOk, IfSome, option_map};
+ghost use Rattle.cg_types.specs.declared.fault.Cause.TheVariants as causes;
 ghost use Rattle.cg_types.specs.Text.{plain};
 ghost use Rattle.cg_types.specs.declared.limits.TheConstants.{NAME_LIMIT, NUMBER_LIMIT};
 ghost use Rattle.std.specs.Int.{w8, w16, w32};
+ghost use Rattle.cg_frames.specs.Laws.{AreBytes};
 ghost use Rattle.cg_frames.specs.Reading as spec;
 
-use crate::layout::{Layout, TOMBSTONE};
+use crate::layout::Layout;
 use crate::misread::Misread;
-use cg_entry::Digest;
+use cg_entry::{Digest, TOMBSTONE};
 use cg_messages::{Kind, Request};
 use cg_types::{
     Cause, Endpoint, Generation, NAME_LIMIT, NUMBER_LIMIT, STATE_LIMIT, StateKey, Version, is_plain,
 };
 use std::marker::Model;
+use std::str::from_utf8_unchecked;
 
 /// The rest of a frame.
 #[derive(Drop)]
@@ -27,6 +30,14 @@ impl<'a> Model for Reader<'a> {
     ghost Value = { List ℕ };
 
     ghost view = { λ r. r.rest.now };
+}
+
+/// Tells that these are bytes.
+#[inline(always)]
+pub(crate) fn show_bytes(bytes: &[u8])
+    ensures { AreBytes bytes.now }
+{
+    bytes.len();
 }
 
 impl<'a> Reader<'a> {
@@ -47,6 +58,17 @@ impl<'a> Reader<'a> {
         ensures { result ≡ self.now }
     {
         Reader { rest: self.rest }
+    }
+
+    /// The bytes in front of those that are left to another reader.
+    pub(crate) fn until(&self, other: &Reader<'_>) -> &'a [u8]
+        ensures value { result.now ≡ take (length self.now - length other.now) self.now }
+        ensures bytes { AreBytes self.now }
+    {
+        show_bytes(self.rest);
+        let size = self.rest.len().saturating_sub(other.rest.len());
+        let (front, _) = self.rest.split_at(size);
+        front
     }
 
     /// Tests whether the bytes that are left can hold this number of members, if each has at least `least` bytes.
@@ -348,6 +370,17 @@ impl<'a> Reader<'a> {
         self.plain(len, Cause::Name)
     }
 
+    // Reads this number of bytes, which are known to be plain text.
+    fn known_plain(&mut self, count: usize) -> Result<&'a str, Misread>
+        requires { IsOk (spec.plain_at count causes.Text self.old) }
+        ensures value { spec.Reads (λ x. x.now) result self.new (spec.plain_at count causes.Text self.old) }
+        ensures whole { IfOk result (λ x. length x.now ≡ count) }
+        ensures plain { IfOk result (λ x. plain x.now ≡ true) }
+    {
+        let front = self.bytes(count)?;
+        Ok(known_text(front))
+    }
+
     /// Reads a state's value: a text, with its length before it, or a tombstone.
     #[tactic(auto, unfolding(crate::specs::Fields::value_at))]
     pub(crate) fn value(&mut self, layout: &Layout) -> Result<Option<&'a str>, Misread>
@@ -365,6 +398,34 @@ impl<'a> Reader<'a> {
         let text = self.plain(len, Cause::Text)?;
         Ok(Some(text))
     }
+
+    /// Reads a state's value, as `value` does, of which it is known that it is one: its bytes are not looked at.
+    #[tactic(auto, unfolding(crate::specs::Fields::value_at))]
+    pub(crate) fn known_value(&mut self, layout: &Layout) -> Result<Option<&'a str>, Misread>
+        requires { IsOk (spec.value_at layout.now self.old) }
+        ensures value { spec.Reads (option_map (λ x. x.now)) result self.new (spec.value_at layout.now self.old) }
+        ensures short { IfOk result (λ o. IfSome o (λ x. length x.now ≤ layout.now.text)) }
+        ensures plain { IfOk result (λ o. IfSome o (λ x. plain x.now ≡ true)) }
+    {
+        let left = self.left();
+        let size = self.two()?;
+        let len = size as usize;
+        if len > layout.text {
+            tombstone_or_fault(layout, size, left)?;
+            return Ok(None);
+        }
+        let text = self.known_plain(len)?;
+        Ok(Some(text))
+    }
+}
+
+// Plain text, as a string.
+#[tactic(auto, using(crate::proofs::KnownLemmas::utf8_of_plain))]
+fn known_text(bytes: &[u8]) -> &str
+    requires { plain bytes.now ≡ true }
+    ensures { result.now ≡ bytes.now }
+{
+    unsafe { from_utf8_unchecked(bytes) }
 }
 
 // Tests a length over that of each text, off the way of ordinary texts: it stands for a tombstone, or is a fault.

@@ -18,8 +18,9 @@ use Rattle.cg_entry.specs.Contents.{IsDigest}
 use Rattle.cg_messages.specs.Contents.{IsRequest}
 use Rattle.cg_messages.specs.Values.{RequestValue}
 use Rattle.cg_frames.specs.declared.layout.Layout.{Layout}
-use Rattle.cg_frames.specs.declared.layout.TheConstants.{TOMBSTONE}
-use Rattle.cg_frames.specs.Spelling.{two_bytes, four_bytes, endpoint, digest, request, text, value, state, delta, members, cluster, kind, body, inside, frame}
+use Rattle.cg_entry.specs.declared.spelled.TheConstants.{TOMBSTONE}
+use Rattle.cg_entry.specs.Section.{two_bytes, four_bytes, text, value, state}
+use Rattle.cg_frames.specs.Spelling.{endpoint, digest, request, delta, members, cluster, kind, body, inside, frame}
 use Rattle.cg_frames.specs.Fits.{Fits}
 use Rattle.cg_frames.proofs.FitsFields.{FitsValue, FitsState, FitsDelta, FitsFields}
 use Rattle.cg_frames.proofs.FitsLemmas.{fields_of}

@@ -8,6 +8,7 @@
 mod ack;
 mod ack2;
 mod borrowed;
+mod borrowed_ack;
 mod kind;
 mod message;
 mod opening;
@@ -19,6 +20,7 @@ mod request;
 pub use ack::Ack;
 pub use ack2::Ack2;
 pub use borrowed::BorrowedMessage;
+pub use borrowed_ack::{BorrowedAck, BorrowedOwnerDelta};
 pub use kind::Kind;
 pub use message::Message;
 pub use opening::Syn;

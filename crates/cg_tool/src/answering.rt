@@ -10,13 +10,11 @@ ghost use Rattle.cg_text.specs.Written.{WroteOut};
 ghost use Rattle.cg_tool.specs.Answered.{IsExpectedAnswer, AnswersAll, SaysOutOfMemory};
 
 use crate::request::{Header, request};
-use bytes::Bytes;
-use cg_engine::expected_syn;
+use cg_engine::{answer_frame, expected_syn};
 use cg_entry::Entry;
-use cg_exchange::answer_syn;
-use cg_frames::{decode, encode};
+use cg_frames::decode;
 use cg_links::{Counted, read_all};
-use cg_messages::{Message, Syn};
+use cg_messages::Syn;
 use cg_table::Table;
 use cg_text::written;
 use cg_types::{Cause, Fault, OUT_OF_MEMORY_LINE, READ_FAULT_LINE};
@@ -45,22 +43,22 @@ fn syn_in(alloc: Global, bytes: &[u8]) -> Result<Syn, Fault>
 
 // Returns the frame of the ACK with which a node that has just started answers a frame.
 #[tactic(auto, unfolding(crate::specs::Answer::answer_to_frame))]
-fn answer_frame(alloc: Global, header: &Header, bytes: &[u8]) -> Result<Bytes, Fault>
-    ensures { Gives (λ b. b) result (answer_to_frame header.now bytes.now) }
+fn answer_to_bytes(alloc: Global, header: &Header, bytes: &[u8]) -> Result<Vec<u8>, Fault>
+    ensures { Gives (λ v. v.items) result (answer_to_frame header.now bytes.now) }
 {
     let syn = syn_in(alloc, bytes)?;
     let entry = Entry::start(alloc, header.generation);
     let table = Table::new(alloc, header.endpoint, entry)?;
-    let ack = answer_syn(alloc, &table, &header.cluster, &syn)?;
-    Ok(encode(alloc, &Message::Ack(ack))?)
+    let frame = answer_frame(alloc, &table, &header.cluster, &syn, Vec::new(alloc))?;
+    Ok(frame)
 }
 
 #[tactic(auto, unfolding(crate::specs::Answer::answer_to))]
-fn answer_bytes(alloc: Global, input: &[u8]) -> Result<Bytes, Fault>
-    ensures { Gives (λ b. b) result (answer_to input.now) }
+fn answer_bytes(alloc: Global, input: &[u8]) -> Result<Vec<u8>, Fault>
+    ensures { Gives (λ v. v.items) result (answer_to input.now) }
 {
     let (header, frame) = request(alloc, input)?;
-    answer_frame(alloc, &header, &frame)
+    answer_to_bytes(alloc, &header, &frame)
 }
 
 // Returns the text that answers the input, and the status.
@@ -70,7 +68,7 @@ fn expected_text(alloc: Global, input: &[u8]) -> Result<(String, u8), AllocError
 {
     match answer_bytes(alloc, input) {
         Ok(bytes) => {
-            let mut text = hex::encode(alloc, bytes.as_slice())?;
+            let mut text = hex::encode(alloc, &bytes)?;
             text.push('\n')?;
             Ok((text, 0))
         }

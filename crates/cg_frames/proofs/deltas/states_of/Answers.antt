@@ -1,19 +1,16 @@
-use Rattle.std.proofs.Common.{None}
-use Rattle.std.proofs.lemmas.Result.{err_from_is_err_and}
-use Rattle.cg_entry.specs.declared.state.State.{State}
-use Rattle.cg_frames.specs.Lists.{states_at, state_at}
-use Rattle.cg_frames.proofs.ListLemmas.{goes_on, ends, is_done}
+use Rattle.std.proofs.Common.{◌≡◌}
+use Rattle.std.specs.Arc.{arc_value}
+use Rattle.std.specs.List.{flat_map}
+use Rattle.cg_entry.specs.Section.{state}
+use Rattle.cg_entry.specs.State.{pairs}
+use Rattle.cg_frames.proofs.SectionLemmas.{lent, copy_spells, spelled_of}
 use Rattle.cg_frames.proofs.deltas.states_of.Goals as goal
 
-pub returns-in_err-state : goal.returns-in_err-state
-returns-in_err-state c =
-    let p = err_from_is_err_and c.from_residual-in_err-state.result c.from_residual-in_err-state.ensures.1 in
-    rw (p.1, p.2) (ends (λ (s : State). s.key) (state_at c.args.layout.now c.args.above) c.in_err-state.field-0.0 c.loop.states.items c.args.count c.loop.counter c.loop.last c.loop.reader (states_at c.args.layout.now c.args.above c.args.count None c.args.reader.now) c.loop-test.true c.in_err-state.ensures c.loop.invariant)
+pub states_in-requires-clause-copy : goal.states_in-requires-clause-copy
+states_in-requires-clause-copy c =
+    lent c.as_ref.result (λ b. b.now) c.in_ok-buffer.buffer (λ b. (arc_value b).items ≡ c.in_ok-section.section.now) c.as_ref.ensures.value c.in_ok-buffer.ensures
 
-pub loop-preserved : goal.loop-preserved
-loop-preserved c =
-    rw c.in_ok-push.ensures.items (goes_on (λ (s : State). s.key) (state_at c.args.layout.now c.args.above) c.loop.states.items c.args.count c.loop.counter c.loop.last c.loop.reader c.in_ok-state.state c.state_of.new.reader (states_at c.args.layout.now c.args.above c.args.count None c.args.reader.now) c.loop-test.true c.in_ok-state.ensures c.loop.invariant)
-
-pub returns : goal.returns
-returns c =
-    is_done (λ (s : State). s.key) (state_at c.args.layout.now c.args.above) c.loop.states.items c.args.count c.loop.counter c.loop.last c.loop.reader (states_at c.args.layout.now c.args.above c.args.count None c.args.reader.now) c.loop-test.false c.loop.invariant
+pub returns-clause-spelled : goal.returns-clause-spelled
+returns-clause-spelled c =
+    let spelled : c.in_ok-section.section.now ≡ flat_map state (pairs c.in_ok-states.states.items) = spelled_of c.args.layout.now c.args.above c.args.count c.in_ok-section.section.now c.in_ok-states.states.items c.show_bytes.ensures c.in_ok-states.ensures in
+    copy_spells c.in_ok-buffer.buffer (λ b. (arc_value b).items) c.in_ok-section.section.now (flat_map state (pairs c.in_ok-states.states.items)) spelled c.in_ok-buffer.ensures

@@ -1,6 +1,7 @@
 use Rattle.std.proofs.Common.{arith}
 use Rattle.std.specs.FinMap.{entries}
-use Rattle.cg_frames.proofs.LengthLemmas.{length-delta, length-states}
+use Rattle.cg_entry.proofs.SectionLemmas.{length-states}
+use Rattle.cg_frames.proofs.LengthLemmas.{length-delta}
 use Rattle.cg_frames.proofs.lengths.delta_length.Goals as goal
 
 pub overflow_mul-result : goal.overflow_mul-result

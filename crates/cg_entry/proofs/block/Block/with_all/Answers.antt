@@ -25,4 +25,4 @@ loop-state-preserved c =
 pub returns : goal.returns
 returns c =
     let rest : List State = take (length c.args.newer.now - 1) (drop 1 c.args.newer.now) in
-    c.in_ok-new.ensures.ok ∙ sym (put_whole rest c.loop-state.state-index c.loop-state.block (omega (arith, c.loop-state-test.false))) ∙ c.loop-state.invariant
+    sym (put_whole rest c.loop-state.state-index c.loop-state.block (omega (arith, c.loop-state-test.false))) ∙ c.loop-state.invariant

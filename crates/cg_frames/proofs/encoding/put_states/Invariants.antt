@@ -1,8 +1,0 @@
-use Rattle.std.proofs.Common.{◌≡◌, ◌++◌, take}
-use Rattle.std.specs.List.{flat_map}
-use Rattle.std.specs.FinMap as map
-use Rattle.cg_frames.specs.Spelling.{state}
-use Rattle.cg_frames.proofs.encoding.put_states.Given as goal
-
-abbrev pub invariant-loop-place : goal.invariant-loop-place
-invariant-loop-place l = l.out.items ≡ l.fn.out.items ++ flat_map state (take l.place (map.entries l.delta.states))
