@@ -3,8 +3,9 @@
 //! With no words it runs each case once and prints a digest of its results, which no clock and no machine changes. With
 //! the word `time` it measures each. With the word `keep` and a number it makes that number of records of heartbeats at
 //! a whole table. It keeps them to its end, so that their memory can be measured from outside. With the word `fold` it
-//! does the same, and folds all but the last hundred whenever a thousand and one hundred are kept. With the word `runs`
-//! it has `World::run` do three starts, and prints how many nodes run then, or that there is no world.
+//! does the same, and folds all but the last hundred whenever a thousand and one hundred are kept. With the word `hold`
+//! it makes a table of so many endpoints whose states came each in a message of its own. With the word `runs` it has
+//! `World::run` do three starts, and prints how many nodes run then, or that there is no world.
 #![tactic(auto)]
 
 mod cases;
@@ -12,12 +13,14 @@ mod claims;
 mod histories;
 mod links;
 mod nodes;
+mod pieces;
 mod runs;
 mod scripts;
 mod work;
 
 use crate::cases::{ALL, LARGEST};
 use crate::histories::kept;
+use crate::pieces::in_pieces;
 use crate::runs::print_run;
 use crate::work::case_of;
 use cg_measure::{Failure, is_first_word, mode_of, run_cases};
@@ -45,12 +48,22 @@ fn keep(rt: &impl Print, alloc: Global, count: u32, full: usize) -> Result<(), F
     Ok(())
 }
 
+// Makes the table of so many endpoints, and prints how many it has.
+fn hold(rt: &impl Print, alloc: Global, count: u32) -> Result<(), Failure> {
+    let table = in_pieces(alloc, count.min(512) as u16)?;
+    println!(rt; "{} endpoints", table.owners().len())?;
+    Ok(())
+}
+
 fn main(rt: HostRuntime) -> Result<(), Failure> {
     if is_first_word(&rt, *b"keep") {
         return keep(&rt, rt.alloc(), second_number(&rt), usize::MAX);
     }
     if is_first_word(&rt, *b"fold") {
         return keep(&rt, rt.alloc(), second_number(&rt), 1100);
+    }
+    if is_first_word(&rt, *b"hold") {
+        return hold(&rt, rt.alloc(), second_number(&rt));
     }
     if is_first_word(&rt, *b"runs") {
         return print_run(&rt, rt.alloc());
