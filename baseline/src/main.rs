@@ -351,10 +351,13 @@ fn rings(mode: Mode) {
     case(mode, "naive_1000_digests_md5", digests, |digest| digest.to_vec());
 }
 
-/// So many texts as states have, made and dropped, put one behind the other, and each behind seven bytes.
+/// So many texts as states have, made and dropped, put one behind the other, and each behind seven bytes. Nothing is shared
+/// here: where ours shares a buffer, each text is made.
 fn texts(mode: Mode, tag: &str, count: usize, text: &str) {
     let made = || (0..count).map(|_| String::from(black_box(text))).collect::<Vec<_>>();
-    case(mode, &format!("naive_texts_made_{tag}"), made, |texts| texts.concat().into_bytes());
+    for how in ["made", "shared"] {
+        case(mode, &format!("naive_texts_{how}_{tag}"), made, |texts| texts.concat().into_bytes());
+    }
     let texts = made();
     let put = || {
         let mut all = Vec::with_capacity(count * text.len());

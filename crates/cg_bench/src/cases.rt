@@ -49,6 +49,8 @@ pub(crate) enum LocalTask {
     /// Computes a thousand MD5s.
     Digests,
     MakeTexts(Texts),
+    /// Makes the texts in buffers, each of which this number of them shares.
+    ShareTexts(Texts, usize),
     /// Joins texts one after the other.
     Put(Texts),
     /// Joins texts one after the other, each after seven bytes, as a state has it.
@@ -251,8 +253,8 @@ pub(crate) const SHAPED: [(&str, &str, GossipTask); 18] = [
     ),
 ];
 
-/// Rings, texts as the library keeps what is shared, windows of silence, and entries.
-pub(crate) const LOCAL: [(&str, &str, &str, LocalTask); 22] = [
+/// Rings, texts in the library's buffers, windows of silence, and entries.
+pub(crate) const LOCAL: [(&str, &str, &str, LocalTask); 25] = [
     ("ring", "build", "256x16", LocalTask::BuildRing),
     ("ring", "moved", "256x16", LocalTask::MoveRing),
     ("1000", "searches", "4096", LocalTask::Places),
@@ -261,6 +263,12 @@ pub(crate) const LOCAL: [(&str, &str, &str, LocalTask); 22] = [
     ("1000", "keys_to_replicas", "rf3", LocalTask::Keys),
     ("1000", "digests", "md5", LocalTask::Digests),
     ("texts", "made", "256x200", LocalTask::MakeTexts(LONG_TEXTS)),
+    (
+        "texts",
+        "shared",
+        "256x200",
+        LocalTask::ShareTexts(LONG_TEXTS, 1),
+    ),
     ("texts", "put", "256x200", LocalTask::Put(LONG_TEXTS)),
     ("texts", "headed", "256x200", LocalTask::Head(LONG_TEXTS)),
     (
@@ -269,6 +277,12 @@ pub(crate) const LOCAL: [(&str, &str, &str, LocalTask); 22] = [
         "4096x64",
         LocalTask::MakeTexts(SHORT_TEXTS),
     ),
+    (
+        "texts",
+        "shared",
+        "4096x64",
+        LocalTask::ShareTexts(SHORT_TEXTS, 16),
+    ),
     ("texts", "put", "4096x64", LocalTask::Put(SHORT_TEXTS)),
     ("texts", "headed", "4096x64", LocalTask::Head(SHORT_TEXTS)),
     (
@@ -276,6 +290,12 @@ pub(crate) const LOCAL: [(&str, &str, &str, LocalTask); 22] = [
         "made",
         "4096x1024",
         LocalTask::MakeTexts(LONGEST_TEXTS),
+    ),
+    (
+        "texts",
+        "shared",
+        "4096x1024",
+        LocalTask::ShareTexts(LONGEST_TEXTS, 16),
     ),
     ("texts", "put", "4096x1024", LocalTask::Put(LONGEST_TEXTS)),
     (

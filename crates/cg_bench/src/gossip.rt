@@ -2,7 +2,8 @@
 
 use crate::frames::read;
 use bytes::Bytes;
-use cg_exchange::{answer_syn, syn, take_ack, take_ack2};
+use cg_engine::answer_frame;
+use cg_exchange::{syn, take_ack, take_ack2};
 use cg_frames::encode;
 use cg_measure::Failure;
 use cg_messages::{Ack, Ack2, Message, Syn};
@@ -36,16 +37,18 @@ pub(crate) fn opened(alloc: Global, table: &Table, cluster: &Cluster) -> Result<
     encode(alloc, &Message::Syn(syn(alloc, table, cluster)?))
 }
 
-/// Returns the frame of the answer to the frame of a SYN.
+/// Returns the frame of the answer to the frame of a SYN, in a buffer with room for this number of bytes, as one has that
+/// keeps its buffer.
 pub(crate) fn answered(
     alloc: Global,
     table: &Table,
     cluster: &Cluster,
     frame: &[u8],
-) -> Result<Bytes, Failure> {
+    room: usize,
+) -> Result<Vec<u8>, Failure> {
     let syn = read_syn(alloc, frame)?;
-    let ack = answer_syn(alloc, table, cluster, &syn)?;
-    Ok(encode(alloc, &Message::Ack(ack))?)
+    let buffer = Vec::with_capacity(alloc, room)?;
+    Ok(answer_frame(alloc, table, cluster, &syn, buffer)?)
 }
 
 /// Returns the table after an ACK came, and the frame of the ACK2.
@@ -61,15 +64,16 @@ pub(crate) fn ended(alloc: Global, table: &Table, ack2: &Ack2) -> Result<Table, 
     Ok(after)
 }
 
-// Returns the answer to the SYN of the opener.
-fn first_answer(
+/// Returns the answer to the SYN of the opener, in a buffer with room for this number of bytes.
+pub(crate) fn first_answer(
     alloc: Global,
     opener: &Table,
     answerer: &Table,
     cluster: &Cluster,
-) -> Result<Bytes, Failure> {
+    room: usize,
+) -> Result<Vec<u8>, Failure> {
     let opening = opened(alloc, opener, cluster)?;
-    answered(alloc, answerer, cluster, &opening)
+    answered(alloc, answerer, cluster, &opening, room)
 }
 
 // Returns the table after the frame of an ACK2 came.
@@ -77,14 +81,15 @@ fn closed(alloc: Global, table: &Table, frame: &[u8]) -> Result<Table, Failure> 
     Ok(ended(alloc, table, &read_ack2(alloc, frame)?)?)
 }
 
-/// Returns both tables after an exchange.
+/// Returns both tables after an exchange, whose ACK is in a buffer with room for this number of bytes.
 pub(crate) fn exchanged(
     alloc: Global,
     opener: &Table,
     answerer: &Table,
     cluster: &Cluster,
+    room: usize,
 ) -> Result<(Table, Table), Failure> {
-    let answer = first_answer(alloc, opener, answerer, cluster)?;
+    let answer = first_answer(alloc, opener, answerer, cluster, room)?;
     let (opener, last) = taken(alloc, opener, &answer)?;
     Ok((opener, closed(alloc, answerer, &last)?))
 }

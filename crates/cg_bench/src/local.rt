@@ -1,10 +1,10 @@
 //! The tasks on rings, texts, windows and entries that are measured: the inputs and the result of each.
 
 use crate::aboves::{asked, bringing, last_above, versions};
-use crate::cases::{Above, LOCAL, LocalTask};
+use crate::cases::{Above, LOCAL, LocalTask, Texts};
 use crate::moving::Moving;
 use crate::rings::{claimed, digests, key_tokens, places, replicas, replicas_of_keys, ring};
-use crate::texts::{copies, headed, joined, room_for, text_of, texts_of};
+use crate::texts::{Buffer, Shared, copies, headed, joined, room_for, share, text_of, texts_of};
 use crate::windows::{heard, last_verdict, silence, verdicts};
 use cg_entry::{Delta, Entry};
 use cg_measure::{CaseName, Failure, Work, add_message, add_ring};
@@ -14,7 +14,7 @@ use cg_tokens::{Ring, Token};
 use cg_types::Endpoint;
 use md5::{Digest, Md5};
 use std::alloc::{AllocError, Global};
-use std::sync::ArcStr;
+use std::ops::Deref;
 
 /// A task of one member alone, with its inputs.
 #[derive(Drop)]
@@ -28,9 +28,11 @@ pub(crate) enum LocalWork {
     Digests,
     /// Makes this number of texts.
     MakeTexts(String, usize),
+    /// Makes this number of buffers of some texts, each of which this number shares.
+    ShareTexts(String, usize, usize),
     /// Joins texts, with room for this number of bytes.
-    Put(Vec<ArcStr<Global>>, usize),
-    Head(Vec<ArcStr<Global>>, usize),
+    Put(Vec<Buffer>, usize),
+    Head(Vec<Buffer>, usize),
     Arrivals(Silence),
     Verdicts(Window),
     /// Asks for what is newer than each version.
@@ -46,7 +48,8 @@ pub(crate) enum Made {
     Digest([u8; 16]),
     Verdict(Verdict),
     Text(Vec<u8>),
-    Texts(Vec<ArcStr<Global>>),
+    Texts(Vec<Buffer>),
+    Shared(Shared),
     Delta(Option<Delta>),
 }
 
@@ -61,9 +64,9 @@ fn add_endpoints(
     Ok(())
 }
 
-fn add_texts(digest: &mut Md5, texts: &[ArcStr<Global>]) {
+fn add_texts(digest: &mut Md5, texts: &[Buffer]) {
     for text in texts {
-        digest.update(text.as_str().as_bytes());
+        digest.update(text.deref());
     }
 }
 
@@ -79,6 +82,9 @@ fn turn_of(alloc: Global, work: &LocalWork) -> Result<Made, AllocError> {
         LocalWork::Keys(ring) => Ok(Made::Replicas(replicas_of_keys(alloc, ring)?)),
         LocalWork::Digests => Ok(Made::Digest(digests())),
         LocalWork::MakeTexts(text, count) => Ok(Made::Texts(copies(alloc, text, *count)?)),
+        LocalWork::ShareTexts(texts, count, each) => {
+            Ok(Made::Shared(share(alloc, texts, *count, *each)?))
+        }
         LocalWork::Put(texts, room) => Ok(Made::Text(joined(alloc, texts, *room)?)),
         LocalWork::Head(texts, room) => Ok(Made::Text(headed(alloc, texts, *room)?)),
         LocalWork::Arrivals(silence) => Ok(Made::Verdict(last_verdict(alloc, *silence)?)),
@@ -98,6 +104,7 @@ fn add_made(alloc: Global, digest: &mut Md5, made: &Made) -> Result<(), Failure>
         Made::Verdict(verdict) => digest.update(verdict.name().as_bytes()),
         Made::Text(text) => digest.update(text),
         Made::Texts(texts) => add_texts(digest, texts),
+        Made::Shared(shared) => add_texts(digest, &shared.buffers),
         Made::Delta(delta) => add_message(alloc, digest, &bringing(alloc, delta.as_ref())?)?,
     }
     Ok(())
@@ -145,6 +152,12 @@ fn aboves_of(alloc: Global, above: Above) -> Result<LocalWork, Failure> {
     Ok(LocalWork::Aboves(entry, versions))
 }
 
+fn share_of(alloc: Global, texts: Texts, each: usize) -> Result<LocalWork, Failure> {
+    let buffers = texts.count.checked_div(each).unwrap_or(0);
+    let all = text_of(alloc, texts, each)?;
+    Ok(LocalWork::ShareTexts(all, buffers, each))
+}
+
 // Makes the work of a task.
 fn work_of(alloc: Global, task: LocalTask) -> Result<LocalWork, Failure> {
     match task {
@@ -155,8 +168,9 @@ fn work_of(alloc: Global, task: LocalTask) -> Result<LocalWork, Failure> {
         LocalTask::Keys => Ok(LocalWork::Keys(ring(alloc)?)),
         LocalTask::Digests => Ok(LocalWork::Digests),
         LocalTask::MakeTexts(texts) => {
-            Ok(LocalWork::MakeTexts(text_of(alloc, texts)?, texts.count))
+            Ok(LocalWork::MakeTexts(text_of(alloc, texts, 1)?, texts.count))
         }
+        LocalTask::ShareTexts(texts, each) => share_of(alloc, texts, each),
         LocalTask::Put(texts) => Ok(LocalWork::Put(texts_of(alloc, texts)?, room_for(texts, 0))),
         LocalTask::Head(texts) => Ok(LocalWork::Head(texts_of(alloc, texts)?, room_for(texts, 7))),
         LocalTask::Arrivals => arrivals_of(silence()),

@@ -2,6 +2,7 @@
 
 use crate::cases::{GossipTask, SHAPED, SMALL, SMALL_SHAPE, WIDE, WIDE_SHAPE};
 use crate::frames::spoilt;
+use crate::gossip::{answered, first_answer};
 use crate::messages::{Brings, Opens, Said, ack2_of, held_in, message, tables_of};
 use crate::work::GossipWork;
 use bytes::Bytes;
@@ -37,7 +38,9 @@ fn answer(
 ) -> Result<GossipWork, Failure> {
     let cluster = cluster(alloc)?;
     let frame = frame(alloc, tables, Said::Syn(opens))?;
-    Ok(GossipWork::Answer(copy(alloc, tables, held)?, cluster, frame))
+    let table = copy(alloc, tables, held)?;
+    let room = answered(alloc, &table, &cluster, &frame, 0)?.len();
+    Ok(GossipWork::Answer(table, cluster, frame, room))
 }
 
 fn take_ack(
@@ -68,7 +71,9 @@ fn exchange(
 ) -> Result<GossipWork, Failure> {
     let cluster = cluster(alloc)?;
     let opener = copy(alloc, tables, opener)?;
-    Ok(GossipWork::Exchange(opener, copy(alloc, tables, answerer)?, cluster))
+    let answerer = copy(alloc, tables, answerer)?;
+    let room = first_answer(alloc, &opener, &answerer, &cluster, 0)?.len();
+    Ok(GossipWork::Exchange(opener, answerer, cluster, room))
 }
 
 // Makes the work of a task on these tables.

@@ -20,19 +20,20 @@ pub(crate) enum GossipWork {
     Check(Vec<u8>),
     /// Makes a SYN, as a frame.
     Open(Table, Cluster),
-    /// Answers the frame of a SYN.
-    Answer(Table, Cluster, Bytes),
+    /// Answers the frame of a SYN, in a buffer with room for this number of bytes.
+    Answer(Table, Cluster, Bytes, usize),
     /// Takes the frame of an ACK.
     TakeAck(Table, Bytes),
     TakeAck2(Table, Ack2),
-    /// A whole exchange between an opener and an answerer, from bytes to bytes.
-    Exchange(Table, Table, Cluster),
+    /// A whole exchange between an opener and an answerer, from bytes to bytes, with such a buffer for the ACK.
+    Exchange(Table, Table, Cluster, usize),
 }
 
 /// The result of one turn.
 #[derive(Drop)]
 pub(crate) enum Made {
     Frame(Bytes),
+    Answer(Vec<u8>),
     Message(Message),
     Fault(Fault),
     Table(Table),
@@ -65,16 +66,16 @@ impl Work for GossipWork {
             GossipWork::Decode(frame) => Ok(Made::Message(read(alloc, frame)?)),
             GossipWork::Check(frame) => Ok(Made::Fault(fault(alloc, frame)?)),
             GossipWork::Open(table, cluster) => Ok(Made::Frame(opened(alloc, table, cluster)?)),
-            GossipWork::Answer(table, cluster, frame) => {
-                Ok(Made::Frame(answered(alloc, table, cluster, frame)?))
+            GossipWork::Answer(table, cluster, frame, room) => {
+                Ok(Made::Answer(answered(alloc, table, cluster, frame, *room)?))
             }
             GossipWork::TakeAck(table, frame) => {
                 let (after, frame) = taken(alloc, table, frame)?;
                 Ok(Made::Answered(after, frame))
             }
             GossipWork::TakeAck2(table, ack2) => Ok(Made::Table(ended(alloc, table, ack2)?)),
-            GossipWork::Exchange(opener, answerer, cluster) => {
-                let (opener, answerer) = exchanged(alloc, opener, answerer, cluster)?;
+            GossipWork::Exchange(opener, answerer, cluster, room) => {
+                let (opener, answerer) = exchanged(alloc, opener, answerer, cluster, *room)?;
                 Ok(Made::Tables(opener, answerer))
             }
         }
@@ -84,6 +85,10 @@ impl Work for GossipWork {
         match made {
             Made::Frame(frame) => {
                 digest.update(frame.as_slice());
+                Ok(())
+            }
+            Made::Answer(frame) => {
+                digest.update(frame);
                 Ok(())
             }
             Made::Message(message) => add_message(alloc, digest, message),
