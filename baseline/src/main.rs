@@ -251,9 +251,12 @@ fn remove(node: &Table, key: u8) -> Table {
     after
 }
 
-/// A node's work at one heartbeat of another endpoint, one of its own, one set, and the removal of what was set.
+/// A copy of a node's table, and its work at one heartbeat of another endpoint, one of its own, one set, and the removal of what was set.
 fn nodes(mode: Mode, tag: &str, states: usize, text: usize) {
     let node = joined(256, states, text);
+    case(mode, &format!("naive_table_copied_{tag}"), || black_box(&node).clone(), held);
+    let sharing = shared::of_naive(&node);
+    case(mode, &format!("shared_table_copied_{tag}"), || black_box(&sharing).clone(), shared::held);
     let newer = beaten(table(255, 256, states, text), 3, |_| true);
     let lacking = naive::answer_syn(&newer, &cluster(), &naive::syn(&node, &cluster())).unwrap();
     let ack2 = Ack2 {

@@ -5,6 +5,8 @@ use cg_measure::Shape;
 /// The task of a case, at tables of its shape if it needs any.
 #[derive(Clone, Copy)]
 pub(crate) enum Task {
+    /// A table is copied: its entries are shared.
+    Copied,
     /// A node takes one heartbeat of another.
     Heartbeat,
     /// A node beats.
@@ -88,9 +90,12 @@ const CALLER_BY_CALLER: Task = Task::Confirms {
     rise: 250,
 };
 
-/// All cases: steps of nodes at tables of each shape, at claims of tokens and at full windows, exchanges over links,
-/// histories, and scripts of 8 nodes with a hundred thousand lines and of 256 nodes.
-pub(crate) const ALL: [Case; 31] = [
+/// All cases: copies of tables and steps of nodes at each shape, at claims of tokens and at full windows, exchanges over
+/// links, histories, and scripts of 8 nodes with a hundred thousand lines and of 256 nodes.
+pub(crate) const ALL: [Case; 34] = [
+    ("table", "copied", "1x200", Task::Copied, SMALLEST),
+    ("table", "copied", "16x64", Task::Copied, MIDDLE),
+    ("table", "copied", "16x1024", Task::Copied, LARGEST),
     ("node", "heartbeat", "1x200", Task::Heartbeat, SMALLEST),
     ("node", "beat", "1x200", Task::Beat, SMALLEST),
     ("node", "set", "1x200", Task::Set, SMALLEST),

@@ -14,6 +14,7 @@ use cg_frames::encode;
 use cg_history::{History, Receipt};
 use cg_measure::{CaseName, Failure, Shape, add_message, add_ring, add_table};
 use cg_messages::Message;
+use cg_table::Table;
 use cg_world::{Action, World};
 use md5::{Digest, Md5};
 use std::alloc::Global;
@@ -21,6 +22,8 @@ use std::alloc::Global;
 /// One task, with its input.
 #[derive(Drop)]
 pub(crate) enum Work {
+    /// Copies a table.
+    Copy(Table),
     /// One step of a node.
     Step(Node, Event),
     /// One step at which claims to tokens change.
@@ -47,6 +50,7 @@ pub(crate) enum Work {
 /// The result of one turn.
 #[derive(Drop)]
 pub(crate) enum Made {
+    Table(Table),
     Node(Node),
     /// A node, whose ring is shown too.
     Claimed(Node),
@@ -105,6 +109,7 @@ impl cg_measure::Work for Work {
 
     fn turn(&self, alloc: Global) -> Result<Made, Failure> {
         match self {
+            Work::Copy(table) => Ok(Made::Table(table.copy(alloc)?)),
             Work::Step(node, event) => Ok(Made::Node(after(alloc, node, event)?)),
             Work::Claim(node, event) => Ok(Made::Claimed(after(alloc, node, event)?)),
             Work::Further(node, events) => Ok(Made::Node(after_all(alloc, node, events)?)),
@@ -127,6 +132,7 @@ impl cg_measure::Work for Work {
 
     fn add(alloc: Global, digest: &mut Md5, made: &Made) -> Result<(), Failure> {
         match made {
+            Made::Table(table) => add_table(alloc, digest, table),
             Made::Node(node) => add_table(alloc, digest, node.table()),
             Made::Claimed(node) => add_claimed(alloc, digest, node),
             Made::Linked(opener, answerer) => {
@@ -148,6 +154,11 @@ impl cg_measure::Work for Work {
             Made::World(world) => add_world(alloc, digest, world),
         }
     }
+}
+
+fn copied(alloc: Global, shape: Shape) -> Result<Work, Failure> {
+    let node = joined(alloc, shape)?;
+    Ok(Work::Copy(node.table().copy(alloc)?))
 }
 
 fn step(alloc: Global, event: Event, shape: Shape) -> Result<Work, Failure> {
@@ -196,6 +207,7 @@ fn confirms(alloc: Global, callers: u32, rise: u32) -> Result<Work, Failure> {
 // The work of a task, with tables of this shape.
 fn work_of(alloc: Global, task: Task, shape: Shape) -> Result<Work, Failure> {
     match task {
+        Task::Copied => copied(alloc, shape),
         Task::Heartbeat => step(alloc, heartbeat(alloc, 7, 18, 21)?, shape),
         Task::Beat => step(alloc, Event::Beat, shape),
         Task::OwnBeats(count) => own_beats(alloc, count, shape),
