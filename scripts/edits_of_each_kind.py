@@ -85,14 +85,32 @@ use Rattle.std.specs.Prelude.{ℕ}
 unfoldable pub echo_of : ℕ → ℕ
 echo_of number = number
 """
+ABOVE = """\
+//! A function over another crate.
+#![tactic(auto)]
+
+ghost use Rattle.std.specs.Prelude.{◌≡◌, ◌+◌, ◌<◌};
+
+use small::following;
+
+/// The number after the next.
+pub fn second(number: u8) -> u8
+    requires { number < 199 }
+    ensures { result ≡ number + 2 }
+{
+    following(following(number))
+}
+"""
 FILES = {
-    "crates.txt": "small:\n",
+    "crates.txt": "small:\nabove: small\n",
     "HANDLES": "Handles allowed: none.\n",
     "crates/small/src/lib.rt": CODE,
     "crates/small/specs/Lib.antt": "pub mod Echo\n",
     "crates/small/specs/Echo.antt": ECHO,
     "crates/small/proofs/echo/Answers.antt": ECHO_ANSWERS,
     "crates/small/proofs/is_echoed/Answers.antt": ANSWERS,
+    "crates/above/src/lib.rt": ABOVE,
+    "crates/above/edits/second_is_the_next.edit": "file: src/lib.rt\nold: following(following(number))\nnew: following(number)\n",
 }
 UNREAD = r"crates/.*: the prover can't read it: .*"
 # An edit's name, its old and its new text, and what is said of it.
@@ -164,20 +182,24 @@ def misjudged(top):
 
 
 def kept_wrongly(top):
-    """Yields what is said otherwise than it has to be of a crate whose edits are all refused: that they are kept, as long
-    as comments alone change."""
+    """Yields what is said otherwise than it has to be of crates whose edits are all refused: that those of small are kept as
+    long as comments alone change, and those of the crate above it unless what changed is public."""
     for name, _, _, wanted in EDITS:
         if not wanted.startswith("refused: "):
             os.remove(f"{top}/crates/small/edits/{name}.edit")
-    for words, change, wanted in [
-        ([], "", r"small: 3 of 3 edits refused, .*"),
-        (["--changed"], "// A comment.\n", r"small: 3 edits were refused, and nothing that they rest on has changed"),
-        (["--changed"], "const ONE: u8 = 1;\n", r"small: 3 of 3 edits refused, .*"),
+    kept = "edits were refused, and nothing that they rest on has changed"
+    for words, change, crate, wanted in [
+        ([], "", "small", r"small: 3 of 3 edits refused, .*"),
+        ([], "", "above", r"above: 1 of 1 edits refused, .*"),
+        (["--changed"], "// A comment.\n", "small", f"small: 3 {kept}"),
+        (["--changed"], "fn one() -> u8 {\n    1\n}\n", "above", f"above: 1 {kept}"),
+        (["--changed"], "fn one() -> u8 {\n    1\n}\n", "small", r"small: 3 of 3 edits refused, .*"),
+        (["--changed"], "/// One.\npub fn one() -> u8 {\n    1\n}\n", "above", r"above: 1 of 1 edits refused, .*"),
     ]:
         write(f"{top}/crates/small/src/lib.rt", CODE + change)
-        lines, status = said_by(top, "--jobs", "1", *words, "small")
-        if status or lines[-1] != "3 passed, 0 failed" or not re.fullmatch(wanted, lines[-2]):
-            yield f"{' '.join(words)} behind the change {change!r} says {lines[-2:]}, with status {status}"
+        lines, status = said_by(top, "--jobs", "1", *words, crate)
+        if status or not lines[-1].endswith(" passed, 0 failed") or not re.fullmatch(wanted, lines[-2]):
+            yield f"{' '.join(words)} {crate} behind the change {change!r} says {lines[-2:]}, with status {status}"
 
 
 def main():
@@ -185,6 +207,6 @@ def main():
         furnish(top)
         wrong = [*misjudged(top), *kept_wrongly(top)]
         shutil.rmtree(f"{tempfile.gettempdir()}/try-edits{top.replace('/', '-')}", ignore_errors=True)
-    what = f"{len(EDITS)} edits, a name of no crate, and what is kept of a crate"
+    what = f"{len(EDITS)} edits, a name of no crate, and what is kept of two crates"
     print("\n".join(wrong) if wrong else f"{what} are judged as they must be")
     return 1 if wrong else 0
