@@ -1,7 +1,7 @@
 //! Events applied to a history, and a fold of its first records.
 
 use crate::answers::Answer;
-use crate::samples::{Kind, event, history, set, world};
+use crate::samples::{Kind, applied, event, history, set, world};
 use crate::texts::add_history;
 use crate::trials::{Outcome, Seen, Trial, compared, tried};
 use cg_core::Event;
@@ -40,7 +40,8 @@ fn seen_applying(alloc: Global, kind: Kind) -> Result<Seen, Fault> {
     let mut history = history(alloc, &world)?;
     // only a key with a text can be removed
     if let Kind::Remove = kind {
-        history.apply(alloc, CALLER, event(alloc, &world, Kind::Set)?)?;
+        let set = event(alloc, &world, Kind::Set)?;
+        applied(alloc, &mut history, CALLER, set)?;
     }
     let event = event(alloc, &world, kind)?;
     tried(alloc, &mut Applying { history, event })
@@ -75,9 +76,9 @@ impl Trial for Folding {
 // Returns a history of five records.
 fn five_records(alloc: Global) -> Result<History, Fault> {
     let mut history = history(alloc, &world(alloc)?)?;
-    history.apply(alloc, CALLER, set(alloc, 3, "x")?)?;
-    history.apply(alloc, CALLER, Event::Beat)?;
-    history.apply(alloc, CALLER, set(alloc, 3, "y")?)?;
+    applied(alloc, &mut history, CALLER, set(alloc, 3, "x")?)?;
+    applied(alloc, &mut history, CALLER, Event::Beat)?;
+    applied(alloc, &mut history, CALLER, set(alloc, 3, "y")?)?;
     Ok(history)
 }
 

@@ -74,9 +74,14 @@ const NOW: u64 = 3_000;
 
 const WORDS: [u64; 4] = [7, 3, 5, 9];
 
+// Reads a line. As `applied`, it has no clause.
+fn read(alloc: Global, line: &str) -> Result<Line, Fault> {
+    read_line(alloc, line.as_bytes())
+}
+
 /// Reads the action of a line.
 pub(crate) fn action(alloc: Global, line: &str) -> Result<Action, Fault> {
-    match read_line(alloc, line.as_bytes())? {
+    match read(alloc, line)? {
         Line::Act(action) => Ok(action),
         _ => Err(Fault::BadText),
     }
@@ -204,12 +209,23 @@ pub(crate) fn new_history(alloc: Global) -> Result<History, Fault>
     Ok(History::begin(alloc, endpoint(A), generation(9), settings)?)
 }
 
+/// Applies an event to a history. It has no clause, so who calls it again and again is proved without its records.
+pub(crate) fn applied(
+    alloc: Global,
+    history: &mut History,
+    caller: u32,
+    event: Event,
+) -> Result<(), Fault> {
+    history.apply(alloc, caller, event)?;
+    Ok(())
+}
+
 /// Returns a history of two records: the ACKs that came earlier in a world.
 pub(crate) fn history(alloc: Global, world: &World) -> Result<History, Fault> {
     let mut history = new_history(alloc)?;
     for (number, now) in EARLIER {
         let event = arriving(alloc, world, number, now)?;
-        history.apply(alloc, 1, event)?;
+        applied(alloc, &mut history, 1, event)?;
     }
     Ok(history)
 }

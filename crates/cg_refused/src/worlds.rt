@@ -107,19 +107,29 @@ fn first_actions(alloc: Global, count: usize, is_cut: bool) -> Result<Running, F
     })
 }
 
+// What is seen of a run of the first actions, and how many were done before one that found no memory.
+fn seen_running(alloc: Global, count: usize, is_cut: bool) -> Result<(Seen, Option<usize>), Fault> {
+    let mut running = first_actions(alloc, count, is_cut)?;
+    let seen = tried(alloc, &mut running)?;
+    Ok((seen, running.cut_at))
+}
+
+// What is seen of a run whose memory is not refused.
+fn due_of_run(alloc: Global) -> Result<Seen, Fault> {
+    match seen_running(alloc, RUN.len(), false)? {
+        (due, None) => due.of_twin(),
+        (_, Some(_)) => Err(Fault::OutOfMemory),
+    }
+}
+
 /// Runs actions from the empty world. A run that is cut short has done the actions before the refused one.
 pub(crate) fn run(alloc: Global) -> Result<Outcome, Fault> {
-    let mut twin = first_actions(alloc, RUN.len(), false)?;
-    let due = tried(alloc, &mut twin)?.of_twin()?;
-    if twin.cut_at.is_some() {
-        return Err(Fault::OutOfMemory);
-    }
-    let mut trial = first_actions(alloc, RUN.len(), false)?;
-    let seen = tried(alloc, &mut trial)?;
-    match trial.cut_at {
+    let due = due_of_run(alloc)?;
+    let (seen, cut_at) = seen_running(alloc, RUN.len(), false)?;
+    match cut_at {
         None => compared(alloc, &due, seen),
         Some(count) => {
-            let kept = tried(alloc, &mut first_actions(alloc, count, true)?)?;
+            let (kept, _) = seen_running(alloc, count, true)?;
             compared_or_kept(alloc, &due, &kept, seen)
         }
     }
