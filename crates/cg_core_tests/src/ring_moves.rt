@@ -47,18 +47,31 @@ fn two(alloc: Global, second: Claiming, third: Claiming) -> Result<Table, Fail> 
     table(alloc, &[(2, second), (3, third)])
 }
 
+// The winners of a ring that has to be as another one.
+fn winners_if_same(ring: &Ring, whole: &Ring) -> Result<[u8; 3], Fail> {
+    expect!(ring.positions() == whole.positions())?;
+    Ok(winners(ring))
+}
+
+// The winners after endpoint 2 moves between two tables. Both ways from the ring before have to lead to that of the table after.
+fn winners_between(
+    alloc: Global,
+    before: &Table,
+    after: &Table,
+    whole: &Ring,
+) -> Result<[u8; 3], Fail> {
+    winners_if_same(&moved_each(alloc, before, after, &[endpoint(2)])?, whole)?;
+    winners_if_same(&moved(alloc, before, after, endpoint(2))?, whole)
+}
+
 // The winners after endpoint 2 moves from its first claims to the next ones, beside endpoint 3, which claims 50 in
-// generation 4. All three ways to the ring must lead to the same.
+// generation 4.
 fn winners_after(alloc: Global, first: Claiming, next: Claiming) -> Result<[u8; 3], Fail> {
     let third = (4, "NORMAL", AT_50);
     let before = two(alloc, first, third)?;
     let after = two(alloc, next, third)?;
-    let one = moved(alloc, &before, &after, endpoint(2))?;
-    let each = moved_each(alloc, &before, &after, &[endpoint(2)])?;
     let whole = Ring::of_table(alloc, &after)?;
-    expect!(one.positions() == whole.positions())?;
-    expect!(each.positions() == whole.positions())?;
-    Ok(winners(&one))
+    winners_between(alloc, &before, &after, &whole)
 }
 
 #[test]
