@@ -95,15 +95,34 @@ fn a_ring_follows_the_own_status(rt: HostRuntime) -> Result<(), Fail> {
     Ok(())
 }
 
+// Puts an owner's delta at the end of a list: with these texts, or without states.
+fn put(
+    alloc: Global,
+    deltas: &mut Vec<OwnerDelta>,
+    owner: u16,
+    texts: Option<(&str, &str)>,
+) -> Result<(), Fail> {
+    let delta = match texts {
+        Some(texts) => claims(alloc, owner, (5, 0), texts)?,
+        None => about(alloc, owner, (5, 0, 1))?,
+    };
+    deltas.push(delta)?;
+    Ok(())
+}
+
 // Five owners, of which 2 and 4 claim tokens.
 fn five_owners(alloc: Global) -> Result<Vec<OwnerDelta>, Fail> {
-    Ok(vec![in alloc;
-        claims(alloc, 2, (5, 0), ("NORMAL", AT_20))?,
-        about(alloc, 3, (5, 0, 1))?,
-        claims(alloc, 4, (5, 0), ("NORMAL", AT_50))?,
-        claims(alloc, 5, (5, 0), ("BOOT", AT_20))?,
-        about(alloc, 6, (5, 0, 1))?,
-    ]?)
+    let mut deltas = Vec::new(alloc);
+    for (owner, texts) in [
+        (2, Some(("NORMAL", AT_20))),
+        (3, None),
+        (4, Some(("NORMAL", AT_50))),
+        (5, Some(("BOOT", AT_20))),
+        (6, None),
+    ] {
+        put(alloc, &mut deltas, owner, texts)?;
+    }
+    Ok(deltas)
 }
 
 // Of these owners, 2 leaves the token that 4 takes, in one message in which 3 beats.
