@@ -310,15 +310,16 @@ impl Entry {
         Standing::of(alloc, block)
     }
 
-    // The states with another one put, in place of one with its key, in a block of their own.
+    // The states with another one put, in place of one with its key, in a block of their own. Their texts are copied into one buffer,
+    // so that no older one is kept for one of them.
     fn with(&self, state: State) -> Result<Standing, AllocError>
         ensures { IfOk result (λ s. s ≡ map.insert self.now.states state.key (value_at_key state)) }
     {
         let alloc = self.states.allocator();
         if self.removals.is_none() {
-            return Standing::of(alloc, self.states.with(alloc, state)?);
+            return Standing::spelled(alloc, self.states.with(alloc, state)?);
         }
-        Standing::of(alloc, self.settled(alloc)?.with(alloc, state)?)
+        Standing::spelled(alloc, self.settled(alloc)?.with(alloc, state)?)
     }
 
     // The states with those of a delta over them.

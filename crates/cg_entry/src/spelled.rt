@@ -205,6 +205,11 @@ impl Spelled {
         Some(bytes)
     }
 
+    // Tests whether the section is kept.
+    pub(crate) fn keeps_section(&self) -> bool {
+        self.section.is_some()
+    }
+
     // Spells the states, at once if their section is kept.
     pub(crate) fn put(&self, out: &mut Vec<u8>) -> Result<(), AllocError>
         ensures { OnOk result (out.new.items ≡ out.old.items ++ flat_map spec.state (map.entries self.now)) }

@@ -238,6 +238,24 @@ impl Standing {
         }
     }
 
+    // Tests whether all texts lie in one buffer, that of the section.
+    fn keeps_section(&self) -> bool {
+        match &self.kept {
+            Kept::Bare => true,
+            Kept::Shared(block) => block.deref().keeps_section(),
+        }
+    }
+
+    // A block that follows these. It gets a section if these keep none, so every second overlay copies all texts into one buffer.
+    fn followed_by(&self, alloc: Global, block: Block) -> Result<Standing, AllocError>
+        ensures { IfOk result (λ s. s ≡ block) }
+    {
+        if self.keeps_section() {
+            return Standing::of(alloc, block);
+        }
+        Standing::spelled(alloc, block)
+    }
+
     // The same in a new block. If it can, it copies these and puts what is newer.
     fn laid(&self, alloc: Global, newer: &Held) -> Result<Standing, AllocError>
         ensures { IfOk result (λ s. s ≡ overlay self.now newer.now) }
@@ -246,7 +264,7 @@ impl Standing {
             Some(block) => block,
             None => self.laid_under(alloc, newer)?,
         };
-        Standing::of(alloc, block)
+        self.followed_by(alloc, block)
     }
 
     // The states with a version greater than `above`. If none is, it takes no memory; if each is, the block is shared.

@@ -71,17 +71,20 @@ fn may_each<N: Naming>(
 
 // ---- several owners
 
-// A list of two puts.
+// A list of puts of two owners, with copies of these entries.
 fn two_puts(
     alloc: Global,
-    first: (Endpoint, Entry),
-    second: (Endpoint, Entry),
+    first: Endpoint,
+    of_first: &Entry,
+    second: Endpoint,
+    of_second: &Entry,
 ) -> Result<Vec<(Endpoint, Entry)>, AllocError>
-    ensures { IfOk result (λ puts. puts.items ≡ first ∷ (second ∷ [])) }
+    ensures { IfOk result (λ puts. puts.items ≡ (first, of_first.now) ∷ ((second, of_second.now) ∷ [])) }
 {
+    let of_first = of_first.copy(alloc)?;
     let mut puts = Vec::with_capacity(alloc, 2)?;
-    puts.push(first)?;
-    puts.push(second)?;
+    puts.push((first, of_first))?;
+    puts.push((second, of_second.copy(alloc)?))?;
     Ok(puts)
 }
 
@@ -89,19 +92,17 @@ fn two_puts(
 fn append_two<N: Naming>(
     alloc: Global,
     publisher: &mut Publisher<N>,
-    of_a: Entry,
-    of_b: Entry,
+    of_a: &Entry,
+    of_b: &Entry,
 ) -> Result<(), Fail> {
     let (a, b) = (endpoint(A), endpoint(B));
-    let list = two_puts(alloc, (a, of_a.copy(alloc)?), (b, of_b.copy(alloc)?))?;
-    let Some(puts) = Puts::of(alloc, list)? else {
+    let Some(puts) = Puts::of(alloc, two_puts(alloc, a, of_a, b, of_b)?)? else {
         return Err(Fail::from("owners that rise"));
     };
     if !publisher.may_append(&puts) {
         return Err(Fail::from("puts that may not be appended"));
     }
-    let list = two_puts(alloc, (a, of_a), (b, of_b))?;
-    Ok(publisher.append_all(alloc, list)?)
+    Ok(publisher.append_all(alloc, two_puts(alloc, a, of_a, b, of_b)?)?)
 }
 
 // The number of owners that a pass reads, and A's heartbeat.
@@ -119,7 +120,7 @@ fn read_two<N: Naming, R: Wait>(
     pass: &mut Pass<N>,
 ) -> Result<Vec<u32>, Fail> {
     let (of_a, of_b) = (entry(alloc, (9, 6, 4))?, bare_entry(alloc, 9, 1)?);
-    append_two(alloc, publisher, of_a, of_b)?;
+    append_two(alloc, publisher, &of_a, &of_b)?;
     let before = read(pass)?;
     publisher.publish(rt)?;
     let after = read(pass)?;
