@@ -179,11 +179,22 @@ fn work_of(alloc: Global, task: LocalTask) -> Result<LocalWork, Failure> {
     }
 }
 
+// Adds the case of a task.
+fn add_case(
+    alloc: Global,
+    cases: &mut Vec<(CaseName, LocalWork)>,
+    name: CaseName,
+    task: LocalTask,
+) -> Result<(), Failure> {
+    let work = work_of(alloc, task)?;
+    Ok(cases.push((name, work))?)
+}
+
 /// Makes the cases of rings, texts, windows and entries.
 pub(crate) fn local_cases(alloc: Global) -> Result<Vec<(CaseName, LocalWork)>, Failure> {
     let mut cases = Vec::new(alloc);
     for (work, on, tag, task) in LOCAL {
-        cases.push((CaseName { work, on, tag }, work_of(alloc, task)?))?;
+        add_case(alloc, &mut cases, CaseName { work, on, tag }, task)?;
     }
     Ok(cases)
 }

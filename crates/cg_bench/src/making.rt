@@ -90,12 +90,38 @@ fn work_of(alloc: Global, tables: &[Table], task: GossipTask) -> Result<GossipWo
     }
 }
 
+// Adds the case of a task on these tables.
+fn add_case(
+    alloc: Global,
+    cases: &mut Vec<(CaseName, GossipWork)>,
+    name: CaseName,
+    tables: &[Table],
+    task: GossipTask,
+) -> Result<(), Failure> {
+    let work = work_of(alloc, tables, task)?;
+    Ok(cases.push((name, work))?)
+}
+
 /// Makes the cases of a SYN and of heartbeats.
 pub(crate) fn small(alloc: Global) -> Result<Vec<(CaseName, GossipWork)>, Failure> {
     let tables = tables_of(alloc, SMALL_SHAPE)?;
     let mut cases = Vec::new(alloc);
     for (work, on, tag, task) in SMALL {
-        cases.push((CaseName { work, on, tag }, work_of(alloc, &tables, task)?))?;
+        add_case(alloc, &mut cases, CaseName { work, on, tag }, &tables, task)?;
+    }
+    Ok(cases)
+}
+
+// Makes the cases of these tasks, which have this tag.
+fn tagged(
+    alloc: Global,
+    tag: &'static str,
+    tables: &[Table],
+    tasks: &[(&'static str, &'static str, GossipTask)],
+) -> Result<Vec<(CaseName, GossipWork)>, Failure> {
+    let mut cases = Vec::new(alloc);
+    for &(work, on, task) in tasks {
+        add_case(alloc, &mut cases, CaseName { work, on, tag }, tables, task)?;
     }
     Ok(cases)
 }
@@ -106,21 +132,10 @@ pub(crate) fn shaped(
     tag: &'static str,
     shape: Shape,
 ) -> Result<Vec<(CaseName, GossipWork)>, Failure> {
-    let tables = tables_of(alloc, shape)?;
-    let mut cases = Vec::new(alloc);
-    for (work, on, task) in SHAPED {
-        cases.push((CaseName { work, on, tag }, work_of(alloc, &tables, task)?))?;
-    }
-    Ok(cases)
+    tagged(alloc, tag, &tables_of(alloc, shape)?, &SHAPED)
 }
 
 /// Makes the cases at full tables.
 pub(crate) fn wide(alloc: Global) -> Result<Vec<(CaseName, GossipWork)>, Failure> {
-    let tables = tables_of(alloc, WIDE_SHAPE)?;
-    let tag = "512x16x64";
-    let mut cases = Vec::new(alloc);
-    for (work, on, task) in WIDE {
-        cases.push((CaseName { work, on, tag }, work_of(alloc, &tables, task)?))?;
-    }
-    Ok(cases)
+    tagged(alloc, "512x16x64", &tables_of(alloc, WIDE_SHAPE)?, &WIDE)
 }

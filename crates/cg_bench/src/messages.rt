@@ -36,11 +36,22 @@ pub(crate) enum Said {
     Ack(Brings),
 }
 
+// Adds the table of a shape with these contents.
+fn add_table(
+    alloc: Global,
+    tables: &mut Vec<Table>,
+    held: Held,
+    shape: Shape,
+) -> Result<(), Failure> {
+    let table = table(alloc, held, shape)?;
+    Ok(tables.push(table)?)
+}
+
 /// Makes all tables of a shape, in the order of `HELD`.
 pub(crate) fn tables_of(alloc: Global, shape: Shape) -> Result<Vec<Table>, Failure> {
     let mut tables = Vec::new(alloc);
     for held in HELD {
-        tables.push(table(alloc, held, shape)?)?;
+        add_table(alloc, &mut tables, held, shape)?;
     }
     Ok(tables)
 }

@@ -1,5 +1,6 @@
 //! Rings, replicas, and the tables that rings are made of.
 
+use cg_entry::Delta;
 use cg_measure::{Failure, claiming, table_of};
 use cg_table::Table;
 use cg_tokens::{Ring, Token, token_of};
@@ -61,13 +62,24 @@ pub(crate) fn digests() -> [u8; 16] {
     digest
 }
 
-/// Makes a table of 256 endpoints with sixteen tokens each.
-pub(crate) fn claimed(alloc: Global) -> Result<Table, Failure> {
+// Adds the entry of an endpoint with sixteen tokens.
+fn add_claims(alloc: Global, deltas: &mut Vec<Delta>, number: u16) -> Result<(), Failure> {
+    let claims = claiming(alloc, number)?;
+    Ok(deltas.push(claims)?)
+}
+
+// Returns the entries of 256 endpoints.
+fn claims(alloc: Global) -> Result<Vec<Delta>, Failure> {
     let mut deltas = Vec::new(alloc);
     for number in 0..256u16 {
-        deltas.push(claiming(alloc, number)?)?;
+        add_claims(alloc, &mut deltas, number)?;
     }
-    table_of(alloc, 0, &deltas)
+    Ok(deltas)
+}
+
+/// Makes a table of 256 endpoints with sixteen tokens each.
+pub(crate) fn claimed(alloc: Global) -> Result<Table, Failure> {
+    table_of(alloc, 0, &claims(alloc)?)
 }
 
 /// Makes the ring of that table.
