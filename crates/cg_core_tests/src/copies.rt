@@ -1,6 +1,6 @@
 //! Copies of events, replies, outcomes and peers, and their comparison by `==`.
 
-use crate::samples::{ack_event, comes, node, set_event, syn_event};
+use crate::samples::{ack_event, comes, node, set_event, stepped, syn_event};
 use cg_core::{Event, Outcomes, Peers, Reply};
 use cg_entry::Took;
 use cg_messages::Outcome;
@@ -56,11 +56,22 @@ fn replied(alloc: Global, reply: &Reply) -> Result<[bool; 3], AllocError> {
     Ok([is_copied, is_other, reply.message().is_some()])
 }
 
-// Tests the same of the reply to an event, at A in generation 9.
-fn replied_to(alloc: Global, number: u8) -> Result<[bool; 3], Fail> {
-    let event = event(alloc, number)?;
-    let (_after, reply) = node(alloc, A, 9)?.stepped(alloc, &event)?;
+// The reply to an event, at A in generation 9.
+fn reply_to(alloc: Global, event: &Event) -> Result<Reply, Fail> {
+    let node = node(alloc, A, 9)?;
+    let (_after, reply) = stepped(alloc, &node, event)?;
+    Ok(reply)
+}
+
+// Tests the same of that reply.
+fn replied_to(alloc: Global, event: &Event) -> Result<[bool; 3], Fail> {
+    let reply = reply_to(alloc, event)?;
     Ok(replied(alloc, &reply)?)
+}
+
+fn replied_to_number(alloc: Global, number: u8) -> Result<[bool; 3], Fail> {
+    let event = event(alloc, number)?;
+    replied_to(alloc, &event)
 }
 
 // Each number of an event, and whether the reply to it sends a message.
@@ -75,7 +86,7 @@ fn replies_equal_their_copies(rt: HostRuntime) -> Result<(), Fail> {
         (5, true),
         (6, false),
     ] {
-        let replied = replied_to(rt.alloc(), number)?;
+        let replied = replied_to_number(rt.alloc(), number)?;
         expect_eq!(replied, [true, false, sends], "{number}")?;
     }
     Ok(())

@@ -1,8 +1,8 @@
 //! The ring of a node, after sets of its own keys and after messages.
 
-use crate::samples::{about, node, set_event};
+use crate::samples::{about, ack2_of, node, set_event, step};
 use cg_core::{Event, Node};
-use cg_messages::{Ack2, OwnerDelta};
+use cg_messages::OwnerDelta;
 use cg_testing::{A, B, C, delta, endpoint, expect_eq, state};
 use std::alloc::Global;
 use std::test::Fail;
@@ -48,11 +48,27 @@ fn claims(
     })
 }
 
+// The places after an event.
+fn places_after(alloc: Global, node: &mut Node, event: &Event) -> Result<[Place; 3], Fail> {
+    step(alloc, node, event)?;
+    Ok(places(node))
+}
+
 // Takes these deltas, which rise.
 fn take(alloc: Global, node: &mut Node, deltas: Vec<OwnerDelta>) -> Result<[Place; 3], Fail> {
-    let m = Ack2::new(deltas).ok_or("an ACK2")?;
-    node.step(alloc, &Event::Ack2 { now: 1, m })?;
-    Ok(places(node))
+    places_after(alloc, node, &ack2_of(1, deltas)?)
+}
+
+// Takes C's delta with these claims.
+fn take_claims(
+    alloc: Global,
+    node: &mut Node,
+    of: (u32, u32),
+    texts: (&str, &str),
+) -> Result<[Place; 3], Fail> {
+    let delta = claims(alloc, C, of, texts)?;
+    let deltas = vec![in alloc; delta]?;
+    take(alloc, node, deltas)
 }
 
 // Sets a key, and then beats.
@@ -62,18 +78,26 @@ fn set_and_beat(
     number: u8,
     text: &str,
 ) -> Result<[[Place; 3]; 2], Fail> {
-    node.step(alloc, &set_event(alloc, number, text)?)?;
-    let set = places(node);
-    node.step(alloc, &Event::Beat)?;
-    Ok([set, places(node)])
+    let set = places_after(alloc, node, &set_event(alloc, number, text)?)?;
+    Ok([set, places_after(alloc, node, &Event::Beat)?])
 }
 
 // B in generation 5, which holds C in generation 4 with a claim to 50.
 fn beside_a_claimant(alloc: Global) -> Result<Node, Fail> {
     let mut node = node(alloc, B, 5)?;
-    let delta = claims(alloc, C, (4, 0), ("NORMAL", AT_50))?;
-    take(alloc, &mut node, vec![in alloc; delta]?)?;
+    take_claims(alloc, &mut node, (4, 0), ("NORMAL", AT_50))?;
     Ok(node)
+}
+
+// Expects these places after a set, and after the beat behind it.
+fn expect_set(
+    alloc: Global,
+    node: &mut Node,
+    (number, text): (u8, &str),
+    wanted: [Place; 3],
+) -> Result<(), Fail> {
+    let places = set_and_beat(alloc, node, number, text)?;
+    expect_eq!(places, [wanted, wanted], "{number} {text}")
 }
 
 #[test]
@@ -89,60 +113,89 @@ fn a_ring_follows_the_own_status(rt: HostRuntime) -> Result<(), Fail> {
         (1, "NORMAL,x", own),
         (2, AT_20, [(0x20, 2), (0x50, 3), (0, 0)]),
     ] {
-        let places = set_and_beat(rt.alloc(), &mut node, number, text)?;
-        expect_eq!(places, [wanted, wanted], "{number} {text}")?;
+        expect_set(rt.alloc(), &mut node, (number, text), wanted)?;
     }
     Ok(())
 }
 
-// Puts an owner's delta at the end of a list: with these texts, or without states.
+// An owner, and the texts of its keys 1 and 2 in a delta; none if the delta has no states.
+type Sent = (u16, Option<(&'static str, &'static str)>);
+
+// Puts an owner's delta of generation 5, above a version, at the end of a list.
 fn put(
     alloc: Global,
     deltas: &mut Vec<OwnerDelta>,
-    owner: u16,
-    texts: Option<(&str, &str)>,
+    above: u32,
+    (owner, texts): Sent,
 ) -> Result<(), Fail> {
     let delta = match texts {
-        Some(texts) => claims(alloc, owner, (5, 0), texts)?,
-        None => about(alloc, owner, (5, 0, 1))?,
+        Some(texts) => claims(alloc, owner, (5, above), texts)?,
+        None => about(alloc, owner, (5, above, above.saturating_add(1)))?,
     };
     deltas.push(delta)?;
     Ok(())
 }
 
-// Five owners, of which 2 and 4 claim tokens.
-fn five_owners(alloc: Global) -> Result<Vec<OwnerDelta>, Fail> {
+// The deltas of some owners.
+fn sent(alloc: Global, above: u32, owners: &[Sent]) -> Result<Vec<OwnerDelta>, Fail> {
     let mut deltas = Vec::new(alloc);
-    for (owner, texts) in [
-        (2, Some(("NORMAL", AT_20))),
-        (3, None),
-        (4, Some(("NORMAL", AT_50))),
-        (5, Some(("BOOT", AT_20))),
-        (6, None),
-    ] {
-        put(alloc, &mut deltas, owner, texts)?;
+    for owner in owners {
+        put(alloc, &mut deltas, above, *owner)?;
     }
     Ok(deltas)
 }
 
-// Of these owners, 2 leaves the token that 4 takes, in one message in which 3 beats.
-fn one_takes_what_another_leaves(alloc: Global) -> Result<Vec<OwnerDelta>, Fail> {
-    Ok(vec![in alloc;
-        claims(alloc, 2, (5, 1), ("LEFT", AT_20))?,
-        about(alloc, 3, (5, 1, 2))?,
-        claims(alloc, 4, (5, 1), ("NORMAL", AT_20))?,
-    ]?)
+// Expects these places after the deltas of some owners.
+fn expect_sent(
+    alloc: Global,
+    node: &mut Node,
+    (above, owners): (u32, &[Sent]),
+    wanted: [Place; 3],
+) -> Result<(), Fail> {
+    let deltas = sent(alloc, above, owners)?;
+    let places = take(alloc, node, deltas)?;
+    expect_eq!(places, wanted)
 }
+
+// Five owners, of which 2 and 4 claim tokens.
+const FIVE_OWNERS: [Sent; 5] = [
+    (2, Some(("NORMAL", AT_20))),
+    (3, None),
+    (4, Some(("NORMAL", AT_50))),
+    (5, Some(("BOOT", AT_20))),
+    (6, None),
+];
+
+// Of these owners, 2 leaves the token that 4 takes, in one message in which 3 beats.
+const ONE_TAKES_WHAT_ANOTHER_LEAVES: [Sent; 3] = [
+    (2, Some(("LEFT", AT_20))),
+    (3, None),
+    (4, Some(("NORMAL", AT_20))),
+];
 
 #[test]
 fn a_ring_follows_the_deltas_of_a_message(rt: HostRuntime) -> Result<(), Fail> {
     let mut node = node(rt.alloc(), A, 9)?;
-    let first = five_owners(rt.alloc())?;
-    let places = take(rt.alloc(), &mut node, first)?;
-    expect_eq!(places, [(0x20, 2), (0x50, 4), (0, 0)])?;
-    let second = one_takes_what_another_leaves(rt.alloc())?;
-    let places = take(rt.alloc(), &mut node, second)?;
-    expect_eq!(places, [(0x20, 4), (0, 0), (0, 0)])
+    let held = [(0x20, 2), (0x50, 4), (0, 0)];
+    expect_sent(rt.alloc(), &mut node, (0, &FIVE_OWNERS), held)?;
+    let taken = [(0x20, 4), (0, 0), (0, 0)];
+    expect_sent(
+        rt.alloc(),
+        &mut node,
+        (1, &ONE_TAKES_WHAT_ANOTHER_LEAVES),
+        taken,
+    )
+}
+
+// Expects these places after C claims the token 50 with a status, at the start of a generation.
+fn expect_after_claim(
+    alloc: Global,
+    node: &mut Node,
+    (at, status): (u32, &str),
+    wanted: [Place; 3],
+) -> Result<(), Fail> {
+    let places = take_claims(alloc, node, (at, 0), (status, AT_50))?;
+    expect_eq!(places, wanted, "{status}")
 }
 
 // An owner that starts again with the same tokens has them in its new generation.
@@ -153,10 +206,7 @@ fn a_claimant_restarts(rt: HostRuntime) -> Result<(), Fail> {
         (5, "NORMAL", [(0x50, 3), (0, 0), (0, 0)]),
         (6, "LEFT", [(0, 0); 3]),
     ] {
-        let delta = claims(rt.alloc(), C, (at, 0), (text, AT_50))?;
-        let deltas = vec![in rt.alloc(); delta]?;
-        let places = take(rt.alloc(), &mut node, deltas)?;
-        expect_eq!(places, wanted, "{text}")?;
+        expect_after_claim(rt.alloc(), &mut node, (at, text), wanted)?;
     }
     Ok(())
 }

@@ -1,6 +1,6 @@
 //! A node that removes the texts of its own keys.
 
-use crate::samples::{held, node, refusal, set_event};
+use crate::samples::{held, node, refusal, set_event, step};
 use cg_core::{Event, Node, Reply};
 use cg_testing::{A, expect_eq, key};
 use cg_types::Fault;
@@ -9,18 +9,23 @@ use std::test::Fail;
 
 const TOKEN: &str = "0cc175b9c0f1b6a831c399e269772661";
 
+fn set(alloc: Global, node: &mut Node, number: u8, text: &str) -> Result<(), Fail> {
+    let event = set_event(alloc, number, text)?;
+    step(alloc, node, &event)
+}
+
 // A at generation 9, which claims a token: key 2 at version 2, key 1 at 3.
 fn claimant(alloc: Global) -> Result<Node, Fail> {
     let mut node = node(alloc, A, 9)?;
-    node.step(alloc, &set_event(alloc, 2, TOKEN)?)?;
-    node.step(alloc, &set_event(alloc, 1, "NORMAL")?)?;
+    set(alloc, &mut node, 2, TOKEN)?;
+    set(alloc, &mut node, 1, "NORMAL")?;
     Ok(node)
 }
 
 // The same node after the removal of key 1.
 fn with_key_1_removed(alloc: Global) -> Result<Node, Fail> {
     let mut node = claimant(alloc)?;
-    node.step(alloc, &Event::Remove { key: key(1) })?;
+    step(alloc, &mut node, &Event::Remove { key: key(1) })?;
     Ok(node)
 }
 
@@ -37,14 +42,22 @@ fn done(alloc: Global, node: &mut Node, event: &Event) -> Result<(u32, u32, usiz
     Ok((given, newest, node.ring().positions().len()))
 }
 
+fn expect_removed(alloc: Global, node: &mut Node) -> Result<(), Fail> {
+    let removed = done(alloc, node, &Event::Remove { key: key(1) })?;
+    expect_eq!(removed, (4, 4, 0))
+}
+
+fn expect_set_again(alloc: Global, node: &mut Node) -> Result<(), Fail> {
+    let set = set_event(alloc, 1, "NORMAL")?;
+    let set_again = done(alloc, node, &set)?;
+    expect_eq!(set_again, (5, 5, 1))
+}
+
 #[test]
 fn a_removed_status_claims_no_token(rt: HostRuntime) -> Result<(), Fail> {
     let mut node = claimant(rt.alloc())?;
-    let removed = done(rt.alloc(), &mut node, &Event::Remove { key: key(1) })?;
-    expect_eq!(removed, (4, 4, 0))?;
-    let set = set_event(rt.alloc(), 1, "NORMAL")?;
-    let set_again = done(rt.alloc(), &mut node, &set)?;
-    expect_eq!(set_again, (5, 5, 1))
+    expect_removed(rt.alloc(), &mut node)?;
+    expect_set_again(rt.alloc(), &mut node)
 }
 
 // The fault with which a node without key 1 refuses the removal of a key, if that leaves the table unchanged.

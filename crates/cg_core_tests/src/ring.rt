@@ -4,7 +4,7 @@ use crate::tokens::token;
 use cg_entry::{Delta, Entry, State};
 use cg_table::Table;
 use cg_testing::{endpoint, entry_at_start, expect, expect_eq, state};
-use cg_tokens::{Ring, TOKEN_LIMIT, keeps_claims};
+use cg_tokens::{Ring, TOKEN_LIMIT, Token, keeps_claims};
 use cg_types::Endpoint;
 use std::alloc::Global;
 use std::test::Fail;
@@ -24,12 +24,22 @@ fn delta(alloc: Global, (at, status, tokens): Claiming) -> Result<Delta, Fail> {
     cg_testing::delta((at, 0, 1), states)
 }
 
+// A table after an owner's delta. It has no clause, so who calls it is proved without all that a delta may do.
+fn with_delta(alloc: Global, table: &Table, owner: u16, delta: &Delta) -> Result<Table, Fail> {
+    Ok(table.put_delta(alloc, endpoint(owner), delta)?.0)
+}
+
+// A table in which an owner has these claims.
+fn with_claims(alloc: Global, table: &Table, owner: u16, claims: Claiming) -> Result<Table, Fail> {
+    let delta = delta(alloc, claims)?;
+    with_delta(alloc, table, owner, &delta)
+}
+
 /// A table of these owners, and of endpoint 9, which claims nothing.
 pub(crate) fn table(alloc: Global, owners: &[(u16, Claiming)]) -> Result<Table, Fail> {
     let mut table = Table::new(alloc, endpoint(9), entry_at_start(alloc, 1))?;
     for (owner, claiming) in owners {
-        let delta = delta(alloc, *claiming)?;
-        table = table.put_delta(alloc, endpoint(*owner), &delta)?.0;
+        table = with_claims(alloc, &table, *owner, *claiming)?;
     }
     Ok(table)
 }
@@ -49,15 +59,23 @@ fn ring(alloc: Global) -> Result<Ring, Fail> {
     ring_of(alloc, &owners)
 }
 
+// Expects that a position has this token and this owner.
+fn expect_position(position: (Token, Endpoint), number: u128, owner: u16) -> Result<(), Fail> {
+    expect_eq!(position, (token(number)?, endpoint(owner)))
+}
+
+fn expect_positions(ring: &Ring, wanted: [(u128, u16); 4]) -> Result<(), Fail> {
+    expect_eq!(ring.positions().len(), wanted.len())?;
+    for (position, (number, owner)) in ring.positions().iter().zip(wanted) {
+        expect_position(*position, number, owner)?;
+    }
+    Ok(())
+}
+
 #[test]
 fn positions_rise(rt: HostRuntime) -> Result<(), Fail> {
     let ring = ring(rt.alloc())?.copy()?;
-    let wanted = [(16, 1), (32, 2), (48, 3), (64, 1)];
-    expect_eq!(ring.positions().len(), wanted.len())?;
-    for (position, (number, owner)) in ring.positions().iter().zip(wanted) {
-        expect_eq!(*position, (token(number)?, endpoint(owner)))?;
-    }
-    Ok(())
+    expect_positions(&ring, [(16, 1), (32, 2), (48, 3), (64, 1)])
 }
 
 fn lasts(endpoints: &[Endpoint]) -> [u8; 4] {
@@ -162,15 +180,24 @@ fn state_of(alloc: Global, number: u8, text: Option<&'static str>) -> Result<Sta
     Ok(one)
 }
 
-// A table in which endpoint 1 has this status and these tokens, each a text or a tombstone.
+// A delta with this status and these tokens, each a text or a tombstone.
+fn delta_of_any(
+    alloc: Global,
+    status: Option<&'static str>,
+    tokens: Option<&'static str>,
+) -> Result<Delta, Fail> {
+    let states = vec![in alloc; state_of(alloc, 1, status)?, state_of(alloc, 2, tokens)?]?;
+    cg_testing::delta((5, 0, 1), states)
+}
+
+// A table in which endpoint 1 has this status and these tokens.
 fn holding_any(
     alloc: Global,
     status: Option<&'static str>,
     tokens: Option<&'static str>,
 ) -> Result<Table, Fail> {
-    let states = vec![in alloc; state_of(alloc, 1, status)?, state_of(alloc, 2, tokens)?]?;
-    let delta = cg_testing::delta((5, 0, 1), states)?;
-    Ok(table(alloc, &[])?.put_delta(alloc, endpoint(1), &delta)?.0)
+    let delta = delta_of_any(alloc, status, tokens)?;
+    with_delta(alloc, &table(alloc, &[])?, 1, &delta)
 }
 
 // The number of tokens that endpoint 1 claims in such a table.

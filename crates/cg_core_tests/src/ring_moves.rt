@@ -97,16 +97,25 @@ fn a_ring_moves_with_one_owner(rt: HostRuntime) -> Result<(), Fail> {
     Ok(())
 }
 
+// The winners after some owners move between two tables at once, which has to lead to the ring of the table after.
+fn winners_at_once(
+    alloc: Global,
+    before: &Table,
+    after: &Table,
+    owners: &[Endpoint],
+) -> Result<[u8; 3], Fail> {
+    let whole = Ring::of_table(alloc, after)?;
+    winners_if_same(&moved_each(alloc, before, after, owners)?, &whole)
+}
+
 // Endpoint 2 leaves the token that endpoint 3 takes.
 #[test]
 fn a_ring_moves_with_two_owners_at_once(rt: HostRuntime) -> Result<(), Fail> {
     let alloc = rt.alloc();
     let before = two(alloc, (5, "NORMAL", AT_20), (4, "NORMAL", AT_50))?;
     let after = two(alloc, (5, "LEFT", AT_20), (4, "NORMAL", AT_20))?;
-    let moved = moved_each(alloc, &before, &after, &[endpoint(2), endpoint(3)])?;
-    let whole = Ring::of_table(alloc, &after)?;
-    expect!(moved.positions() == whole.positions())?;
-    expect_eq!(winners(&moved), [3, 0, 0])
+    let winners = winners_at_once(alloc, &before, &after, &[endpoint(2), endpoint(3)])?;
+    expect_eq!(winners, [3, 0, 0])
 }
 
 #[test]

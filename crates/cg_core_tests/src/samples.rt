@@ -1,6 +1,6 @@
 //! Nodes and events that the tests share. The cluster is c1.
 
-use cg_core::{Event, Node};
+use cg_core::{Event, Node, Reply};
 use cg_entry::Digest;
 use cg_messages::{Ack, Ack2, OwnerDelta, Request, Syn};
 use cg_testing::{A, B, bare_delta, endpoint, generation, key, settings, version};
@@ -11,6 +11,24 @@ use std::test::Fail;
 /// A node that starts in a generation.
 pub(crate) fn node(alloc: Global, own: u16, at: u32) -> Result<Node, Fail> {
     Ok(Node::start(alloc, endpoint(own), generation(at), settings(alloc)?)?)
+}
+
+/// Does an event at a node. It has no clause, so who calls it is proved without all that an event may do.
+pub(crate) fn step(alloc: Global, node: &mut Node, event: &Event) -> Result<(), Fail> {
+    node.step(alloc, event)?;
+    Ok(())
+}
+
+/// A node that starts in a generation, and then does an event.
+pub(crate) fn node_after(alloc: Global, own: u16, at: u32, event: &Event) -> Result<Node, Fail> {
+    let mut node = node(alloc, own, at)?;
+    step(alloc, &mut node, event)?;
+    Ok(node)
+}
+
+/// The node after an event, and the reply. As `step`, it has no clause.
+pub(crate) fn stepped(alloc: Global, node: &Node, event: &Event) -> Result<(Node, Reply), Fault> {
+    node.stepped(alloc, event)
 }
 
 /// The event that sets a key to a text.
@@ -51,11 +69,15 @@ pub(crate) fn ack_event(alloc: Global, now: u64) -> Result<Event, Fail> {
     Ok(Event::Ack { now, m })
 }
 
-/// The event of an ACK2 with one delta, at a time.
-pub(crate) fn ack2_event(alloc: Global, now: u64, delta: OwnerDelta) -> Result<Event, Fail> {
-    let deltas = vec![in alloc; delta]?;
+/// The event of an ACK2 with deltas that rise, at a time.
+pub(crate) fn ack2_of(now: u64, deltas: Vec<OwnerDelta>) -> Result<Event, Fail> {
     let m = Ack2::new(deltas).ok_or("an ACK2")?;
     Ok(Event::Ack2 { now, m })
+}
+
+/// The event of an ACK2 with one delta, at a time.
+pub(crate) fn ack2_event(alloc: Global, now: u64, delta: OwnerDelta) -> Result<Event, Fail> {
+    ack2_of(now, vec![in alloc; delta]?)
 }
 
 /// The event of an ACK2 with one delta that has no states.

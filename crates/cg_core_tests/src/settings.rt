@@ -96,8 +96,13 @@ fn settings(alloc: Global) -> Result<Settings, Fail> {
     }
 }
 
+// A copy of them.
+fn copied(alloc: Global) -> Result<Settings, Fail> {
+    Ok(settings(alloc)?.copy(alloc)?)
+}
+
 #[test]
 fn settings_are_shown_and_copied(rt: HostRuntime) -> Result<(), Fail> {
-    let copy = settings(rt.alloc())?.copy(rt.alloc())?;
+    let copy = copied(rt.alloc())?;
     expect_eq!(shown(&copy), ("c1", Some(endpoint(B)), Silence::default()))
 }

@@ -47,6 +47,12 @@ fn settings_are_in_their_ranges() -> Result<(), Fail> {
     Ok(())
 }
 
+// Expects that these words describe a fault.
+fn expect_told(alloc: Global, fault: SilenceFault, wanted: &str) -> Result<(), Fail> {
+    let told = format!(in alloc; "{fault}")?;
+    expect_eq!(told.as_str(), wanted)
+}
+
 #[test]
 fn faults_are_told(rt: HostRuntime) -> Result<(), Fail> {
     for (fault, wanted) in [
@@ -64,8 +70,7 @@ fn faults_are_told(rt: HostRuntime) -> Result<(), Fail> {
             "the threshold is not 1 to 1000000000",
         ),
     ] {
-        let told = format!(in rt.alloc(); "{fault}")?;
-        expect_eq!(told.as_str(), wanted)?;
+        expect_told(rt.alloc(), fault, wanted)?;
     }
     Ok(())
 }

@@ -76,10 +76,14 @@ fn texts_of_tokens_are_read(rt: HostRuntime) -> Result<(), Fail> {
     )
 }
 
+fn expect_16_and_64(tokens: &[Token]) -> Result<(), Fail> {
+    expect!(tokens == [token(16)?, token(64)?].as_slice())
+}
+
 #[test]
 fn tokens_in_a_text(rt: HostRuntime) -> Result<(), Fail> {
     let tokens = tokens_in(rt.alloc(), AT_16_AND_64.as_bytes())?.ok_or("tokens")?;
-    expect!(tokens.as_slice() == [token(16)?, token(64)?].as_slice())?;
+    expect_16_and_64(&tokens)?;
     expect!(tokens_in(rt.alloc(), b"16,64")?.is_none())
 }
 
@@ -141,11 +145,15 @@ fn text_of(alloc: Global, count: u64) -> Result<String, Fail> {
     Ok(text)
 }
 
+fn expect_16_tokens(alloc: Global, text: &str) -> Result<(), Fail> {
+    let tokens = read_tokens(alloc, text)?;
+    expect_eq!(tokens.len(), 16)?;
+    expect_eq!(tokens[15], token(16)?)
+}
+
 #[test]
 fn sixteen_tokens_and_no_more(rt: HostRuntime) -> Result<(), Fail> {
-    let tokens = read_tokens(rt.alloc(), &text_of(rt.alloc(), 16)?)?;
-    expect_eq!(tokens.len(), 16)?;
-    expect_eq!(tokens[15], token(16)?)?;
+    expect_16_tokens(rt.alloc(), &text_of(rt.alloc(), 16)?)?;
     let more = text_of(rt.alloc(), 17)?;
     expect_eq!(fault_of(rt.alloc(), &more), Some(Fault::BadText))
 }
