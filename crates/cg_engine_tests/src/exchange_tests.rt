@@ -1,10 +1,11 @@
 //! The worked exchange, and its end if the other side sends too little, another message, or a fault.
 
 use crate::samples::{
-    ACK_IN, ACK_OUT, ACK2_IN, ACK2_OUT, SYN_IN, SYN_OUT, a, b, front, joined, syn,
+    ACK_IN, ACK_OUT, ACK2_IN, ACK2_OUT, SYN_IN, SYN_OUT, a, b, front, initiate_over, joined,
+    respond_over, syn,
 };
-use cg_engine::{Broken, Ended, initiate, respond};
-use cg_links::{Counted, CountingLink, FailingLink};
+use cg_engine::{Broken, Ended};
+use cg_links::{CountingLink, FailingLink};
 use cg_testing::{expect, expect_eq};
 use cg_types::{Cause, Fault};
 use std::alloc::Global;
@@ -15,9 +16,7 @@ type Came = (Result<Ended, Broken>, usize, usize, Vec<u8>);
 
 fn responded(alloc: Global, input: &[u8]) -> Result<Came, Fail> {
     let mut gate = b(alloc)?;
-    let mut reader = Counted::new(input);
-    let mut writer = Counted::new(Vec::new(alloc));
-    let ended = respond(alloc, &mut gate, 1000, &mut reader, &mut writer);
+    let (ended, reader, writer) = respond_over(alloc, &mut gate, 1000, input, Vec::new(alloc));
     Ok((
         ended,
         gate.node().table().owners().len(),
@@ -29,9 +28,14 @@ fn responded(alloc: Global, input: &[u8]) -> Result<Came, Fail> {
 fn initiated(alloc: Global, input: &[u8]) -> Result<Came, Fail> {
     let mut gate = a(alloc)?;
     let opening = syn(alloc)?;
-    let mut reader = Counted::new(input);
-    let mut writer = Counted::new(Vec::new(alloc));
-    let ended = initiate(alloc, &mut gate, 1000, &opening, &mut reader, &mut writer);
+    let (ended, reader, writer) = initiate_over(
+        alloc,
+        &mut gate,
+        1000,
+        &opening,
+        input,
+        Vec::new(alloc),
+    );
     Ok((
         ended,
         gate.node().table().owners().len(),
@@ -53,15 +57,19 @@ fn responds(
     Ok((ended, owners, left) == due && written.as_slice() == text)
 }
 
+fn initiated_on(alloc: Global, input: &[&[u8]]) -> Result<Came, Fail> {
+    let bytes = joined(alloc, input)?;
+    initiated(alloc, bytes.as_slice())
+}
+
 fn initiates(
     alloc: Global,
     input: &[&[u8]],
     due: (Result<Ended, Broken>, usize, usize),
     text: &[&[u8]],
 ) -> Result<bool, Fail> {
-    let bytes = joined(alloc, input)?;
+    let (ended, owners, left, written) = initiated_on(alloc, input)?;
     let written_due = joined(alloc, text)?;
-    let (ended, owners, left, written) = initiated(alloc, bytes.as_slice())?;
     Ok((ended, owners, left) == due && written.as_slice() == written_due.as_slice())
 }
 
@@ -241,9 +249,8 @@ fn a_finds_no_answer(rt: HostRuntime) -> Result<(), Fail> {
 // fails.
 fn is_flushed(alloc: Global, turn: u64) -> Result<bool, Fail> {
     let mut gate = b(alloc)?;
-    let mut reader = Counted::new(SYN_IN);
-    let mut writer = Counted::new(FailingLink::new(Vec::new(alloc), turn));
-    let _ended = respond(alloc, &mut gate, 1000, &mut reader, &mut writer);
+    let output = FailingLink::new(Vec::new(alloc), turn);
+    let (_ended, _reader, writer) = respond_over(alloc, &mut gate, 1000, SYN_IN, output);
     Ok(writer.is_flushed())
 }
 
@@ -258,11 +265,11 @@ fn what_was_written_is_flushed(rt: HostRuntime) -> Result<(), Fail> {
 
 // Returns the reads, writes and flushes of B's part of the worked exchange, and the most bytes that one read requested.
 fn calls(alloc: Global) -> Result<(u64, usize, u64, u64), Fail> {
-    let input = joined(alloc, &[SYN_IN, ACK2_IN])?;
+    let bytes = joined(alloc, &[SYN_IN, ACK2_IN])?;
     let mut gate = b(alloc)?;
-    let mut reader = Counted::new(CountingLink::new(input.as_slice()));
-    let mut writer = Counted::new(CountingLink::new(Vec::new(alloc)));
-    let _ended = respond(alloc, &mut gate, 1000, &mut reader, &mut writer);
+    let input = CountingLink::new(bytes.as_slice());
+    let output = CountingLink::new(Vec::new(alloc));
+    let (_ended, reader, writer) = respond_over(alloc, &mut gate, 1000, input, output);
     let reader = reader.into_link();
     let writer = writer.into_link();
     Ok((

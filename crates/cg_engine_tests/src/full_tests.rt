@@ -1,10 +1,10 @@
 //! Two nodes that hold 512 endpoints between them, each with 16 states of 4,096 bytes, exchange all that they hold.
 
-use crate::samples::started;
+use crate::samples::{initiate_over, respond_over, started, step};
 use cg_core::{Event, Node};
-use cg_engine::{Broken, Ended, NodeGate, initiate, respond};
+use cg_engine::{Broken, Ended, NodeGate};
 use cg_exchange::syn;
-use cg_links::{Counted, CountingLink};
+use cg_links::CountingLink;
 use cg_messages::{Ack2, OwnerDelta, Syn};
 use cg_testing::{delta, endpoint, expect_eq, key, state};
 use cg_types::{StateText, TEXT_LIMIT};
@@ -55,13 +55,17 @@ fn crowd(alloc: Global, from: u16, to: u16) -> Result<Ack2, Fail> {
     Ok(Ack2::new(deltas).ok_or("an ACK2")?)
 }
 
+// Sets a key of the node of an endpoint to its text.
+fn set(alloc: Global, node: &mut Node, own: u16, at: u8) -> Result<(), Fail> {
+    let text = StateText::new(alloc, &text(alloc, own, at)?)?;
+    step(alloc, node, Event::Set { key: key(at), text })
+}
+
 // Makes the node of an endpoint that has set its 16 states.
 fn settled(alloc: Global, own: u16) -> Result<Node, Fail> {
     let mut node = started(alloc, own, 5)?;
     for at in 1..17u8 {
-        let text = StateText::new(alloc, &text(alloc, own, at)?)?;
-        let event = Event::Set { key: key(at), text };
-        let _reply = node.step(alloc, &event)?;
+        set(alloc, &mut node, own, at)?;
     }
     Ok(node)
 }
@@ -69,11 +73,8 @@ fn settled(alloc: Global, own: u16) -> Result<Node, Fail> {
 // Makes the node of the first of these endpoints, which holds all of them.
 fn holding(alloc: Global, from: u16, to: u16) -> Result<Node, Fail> {
     let mut node = settled(alloc, from)?;
-    let event = Event::Ack2 {
-        now: 1000,
-        m: crowd(alloc, from.saturating_add(1), to)?,
-    };
-    let _reply = node.step(alloc, &event)?;
+    let m = crowd(alloc, from.saturating_add(1), to)?;
+    step(alloc, &mut node, Event::Ack2 { now: 1000, m })?;
     Ok(node)
 }
 
@@ -90,9 +91,8 @@ struct Part {
 
 fn answering(alloc: Global, node: Node, input: &[u8]) -> Part {
     let mut gate = NodeGate::new(node);
-    let mut reader = Counted::new(CountingLink::new(input));
-    let mut writer = Counted::new(Vec::new(alloc));
-    let ended = respond(alloc, &mut gate, 2000, &mut reader, &mut writer);
+    let input = CountingLink::new(input);
+    let (ended, reader, writer) = respond_over(alloc, &mut gate, 2000, input, Vec::new(alloc));
     let link = reader.into_link();
     let asked = link.most_asked();
     Part {
@@ -106,9 +106,15 @@ fn answering(alloc: Global, node: Node, input: &[u8]) -> Part {
 
 fn opening(alloc: Global, node: Node, first: &Syn, input: &[u8]) -> Part {
     let mut gate = NodeGate::new(node);
-    let mut reader = Counted::new(CountingLink::new(input));
-    let mut writer = Counted::new(Vec::new(alloc));
-    let ended = initiate(alloc, &mut gate, 2000, first, &mut reader, &mut writer);
+    let input = CountingLink::new(input);
+    let (ended, reader, writer) = initiate_over(
+        alloc,
+        &mut gate,
+        2000,
+        first,
+        input,
+        Vec::new(alloc),
+    );
     let link = reader.into_link();
     let asked = link.most_asked();
     Part {
@@ -130,20 +136,38 @@ type Meeting = (
     (bool, usize),
 );
 
-// Returns the ACK with which the second of two nodes answers the SYN of the first; both nodes stay the same.
-fn acked(alloc: Global, a: &Node, b: &Node, first: &Syn) -> Result<Vec<u8>, Fail> {
-    let asking = opening(alloc, a.copy()?, first, b"");
-    Ok(answering(alloc, b.copy()?, asking.written.as_slice()).written)
+// Returns what a node writes before it has an answer; it stays the same.
+fn begun(alloc: Global, node: &Node, first: &Syn) -> Result<Vec<u8>, Fail> {
+    Ok(opening(alloc, node.copy()?, first, b"").written)
+}
+
+// Returns what a node writes over this input; it stays the same.
+fn answered(alloc: Global, node: &Node, input: &[u8]) -> Result<Vec<u8>, Fail> {
+    Ok(answering(alloc, node.copy()?, input).written)
+}
+
+// Returns the SYN of the first of two nodes and the ACK with which the second answers it; both nodes stay the same.
+fn syn_and_ack(alloc: Global, a: &Node, b: &Node) -> Result<(Syn, Vec<u8>), Fail> {
+    let first = syn(alloc, a.table(), a.settings().cluster())?;
+    let begun = begun(alloc, a, &first)?;
+    let ack = answered(alloc, b, begun.as_slice())?;
+    Ok((first, ack))
+}
+
+// Runs a node over an ACK and two more bytes, and puts two more behind the bytes that it wrote.
+fn opened(alloc: Global, node: Node, first: &Syn, ack: Vec<u8>) -> Result<Part, Fail> {
+    let mut input = ack;
+    input.extend_from_slice(b"\xff\xff")?;
+    let mut part = opening(alloc, node, first, input.as_slice());
+    part.written.extend_from_slice(b"\xff\xff")?;
+    Ok(part)
 }
 
 // Runs each of two nodes over the bytes that the other wrote and two more; returns both sides, and the ACK's length.
 fn sides(alloc: Global, a: Node, b: Node) -> Result<(Part, Part, usize), Fail> {
-    let first = syn(alloc, a.table(), a.settings().cluster())?;
-    let mut ack = acked(alloc, &a, &b, &first)?;
+    let (first, ack) = syn_and_ack(alloc, &a, &b)?;
     let length = ack.len();
-    ack.extend_from_slice(b"\xff\xff")?;
-    let mut one = opening(alloc, a, &first, ack.as_slice());
-    one.written.extend_from_slice(b"\xff\xff")?;
+    let one = opened(alloc, a, &first, ack)?;
     let other = answering(alloc, b, one.written.as_slice());
     Ok((one, other, length))
 }

@@ -1,7 +1,10 @@
 //! The worked exchange over links of which each call fails in turn, which move a byte a call, or which take none.
 
-use crate::samples::{ACK_IN, ACK_OUT, ACK2_IN, ACK2_OUT, SYN_IN, SYN_OUT, a, b, joined, syn};
-use cg_engine::{Broken, Counted, Ended, FailingLink, FullLink, SlowLink, initiate, respond};
+use crate::samples::{
+    ACK_IN, ACK_OUT, ACK2_IN, ACK2_OUT, SYN_IN, SYN_OUT, a, b, initiate_over, joined, respond_over,
+    syn,
+};
+use cg_engine::{Broken, Counted, Ended, FailingLink, FullLink, SlowLink};
 use cg_testing::{expect, expect_eq};
 use cg_types::Fault;
 use std::alloc::Global;
@@ -12,11 +15,11 @@ type Came = (Result<Ended, Broken>, u64, u64, Vec<u8>);
 
 // Runs B's part, a byte a call; the read of one number fails, or the write or flush of another.
 fn responded(alloc: Global, read: u64, write: u64) -> Result<Came, Fail> {
-    let input = joined(alloc, &[SYN_IN, ACK2_IN])?;
+    let bytes = joined(alloc, &[SYN_IN, ACK2_IN])?;
     let mut gate = b(alloc)?;
-    let mut reader = Counted::new(FailingLink::new(SlowLink::new(input.as_slice()), read));
-    let mut writer = Counted::new(FailingLink::new(SlowLink::new(Vec::new(alloc)), write));
-    let ended = respond(alloc, &mut gate, 1000, &mut reader, &mut writer);
+    let input = FailingLink::new(SlowLink::new(bytes.as_slice()), read);
+    let output = FailingLink::new(SlowLink::new(Vec::new(alloc)), write);
+    let (ended, reader, writer) = respond_over(alloc, &mut gate, 1000, input, output);
     let failed = writer.failed();
     Ok((
         ended,
@@ -30,9 +33,9 @@ fn responded(alloc: Global, read: u64, write: u64) -> Result<Came, Fail> {
 fn initiated(alloc: Global, read: u64, write: u64) -> Result<Came, Fail> {
     let mut gate = a(alloc)?;
     let opening = syn(alloc)?;
-    let mut reader = Counted::new(FailingLink::new(SlowLink::new(ACK_IN), read));
-    let mut writer = Counted::new(FailingLink::new(SlowLink::new(Vec::new(alloc)), write));
-    let ended = initiate(alloc, &mut gate, 1000, &opening, &mut reader, &mut writer);
+    let input = FailingLink::new(SlowLink::new(ACK_IN), read);
+    let output = FailingLink::new(SlowLink::new(Vec::new(alloc)), write);
+    let (ended, reader, writer) = initiate_over(alloc, &mut gate, 1000, &opening, input, output);
     let failed = writer.failed();
     Ok((
         ended,
@@ -150,18 +153,16 @@ fn counts(writer: &Counted<FullLink>) -> [u64; 3] {
 
 fn responded_to_nobody(alloc: Global) -> Result<Unwritten, Fail> {
     let mut gate = b(alloc)?;
-    let mut reader = Counted::new(SYN_IN);
-    let mut writer = Counted::new(FullLink);
-    let ended = respond(alloc, &mut gate, 1000, &mut reader, &mut writer);
+    let (ended, _reader, writer) = respond_over(alloc, &mut gate, 1000, SYN_IN, FullLink);
     Ok((ended, gate.node().table().owners().len(), counts(&writer)))
 }
 
 fn initiated_to_nobody(alloc: Global) -> Result<Unwritten, Fail> {
     let mut gate = a(alloc)?;
     let opening = syn(alloc)?;
-    let mut reader = Counted::new(ACK_IN);
-    let mut writer = Counted::new(FullLink);
-    let ended = initiate(alloc, &mut gate, 1000, &opening, &mut reader, &mut writer);
+    let (ended, _reader, writer) = initiate_over(
+        alloc, &mut gate, 1000, &opening, ACK_IN, FullLink,
+    );
     Ok((ended, gate.node().table().owners().len(), counts(&writer)))
 }
 

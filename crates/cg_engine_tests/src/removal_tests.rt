@@ -1,11 +1,10 @@
 //! An exchange that brings a tombstone, the same bytes in layouts that have none, and a removal that a gate refuses.
 
-use crate::samples::{joined, started};
+use crate::samples::{initiate_over, joined, respond_over, started, step};
 use cg_core::{Event, Node};
-use cg_engine::{Broken, Ended, Gate, NodeGate, answer_frame, expected_syn, initiate, respond};
+use cg_engine::{Broken, Ended, Gate, NodeGate, answer_frame, expected_syn};
 use cg_exchange::syn;
 use cg_frames::decode;
-use cg_links::Counted;
 use cg_messages::{Ack2, OwnerDelta};
 use cg_testing::{A, B, delta, endpoint, expect, expect_eq, key, state};
 use cg_types::{Cause, Fault, StateText};
@@ -57,25 +56,27 @@ const WHOLE_A: &[u8] =
 const WHOLE_A_REMOVED: &[u8] =
     b"\0\0\0\x47\x03\x02\0\0\0\x01\x0a\0\0\x01\x1b\x58\0\0\0\x09\0\0\0\0\0\0\0\x01\x02\x01\0\0\0\x04\xff\xff\x02\0\0\0\x02\0\x200cc175b9c0f1b6a831c399e269772661";
 
-fn set(alloc: Global, number: u8, text: &str) -> Result<Event, Fault> {
-    Ok(Event::Set {
+// Sets a key of a node to a text.
+fn set(alloc: Global, node: &mut Node, number: u8, text: &str) -> Result<(), Fail> {
+    let event = Event::Set {
         key: key(number),
         text: StateText::new(alloc, text)?,
-    })
+    };
+    step(alloc, node, event)
 }
 
 // A in generation 9, which sets key 2 (version 2) and key 1 (3).
 fn with_two_keys(alloc: Global) -> Result<Node, Fail> {
     let mut node = started(alloc, A, 9)?;
-    node.step(alloc, &set(alloc, 2, TOKEN)?)?;
-    node.step(alloc, &set(alloc, 1, "NORMAL")?)?;
+    set(alloc, &mut node, 2, TOKEN)?;
+    set(alloc, &mut node, 1, "NORMAL")?;
     Ok(node)
 }
 
 // The same, which then removes key 1 (4).
 fn with_key_1_removed(alloc: Global) -> Result<Node, Fail> {
     let mut node = with_two_keys(alloc)?;
-    node.step(alloc, &Event::Remove { key: key(1) })?;
+    step(alloc, &mut node, Event::Remove { key: key(1) })?;
     Ok(node)
 }
 
@@ -88,19 +89,21 @@ fn is_answered(alloc: Global, node: &Node, frame: &[u8], answer: &[u8]) -> Resul
     Ok(written.as_slice() == answer)
 }
 
-#[test]
-fn answers_are_written_from_tables(rt: HostRuntime) -> Result<(), Fail> {
-    let alloc = rt.alloc();
-    let (whole, removed) = (with_two_keys(alloc)?, with_key_1_removed(alloc)?);
-    for (node, frame, answer) in [
-        (&whole, SYN_AT_2, LAST_OF_A),
-        (&whole, SYN_OF_NOBODY, WHOLE_A),
-        (&removed, SYN_AT_3, TOMBSTONE_OF_A),
-        (&removed, SYN_OF_NOBODY, WHOLE_A_REMOVED),
-    ] {
+// Expects that a node answers the frame of each of two SYNs with the frame beside it.
+fn expect_answers(alloc: Global, node: &Node, rows: [(&[u8], &[u8]); 2]) -> Result<(), Fail> {
+    for (frame, answer) in rows {
         expect!(is_answered(alloc, node, frame, answer)?)?;
     }
     Ok(())
+}
+
+#[test]
+fn answers_are_written_from_tables(rt: HostRuntime) -> Result<(), Fail> {
+    let alloc = rt.alloc();
+    let of_whole = [(SYN_AT_2, LAST_OF_A), (SYN_OF_NOBODY, WHOLE_A)];
+    expect_answers(alloc, &with_two_keys(alloc)?, of_whole)?;
+    let of_removed = [(SYN_AT_3, TOMBSTONE_OF_A), (SYN_OF_NOBODY, WHOLE_A_REMOVED)];
+    expect_answers(alloc, &with_key_1_removed(alloc)?, of_removed)
 }
 
 // The end of an exchange that A opens, and the bytes that it writes.
@@ -108,18 +111,28 @@ fn opened(alloc: Global) -> Result<(Result<Ended, Broken>, Vec<u8>), Fail> {
     let node = with_key_1_removed(alloc)?;
     let first = syn(alloc, node.table(), node.settings().cluster())?;
     let mut gate = NodeGate::new(node);
-    let mut reader = Counted::new(ACK_AT_3);
-    let mut writer = Counted::new(Vec::new(alloc));
-    let ended = initiate(alloc, &mut gate, 1000, &first, &mut reader, &mut writer);
+    let (ended, _reader, writer) = initiate_over(
+        alloc,
+        &mut gate,
+        1000,
+        &first,
+        ACK_AT_3,
+        Vec::new(alloc),
+    );
     Ok((ended, writer.into_link()))
+}
+
+// Its end, and `true` if its bytes are A's SYN and the ACK2 with the tombstone.
+fn opened_with_tombstone(alloc: Global) -> Result<(Result<Ended, Broken>, bool), Fail> {
+    let (ended, written) = opened(alloc)?;
+    let due = joined(alloc, &[SYN_AT_4, ACK2_OF_A])?;
+    Ok((ended, written.as_slice() == due.as_slice()))
 }
 
 #[test]
 fn a_tombstone_is_written(rt: HostRuntime) -> Result<(), Fail> {
-    let (ended, written) = opened(rt.alloc())?;
-    let due = joined(rt.alloc(), &[SYN_AT_4, ACK2_OF_A])?;
-    let same = written.as_slice() == due.as_slice();
-    expect_eq!((ended, same), (Ok(Ended::Whole), true))
+    let seen = opened_with_tombstone(rt.alloc())?;
+    expect_eq!(seen, (Ok(Ended::Whole), true))
 }
 
 // A as it was at version 3.
@@ -139,7 +152,7 @@ fn before_the_removal(alloc: Global) -> Result<Ack2, Fail> {
 fn holder(alloc: Global) -> Result<Node, Fail> {
     let mut node = started(alloc, B, 5)?;
     let m = before_the_removal(alloc)?;
-    node.step(alloc, &Event::Ack2 { now: 500, m })?;
+    step(alloc, &mut node, Event::Ack2 { now: 500, m })?;
     Ok(node)
 }
 
@@ -164,9 +177,13 @@ fn answered(
 ) -> Result<(Result<Ended, Broken>, Option<Shown>, bool), Fail> {
     let input = joined(alloc, &[SYN_AT_4, ack2])?;
     let mut gate = NodeGate::new(holder(alloc)?);
-    let mut reader = Counted::new(input.as_slice());
-    let mut writer = Counted::new(Vec::new(alloc));
-    let ended = respond(alloc, &mut gate, 1000, &mut reader, &mut writer);
+    let (ended, _reader, writer) = respond_over(
+        alloc,
+        &mut gate,
+        1000,
+        input.as_slice(),
+        Vec::new(alloc),
+    );
     let written = writer.into_link();
     Ok((ended, shown(gate.node()), written.as_slice() == ACK_OF_B))
 }

@@ -1,12 +1,14 @@
 //! Nodes and frames of the worked exchange: A is 10.0.0.1:7000 in generation 9, B is 10.0.0.2:7000 in generation 5, and
 //! the cluster is c1.
 
-use cg_core::Node;
-use cg_engine::{NodeGate, expected_syn};
+use cg_core::{Event, Node};
+use cg_engine::{Broken, Ended, NodeGate, expected_syn, initiate, respond};
 use cg_frames::decode;
+use cg_links::Counted;
 use cg_messages::Syn;
 use cg_testing::{A, B, endpoint, generation, settings};
 use std::alloc::Global;
+use std::io::{Read, Write};
 use std::test::Fail;
 
 // A's SYN, B's ACK, and A's ACK2 in layout 1, as they are read.
@@ -34,6 +36,12 @@ pub(crate) fn started(alloc: Global, own: u16, start: u32) -> Result<Node, Fail>
     Ok(Node::start(alloc, endpoint(own), generation(start), settings(alloc)?)?)
 }
 
+// Steps a node by an event. It has no clause, so who calls it again and again is proved without what a step promises.
+pub(crate) fn step(alloc: Global, node: &mut Node, event: Event) -> Result<(), Fail> {
+    node.step(alloc, &event)?;
+    Ok(())
+}
+
 fn node(alloc: Global, own: u16, start: u32) -> Result<NodeGate, Fail> {
     Ok(NodeGate::new(started(alloc, own, start)?))
 }
@@ -50,6 +58,35 @@ pub(crate) fn b(alloc: Global) -> Result<NodeGate, Fail> {
 pub(crate) fn syn(alloc: Global) -> Result<Syn, Fail> {
     let (message, _size) = decode(alloc, SYN_IN)?.ok_or("a whole frame")?;
     Ok(expected_syn(message)?)
+}
+
+// Answers an exchange at a gate over these links: its end, and both links. As `step`, it has no clause.
+pub(crate) fn respond_over<R: Read, W: Write>(
+    alloc: Global,
+    gate: &mut NodeGate,
+    now: u64,
+    input: R,
+    output: W,
+) -> (Result<Ended, Broken>, Counted<R>, Counted<W>) {
+    let mut reader = Counted::new(input);
+    let mut writer = Counted::new(output);
+    let ended = respond(alloc, gate, now, &mut reader, &mut writer);
+    (ended, reader, writer)
+}
+
+// Begins an exchange with this SYN at a gate in the same way.
+pub(crate) fn initiate_over<R: Read, W: Write>(
+    alloc: Global,
+    gate: &mut NodeGate,
+    now: u64,
+    opening: &Syn,
+    input: R,
+    output: W,
+) -> (Result<Ended, Broken>, Counted<R>, Counted<W>) {
+    let mut reader = Counted::new(input);
+    let mut writer = Counted::new(output);
+    let ended = initiate(alloc, gate, now, opening, &mut reader, &mut writer);
+    (ended, reader, writer)
 }
 
 // Returns the first `count` bytes.
