@@ -1,7 +1,8 @@
 //! Journals of histories of which records are folded: they are not written.
 
 use crate::audited::A;
-use cg_journal::{read_journal, write_journal};
+use crate::samples::history_in;
+use cg_journal::write_journal;
 use cg_links::Counted;
 use cg_testing::expect_eq;
 use cg_types::Fault;
@@ -11,8 +12,7 @@ use std::test::Fail;
 // Writes the journal of A's life, which has two records, once this many of them are folded: the answer, the number of
 // bytes written, and the number of failures counted.
 fn written(alloc: Global, count: usize) -> Result<(Result<(), Fault>, usize, u64), Fail> {
-    let mut reader = Counted::new(A.as_bytes());
-    let mut history = read_journal(alloc, &mut reader).ok().ok_or("a history")?;
+    let mut history = history_in(alloc, A.as_bytes())?;
     if count <= history.records().len() {
         history.fold_front(alloc, count)?;
     }

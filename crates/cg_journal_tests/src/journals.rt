@@ -4,9 +4,10 @@
 //! takes the ACK and B the ACK2.
 
 use crate::audited::{A, A_2, A_3, B, B_2, B_3};
+use crate::samples::{applied, history_in};
 use cg_core::Event;
 use cg_history::History;
-use cg_journal::{every_event_fits, every_history_fits, read_journal, write_journal};
+use cg_journal::{every_event_fits, every_history_fits, write_journal};
 use cg_links::Counted;
 use cg_testing::expect_eq;
 use std::alloc::Global;
@@ -33,16 +34,26 @@ fn told(history: &History) -> Told {
     )
 }
 
+// The history in a text; if it is to go on, after caller 7 made it beat.
+fn history_of(alloc: Global, text: &str, goes_on: bool) -> Result<History, Fail> {
+    let mut history = history_in(alloc, text.as_bytes())?;
+    if goes_on {
+        applied(alloc, &mut history, 7, Event::Beat)?;
+    }
+    Ok(history)
+}
+
+// The journal of a history.
+fn journal_of(alloc: Global, history: &History) -> Result<String, Fail> {
+    let mut writer = Counted::new(Vec::new(alloc));
+    write_journal(alloc, history, &mut writer)?;
+    Ok(String::from_utf8(writer.into_link())?)
+}
+
 // The numbers of the history in a text, and its journal; if it is to go on, after caller 7 made it beat.
 fn written_again(alloc: Global, text: &str, goes_on: bool) -> Result<(Told, String), Fail> {
-    let mut reader = Counted::new(text.as_bytes());
-    let mut history = read_journal(alloc, &mut reader).ok().ok_or("a history")?;
-    if goes_on {
-        let _receipt = history.apply(alloc, 7, Event::Beat)?;
-    }
-    let mut writer = Counted::new(Vec::new(alloc));
-    write_journal(alloc, &history, &mut writer)?;
-    Ok((told(&history), String::from_utf8(writer.into_link())?))
+    let history = history_of(alloc, text, goes_on)?;
+    Ok((told(&history), journal_of(alloc, &history)?))
 }
 
 const A_AND_BEAT: &str = "life 10.0.0.1:7000 9 1000 2000 60000 18421 - c1\n\

@@ -18,4 +18,6 @@ mod links;
 #[cfg(test)]
 mod records;
 #[cfg(test)]
+mod samples;
+#[cfg(test)]
 mod unreadable;

@@ -1,7 +1,8 @@
 //! Lines of events that have a frame, short and long, written and read again.
 
+use crate::samples::history_in;
 use cg_core::Event;
-use cg_journal::{EventLine, read_journal};
+use cg_journal::EventLine;
 use cg_links::{Counted, CountingLink};
 use cg_messages::{Ack2, OwnerDelta};
 use cg_testing::{B, delta, endpoint, expect_eq, long_text, state};
@@ -35,8 +36,7 @@ fn line_of(alloc: Global, count: u16) -> Result<EventLine, Fail> {
 fn records_in(alloc: Global, line: &[u8]) -> Result<usize, Fail> {
     let mut text = LIFE.as_bytes().to_vec(alloc)?;
     text.extend_from_slice(line)?;
-    let mut reader = Counted::new(text.as_slice());
-    let history = read_journal(alloc, &mut reader).ok().ok_or("a history")?;
+    let history = history_in(alloc, text.as_slice())?;
     Ok(history.records().len())
 }
 

@@ -1,7 +1,8 @@
 //! Journals and audits over links that move a byte a call, of which each call fails in turn.
 
 use crate::audited::{A, B, ONE_RUN};
-use cg_journal::{read_journal, read_journal_telling, write_journal};
+use crate::samples::history_in;
+use cg_journal::{read_journal_telling, write_journal};
 use cg_links::{Counted, FailingLink, SlowLink};
 use cg_testing::expect_eq;
 use cg_tool::audit_files;
@@ -23,8 +24,7 @@ fn read_slowly(alloc: Global, turn: u64) -> (Result<usize, (u64, u8)>, u64) {
 // Writes while the call of a number fails: the number of bytes written, `true` if they are a prefix of the text, the
 // number of the fault or 0, and `true` if all was flushed.
 fn written_slowly(alloc: Global, turn: u64) -> Result<(usize, bool, u8, bool), Fail> {
-    let mut reader = Counted::new(TEXT.as_bytes());
-    let history = read_journal(alloc, &mut reader).ok().ok_or("a history")?;
+    let history = history_in(alloc, TEXT.as_bytes())?;
     let mut writer = Counted::new(FailingLink::new(SlowLink::new(Vec::new(alloc)), turn));
     let number = match write_journal(alloc, &history, &mut writer) {
         Ok(()) => 0,

@@ -5,6 +5,7 @@
 //! A is 10.0.0.1:7000 and B 10.0.0.2:7000; the cluster is c1. A history is A's at generation 9. That of the examples has
 //! two records: caller 1 sets key 1 to NORMAL, and then caller 2 beats.
 
+use crate::samples::applied;
 use cg_core::{Event, Reply};
 use cg_exchange::syn;
 use cg_history::{History, Item, Receipt, UnconfirmedReceipt, confirms};
@@ -69,7 +70,7 @@ fn history_of(alloc: Global, events: &[(Of, u32)]) -> Result<History, Fail> {
     let mut history = begun(alloc)?;
     for (of, caller) in events {
         let event = event(alloc, *of)?;
-        let _receipt = history.apply(alloc, *caller, event)?;
+        applied(alloc, &mut history, *caller, event)?;
     }
     Ok(history)
 }
@@ -104,7 +105,7 @@ fn told(alloc: Global, before: &[(Of, u32)], last: (Of, u32)) -> Result<Told, Fa
     let (of, caller) = last;
     let event = event(alloc, of)?;
     let mut history = history_of(alloc, before)?;
-    let done = match history.apply(alloc, caller, event) {
+    let done = match applied(alloc, &mut history, caller, event) {
         Ok(receipt) => Ok(numbers(&receipt)),
         Err(fault) => Err(fault),
     };
@@ -214,6 +215,15 @@ const UNCONFIRMED: [(&[Row], Option<(usize, u8)>); 10] = [
     (&[(Of::Remove, 2, 1, 1)], Some((0, 16))),
 ];
 
+// The receipts of `count` beats of a history by two callers in turn.
+fn beats(alloc: Global, history: &mut History, count: u32) -> Result<Vec<Receipt>, Fail> {
+    let mut receipts = Vec::new(alloc);
+    for turn in 0..count {
+        receipts.push(applied(alloc, history, turn % 2, Event::Beat)?)?;
+    }
+    Ok(receipts)
+}
+
 // Of `count` beats by two callers in turn: the number of records, and the first unconfirmed receipt of all receipts,
 // and of them with the last one's number changed.
 fn confirmed_of(
@@ -221,10 +231,7 @@ fn confirmed_of(
     count: u32,
 ) -> Result<(usize, Option<(usize, u8)>, Option<(usize, u8)>), Fail> {
     let mut history = begun(alloc)?;
-    let mut receipts = Vec::new(alloc);
-    for turn in 0..count {
-        receipts.push(history.apply(alloc, turn % 2, Event::Beat)?)?;
-    }
+    let mut receipts = beats(alloc, &mut history, count)?;
     let all = unconfirmed(history.confirms(&receipts));
     if let Some(last) = receipts.last_mut() {
         last.number = 1;
