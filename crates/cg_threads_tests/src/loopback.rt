@@ -7,6 +7,7 @@ use crate::nodes::{Side, kinds, ran, rounds, were_one_run};
 use crate::operators::{ChangesAndReads, ReadsOnce};
 use cg_testing::{A, endpoint, expect_eq};
 use cg_threads::Ran;
+use cg_types::Endpoint;
 use std::alloc::Global;
 use std::net::{Net, TcpListener, TcpStream};
 use std::rt::Clock;
@@ -72,14 +73,20 @@ struct Left {
     one: bool,
 }
 
+// The number of rounds of a node with this one peer, and `true` if its sender took just these.
+fn rounds_with(alloc: Global, left: &Ran, peer: Endpoint) -> Result<(usize, bool), Fail> {
+    let begun = rounds(alloc, &left.history, peer)?;
+    Ok((begun.len(), left.rounds == begun))
+}
+
 fn left_of(alloc: Global, a: &Side, b: &Side, of_a: Ran, of_b: Ran) -> Result<Left, Fail> {
-    let begun = rounds(alloc, &of_a.history, b.own)?;
+    let (begun, taken) = rounds_with(alloc, &of_a, b.own)?;
     let held = of_b.history.node().table().get(a.own).is_some();
     let kinds = kinds(&of_b.history);
     let one = were_one_run(alloc, (a.own, of_a.history), (b.own, of_b.history))?;
     Ok(Left {
-        begun: begun.len(),
-        taken: of_a.rounds == begun,
+        begun,
+        taken,
         changed: a.read.load(Ordering::SeqCst),
         read: b.read.load(Ordering::SeqCst),
         held,

@@ -132,18 +132,31 @@ pub(crate) fn acks(history: &History) -> u32 {
     count
 }
 
-// Tests whether the lives of two endpoints were one run of the gossip.
-pub(crate) fn were_one_run(
+// The lives of an endpoint that has this one history.
+fn lives_of(alloc: Global, at: Endpoint, history: History) -> Result<Lives, Fail> {
+    let mut histories = Vec::new(alloc);
+    histories.push(history)?;
+    Ok(Lives::new(at, histories).ok_or("lives of the endpoint")?)
+}
+
+// The lives of two endpoints.
+fn lives_of_two(
     alloc: Global,
     (a, of_a): (Endpoint, History),
     (b, of_b): (Endpoint, History),
-) -> Result<bool, Fail> {
-    let mut first = Vec::new(alloc);
-    first.push(of_a)?;
-    let mut second = Vec::new(alloc);
-    second.push(of_b)?;
+) -> Result<Vec<Lives>, Fail> {
     let mut lives = Vec::new(alloc);
-    lives.push(Lives::new(a, first).ok_or("lives of the endpoint")?)?;
-    lives.push(Lives::new(b, second).ok_or("lives of the endpoint")?)?;
+    lives.push(lives_of(alloc, a, of_a)?)?;
+    lives.push(lives_of(alloc, b, of_b)?)?;
+    Ok(lives)
+}
+
+// Tests whether the lives of two endpoints were one run of the gossip.
+pub(crate) fn were_one_run(
+    alloc: Global,
+    a: (Endpoint, History),
+    b: (Endpoint, History),
+) -> Result<bool, Fail> {
+    let lives = lives_of_two(alloc, a, b)?;
     Ok(endpoints_differ(&lives) && audit(alloc, &lives).is_ok())
 }
