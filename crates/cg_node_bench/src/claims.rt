@@ -1,10 +1,9 @@
 //! Nodes whose owners claim tokens, and the events that change the claims.
 
-use crate::nodes::{after, brings_one, set, started};
+use crate::nodes::{add_delta, after, brings_one, set, started};
 use cg_core::{Event, Node};
 use cg_measure::{Failure, claiming, leaving, tokens_text};
 use cg_messages::{Ack, OwnerDelta};
-use cg_testing::endpoint;
 use cg_types::{STATUS_KEY, TOKENS_KEY};
 use std::alloc::Global;
 
@@ -12,10 +11,7 @@ use std::alloc::Global;
 fn claims_of_others(alloc: Global) -> Result<Vec<OwnerDelta>, Failure> {
     let mut deltas = Vec::new(alloc);
     for number in 1..256u16 {
-        deltas.push(OwnerDelta {
-            endpoint: endpoint(number),
-            delta: claiming(alloc, number)?,
-        })?;
+        add_delta(&mut deltas, number, claiming(alloc, number)?)?;
     }
     Ok(deltas)
 }

@@ -69,6 +69,24 @@ fn fold_from(alloc: Global, history: &mut History, full: usize) -> Result<(), Al
     history.fold_front(alloc, count.saturating_sub(100))
 }
 
+// Applies the event of all that the others hold.
+fn apply_others(alloc: Global, history: &mut History, shape: Shape) -> Result<(), Failure> {
+    let others = others(alloc, shape)?;
+    Ok(apply(alloc, history, 1, others)?)
+}
+
+// Applies the next heartbeat, and folds all records but the last hundred if `full` are kept.
+fn apply_next(
+    alloc: Global,
+    history: &mut History,
+    number: u32,
+    full: usize,
+) -> Result<(), Failure> {
+    let heartbeat = next(alloc, number)?;
+    apply(alloc, history, 1, heartbeat)?;
+    Ok(fold_from(alloc, history, full)?)
+}
+
 /// The history of `count` heartbeats at a whole table, whose events are handed to it and not copied. All records but
 /// the last hundred are folded whenever `full` are kept.
 pub(crate) fn kept(
@@ -78,12 +96,17 @@ pub(crate) fn kept(
     full: usize,
 ) -> Result<History, Failure> {
     let mut history = begun(alloc)?;
-    apply(alloc, &mut history, 1, others(alloc, shape)?)?;
+    apply_others(alloc, &mut history, shape)?;
     for number in 0..count {
-        apply(alloc, &mut history, 1, next(alloc, number)?)?;
-        fold_from(alloc, &mut history, full)?;
+        apply_next(alloc, &mut history, number, full)?;
     }
     Ok(history)
+}
+
+/// The numbers of folded records and of those that are kept. It has no clause, so who calls it is proved without the
+/// replay of a history.
+pub(crate) fn counts(history: &History) -> (u64, usize) {
+    (history.folded(), history.records().len())
 }
 
 // The number of records that are confirmed.
@@ -94,7 +117,7 @@ pub(crate) fn beats(alloc: Global, callers: u32) -> Result<History, Failure> {
     let mut history = begun(alloc)?;
     for number in 1..=RECEIPTS {
         let caller = number.checked_rem(callers).unwrap_or(0);
-        black_box(history.apply(alloc, caller, Event::Beat)?);
+        apply(alloc, &mut history, caller, Event::Beat)?;
     }
     Ok(history)
 }

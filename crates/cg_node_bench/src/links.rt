@@ -10,6 +10,7 @@ use cg_links::Counted;
 use cg_measure::{Failure, Shape};
 use cg_messages::{Ack, Ack2, Message, Syn};
 use cg_testing::cluster;
+use cg_types::Fault;
 use std::alloc::{AllocError, Global};
 
 /// One side of an exchange: its node, and the bytes that it reads.
@@ -62,10 +63,16 @@ fn answer(alloc: Global, opener: &Node, answerer: &Node) -> Result<Ack, Failure>
     Ok(answer_syn(alloc, answerer.table(), &cluster, &syn)?)
 }
 
+// The node after an event, and its reply. It has no clause, so who calls it is proved without the rules of steps.
+fn stepped(alloc: Global, node: &Node, event: &Event) -> Result<(Node, Reply), Fault> {
+    node.stepped(alloc, event)
+}
+
 // The opener after the answer to its SYN, and the ACK2 that it sends.
 fn answered(alloc: Global, opener: &Node, m: Ack) -> Result<(Node, Ack2), Failure> {
-    match opener.stepped(alloc, &Event::Ack { now: 1000, m })? {
-        (opener, Reply::Both { ack2, .. }) => Ok((opener, ack2)),
+    let (opener, reply) = stepped(alloc, opener, &Event::Ack { now: 1000, m })?;
+    match reply {
+        Reply::Both { ack2, .. } => Ok((opener, ack2)),
         _ => Err(Failure::Lacking("an ACK2")),
     }
 }
@@ -101,9 +108,14 @@ fn put_together(alloc: Global, one: &[u8], other: &[u8]) -> Result<Vec<u8>, Allo
     Ok(all)
 }
 
+fn ack_frame(alloc: Global, opener: &Node, answerer: &Node) -> Result<Bytes, Failure> {
+    let ack = answer(alloc, opener, answerer)?;
+    Ok(encode(alloc, &Message::Ack(ack))?)
+}
+
 // The bytes that the opener reads: an ACK.
 fn opener_input(alloc: Global, opener: &Node, answerer: &Node) -> Result<Vec<u8>, Failure> {
-    let ack = encode(alloc, &Message::Ack(answer(alloc, opener, answerer)?))?;
+    let ack = ack_frame(alloc, opener, answerer)?;
     Ok(ack.to_vec(alloc)?)
 }
 

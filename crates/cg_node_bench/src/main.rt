@@ -19,7 +19,7 @@ mod scripts;
 mod work;
 
 use crate::cases::{ALL, LARGEST};
-use crate::histories::kept;
+use crate::histories::{counts, kept};
 use crate::pieces::in_pieces;
 use crate::runs::print_run;
 use crate::work::case_of;
@@ -27,15 +27,19 @@ use cg_measure::{Failure, is_first_word, mode_of, run_cases};
 use std::alloc::Global;
 use std::env::Env;
 
+// The number that these bytes spell, or 0 if it is none.
+fn number_of(digits: &[u8]) -> u32 {
+    match std::str::from_utf8(digits) {
+        Ok(text) => text.parse().unwrap_or(0),
+        Err(_) => 0,
+    }
+}
+
 // The number in the second word, or 0 if it is none.
 fn second_number(rt: &impl Env) -> u32 {
     let mut word = [0u8; 8];
-    let Ok(size) = rt.arg(2, &mut word) else {
-        return 0;
-    };
-    let digits = word.get(..size).unwrap_or(b"");
-    match std::str::from_utf8(digits) {
-        Ok(text) => text.parse().unwrap_or(0),
+    match rt.arg(2, &mut word) {
+        Ok(size) => number_of(word.get(..size).unwrap_or(b"")),
         Err(_) => 0,
     }
 }
@@ -43,7 +47,7 @@ fn second_number(rt: &impl Env) -> u32 {
 // Makes `count` records, folds them whenever `full` are kept, and prints how many are folded and how many are kept.
 fn keep(rt: &impl Print, alloc: Global, count: u32, full: usize) -> Result<(), Failure> {
     let history = kept(alloc, LARGEST, count, full)?;
-    let (gone, left) = (history.folded(), history.records().len());
+    let (gone, left) = counts(&history);
     println!(rt; "{gone} records folded, {left} kept")?;
     Ok(())
 }

@@ -49,6 +49,16 @@ pub(crate) fn others(alloc: Global, shape: Shape) -> Result<Event, Failure> {
     arrival(1000, copies(alloc, whole.deltas())?)
 }
 
+/// Adds the delta of an endpoint.
+pub(crate) fn add_delta(
+    deltas: &mut Vec<OwnerDelta>,
+    number: u16,
+    delta: Delta,
+) -> Result<(), Failure> {
+    let endpoint = endpoint(number);
+    Ok(deltas.push(OwnerDelta { endpoint, delta })?)
+}
+
 /// The event of an ACK2 that brings one delta, of an endpoint, at this time.
 pub(crate) fn brings_one(
     alloc: Global,
@@ -57,10 +67,7 @@ pub(crate) fn brings_one(
     delta: Delta,
 ) -> Result<Event, Failure> {
     let mut deltas = Vec::new(alloc);
-    deltas.push(OwnerDelta {
-        endpoint: endpoint(number),
-        delta,
-    })?;
+    add_delta(&mut deltas, number, delta)?;
     arrival(now, deltas)
 }
 
@@ -78,10 +85,7 @@ pub(crate) fn heartbeat(alloc: Global, number: u16, above: u32, at: u32) -> Resu
 fn beats_at(alloc: Global, owners: u16, above: u32, at: u32) -> Result<Vec<OwnerDelta>, Failure> {
     let mut deltas = Vec::new(alloc);
     for number in 1..owners {
-        deltas.push(OwnerDelta {
-            endpoint: endpoint(number),
-            delta: beat_at(alloc, above, at)?,
-        })?;
+        add_delta(&mut deltas, number, beat_at(alloc, above, at)?)?;
     }
     Ok(deltas)
 }
@@ -108,11 +112,15 @@ pub(crate) fn rounds_of_beats(
     Ok(events)
 }
 
+// Endpoint 0, of which this is the first event.
+fn first_step(alloc: Global, event: &Event) -> Result<Node, Failure> {
+    let node = started(alloc, 0, 5)?;
+    Ok(after(alloc, &node, event)?)
+}
+
 /// Endpoint 0, which has taken all that the others hold.
 pub(crate) fn joined(alloc: Global, shape: Shape) -> Result<Node, Failure> {
-    let others = others(alloc, shape)?;
-    let node = started(alloc, 0, 5)?;
-    Ok(after(alloc, &node, &others)?)
+    first_step(alloc, &others(alloc, shape)?)
 }
 
 /// The node after these events, one after the other.
@@ -131,12 +139,16 @@ pub(crate) fn heard(alloc: Global, shape: Shape) -> Result<Node, Failure> {
     after_all(alloc, &node, &beats)
 }
 
+// The text of a state. It has no clause.
+fn text_of(alloc: Global, text: &str) -> Result<StateText, Fault> {
+    StateText::new(alloc, text)
+}
+
 /// The event that sets a key in the node's own entry.
 pub(crate) fn set(alloc: Global, number: u8, text: &str) -> Result<Event, Fault> {
-    Ok(Event::Set {
-        key: key(number),
-        text: StateText::new(alloc, text)?,
-    })
+    let text = text_of(alloc, text)?;
+    let key = key(number);
+    Ok(Event::Set { key, text })
 }
 
 /// The event that sets a load in the node's own entry.

@@ -6,8 +6,7 @@ use cg_frames::{decode, encode};
 use cg_measure::{Failure, Held, Shape, table};
 use cg_messages::{Ack2, Message, OwnerDelta};
 use cg_table::Table;
-use cg_testing::{endpoint, generation, key, version};
-use cg_types::StateText;
+use cg_testing::{endpoint, generation, state, version};
 use std::alloc::Global;
 
 const TEXT: &str = "0123456789012345678901234567890123456789012345678901234567890123";
@@ -18,15 +17,16 @@ const ALONE: Shape = Shape {
     text: 64,
 };
 
-// A delta that brings one state, newer than those that came before.
-fn piece(alloc: Global, number: u8) -> Result<Delta, Failure> {
-    let state = State {
-        key: key(number),
-        version: version(u32::from(number) + 1),
-        text: Some(StateText::new(alloc, TEXT)?),
-    };
+fn states_of_one(alloc: Global, number: u8) -> Result<Vec<State>, Failure> {
+    let state = state(alloc, number, u32::from(number) + 1, TEXT)?;
     let mut states = Vec::new(alloc);
     states.push(state)?;
+    Ok(states)
+}
+
+// A delta that brings one state, newer than those that came before.
+fn piece(alloc: Global, number: u8) -> Result<Delta, Failure> {
+    let states = states_of_one(alloc, number)?;
     let above = if number == 1 { 0 } else { u32::from(number) };
     Delta::new(generation(5), above, version(1), states).ok_or(Failure::Lacking("a delta"))
 }

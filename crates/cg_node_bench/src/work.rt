@@ -17,7 +17,7 @@ use cg_messages::Message;
 use cg_table::Table;
 use cg_world::{Action, World};
 use md5::{Digest, Md5};
-use std::alloc::Global;
+use std::alloc::{AllocError, Global};
 
 /// One task, with its input.
 #[derive(Drop)]
@@ -156,9 +156,14 @@ impl cg_measure::Work for Work {
     }
 }
 
+// A copy of the table of a node. It has no clause.
+fn table_of(alloc: Global, node: &Node) -> Result<Table, AllocError> {
+    node.table().copy(alloc)
+}
+
 fn copied(alloc: Global, shape: Shape) -> Result<Work, Failure> {
-    let node = joined(alloc, shape)?;
-    Ok(Work::Copy(node.table().copy(alloc)?))
+    let table = table_of(alloc, &joined(alloc, shape)?)?;
+    Ok(Work::Copy(table))
 }
 
 fn step(alloc: Global, event: Event, shape: Shape) -> Result<Work, Failure> {
