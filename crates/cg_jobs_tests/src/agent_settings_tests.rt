@@ -110,13 +110,13 @@ fn text_with(alloc: Global, key: &str, value: &str) -> Result<String, AllocError
     Ok(text)
 }
 
-// The number of seeds, the loads, the seed of the random words, the use of standard input, and the four numbers of
-// silence. `None` if they are no settings, or if their texts are others: the cluster, the generation's file, and the
-// folder of the journals.
-fn numbers(
-    settings: &AgentSettings,
-    names: (&str, &str, Option<&str>),
-) -> Option<(u16, usize, Loads, u64, AgentInput, (usize, u32, u32, u32))> {
+// The port, the number of seeds, the loads, the seed of the random words, the use of standard input, and the four numbers
+// of silence.
+type Numbers = (u16, usize, Loads, u64, AgentInput, (usize, u32, u32, u32));
+
+// The numbers of settings. `None` if their texts are others: the cluster, the generation's file, and the folder of the
+// journals.
+fn numbers(settings: &AgentSettings, names: (&str, &str, Option<&str>)) -> Option<Numbers> {
     let silence = settings.node.silence();
     let journals = match &settings.journals {
         Some(folder) => Some(folder.as_str()),
@@ -152,12 +152,22 @@ fn http_of(settings: &AgentSettings) -> (Option<u16>, bool) {
     (port, settings.http.writes)
 }
 
+// The numbers of the settings that a text has, and where they serve HTTP.
+fn numbers_in(
+    alloc: Global,
+    text: &str,
+    names: (&str, &str, Option<&str>),
+) -> Result<(Option<Numbers>, (Option<u16>, bool)), Fail> {
+    let Ok(settings) = agent_or_key(alloc, text.as_bytes()) else {
+        return Err("no settings".into());
+    };
+    Ok((numbers(&settings, names), http_of(&settings)))
+}
+
 #[test]
 fn each_key_of_an_agent_is_read_or_has_its_default(rt: HostRuntime) -> Result<(), Fail> {
     let few = text_with(rt.alloc(), "cluster", "\"c1\"")?;
-    let Ok(few) = agent_or_key(rt.alloc(), few.as_bytes()) else {
-        return Err("no settings".into());
-    };
+    let (few, http_of_few) = numbers_in(rt.alloc(), few.as_str(), ("c1", "g", None))?;
     let loads = Loads {
         interval: 1000,
         journal_mb: 1024,
@@ -165,14 +175,10 @@ fn each_key_of_an_agent_is_read_or_has_its_default(rt: HostRuntime) -> Result<()
         receivers: 2,
     };
     let silence = (1000, 2000, 60000, 18421);
-    expect_eq!(
-        numbers(&few, ("c1", "g", None)),
-        Some((7000, 0, loads, 0, AgentInput::Ignore, silence))
-    )?;
-    expect_eq!(http_of(&few), (None, false))?;
-    let Ok(all) = agent_or_key(rt.alloc(), ALL.as_bytes()) else {
-        return Err("no settings".into());
-    };
+    expect_eq!(few, Some((7000, 0, loads, 0, AgentInput::Ignore, silence)))?;
+    expect_eq!(http_of_few, (None, false))?;
+    let names = ("c2", "/var/lib/cg/generation", Some("/var/lib/cg"));
+    let (all, http_of_all) = numbers_in(rt.alloc(), ALL, names)?;
     let loads = Loads {
         interval: 0,
         journal_mb: 3,
@@ -180,10 +186,10 @@ fn each_key_of_an_agent_is_read_or_has_its_default(rt: HostRuntime) -> Result<()
         receivers: 5,
     };
     expect_eq!(
-        numbers(&all, ("c2", "/var/lib/cg/generation", Some("/var/lib/cg"))),
+        all,
         Some((65535, 1, loads, 6, AgentInput::Lines, (7, 8, 9, 10)))
     )?;
-    expect_eq!(http_of(&all), (Some(8000), true))
+    expect_eq!(http_of_all, (Some(8000), true))
 }
 
 #[test]

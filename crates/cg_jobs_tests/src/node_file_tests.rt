@@ -87,11 +87,16 @@ fn the_last_generation_has_no_next_life(rt: HostRuntime) -> Result<(), Fail> {
     Ok(())
 }
 
+// A's history at its start.
+fn new_history(alloc: Global) -> Result<History, Fail> {
+    Ok(History::begin(alloc, endpoint(A), generation(9), settings(alloc)?)?)
+}
+
 #[test]
 fn a_journal_in_a_file(rt: HostRuntime) -> Result<(), Fail> {
     let (alloc, name) = (rt.alloc(), "cg_jobs_journal");
     remove_file(&rt, alloc, name, "journal")?;
-    let history = History::begin(alloc, endpoint(A), generation(9), settings(alloc)?)?;
+    let history = new_history(alloc)?;
     write_journal_to(&rt, alloc, "cg_jobs_journal.journal", &history)?;
     expect!(journal_of(&rt, alloc, name)? == Some((endpoint(A), generation(9), 0)))?;
     expect_eq!(
@@ -100,22 +105,34 @@ fn a_journal_in_a_file(rt: HostRuntime) -> Result<(), Fail> {
     )
 }
 
-#[test]
-fn a_journal_of_a_folded_history(rt: HostRuntime) -> Result<(), Fail> {
-    let (alloc, name) = (rt.alloc(), "cg_jobs_folded");
-    let mut history = History::begin(alloc, endpoint(A), generation(9), settings(alloc)?)?;
-    write_journal_to(&rt, alloc, "cg_jobs_folded.journal", &history)?;
+// Beats a history once, and folds the record.
+fn fold_a_beat(alloc: Global, history: &mut History) -> Result<(), Fail> {
     history.apply(alloc, 0, Event::Beat)?;
     if history.records().len() == 1 {
         history.fold_front(alloc, 1)?;
     }
-    // the old text stays, and no file is begun
+    Ok(())
+}
+
+// Writes the journal of A's history, and expects that it can't be written once a record is folded.
+fn write_and_fold<R: Files<File = File>>(rt: &R, alloc: Global) -> Result<(), Fail> {
+    let mut history = new_history(alloc)?;
+    write_journal_to(rt, alloc, "cg_jobs_folded.journal", &history)?;
+    fold_a_beat(alloc, &mut history)?;
     for file in ["cg_jobs_folded.journal", "cg_jobs_no_folder/journal"] {
         expect_eq!(
-            write_journal_to(&rt, alloc, file, &history),
+            write_journal_to(rt, alloc, file, &history),
             Err(Fault::Folded)
         )?;
     }
+    Ok(())
+}
+
+#[test]
+fn a_journal_of_a_folded_history(rt: HostRuntime) -> Result<(), Fail> {
+    let (alloc, name) = (rt.alloc(), "cg_jobs_folded");
+    write_and_fold(&rt, alloc)?;
+    // the old text stays, and no file is begun
     expect!(journal_of(&rt, alloc, name)? == Some((endpoint(A), generation(9), 0)))?;
     expect_eq!(
         port_in(&rt, alloc, "cg_jobs_folded.journal.new"),
