@@ -3,9 +3,10 @@
 //! A is 10.0.0.1:7000 at generation 9. It sets key 1 to NORMAL for caller 1, which is record 1 and version 2, and beats
 //! from then on.
 
+use crate::histories::{applied, begun, fold};
 use cg_core::{Event, Reply};
 use cg_history::{History, Receipt};
-use cg_testing::{A, endpoint, expect_eq, generation, key, settings, version};
+use cg_testing::{A, expect_eq, key, version};
 use cg_types::StateText;
 use std::alloc::Global;
 use std::test::Fail;
@@ -17,16 +18,20 @@ fn set(alloc: Global) -> Result<Event, Fail> {
     })
 }
 
-// The history of three events, and of one fold after the other.
+// The history of three events.
+fn three_events(alloc: Global) -> Result<History, Fail> {
+    let mut history = begun(alloc, A, 9)?;
+    applied(alloc, &mut history, 1, set(alloc)?)?;
+    applied(alloc, &mut history, 1, Event::Beat)?;
+    applied(alloc, &mut history, 1, Event::Beat)?;
+    Ok(history)
+}
+
+// The same, and one fold after the other.
 fn folded(alloc: Global, folds: &[usize]) -> Result<History, Fail> {
-    let mut history = History::begin(alloc, endpoint(A), generation(9), settings(alloc)?)?;
-    let _set = history.apply(alloc, 1, set(alloc)?)?;
-    let _first = history.apply(alloc, 1, Event::Beat)?;
-    let _second = history.apply(alloc, 1, Event::Beat)?;
+    let mut history = three_events(alloc)?;
     for n in folds {
-        if *n <= history.records().len() {
-            history.fold_front(alloc, *n)?;
-        }
+        fold(alloc, &mut history, *n)?;
     }
     Ok(history)
 }
@@ -50,7 +55,7 @@ fn shown(history: &History) -> Shown {
 fn numbered(alloc: Global, folds: &[usize]) -> Result<(Shown, u64), Fail> {
     let mut history = folded(alloc, folds)?;
     let shown = shown(&history);
-    let next = history.apply(alloc, 1, Event::Beat)?;
+    let next = applied(alloc, &mut history, 1, Event::Beat)?;
     Ok((shown, next.number))
 }
 
@@ -95,12 +100,17 @@ fn receipt(alloc: Global, number: u64) -> Result<Receipt, Fail> {
     })
 }
 
-// The place and the number of the fault of the first of these receipts that is not confirmed after a fold of two.
-fn unconfirmed(alloc: Global, numbers: &[u64]) -> Result<Option<(usize, u8)>, Fail> {
+fn receipts_of(alloc: Global, numbers: &[u64]) -> Result<Vec<Receipt>, Fail> {
     let mut receipts = Vec::new(alloc);
     for number in numbers {
         receipts.push(receipt(alloc, *number)?)?;
     }
+    Ok(receipts)
+}
+
+// The place and the number of the fault of the first of these receipts that is not confirmed after a fold of two.
+fn unconfirmed(alloc: Global, numbers: &[u64]) -> Result<Option<(usize, u8)>, Fail> {
+    let receipts = receipts_of(alloc, numbers)?;
     let history = folded(alloc, &[2])?;
     match history.confirms(&receipts) {
         Ok(()) => Ok(None),

@@ -13,6 +13,8 @@ mod exchanges;
 #[cfg(test)]
 mod folds;
 #[cfg(test)]
+mod histories;
+#[cfg(test)]
 mod removals;
 #[cfg(test)]
 mod runs;

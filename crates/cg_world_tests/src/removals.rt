@@ -3,10 +3,10 @@
 //! A is at generation 9, and B at 5. A sets key 2 to a token, version 2, and key 1 to NORMAL, version 3, and removes key
 //! 1, version 4.
 
-use crate::scripts::{act_all, deliver, local, remove, set, set_status, start, world_of};
+use crate::scripts::{act_all, answers, deliver, local, remove, set, set_status, start, world_of};
 use cg_core::{Node, Reply};
 use cg_messages::Message;
-use cg_testing::{A, B, endpoint, expect_eq, key, settings};
+use cg_testing::{A, B, endpoint, expect_eq, key};
 use cg_types::Fault;
 use cg_world::{LocalEvent, Shown, World, equal_digests};
 use std::alloc::Global;
@@ -24,6 +24,17 @@ fn told(answer: &Result<Shown, Fault>) -> Result<u32, Fault> {
         Some(Reply::Done(version)) => Ok(version.get()),
         _ => Ok(0),
     }
+}
+
+fn expect_told(
+    answers: &[Result<Shown, Fault>],
+    due: [Result<u32, Fault>; 11],
+) -> Result<(), Fail> {
+    expect_eq!(answers.len(), due.len())?;
+    for (answer, due) in answers.iter().zip(due) {
+        expect_eq!(told(answer), due)?;
+    }
+    Ok(())
 }
 
 // The empty text can be removed; a restart leaves nothing that could be.
@@ -45,7 +56,7 @@ fn a_removal_is_told_or_refused(rt: HostRuntime) -> Result<(), Fail> {
         start(A, 10),
         remove(A, 2),
     ];
-    let (_world, answers) = World::run(rt.alloc(), settings(rt.alloc())?, &actions)?;
+    let answers = answers(rt.alloc(), &actions)?;
     let due = [
         Ok(0),
         Err(Fault::NoSuchKey),
@@ -59,11 +70,7 @@ fn a_removal_is_told_or_refused(rt: HostRuntime) -> Result<(), Fail> {
         Ok(0),
         Err(Fault::NoSuchKey),
     ];
-    expect_eq!(answers.len(), due.len())?;
-    for (answer, due) in answers.iter().zip(due) {
-        expect_eq!(told(answer), due)?;
-    }
-    Ok(())
+    expect_told(&answers, due)
 }
 
 // A world in which B holds what A set.

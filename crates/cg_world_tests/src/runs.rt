@@ -1,6 +1,6 @@
 //! The messages, nodes, merged tables and compared digests of a world, and runs that memory may end.
 
-use crate::scripts::{act_all, deliver, local, start, three_nodes};
+use crate::scripts::{act_all, answers, deliver, local, start, three_nodes};
 use cg_messages::Message;
 use cg_table::Table;
 use cg_testing::{A, B, C, endpoint, expect, expect_eq, settings};
@@ -157,6 +157,17 @@ fn sent_by(answer: &Result<Shown, Fault>) -> Result<Option<u64>, Fault> {
     }
 }
 
+fn expect_sent(
+    answers: &[Result<Shown, Fault>],
+    due: [Result<Option<u64>, Fault>; 6],
+) -> Result<(), Fail> {
+    expect_eq!(answers.len(), due.len())?;
+    for (answer, due) in answers.iter().zip(due) {
+        expect_eq!(sent_by(answer), due)?;
+    }
+    Ok(())
+}
+
 #[test]
 fn a_run_tells_what_each_action_sent(rt: HostRuntime) -> Result<(), Fail> {
     let actions = [
@@ -167,7 +178,7 @@ fn a_run_tells_what_each_action_sent(rt: HostRuntime) -> Result<(), Fail> {
         deliver(1, B, 1000),
         deliver(99, B, 1000),
     ];
-    let (_world, answers) = World::run(rt.alloc(), settings(rt.alloc())?, &actions)?;
+    let answers = answers(rt.alloc(), &actions)?;
     let due = [
         Ok(None),
         Ok(Some(1)),
@@ -176,9 +187,5 @@ fn a_run_tells_what_each_action_sent(rt: HostRuntime) -> Result<(), Fail> {
         Ok(Some(2)),
         Err(Fault::NoSuchMessage),
     ];
-    expect_eq!(answers.len(), due.len())?;
-    for (answer, due) in answers.iter().zip(due) {
-        expect_eq!(sent_by(answer), due)?;
-    }
-    Ok(())
+    expect_sent(&answers, due)
 }

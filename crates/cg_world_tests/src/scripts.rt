@@ -84,6 +84,12 @@ pub fn three_nodes(alloc: Global) -> Result<World, Fail> {
     world_of(alloc, &actions)
 }
 
+/// The answers to actions from the empty world. It has no clause, so who calls it is proved without what a run says.
+pub fn answers(alloc: Global, actions: &[Action]) -> Result<Vec<Result<Shown, Fault>>, Fail> {
+    let (_world, answers) = World::run(alloc, settings(alloc)?, actions)?;
+    Ok(answers)
+}
+
 // The generation and the newest version that a node holds of an endpoint.
 fn held(node: &Node, of: u16) -> Option<(u32, u32)> {
     let entry = node.table().get(endpoint(of))?;

@@ -2,7 +2,8 @@
 //!
 //! Each endpoint opens at generation 9, and all but the last are handed the SYN of the next one.
 
-use crate::audits::made::{begun, said};
+use crate::audits::made::said;
+use crate::histories::{applied, begun};
 use cg_audit::{LifeItem, Lives, audit, endpoints_differ};
 use cg_core::{Event, Reply};
 use cg_history::{History, Receipt};
@@ -21,7 +22,7 @@ fn syn_in(reply: Reply) -> Option<Syn> {
 // An endpoint that has opened, and its SYN.
 fn opened(alloc: Global, own: u16) -> Result<(History, Syn), Fail> {
     let mut history = begun(alloc, own, 9)?;
-    let Receipt { reply, .. } = history.apply(alloc, 0, Event::Opening)?;
+    let Receipt { reply, .. } = applied(alloc, &mut history, 0, Event::Opening)?;
     let m = syn_in(reply).ok_or("a SYN")?;
     Ok((history, m))
 }
@@ -30,7 +31,7 @@ fn opened(alloc: Global, own: u16) -> Result<(History, Syn), Fail> {
 fn linked(alloc: Global, own: u16, handed: Option<Event>) -> Result<(Lives, Event), Fail> {
     let (mut history, m) = opened(alloc, own)?;
     if let Some(syn) = handed {
-        history.apply(alloc, 0, syn)?;
+        applied(alloc, &mut history, 0, syn)?;
     }
     Ok((Lives::of(alloc, history)?, Event::Syn { m }))
 }

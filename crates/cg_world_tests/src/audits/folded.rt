@@ -2,7 +2,8 @@
 //!
 //! A is 10.0.0.1:7000, and B 10.0.0.2:7000; each life has a generation and beats three times.
 
-use crate::audits::made::{begun, said};
+use crate::audits::made::said;
+use crate::histories::{applied, begun, fold};
 use cg_audit::Lives;
 use cg_core::Event;
 use cg_history::History;
@@ -14,11 +15,9 @@ use std::test::Fail;
 fn folded(alloc: Global, own: u16, number: u32, count: usize) -> Result<History, Fail> {
     let mut history = begun(alloc, own, number)?;
     for _ in 0..3 {
-        history.apply(alloc, 0, Event::Beat)?;
+        applied(alloc, &mut history, 0, Event::Beat)?;
     }
-    if count <= history.records().len() {
-        history.fold_front(alloc, count)?;
-    }
+    fold(alloc, &mut history, count)?;
     Ok(history)
 }
 

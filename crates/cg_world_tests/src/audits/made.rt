@@ -1,15 +1,8 @@
-//! Sample histories, and the audits of lives as texts.
+//! The audits of lives as texts.
 
 use cg_audit::{AuditFault, Lives, audit, endpoints_differ};
-use cg_history::History;
-use cg_testing::{endpoint, generation, settings};
 use std::alloc::Global;
 use std::test::Fail;
-
-/// The history of a node that starts.
-pub(crate) fn begun(alloc: Global, own: u16, number: u32) -> Result<History, Fail> {
-    Ok(History::begin(alloc, endpoint(own), generation(number), settings(alloc)?)?)
-}
 
 /// Audits lives: `run` with its order, `stuck` with the heads, the name of a fault, or `twice` if two are of one
 /// endpoint. An item is printed as the last byte of the endpoint's address, the generation, and the number.

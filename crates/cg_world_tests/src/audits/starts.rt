@@ -2,7 +2,8 @@
 //!
 //! A is 10.0.0.1:7000, and B 10.0.0.2:7000; each life has a generation.
 
-use crate::audits::made::{begun, said};
+use crate::audits::made::said;
+use crate::histories::begun;
 use cg_audit::Lives;
 use cg_testing::{A, B, endpoint, expect_eq};
 use cg_types::Endpoint;
