@@ -309,6 +309,105 @@ fn beat<N: Name, R: Wait>(
     }
 }
 
+fn set_and_remove_twice<N: Name, R: Wait>(
+    rt: &R,
+    alloc: Global,
+    shared: &Shared<N>,
+    seat: &mut Seat<N>,
+    pass: &mut Pass<N>,
+    notes: &mut Notes,
+)
+    ensures { seat.new.parts ≡ seat.old.parts }
+{
+    set(rt, alloc, shared, seat, pass, notes, 0);
+    remove(rt, alloc, shared, seat, pass, notes);
+    remove(rt, alloc, shared, seat, pass, notes);
+}
+
+fn read_borrowed<N: Name, R: Wait>(
+    rt: &R,
+    shared: &Shared<N>,
+    pass: &mut Pass<N>,
+    notes: &mut Notes,
+) {
+    let board = shared.lend(rt);
+    note_read(pass, notes);
+    MutexGuard::unlock(board);
+}
+
+fn enter_two<N: Name, R: Wait>(
+    rt: &R,
+    alloc: Global,
+    shared: &Shared<N>,
+    seat: &mut Seat<N>,
+    pass: &mut Pass<N>,
+    notes: &mut Notes,
+)
+    ensures { seat.new.parts ≡ seat.old.parts }
+{
+    let mut board = shared.lend(rt);
+    note_entered(alloc, &mut board, seat, pass, notes);
+    note_entered(alloc, &mut board, seat, pass, notes);
+    note_caught_up(rt, alloc, &mut board, pass, notes);
+    MutexGuard::unlock(board);
+}
+
+fn set_anyway_twice<N: Name, R: Wait>(
+    rt: &R,
+    alloc: Global,
+    shared: &Shared<N>,
+    seat: &mut Seat<N>,
+    pass: &mut Pass<N>,
+    notes: &mut Notes,
+)
+    requires folds { N.folds ≡ true }
+    ensures { seat.new.parts ≡ seat.old.parts }
+{
+    note_set_anyway(rt, alloc, shared, seat, notes);
+    note_set_anyway(rt, alloc, shared, seat, notes);
+    let mut board = shared.lend(rt);
+    note_confirmed_and_folded(alloc, &mut board, notes);
+    note_caught_up(rt, alloc, &mut board, pass, notes);
+    MutexGuard::unlock(board);
+}
+
+// Catches up, and folds all records but some.
+fn note_caught_up_and_fold<N: Name, R: Wait>(
+    rt: &R,
+    alloc: Global,
+    board: &mut Board<N>,
+    pass: &mut Pass<N>,
+    keep: usize,
+    notes: &mut Notes,
+)
+    requires folds { N.folds ≡ true }
+{
+    note_caught_up(rt, alloc, board, pass, notes);
+    note_fold(alloc, board, keep, notes);
+}
+
+fn enter_three_and_fold<N: Name, R: Wait>(
+    rt: &R,
+    alloc: Global,
+    shared: &Shared<N>,
+    seat: &mut Seat<N>,
+    pass: &mut Pass<N>,
+    notes: &mut Notes,
+)
+    requires folds { N.folds ≡ true }
+    ensures { seat.new.parts ≡ seat.old.parts }
+{
+    let mut board = shared.lend(rt);
+    note_entered(alloc, &mut board, seat, pass, notes);
+    note_entered(alloc, &mut board, seat, pass, notes);
+    note_fold(alloc, &mut board, 0, notes);
+    note_caught_up_and_fold(rt, alloc, &mut board, pass, 9, notes);
+    note_entered(alloc, &mut board, seat, pass, notes);
+    note_fold(alloc, &mut board, 0, notes);
+    note_caught_up_and_fold(rt, alloc, &mut board, pass, 1, notes);
+    MutexGuard::unlock(board);
+}
+
 fn work_on<N: Name, R: Wait>(
     rt: &R,
     alloc: Global,
@@ -324,44 +423,11 @@ fn work_on<N: Name, R: Wait>(
     match work {
         Work::Set => set(rt, alloc, shared, seat, pass, notes, 0),
         Work::SetAndForge => set(rt, alloc, shared, seat, pass, notes, 1),
-        Work::Remove => {
-            set(rt, alloc, shared, seat, pass, notes, 0);
-            remove(rt, alloc, shared, seat, pass, notes);
-            remove(rt, alloc, shared, seat, pass, notes);
-        }
-        Work::ReadBorrowed => {
-            let board = shared.lend(rt);
-            note_read(pass, notes);
-            MutexGuard::unlock(board);
-        }
-        Work::EnterTwo => {
-            let mut board = shared.lend(rt);
-            note_entered(alloc, &mut board, seat, pass, notes);
-            note_entered(alloc, &mut board, seat, pass, notes);
-            note_caught_up(rt, alloc, &mut board, pass, notes);
-            MutexGuard::unlock(board);
-        }
-        Work::SetAnyway => {
-            note_set_anyway(rt, alloc, shared, seat, notes);
-            note_set_anyway(rt, alloc, shared, seat, notes);
-            let mut board = shared.lend(rt);
-            note_confirmed_and_folded(alloc, &mut board, notes);
-            note_caught_up(rt, alloc, &mut board, pass, notes);
-            MutexGuard::unlock(board);
-        }
-        Work::Fold => {
-            let mut board = shared.lend(rt);
-            note_entered(alloc, &mut board, seat, pass, notes);
-            note_entered(alloc, &mut board, seat, pass, notes);
-            note_fold(alloc, &mut board, 0, notes);
-            note_caught_up(rt, alloc, &mut board, pass, notes);
-            note_fold(alloc, &mut board, 9, notes);
-            note_entered(alloc, &mut board, seat, pass, notes);
-            note_fold(alloc, &mut board, 0, notes);
-            note_caught_up(rt, alloc, &mut board, pass, notes);
-            note_fold(alloc, &mut board, 1, notes);
-            MutexGuard::unlock(board);
-        }
+        Work::Remove => set_and_remove_twice(rt, alloc, shared, seat, pass, notes),
+        Work::ReadBorrowed => read_borrowed(rt, shared, pass, notes),
+        Work::EnterTwo => enter_two(rt, alloc, shared, seat, pass, notes),
+        Work::SetAnyway => set_anyway_twice(rt, alloc, shared, seat, pass, notes),
+        Work::Fold => enter_three_and_fold(rt, alloc, shared, seat, pass, notes),
         Work::Beat => beat(rt, alloc, shared, seat, notes),
     }
 }
