@@ -1,4 +1,5 @@
 pub mod ListLemmas
+pub mod BehindLemmas
 pub mod KnownLemmas
 pub mod LengthLemmas
 pub mod FitsFields

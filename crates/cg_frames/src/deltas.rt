@@ -1,11 +1,11 @@
 //! Deltas and their states, which rise: checked with no memory, and read.
 
-ghost use Rattle.std.specs.Prelude.{◌≡◌, ◌<◌, ◌^◌, true, Ok, Err, None, [], IfOk, IfErr, IsOk, IfSome, length, option_map};
+ghost use Rattle.std.specs.Prelude.{◌≡◌, ◌≢◌, ◌<◌, ◌^◌, true, Ok, Err, None, [], IfOk, IfErr, IsOk, IfSome, length, option_map};
 ghost use Rattle.std.specs.Arc.{arc_value};
 ghost use Rattle.std.specs.List.{flat_map};
 ghost use Rattle.std.specs.FinMap as map;
 ghost use Rattle.cg_entry.specs.Section.{state as spelled_state};
-ghost use Rattle.cg_entry.specs.State.{pairs};
+ghost use Rattle.cg_entry.specs.State.{delta_of_parts, pairs};
 ghost use Rattle.cg_types.specs.Text.{IsStateText};
 ghost use Rattle.cg_frames.specs.Laws.{AreBytes};
 ghost use Rattle.cg_frames.specs.Layouts.{IsRead};
@@ -17,7 +17,7 @@ use crate::misread::{Misread, ReadError};
 use crate::reader::{Reader, show_bytes};
 use cg_entry::{Delta, SECTION_LIMIT, State};
 use cg_messages::OwnerDelta;
-use cg_types::{Cause, Endpoint, StateKey, StateText};
+use cg_types::{Cause, Endpoint, Generation, StateKey, StateText, Version};
 use std::alloc::{AllocError, Global};
 use std::sync::Arc;
 
@@ -298,6 +298,32 @@ fn shared(
     }
 }
 
+// Reads the states of a delta that has some, and makes it of them and of its other fields: its taker will share its block.
+// It is a call, so that reading a delta without states stays short: that would take a seventh more.
+#[inline(never)]
+fn with_states(
+    alloc: Global,
+    layout: &Layout,
+    reader: &mut Reader<'_>,
+    generation: Generation,
+    above: u32,
+    heartbeat: Version,
+    count: u8,
+    known: bool,
+) -> Result<Delta, ReadError>
+    requires layout { IsRead layout.now }
+    requires some { count ≢ 0 }
+    requires known { known ≡ true → IsOk (spec.states_at layout.now above count None reader.old) }
+    ensures { spec.GivesField (λ d. d) result reader.new (spec.part_of_field
+        (λ s. delta_of_parts generation above heartbeat s) (spec.states_at layout.now above count None reader.old)) }
+{
+    let (states, buffer) = states_of(alloc, layout, above, reader, count, known)?;
+    match Delta::new(generation, above, heartbeat, states) {
+        Some(delta) => Ok(shared(alloc, delta, buffer)?),
+        None => unreachable!(),
+    }
+}
+
 // Reads a delta, whose block of states its taker will share; if it would carry nothing, the fault is at its first byte.
 #[tactic(auto, unfolding(crate::specs::Lists::delta_at))]
 fn delta_of(
@@ -327,14 +353,10 @@ fn delta_of(
             None => Err(ReadError::Misread(empty)),
         };
     }
-    let (states, buffer) = states_of(alloc, layout, above, reader, count, known)?;
-    match Delta::new(generation, above, heartbeat, states) {
-        Some(delta) => {
-            let delta = shared(alloc, delta, buffer)?;
-            Ok(OwnerDelta { endpoint, delta })
-        }
-        None => Err(ReadError::Misread(empty)),
-    }
+    let delta = with_states(
+        alloc, layout, reader, generation, above, heartbeat, count, known,
+    )?;
+    Ok(OwnerDelta { endpoint, delta })
 }
 
 /// Reads this number of deltas, rising by endpoint. If it is known that they are ones, no text is looked at.
