@@ -3,7 +3,7 @@
 /// The bytes of a MiB.
 pub const MEBIBYTE: u64 = 1_048_576;
 
-/// The most bytes of an operator's line.
+/// The most bytes of an operator's line, with its line feed.
 pub const LINE_MOST: u64 = 8192;
 
 /// The most milliseconds for which a worker sleeps, or waits for standard input, before it asks whether the node is to

@@ -90,7 +90,8 @@ fn answer<N: Name, W: Write + Drop, R: Wait + Print>(
     }
 }
 
-// Returns the next line that a reader has, without its line feed. `None` at the end, or if the reader fails.
+// Returns the next line that a reader has, without its line feed, and an empty one in place of one that is too long: no
+// part of that is done. `None` at the end, or if the reader fails.
 fn next_line<I: BufRead>(alloc: Global, reader: &mut I) -> Option<Vec<u8>> {
     let mut line = Vec::new(alloc);
     match reader.by_ref().take(LINE_MOST).read_until(b'\n', &mut line) {
@@ -99,6 +100,9 @@ fn next_line<I: BufRead>(alloc: Global, reader: &mut I) -> Option<Vec<u8>> {
     }
     if line.last() == Some(&b'\n') {
         let _feed = line.pop();
+    } else if line.len() as u64 == LINE_MOST {
+        let _rest = reader.skip_until(b'\n');
+        line.clear();
     }
     Some(line)
 }
