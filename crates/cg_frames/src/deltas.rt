@@ -353,9 +353,12 @@ fn delta_of(
             None => Err(ReadError::Misread(empty)),
         };
     }
+    // (a reader of its own, so that the other one is in registers where no states are read)
+    let mut inner = reader.again();
     let delta = with_states(
-        alloc, layout, reader, generation, above, heartbeat, count, known,
+        alloc, layout, &mut inner, generation, above, heartbeat, count, known,
     )?;
+    *reader = inner;
     Ok(OwnerDelta { endpoint, delta })
 }
 
@@ -375,11 +378,13 @@ pub(crate) fn deltas_of(
         check_deltas(layout, &mut reader.again(), count)?;
     }
     let mut deltas = Vec::with_capacity(alloc, usize::from(count))?;
+    let mut ahead = reader.again();
     let mut last: Option<Endpoint> = None;
     for _ in 0..count {
-        let delta = delta_of(alloc, layout, reader, last, known)?;
+        let delta = delta_of(alloc, layout, &mut ahead, last, known)?;
         last = Some(delta.endpoint);
         deltas.push(delta)?;
     }
+    *reader = ahead;
     Ok(deltas)
 }

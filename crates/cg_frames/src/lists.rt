@@ -24,7 +24,8 @@ pub(crate) fn check_digests(reader: &mut Reader<'_>, count: u16) -> Result<(), M
 }
 
 /// Reads this number of digests, rising by endpoint. If more are announced than the bytes left can hold, the fault is
-/// found before room is taken.
+/// found before room is taken. It is a call with a reader of its own, so that its loop runs in registers.
+#[inline(never)]
 pub(crate) fn digests_of(
     alloc: Global,
     reader: &mut Reader<'_>,
@@ -36,12 +37,14 @@ pub(crate) fn digests_of(
         check_digests(&mut reader.again(), count)?;
     }
     let mut digests = Vec::with_capacity(alloc, usize::from(count))?;
+    let mut ahead = reader.again();
     let mut last: Option<Endpoint> = None;
     for _ in 0..count {
-        let digest = reader.digest(last)?;
+        let digest = ahead.digest(last)?;
         last = Some(digest.endpoint);
         digests.push(digest)?;
     }
+    *reader = ahead;
     Ok(digests)
 }
 

@@ -5,4 +5,4 @@ use Rattle.cg_frames.proofs.ListLemmas.{with_front}
 use Rattle.cg_frames.proofs.deltas.deltas_of.Given as goal
 
 abbrev pub invariant-loop : goal.invariant-loop
-invariant-loop l = with_front (λ (d : OwnerDelta). d.endpoint) (delta_at l.layout) l.deltas.items (deltas_at l.layout (l.count - l.counter) l.last l.reader) ≡ deltas_at l.layout l.count None l.initial.reader
+invariant-loop l = with_front (λ (d : OwnerDelta). d.endpoint) (delta_at l.layout) l.deltas.items (deltas_at l.layout (l.count - l.counter) l.last l.ahead) ≡ deltas_at l.layout l.count None l.initial.reader
